@@ -1,0 +1,145 @@
+-- Adding to the plain store of a world.
+use Rattle.std.specs.Prelude.{◌≡◌, ◌↔◌, Bool, true, false, List, [], ◌∷◌, ◌++◌, Option, Some, None, map}
+use Rattle.std.proofs.Common.{ap, sym, refl, subst, ◌∙◌}
+use Rattle.std.proofs.lemmas.Bool.{false≢true}
+use Rattle.std.specs.Option.{option_or, option_map, IfSome, unwrap_or}
+use Rattle.std.specs.List.{AllByRecursion}
+use Rattle.std.specs.FinSet as set
+use Rattle.std.specs.FinMap as finmap
+use Rattle.cedar_graph.specs.Graph.{Reach, KeepsEdges, AddsOnlyReached}
+use Rattle.cedar_graph.specs.ReachLaws.{reach_edge, reach_over_reach}
+use Rattle.cedar_graph.specs.declared.err.TcError.{TcError}
+use Rattle.cedar_ids.specs.UidOf.{uid_order_total}
+use Rattle.cedar_ids.specs.declared.entity.EntityUID.{EntityUID}
+use Rattle.cedar_entities.specs.UidSets.{one_equal}
+use Rattle.cedar_entities.specs.View.{EntityView, has_ancestor, IsDeepEqual, deep_equality, parents_are_ancestors}
+use Rattle.cedar_entities.specs.ClosureFaults.{IsClosureFault}
+use Rattle.cedar_entities.specs.Plain.{StoreView, IsPlainStore, IsBare, AreBare, IsApart, parts_of, given_of}
+use Rattle.cedar_entities.specs.Modes.{ancestry, is_ancestor_in, IsClosureOf, IsFinished, IsClosureRefused, WhereComputed}
+use Rattle.cedar_entities.specs.declared.entities.TCComputation.{TCComputation}
+use Rattle.cedar_entities.specs.declared.entities.TCComputation.TheVariants as modes
+use Rattle.cedar_entities.specs.Present.{first_entity, with_first, MatchesPresent, AllMatch, FirstMismatch}
+use Rattle.cedar_entities.specs.World.{World, Parts, Given, graph, is_parent_in, added, first, Agrees, AgreesWith, AgreesWithFirst, AllAgree, FirstDiffers}
+use Rattle.cedar_entities.proofs.StoreMaps.{get_with_first}
+use Rattle.cedar_entities.proofs.Versions.{map_at}
+use Rattle.cedar_entities.proofs.Worlds.{get_added}
+use Rattle.cedar_entities.proofs.PlainStores.{plain_from, cycle_in, found_parts, map_or, if_or, if_map, first_all, first_keyed, bare_apart, bare_leads, leads_or, parents_alone}
+
+parent_stays : (o p : Option Parts) (b : EntityUID) → is_parent_in o b ≡ true → is_parent_in (option_or o p) b ≡ true
+parent_stays None p b h = absurd (false≢true h)
+parent_stays (Some x) p b h = h
+
+-- adding keeps the parents
+graph_stays : (W : World) (M : List Given) → KeepsEdges (graph W) (graph (added W M))
+graph_stays W M a b h = ap (λ o. is_parent_in o b) (get_added W M a) ∙ parent_stays (finmap.get W.entities a) (first M a) b h
+
+pub reach_stays : (G H : EntityUID → EntityUID → Bool) → KeepsEdges G H → (a b : EntityUID) → Reach G a b → Reach H a b
+reach_stays G H stays a b r = reach_over_reach H G (λ x y h. reach_edge H x y (stays x y h)) a b r
+
+module _ (W : World) (S : StoreView) (L : List EntityView) (plain : IsPlainStore W S) (bare : AreBare L) where
+  holds_added : (q : EntityUID) → option_map parts_of (finmap.get (with_first S.held L) q) ≡ finmap.get (added W (map given_of L)).entities q
+  holds_added q =
+      ap (option_map parts_of) (get_with_first S.held L q) ∙ map_or (finmap.get S.held q) (first_entity L q)
+      ∙ ap (λ o. option_or o (option_map parts_of (first_entity L q))) (plain.holds q)
+      ∙ ap (option_or (finmap.get W.entities q)) (sym (found_parts L q))
+      ∙ sym (get_added W (map given_of L) q)
+
+  new_edge : (a b : EntityUID) → finmap.get S.held a ≡ None → is_ancestor_in (first_entity L a) b ≡ true → graph (added W (map given_of L)) a b ≡ true
+  new_edge a b none t =
+      ap (λ o. is_parent_in o b) (get_added W (map given_of L) a ∙ ap (λ o. option_or o (first (map given_of L) a)) (sym (plain.holds a) ∙ ap (option_map parts_of) none) ∙ found_parts L a)
+      ∙ sym (bare_leads (first_entity L a) b (first_all IsBare L bare a)) ∙ t
+
+  only_added : AddsOnlyReached (graph (added W (map given_of L))) (ancestry (with_first S.held L))
+  only_added a b h =
+      leads_or (Reach (graph (added W (map given_of L))) a) (finmap.get S.held a) (first_entity L a) b
+      (if_map (λ e. (x : EntityUID) → (has_ancestor e x ≡ true) ↔ Reach (graph W) a x) (λ e. (x : EntityUID) → has_ancestor e x ≡ true → Reach (graph (added W (map given_of L))) a x)
+      (finmap.get S.held a) (λ e k x t. reach_stays (graph W) (graph (added W (map given_of L))) (graph_stays W (map given_of L)) a x ((k x).0 t)) (plain.reached a))
+      (λ none t. reach_edge (graph (added W (map given_of L))) a b (new_edge a b none t))
+      (sym (ap (λ o. is_ancestor_in o b) (get_with_first S.held L a)) ∙ h)
+
+  -- the closure of the plain store and the list is the plain store of the world that adding leaves
+  pub added_plain : (N : StoreView) → N.partial ≡ S.partial → IsClosureOf (with_first S.held L) N.held → IsPlainStore (added W (map given_of L)) N
+  added_plain N same closed =
+      plain_from (added W (map given_of L)) (with_first S.held L) N (same ∙ plain.partial) holds_added
+      (λ q. subst (λ o. IfSome o (λ e. e.uid ≡ q)) (sym (get_with_first S.held L q)) (if_or (λ e. e.uid ≡ q) (finmap.get S.held q) (first_entity L q) (plain.keyed q) (first_keyed L q)))
+      (λ q. subst (λ o. IfSome o IsApart) (sym (get_with_first S.held L q)) (if_or IsApart (finmap.get S.held q) (first_entity L q) (plain.apart q) (bare_apart (first_entity L q) (first_all IsBare L bare q))))
+      only_added closed
+
+  pub finished_plain : (tc : TCComputation) (N : StoreView) → N.partial ≡ S.partial → IsFinished tc (with_first S.held L) N.held → WhereComputed tc (IsPlainStore (added W (map given_of L)) N)
+  finished_plain modes.AssumeAlreadyComputed N same h = tt
+  finished_plain modes.EnforceAlreadyComputed N same h = tt
+  finished_plain modes.ComputeNow N same h = added_plain N same h
+
+  pub refused_plain : (tc : TCComputation) (t : TcError EntityUID) → IsClosureRefused tc (with_first S.held L) t
+      → WhereComputed tc (IsClosureFault t (λ _ _ _. ⊥) (λ v. Reach (graph (added W (map given_of L))) v v))
+  refused_plain modes.AssumeAlreadyComputed t h = tt
+  refused_plain modes.EnforceAlreadyComputed t h = tt
+  refused_plain modes.ComputeNow t h = cycle_in (added W (map given_of L)) (with_first S.held L) holds_added only_added t h
+
+pub same_bool : (x y : Bool) {R : Type 0} → (x ≡ true) ↔ R → (y ≡ true) ↔ R → x ≡ y
+same_bool true y f g = sym (g.1 (f.0 refl))
+same_bool false true f g = f.1 (g.0 refl)
+same_bool false false f g = refl
+
+-- deep equality with the version that is present is agreement
+match_at : (W : World) (M : List Given) (e : EntityView) (o f : Option EntityView) → first M e.uid ≡ option_map parts_of f → IsBare e
+    → IfSome f IsBare → IfSome f (λ x. x.uid ≡ e.uid) → IfSome o (λ h. h.uid ≡ e.uid) → IfSome o (λ h. (x : EntityUID) → (has_ancestor h x ≡ true) ↔ Reach (graph W) e.uid x)
+    → IsDeepEqual (unwrap_or (option_or o f) e) e ↔ AgreesWith W M (option_map parts_of o) (given_of e)
+match_at W M e (Some h) f is bare fbare fuid huid reach = (
+  λ d. (d.attrs, d.tags, λ q. (λ t. (reach q).0 (d.ancestors q ∙ parents_are_ancestors e q t), λ r. sym (parents_alone e q (bare q)) ∙ sym (d.ancestors q) ∙ (reach q).1 r)),
+  λ k. record { uid = huid; attrs = k.0; tags = k.1; ancestors = λ q. same_bool (has_ancestor h q) (set.contains e.parents q) (reach q) (k.2 q) ∙ sym (parents_alone e q (bare q)) },
+)
+match_at W M e None (Some x) is bare fbare fuid huid reach = (
+  λ d. subst (λ o. AgreesWithFirst o (given_of e)) (sym is) (λ i. record {
+    attrs = d.attrs i;
+    tags = d.tags i;
+    parents = set.same_set uid_order_total one_equal x.parents e.parents (λ q. sym (parents_alone x q (fbare q)) ∙ d.ancestors q ∙ parents_alone e q (bare q)) i;
+  }),
+  λ k. let same : parts_of x ≡ parts_of e = subst (λ o. AgreesWithFirst o (given_of e)) is k in
+      record {
+        uid = fuid;
+        attrs = ap (λ (p : Parts). p.attrs) same;
+        tags = ap (λ (p : Parts). p.tags) same;
+        ancestors = λ q. parents_alone x q (fbare q) ∙ ap (λ (p : Parts). set.contains p.parents q) same ∙ sym (parents_alone e q (bare q));
+      },
+)
+match_at W M e None None is bare fbare fuid huid reach = (
+  λ d. subst (λ o. AgreesWithFirst o (given_of e)) (sym is) tt,
+  λ k. deep_equality.itself e,
+)
+
+module _ {X : Type 0} (P : X → Type 0) where
+  all_front : (xs ys : List X) → AllByRecursion P (xs ++ ys) → AllByRecursion P xs
+  all_front [] ys a = tt
+  all_front (x ∷ xs) ys a = (a.0, all_front xs ys a.1)
+
+  all_at : (xs : List X) (y : X) (ys : List X) → AllByRecursion P (xs ++ y ∷ ys) → P y
+  all_at [] y ys a = a.0
+  all_at (x ∷ xs) y ys a = all_at xs y ys a.1
+
+module _ (W : World) (S : StoreView) (L : List EntityView) (plain : IsPlainStore W S) (bare : AreBare L) where
+  -- over a plain store the two ways to compare come to the same
+  agrees_iff : (e : EntityView) → IsBare e → MatchesPresent (finmap.get S.held) L e ↔ Agrees W (map given_of L) (given_of e)
+  agrees_iff e alone = subst (λ o. MatchesPresent (finmap.get S.held) L e ↔ AgreesWith W (map given_of L) o (given_of e)) (plain.holds e.uid)
+      (match_at W (map given_of L) e (finmap.get S.held e.uid) (first_entity L e.uid) (found_parts L e.uid) alone
+      (first_all IsBare L bare e.uid) (first_keyed L e.uid) (plain.keyed e.uid) (plain.reached e.uid))
+
+  agree_given : (xs : List EntityView) → AreBare xs → AllByRecursion (MatchesPresent (finmap.get S.held) L) xs → AllByRecursion (Agrees W (map given_of L)) (map given_of xs)
+  agree_given [] h a = tt
+  agree_given (x ∷ xs) h a = ((agrees_iff x h.0).0 a.0, agree_given xs h.1 a.1)
+
+  pub all_agree : AllMatch (finmap.get S.held) L → AllAgree W (map given_of L)
+  all_agree a = agree_given L bare a
+
+  pub first_differs : (u : EntityUID) → FirstMismatch (finmap.get S.held) L u → FirstDiffers W (map given_of L) u
+  first_differs u m =
+      let whole : AreBare (m.before ++ m.at ∷ m.after) = subst AreBare m.place bare in
+      record {
+        before = map given_of m.before;
+        at = given_of m.at;
+        after = map given_of m.after;
+        place = ap (map given_of) m.place ∙ map_at given_of m.before m.at m.after;
+        agree = agree_given m.before (all_front IsBare m.before (m.at ∷ m.after) whole) m.agree;
+        differs = λ k. m.differs ((agrees_iff m.at (all_at IsBare m.before m.at m.after whole)).1 k);
+        uid = m.uid;
+      }

@@ -1,0 +1,65 @@
+-- What adding makes of the map of a store.
+use Rattle.std.specs.Prelude.{◌≡◌, List, map, Option}
+use Rattle.std.proofs.Common.{ap, sym, subst, ◌∙◌}
+use Rattle.std.specs.Option.{option_or}
+use Rattle.std.specs.HashMap.{HashMap}
+use Rattle.std.specs.FinMap as finmap
+use Rattle.cedar_graph.specs.declared.err.TcError.{TcError}
+use Rattle.cedar_ids.specs.declared.entity.EntityUID.{EntityUID}
+use Rattle.cedar_entities.specs.declared.node.SharedEntity.{SharedEntity}
+use Rattle.cedar_entities.specs.declared.entities.TCComputation.{TCComputation}
+use Rattle.cedar_entities.specs.declared.entities.TCComputation.TheVariants as modes
+use Rattle.cedar_entities.specs.declared.err.EntitiesError.{EntitiesError}
+use Rattle.cedar_entities.specs.declared.err.EntitiesError.TheVariants as errors
+use Rattle.cedar_entities.specs.Held.{held, seen}
+use Rattle.cedar_entities.specs.Modes.{IsClosureRefused, WhereComputed}
+use Rattle.cedar_entities.specs.Plain.{StoreView, Held, IsPlainStore, AreBare, given_of}
+use Rattle.cedar_entities.specs.Present.{first_entity, with_first, AllMatch, FirstMismatch}
+use Rattle.cedar_entities.specs.Refusals.{MatchRefusal, IsAddingRefused}
+use Rattle.cedar_entities.specs.World.{World}
+use Rattle.cedar_entities.specs.View.{EntityView}
+use Rattle.cedar_entities.proofs.Adding.{all_agree, first_differs, refused_plain}
+use Rattle.cedar_entities.proofs.StoreMaps.{get_seen, seen_as, get_with_first}
+
+-- what the map of a store has, as what the store holds
+pub stored : {S : Type 0} (m : HashMap EntityUID SharedEntity S) (D : Held) → seen m ≡ D → held m ≡ finmap.get D
+stored m D is = (λ i q. sym (get_seen m q) i) ∙ ap (λ (E : Held). finmap.get E) is
+
+pub put_in : {S : Type 0} (m n : HashMap EntityUID SharedEntity S) (D : Held) (L : List EntityView) → seen m ≡ D
+    → ((q : EntityUID) → held n q ≡ option_or (held m q) (first_entity L q)) → seen n ≡ with_first D L
+put_in m n D L is put = seen_as n (with_first D L) (λ q. put q ∙ ap (λ f. option_or (f q) (first_entity L q)) (stored m D is) ∙ sym (get_with_first D L q))
+
+-- a refusal for a mismatch, over the same versions
+pub mismatch_at : (f g : EntityUID → Option EntityView) (L : List EntityView) (C : TcError EntityUID → Type 0) → f ≡ g → (e : EntitiesError) → MatchRefusal e (FirstMismatch f L) (λ _. ⊥) → MatchRefusal e (FirstMismatch g L) C
+mismatch_at f g L C is (errors.Duplicate u) h = subst (λ k. FirstMismatch k L u) is h
+mismatch_at f g L C is (errors.TransitiveClosureError t) h = absurd h
+mismatch_at f g L C is (errors.SelfAncestor u) h = h
+mismatch_at f g L C is (errors.DuplicateAncestor u a) h = h
+mismatch_at f g L C is (errors.ActionParentIsNotAction u p) h = h
+mismatch_at f g L C is (errors.ReservedKey k) h = h
+mismatch_at f g L C is errors.Memory h = tt
+
+-- a refusal of the closure, where all matched before it
+pub closure_at : (D E : Held) (tc : TCComputation) (P : EntityUID → Type 0) (A : Type 0) → D ≡ E → A → (e : EntitiesError) → MatchRefusal e (λ _. ⊥) (IsClosureRefused tc D)
+    → MatchRefusal e P (λ t. A × IsClosureRefused tc E t)
+closure_at D E tc P A is a (errors.Duplicate u) h = absurd h
+closure_at D E tc P A is a (errors.TransitiveClosureError t) h = (a, subst (λ F. IsClosureRefused tc F t) is h)
+closure_at D E tc P A is a (errors.SelfAncestor u) h = h
+closure_at D E tc P A is a (errors.DuplicateAncestor u x) h = h
+closure_at D E tc P A is a (errors.ActionParentIsNotAction u p) h = h
+closure_at D E tc P A is a (errors.ReservedKey k) h = h
+closure_at D E tc P A is a errors.Memory h = tt
+
+-- over the plain store of a world a refusal is that of the world
+pub refused_over_plain : (W : World) (S : StoreView) (L : List EntityView) → IsPlainStore W S → AreBare L → (tc : TCComputation) (e : EntitiesError)
+    → MatchRefusal e (FirstMismatch (finmap.get S.held) L) (λ t. AllMatch (finmap.get S.held) L × IsClosureRefused tc (with_first S.held L) t)
+    → WhereComputed tc (IsAddingRefused W (map given_of L) e)
+refused_over_plain W S L plain bare modes.AssumeAlreadyComputed e h = tt
+refused_over_plain W S L plain bare modes.EnforceAlreadyComputed e h = tt
+refused_over_plain W S L plain bare modes.ComputeNow (errors.Duplicate u) h = first_differs W S L plain bare u h
+refused_over_plain W S L plain bare modes.ComputeNow (errors.TransitiveClosureError t) h = (all_agree W S L plain bare h.0, refused_plain W S L plain bare modes.ComputeNow t h.1)
+refused_over_plain W S L plain bare modes.ComputeNow (errors.SelfAncestor u) h = h
+refused_over_plain W S L plain bare modes.ComputeNow (errors.DuplicateAncestor u x) h = h
+refused_over_plain W S L plain bare modes.ComputeNow (errors.ActionParentIsNotAction u p) h = h
+refused_over_plain W S L plain bare modes.ComputeNow (errors.ReservedKey k) h = h
+refused_over_plain W S L plain bare modes.ComputeNow errors.Memory h = tt

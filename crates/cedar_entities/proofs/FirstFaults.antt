@@ -1,0 +1,116 @@
+-- The first entity of a store that is not valid.
+use Rattle.std.specs.Prelude.{◌≡◌, Bool, true, false, List, [], ◌∷◌, ◌++◌, cond, Option, Some, None, MatchOption, map, if◌then◌else◌}
+use Rattle.std.proofs.Common.{ap, sym, refl, subst, inl, inr, ◌∙◌}
+use Rattle.std.proofs.lemmas.Bool.{false≢true}
+use Rattle.std.proofs.lemmas.List.Elements.{All-push, All-weaker, All-map, All-same, recursion_from_All}
+use Rattle.std.specs.List.{All, AllByRecursion}
+use Rattle.std.specs.Option.{IfSome, option_map}
+use Rattle.std.specs.Ordering.{is_lt}
+use Rattle.std.specs.HashMap.{HashMap, get}
+use Rattle.std.specs.Map.{lookup}
+use Rattle.std.specs.Map.Iter.{deref_pair}
+use Rattle.std.specs.Borrow.{Bor}
+use Rattle.std.specs.FinMap as finmap
+use Rattle.std.specs.declared.cmp.Ordering.TheVariants.{Less}
+use Rattle.cedar_ids.specs.UidOf.{same_uid, uid_order, uid_order_total}
+use Rattle.cedar_ids.specs.declared.entity.EntityUID.{EntityUID}
+use Rattle.cedar_entities.specs.declared.node.SharedEntity.{SharedEntity}
+use Rattle.cedar_entities.specs.Held.{held, seen, shared, UidsMatch}
+use Rattle.cedar_entities.specs.StoreFaults.{AreAllValid, IsFirstFaulty, IsFirstFault, IsSound, IsStoreFault, TakesFaulty, sooner_of}
+use Rattle.cedar_entities.specs.Plain.{Held}
+use Rattle.cedar_entities.specs.Validity.{IsValid}
+use Rattle.cedar_entities.specs.declared.err.EntitiesError.{EntitiesError}
+use Rattle.cedar_entities.specs.declared.err.EntitiesError.TheVariants as errors
+use Rattle.cedar_entities.specs.View.{EntityView}
+use Rattle.cedar_entities.proofs.LeastUids.{irreflexive, less}
+use Rattle.cedar_entities.proofs.StoreMaps.{get_seen, seen_keyed}
+
+-- what may hold of each uid that stands before u
+abbrev ValidBefore : EntityUID → EntityView → Type 0
+ValidBefore u e = uid_order e.uid u ≡ Less → IsValid e
+
+-- what is the first of the entities of a list that is not valid, and held
+abbrev pub IsFirstOf : {Y : Type 0} → (EntityUID → Option EntityView) → (Y → EntityView) → List Y → Option EntityView → Type 0
+IsFirstOf o entity ys None = All (λ y. IsValid (entity y)) ys
+IsFirstOf o entity ys (Some a) = (o a.uid ≡ Some a) × (IsValid a → ⊥) × All (λ y. ValidBefore a.uid (entity y)) ys
+
+module _ {Y : Type 0} (o : EntityUID → Option EntityView) (entity : Y → EntityView) (ys : List Y) (y : Y) where
+  kept : (r : Option EntityView) → IsValid (entity y) → IsFirstOf o entity ys r → IsFirstOf o entity (ys ++ y ∷ []) r
+  kept None v h = All-push (λ x. IsValid (entity x)) ys y h v
+  kept (Some a) v h = (h.0, h.1, All-push (λ x. ValidBefore a.uid (entity x)) ys y h.2 (λ _. v))
+
+  chosen : (a : EntityView) (b : Bool) → is_lt (uid_order (entity y).uid a.uid) ≡ b → o (entity y).uid ≡ Some (entity y) → (IsValid (entity y) → ⊥) → IsFirstOf o entity ys (Some a)
+      → IsFirstOf o entity (ys ++ y ∷ []) (if b then Some (entity y) else Some a)
+  chosen a true l at faulty h = (
+    at,
+    faulty,
+    All-push (λ x. ValidBefore (entity y).uid (entity x)) ys y
+        (All-weaker (λ x. ValidBefore a.uid (entity x)) (λ x. ValidBefore (entity y).uid (entity x)) (λ x k g. k (uid_order_total.trans (entity x).uid (entity y).uid a.uid g (less (uid_order (entity y).uid a.uid) l))) ys h.2)
+        (λ g. absurd (irreflexive (entity y).uid g)),
+  )
+  chosen a false l at faulty h = (h.0, h.1, All-push (λ x. ValidBefore a.uid (entity x)) ys y h.2 (λ g. absurd (false≢true (sym l ∙ ap is_lt g))))
+
+  sooner : (r : Option EntityView) → o (entity y).uid ≡ Some (entity y) → (IsValid (entity y) → ⊥) → IsFirstOf o entity ys r → IsFirstOf o entity (ys ++ y ∷ []) (sooner_of (entity y) r)
+  sooner None at faulty h = (
+    at,
+    faulty,
+    All-push (λ x. ValidBefore (entity y).uid (entity x)) ys y
+        (All-weaker (λ x. IsValid (entity x)) (λ x. ValidBefore (entity y).uid (entity x)) (λ x v _. v) ys h)
+        (λ g. absurd (irreflexive (entity y).uid g)),
+  )
+  sooner (Some a) at faulty h = chosen a (is_lt (uid_order (entity y).uid a.uid)) refl at faulty h
+
+  -- one entity more
+  pub first_step : (r s : Option EntityView) → o (entity y).uid ≡ Some (entity y) → TakesFaulty (entity y) r s → IsFirstOf o entity ys r → IsFirstOf o entity (ys ++ y ∷ []) s
+  first_step r s at (inl t) h = subst (IsFirstOf o entity (ys ++ y ∷ [])) (sym t.1) (kept r t.0 h)
+  first_step r s at (inr t) h = subst (IsFirstOf o entity (ys ++ y ∷ [])) (sym t.1) (sooner r at t.0 h)
+
+module _ (P : EntityView → Type 0) (q : EntityUID) where
+  found_in : (b : Bool) (e : SharedEntity) (rest : Option SharedEntity) → P (shared e) → IfSome (option_map shared rest) P → IfSome (option_map shared (cond b (Some e) rest)) P
+  found_in true e rest h k = h
+  found_in false e rest h k = k
+
+  -- what is found in a list is as each of the list is
+  found_so : (es : List (EntityUID × SharedEntity)) → AllByRecursion (λ e. P (shared e.1)) es → IfSome (option_map shared (lookup (same_uid q) es)) P
+  found_so [] h = tt
+  found_so (e ∷ es) h = found_in (same_uid q e.0) e.1 (lookup (same_uid q) es) h.0 (found_so es h.1)
+
+before_at : (u q : EntityUID) (o : Option EntityView) → uid_order q u ≡ Less → IfSome o (λ e. e.uid ≡ q) → IfSome o (ValidBefore u) → IfSome o IsValid
+before_at u q None l k h = tt
+before_at u q (Some e) l k h = h (ap (λ x. uid_order x u) k ∙ l)
+
+module _ {S : Type 0} (m : HashMap EntityUID SharedEntity S) where
+  -- what is held at its own uid, as the map has it
+  pub at_own_uid : UidsMatch m → (q : EntityUID) (n : SharedEntity) → get same_uid m q ≡ Some n → held m (shared n).uid ≡ Some (shared n)
+  at_own_uid match q n is =
+      let at : held m q ≡ Some (shared n) = ap (option_map shared) is in
+      let key : (shared n).uid ≡ q = subst (λ o. IfSome o (λ e. e.uid ≡ q)) (get_seen m q ∙ at) (seen_keyed m match q) in
+      ap (held m) key ∙ at
+
+  held_so : (P : EntityView → Type 0) (ys : List (Bor EntityUID × Bor SharedEntity)) → map deref_pair ys ≡ m.entries → All (λ p. P (shared p.1.now)) ys → (q : EntityUID) → IfSome (held m q) P
+  held_so P ys whole h q =
+      let Q : EntityUID × SharedEntity → Type 0 = λ e. P (shared e.1) in
+      found_so P q m.entries (recursion_from_All Q m.entries (All-same Q m.entries (map deref_pair ys) (sym whole) (All-map Q deref_pair ys h)))
+
+  seen_so : (P : EntityView → Type 0) → ((q : EntityUID) → IfSome (held m q) P) → (q : EntityUID) → IfSome (finmap.get (seen m) q) P
+  seen_so P h q = subst (λ o. IfSome o P) (sym (get_seen m q)) (h q)
+
+  -- the first of all entries
+  pub first_of_all : UidsMatch m → (ys : List (Bor EntityUID × Bor SharedEntity)) → map deref_pair ys ≡ m.entries → (r : Option EntityView) → IsFirstOf (held m) (λ p. shared p.1.now) ys r
+      → MatchOption r (AreAllValid (seen m)) (IsFirstFaulty (seen m))
+  first_of_all match ys whole None h = seen_so IsValid (held_so IsValid ys whole h)
+  first_of_all match ys whole (Some a) h = record {
+    held = get_seen m a.uid ∙ h.0;
+    faulty = h.1;
+    before = λ q l. before_at a.uid q (finmap.get (seen m) q) l (seen_keyed m match q) (seen_so (ValidBefore a.uid) (held_so (ValidBefore a.uid) ys whole h.2) q);
+  }
+
+-- what is wrong with an entity, where nothing is with the graph
+pub told_of_first : (D : Held) (r : EntitiesError) → IsSound D → IsFirstFault D r → IsStoreFault D r
+told_of_first D (errors.Duplicate u) h f = (h, f)
+told_of_first D (errors.TransitiveClosureError t) h f = absurd f.fault
+told_of_first D (errors.SelfAncestor u) h f = (h, f)
+told_of_first D (errors.DuplicateAncestor u a) h f = (h, f)
+told_of_first D (errors.ActionParentIsNotAction u p) h f = (h, f)
+told_of_first D (errors.ReservedKey k) h f = (h, f)
+told_of_first D errors.Memory h f = tt

@@ -1,0 +1,78 @@
+-- When two stores have the same uids and mode.
+use Rattle.std.specs.Prelude.{◌≡◌, ◌↔◌, Bool, true, false, ◌&&◌, Option, Some, None, is_some}
+use Rattle.std.proofs.Common.{ap, sym, refl, ◌∙◌}
+use Rattle.std.proofs.lemmas.Bool.{false≢true}
+use Rattle.std.proofs.lemmas.Slice.Eq.{slice_eq-Decides}
+use Rattle.std.proofs.Math.Bool.{beq}
+use Rattle.std.specs.Bool.{Decides}
+use Rattle.std.specs.Cmp.{booleans_Decides}
+use Rattle.std.specs.Cmp.Lexicographic.{pointwise}
+use Rattle.std.specs.Option.{option_map}
+use Rattle.std.specs.HashMap.{HashMap, get}
+use Rattle.std.specs.List.{list_any}
+use Rattle.std.specs.Ordering.{eq_by_cmp}
+use Rattle.std.specs.FinSet as set
+use Rattle.std.specs.FinMap as finmap
+use Rattle.cedar_ids.specs.UidOf.{same_uid, same_uid_decides, uid_order, uid_order_total}
+use Rattle.cedar_ids.specs.declared.entity.EntityUID.{EntityUID}
+use Rattle.cedar_entities.specs.declared.node.SharedEntity.{SharedEntity}
+use Rattle.cedar_entities.specs.Held.{seen, shared}
+use Rattle.cedar_entities.specs.Plain.{StoreView, Held}
+use Rattle.cedar_entities.specs.SameUids.{uids_of, uids_in, same_uids, HaveSameUids}
+use Rattle.cedar_entities.specs.UidSets.{one_equal}
+use Rattle.cedar_entities.proofs.Adding.{same_bool}
+use Rattle.cedar_entities.proofs.Adds.{stored}
+
+contains_uid : (D : Held) (q : EntityUID) → set.contains (uids_of D) q ≡ finmap.contains_key D q
+contains_uid D q = set.contains-from_list uid_order_total (finmap.keys D) q ∙ sym (finmap.contains_key-keys D q)
+
+and_left : (x y : Bool) → (x && y) ≡ true → x ≡ true
+and_left true y h = refl
+and_left false y h = h
+
+and_right : (x y : Bool) → (x && y) ≡ true → y ≡ true
+and_right true y h = h
+and_right false y h = absurd (false≢true h)
+
+and_both : (x y : Bool) → x ≡ true → y ≡ true → (x && y) ≡ true
+and_both x y h k = ap (λ b. b && y) h ∙ k
+
+listed : (S T : StoreView) → Decides (pointwise same_uid (uids_in S) (uids_in T)) (uids_in S ≡ uids_in T)
+listed S T = slice_eq-Decides same_uid_decides (uids_in S) (uids_in T) (pointwise same_uid (uids_in S) (uids_in T)) refl
+
+pub same_uids_told : (S T : StoreView) → (same_uids S T ≡ true) ↔ HaveSameUids S T
+same_uids_told S T = (
+  λ h. record {
+    mode = (booleans_Decides S.partial T.partial).0 (and_left (beq S.partial T.partial) (pointwise same_uid (uids_in S) (uids_in T)) h);
+    uids = λ q.
+        let same : uids_in S ≡ uids_in T = (listed S T).0 (and_right (beq S.partial T.partial) (pointwise same_uid (uids_in S) (uids_in T)) h) in
+        sym (contains_uid S.held q) ∙ set.contains-items (uids_of S.held) q ∙ ap (list_any (eq_by_cmp uid_order q)) same
+        ∙ sym (set.contains-items (uids_of T.held) q) ∙ contains_uid T.held q;
+  },
+  λ k. and_both (beq S.partial T.partial) (pointwise same_uid (uids_in S) (uids_in T)) ((booleans_Decides S.partial T.partial).1 k.mode)
+      ((listed S T).1 (ap set.items (set.same_set uid_order_total one_equal (uids_of S.held) (uids_of T.held) (λ q. contains_uid S.held q ∙ k.uids q ∙ sym (contains_uid T.held q))))),
+)
+
+-- the answer of a call that tells it
+pub answers_same : (r : Bool) (S T : StoreView) → (r ≡ true) ↔ HaveSameUids S T → r ≡ same_uids S T
+answers_same r S T h = same_bool r (same_uids S T) h (same_uids_told S T)
+
+some_shared : (o : Option SharedEntity) → is_some (option_map shared o) ≡ is_some o
+some_shared None = refl
+some_shared (Some n) = refl
+
+key_held : {S : Type 0} (m : HashMap EntityUID SharedEntity S) (D : Held) → seen m ≡ D → (q : EntityUID) → finmap.contains_key D q ≡ is_some (get same_uid m q)
+key_held m D is q = ap (λ f. is_some (f q)) (sym (stored m D is)) ∙ some_shared (get same_uid m q)
+
+module _ {S : Type 0} (m n : HashMap EntityUID SharedEntity S) (A B : StoreView) (is_m : seen m ≡ A.held) (is_n : seen n ≡ B.held) where
+  pub to_same : A.partial ≡ B.partial → ((q : EntityUID) → is_some (get same_uid n q) ≡ true → is_some (get same_uid m q) ≡ true) → ((q : EntityUID) → is_some (get same_uid m q) ≡ true → is_some (get same_uid n q) ≡ true) → HaveSameUids A B
+  to_same mode one other = record {
+    mode = mode;
+    uids = λ q. key_held m A.held is_m q ∙ same_bool (is_some (get same_uid m q)) (is_some (get same_uid n q)) (other q, one q) (λ t. t, λ t. t) ∙ sym (key_held n B.held is_n q);
+  }
+
+  pub same_back : HaveSameUids A B → (q : EntityUID) → is_some (get same_uid n q) ≡ true → is_some (get same_uid m q) ≡ true
+  same_back k q t = sym (key_held m A.held is_m q) ∙ k.uids q ∙ key_held n B.held is_n q ∙ t
+
+  pub same_forth : HaveSameUids A B → (q : EntityUID) → is_some (get same_uid m q) ≡ true → is_some (get same_uid n q) ≡ true
+  same_forth k q t = sym (key_held n B.held is_n q) ∙ sym (k.uids q) ∙ key_held m A.held is_m q ∙ t

@@ -1,0 +1,16 @@
+use Rattle.std.proofs.Common.{sym, subst, map}
+use Rattle.std.proofs.lemmas.Result.{on_ok_weaker, IfOk-weaker}
+use Rattle.cedar_entities.specs.Modes.{WhereComputed}
+use Rattle.cedar_entities.specs.Plain.{IsPlainStore, AreBare, given_of}
+use Rattle.cedar_entities.specs.World.{empty_world, added, AllAgree}
+use Rattle.cedar_entities.proofs.entities.Entities.from_entities.Goals as goal
+
+pub returns-clause-plain_agree : goal.returns-clause-plain_agree
+returns-clause-plain_agree c = on_ok_weaker c.add_entities.result
+    (λ h bare. subst (λ l. AllAgree empty_world (map given_of l)) c.in_ok-list.ensures (h empty_world c.new.ensures.plain (subst AreBare (sym c.in_ok-list.ensures) bare)))
+    c.add_entities.ensures.plain_agree
+
+pub returns-clause-plain : goal.returns-clause-plain
+returns-clause-plain c = IfOk-weaker c.add_entities.result _ _
+    (λ s h bare. subst (λ l. WhereComputed c.args.tc_computation (IsPlainStore (added empty_world (map given_of l)) s)) c.in_ok-list.ensures (h empty_world c.new.ensures.plain (subst AreBare (sym c.in_ok-list.ensures) bare)))
+    c.add_entities.ensures.plain

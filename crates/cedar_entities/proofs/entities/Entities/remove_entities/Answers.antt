@@ -1,0 +1,33 @@
+use Rattle.std.proofs.Common.{ap, subst}
+use Rattle.std.proofs.lemmas.Result.{err_from_is_err_and}
+use Rattle.cedar_entities.specs.Held.{seen}
+use Rattle.cedar_entities.specs.Modes.{IsClosureOf, IsClosureRefused}
+use Rattle.cedar_entities.specs.Plain.{StoreView}
+use Rattle.cedar_entities.specs.Refusals.{MatchRefusal}
+use Rattle.cedar_entities.specs.declared.entities.TCComputation.TheVariants as modes
+use Rattle.cedar_entities.proofs.PlainEdits.{taken_from, left_plain, left_refused}
+use Rattle.cedar_entities.proofs.entities.Entities.remove_entities.Goals as goal
+
+pub returns-in_err-compute-clause-err : goal.returns-in_err-compute-clause-err
+returns-in_err-compute-clause-err c =
+    let p = err_from_is_err_and c.from_residual-in_err-compute.result c.from_residual-in_err-compute.ensures.1 in
+    rw (p.1, p.2) (subst (λ D. MatchRefusal c.in_err-compute.field-0.0 (λ _. ⊥) (IsClosureRefused modes.ComputeNow D))
+    (taken_from c.self.inside.entities c.take_out.new.entities c.strip_all.new.entities c.args.self.held c.args.list.items c.in_ok-gone.gone.items (ap (λ (s : StoreView). s.held) c.self.view_is) c.in_ok-gone.ensures.gone c.in_ok-gone.ensures.ok (rw (← c.deref.ensures.value) c.in_ok-strip_all.ensures.ok))
+    c.in_err-compute.ensures.err)
+
+pub returns-in_err-compute-clause-plain_err : goal.returns-in_err-compute-clause-plain_err
+returns-in_err-compute-clause-plain_err c =
+    let p = err_from_is_err_and c.from_residual-in_err-compute.result c.from_residual-in_err-compute.ensures.1 in
+    rw (p.1, p.2) (λ W plain. left_refused W c.args.self c.args.list.items plain c.in_err-compute.field-0.0
+    (subst (λ D. MatchRefusal c.in_err-compute.field-0.0 (λ _. ⊥) (IsClosureRefused modes.ComputeNow D))
+    (taken_from c.self.inside.entities c.take_out.new.entities c.strip_all.new.entities c.args.self.held c.args.list.items c.in_ok-gone.gone.items (ap (λ (s : StoreView). s.held) c.self.view_is) c.in_ok-gone.ensures.gone c.in_ok-gone.ensures.ok (rw (← c.deref.ensures.value) c.in_ok-strip_all.ensures.ok))
+    c.in_err-compute.ensures.err))
+
+pub returns-clause-ok : goal.returns-clause-ok
+returns-clause-ok c = subst (λ D. IsClosureOf D (seen c.compute.new.entities))
+    (taken_from c.self.inside.entities c.take_out.new.entities c.strip_all.new.entities c.args.self.held c.args.list.items c.in_ok-gone.gone.items (ap (λ (s : StoreView). s.held) c.self.view_is) c.in_ok-gone.ensures.gone c.in_ok-gone.ensures.ok (rw (← c.deref.ensures.value) c.in_ok-strip_all.ensures.ok))
+    c.in_ok-compute.ensures.ok
+
+pub returns-clause-plain : goal.returns-clause-plain
+returns-clause-plain c W plain = left_plain W c.args.self c.args.list.items plain
+    (record { held = seen c.compute.new.entities; partial = c.self.inside.partial }) (ap (λ (s : StoreView). s.partial) c.self.view_is) (returns-clause-ok c)

@@ -1,0 +1,12 @@
+use Rattle.std.proofs.Common.{ap, refl, ◌∙◌}
+use Rattle.cedar_entities.specs.View.{EntityView}
+use Rattle.cedar_entities.proofs.Versions.{put_over, put_keys}
+use Rattle.cedar_entities.proofs.entities.put_over.Goals as goal
+
+pub returns-clause-keys : goal.returns-clause-keys
+returns-clause-keys c = put_keys c.args.entities.now c.insert.new.self c.in_ok-key.key _
+    (c.in_ok-key.ensures ∙ c.uid.ensures ∙ ap (λ (e : EntityView). e.uid) c.deref.ensures) c.in_ok-insert.ensures.updates.0 c.requires
+
+pub returns-clause-ok : goal.returns-clause-ok
+returns-clause-ok c = put_over c.args.entities.now c.insert.new.self c.in_ok-key.key _ c.args.entity.value
+    (c.in_ok-key.ensures ∙ c.uid.ensures ∙ ap (λ (e : EntityView). e.uid) c.deref.ensures) refl c.in_ok-insert.ensures.updates.0

@@ -1,0 +1,65 @@
+-- When the entities of a store are valid, and which fault is answered where they are not.
+use Rattle.std.specs.Prelude.{◌≡◌, ◌⊎◌, ⊤, Option, Some, None, if◌then◌else◌}
+use Rattle.std.specs.Option.{IfSome}
+use Rattle.std.specs.Ordering.{is_lt}
+use Rattle.std.specs.FinMap as finmap
+use Rattle.std.specs.declared.cmp.Ordering.TheVariants.{Less}
+use Rattle.cedar_graph.specs.Graph.{IsClosed, HasNoLoop}
+use Rattle.cedar_graph.specs.declared.err.TcError.{TcError}
+use Rattle.cedar_ids.specs.UidOf.{uid_order}
+use Rattle.cedar_ids.specs.declared.entity.EntityUID.{EntityUID}
+use Rattle.cedar_entities.specs.Modes.{ancestry, IsClosureRefused}
+use Rattle.cedar_entities.specs.Plain.{Held}
+use Rattle.cedar_entities.specs.Validity.{IsValid, IsFault}
+use Rattle.cedar_entities.specs.View.{EntityView}
+use Rattle.cedar_entities.specs.declared.entities.TCComputation.TheVariants as modes
+use Rattle.cedar_entities.specs.declared.err.EntitiesError.{EntitiesError}
+use Rattle.cedar_entities.specs.declared.err.EntitiesError.TheVariants as errors
+
+-- each entity is valid
+abbrev pub AreAllValid : Held → Type 0
+AreAllValid D = (q : EntityUID) → IfSome (finmap.get D q) IsValid
+
+-- e is held and not valid, and each entity whose uid stands before is valid
+pub record IsFirstFaulty (D : Held) (e : EntityView) : Type 0 where
+  pub held : finmap.get D e.uid ≡ Some e
+  pub faulty : IsValid e → ⊥
+  pub before : (q : EntityUID) → uid_order q e.uid ≡ Less → IfSome (finmap.get D q) IsValid
+
+-- the error tells what is wrong with the first that is not valid
+pub record IsFirstFault (D : Held) (r : EntitiesError) : Type 0 where
+  pub at : EntityView
+  pub first : IsFirstFaulty D at
+  pub fault : IsFault at r
+
+-- the graph of the ancestors is closed, and no entity is among its own
+abbrev pub IsSound : Held → Type 0
+IsSound D = IsClosed (ancestry D) × HasNoLoop (ancestry D)
+
+-- C of what the closure refused, and F of any other refusal; nothing is said of memory
+abbrev pub MatchStoreFault : EntitiesError → (TcError EntityUID → Type 0) → (EntitiesError → Type 0) → Type 0
+MatchStoreFault (errors.TransitiveClosureError t) C F = C t
+MatchStoreFault errors.Memory C F = ⊤
+MatchStoreFault (errors.Duplicate u) C F = F (errors.Duplicate u)
+MatchStoreFault (errors.SelfAncestor u) C F = F (errors.SelfAncestor u)
+MatchStoreFault (errors.DuplicateAncestor u a) C F = F (errors.DuplicateAncestor u a)
+MatchStoreFault (errors.ActionParentIsNotAction u p) C F = F (errors.ActionParentIsNotAction u p)
+MatchStoreFault (errors.ReservedKey k) C F = F (errors.ReservedKey k)
+
+-- the graph of the ancestors is closed and without loop, and each entity is valid
+abbrev pub IsValidStore : Held → Type 0
+IsValidStore D = IsSound D × AreAllValid D
+
+-- the error tells what is wrong with the store: with the graph or, only where nothing is wrong there, with the
+-- entity that has the least uid of those that are not valid
+abbrev pub IsStoreFault : Held → EntitiesError → Type 0
+IsStoreFault D r = MatchStoreFault r (IsClosureRefused modes.EnforceAlreadyComputed D) (λ f. IsSound D × IsFirstFault D f)
+
+-- a faulty entity, where there is none so far or it stands before that one, and that one elsewhere
+abbrev pub sooner_of : EntityView → Option EntityView → Option EntityView
+sooner_of e None = Some e
+sooner_of e (Some a) = if is_lt (uid_order e.uid a.uid) then Some e else Some a
+
+-- r is o where e is valid, and else the sooner of the two
+abbrev pub TakesFaulty : EntityView → Option EntityView → Option EntityView → Type 0
+TakesFaulty e o r = (IsValid e × (r ≡ o)) ⊎ ((IsValid e → ⊥) × (r ≡ sooner_of e o))

@@ -1,0 +1,703 @@
+//! The store of entities.
+ghost use Rattle.std.specs.Prelude.{◌≡◌, Bool, true, false, cond, map, Some, None, IfOk, IfErr, OnOk, OnErr, IsTrue, ⊤, ◌&&◌, is_some, ◌↔◌};
+ghost use Rattle.std.specs.Option.{option_or, option_map, IfSome};
+ghost use Rattle.std.specs.FinMap as finmap;
+ghost use Rattle.std.specs.HashMap.{get};
+ghost use Rattle.std.specs.Set.{is_member};
+ghost use Rattle.cedar_ids.specs.UidOf.{same_uid, uid_order};
+ghost use Rattle.cedar_ids.specs.declared.entity.EntityUID.{EntityUID};
+ghost use Rattle.cedar_graph.specs.Graph.{Reach};
+ghost use Rattle.cedar_graph.specs.declared.err.TcError.TheVariants.{Memory as NoMemory};
+ghost use Rattle.cedar_entities.specs.ClosureFaults.{IsClosureFault};
+ghost use Rattle.cedar_entities.specs.View.{EntityView, IsDeepEqual, IsEquivalenceRelation};
+ghost use Rattle.cedar_entities.specs.Answers.{AreDeepEqual, FindAlike, Finds, IsUnknownOf, ListsHeld};
+ghost use Rattle.cedar_entities.specs.Edits.{last_entity, stripped, with_last, with_none};
+ghost use Rattle.cedar_entities.specs.Held.{held, seen, shared, UidsMatch};
+ghost use Rattle.cedar_entities.specs.Modes.{IsFinished, IsClosureOf, IsClosureRefused, WhereComputed};
+ghost use Rattle.cedar_entities.specs.Plain.{StoreView, IsPlainStore, IsKeyed, AreBare, given_of, no_entities};
+ghost use Rattle.cedar_entities.specs.Present.{first_entity, with_first, AllMatch, FirstMismatch};
+ghost use Rattle.cedar_entities.specs.Refusals.{MatchRefusal, IsAddingRefused, IsOverwritingRefused};
+ghost use Rattle.cedar_entities.specs.declared.err.EntitiesError.TheVariants.{Memory};
+ghost use Rattle.cedar_entities.specs.declared.entities.TCComputation.TheVariants.{EnforceAlreadyComputed, ComputeNow};
+ghost use Rattle.cedar_entities.specs.SameUids.{HaveSameUids};
+ghost use Rattle.cedar_entities.specs.StoreFaults.{IsStoreFault, IsValidStore};
+ghost use Rattle.cedar_entities.specs.World.{World, empty_world, added, overwritten, deleted, graph, AllAgree, FirstDiffers};
+
+use crate::dereference::Dereference;
+use crate::entity::Entity;
+use crate::err::EntitiesError;
+use crate::node::SharedEntity;
+use crate::store_iters::{IntoIter, Iter};
+use crate::store_valid::check_each;
+use cedar_graph::{TcError, compute_tc, enforce_tc_and_dag};
+use cedar_ids::entity::EntityUID;
+use cedar_terms::{Expr, StaticallyTyped, Unknown};
+use std::alloc::{AllocError, Global};
+use std::collections::HashMap;
+use std::marker::Model;
+use std::rc::Rc;
+
+/// How a call sees to it that ancestors are closed.
+#[derive(Clone, Copy, Debug, Drop, PartialEq, Eq, Hash)]
+pub enum TCComputation {
+    /// Nothing is done: the entities are taken to have all their ancestors.
+    AssumeAlreadyComputed,
+    /// The whole store is checked, and refused where an ancestor is missing or an entity is its own.
+    EnforceAlreadyComputed,
+    /// The ancestors are computed, and the store is refused where an entity is among its own.
+    ComputeNow,
+}
+
+/// A store of entities under their uids, in one of two modes: in a partial store an absent entity is not
+/// known, in any other there is none.
+///
+/// Entities are shared: copying a store copies none of them.
+#[derive(Debug, Drop)]
+pub struct Entities {
+    entities: HashMap<EntityUID, SharedEntity>,
+    partial: bool,
+}
+
+impl Model for Entities {
+    ghost use Rattle.cedar_entities.specs.Held.{seen, UidsMatch};
+    ghost use Rattle.cedar_entities.specs.Plain.{StoreView, store_code};
+
+    ghost Value = { StoreView };
+
+    ghost coded = { store_code };
+
+    ghost view = { λ s. record { held = seen s.entities; partial = s.partial } };
+
+    ghost invariant = { λ s. UidsMatch s.entities };
+}
+
+// A copy of a uid.
+fn copy_of(uid: &EntityUID) -> Result<EntityUID, AllocError>
+    ensures { IfOk result (λ copy. copy ≡ uid.now) }
+{
+    uid.clone()
+}
+
+// The unknown that stands for the entity with a uid.
+fn unknown_of(alloc: Global, uid: &EntityUID) -> Result<Expr, AllocError>
+    ensures { IfOk result (IsUnknownOf uid.now) }
+{
+    let name = uid.to_string(alloc)?;
+    let ty = uid.type_of(alloc)?;
+    Expr::unknown(alloc, Unknown::new_with_type(name, ty))
+}
+
+// Puts in an entity whose uid is absent; one that is present has to be deeply equal.
+fn put_new(
+    entities: &mut HashMap<EntityUID, SharedEntity>,
+    entity: Rc<Entity>,
+) -> Result<(), EntitiesError>
+    requires { UidsMatch entities.old }
+    ensures keys { UidsMatch entities.new }
+    ensures agrees { OnOk result
+        (IfSome (held entities.old entity.value.uid) (λ h. IsDeepEqual h entity.value)) }
+    ensures ok { OnOk result ((q : EntityUID) → held entities.new q ≡ option_or
+        (held entities.old q) (cond (same_uid entity.value.uid q) (Some entity.value) None)) }
+    ensures err { IfErr result (λ e. MatchRefusal e (λ u. (u ≡ entity.value.uid) × (h : EntityView)
+        × (held entities.old entity.value.uid ≡ Some h) × (IsDeepEqual h entity.value → ⊥))
+        (λ _. ⊥)) }
+{
+    if let Some(present) = entities.get(entity.uid()) {
+        if !present.0.deep_eq(&entity) {
+            return Err(EntitiesError::Duplicate(copy_of(entity.uid())?));
+        }
+        return Ok(());
+    }
+    let uid = copy_of(entity.uid())?;
+    entities.insert(uid, SharedEntity(entity))?;
+    Ok(())
+}
+
+// Puts in the entities in turn.
+fn put_all(
+    entities: &mut HashMap<EntityUID, SharedEntity>,
+    list: Vec<Rc<Entity>>,
+) -> Result<(), EntitiesError>
+    requires { UidsMatch entities.old }
+    ensures keys { UidsMatch entities.new }
+    ensures agree { OnOk result (AllMatch (held entities.old) (map (λ r. r.value) list.items)) }
+    ensures ok { OnOk result ((q : EntityUID) → held entities.new q ≡ option_or
+        (held entities.old q) (first_entity (map (λ r. r.value) list.items) q)) }
+    ensures err { IfErr result (λ e. MatchRefusal e
+        (FirstMismatch (held entities.old) (map (λ r. r.value) list.items)) (λ _. ⊥)) }
+{
+    for entity in list {
+        put_new(entities, entity)?;
+    }
+    Ok(())
+}
+
+// Puts in an entity, over one with its uid.
+fn put_over(
+    entities: &mut HashMap<EntityUID, SharedEntity>,
+    entity: Rc<Entity>,
+) -> Result<(), EntitiesError>
+    requires { UidsMatch entities.old }
+    ensures keys { OnOk result (UidsMatch entities.new) }
+    ensures ok { OnOk result ((q : EntityUID) → held entities.new q ≡ option_or
+        (cond (same_uid entity.value.uid q) (Some entity.value) None) (held entities.old q)) }
+    ensures err { IfErr result (λ e. e ≡ Memory) }
+{
+    let key = copy_of(entity.uid())?;
+    entities.insert(key, SharedEntity(entity))?;
+    Ok(())
+}
+
+// Puts in the entities in turn, each over one with its uid.
+fn overwrite_all(
+    entities: &mut HashMap<EntityUID, SharedEntity>,
+    list: Vec<Rc<Entity>>,
+) -> Result<(), EntitiesError>
+    requires { UidsMatch entities.old }
+    ensures keys { OnOk result (UidsMatch entities.new) }
+    ensures ok { OnOk result ((q : EntityUID) → held entities.new q ≡ option_or
+        (last_entity (map (λ r. r.value) list.items) q) (held entities.old q)) }
+    ensures err { IfErr result (λ e. e ≡ Memory) }
+{
+    for entity in list {
+        put_over(entities, entity)?;
+    }
+    Ok(())
+}
+
+// Takes its further ancestors from an entity, and the parents that go.
+fn strip(entity: &mut Entity, gone: &[EntityUID])
+    ensures { entity.new ≡ stripped (is_member same_uid gone.now) entity.old }
+{
+    entity.remove_all_indirect_ancestors();
+    for uid in gone {
+        entity.remove_parent(uid);
+    }
+}
+
+// The same of the entity at a uid.
+fn strip_at(
+    entities: &mut HashMap<EntityUID, SharedEntity>,
+    uid: &EntityUID,
+    gone: &[EntityUID],
+) -> Result<(), EntitiesError>
+    ensures ok { OnOk result ((q : EntityUID) → held entities.new q ≡ cond (same_uid uid.now q)
+        (option_map (stripped (is_member same_uid gone.now)) (held entities.old q))
+        (held entities.old q)) }
+    ensures err { IfErr result (λ e. e ≡ Memory) }
+{
+    if let Some(node) = entities.get_mut(uid) {
+        strip(Rc::make_mut(&mut node.0)?, gone);
+    }
+    Ok(())
+}
+
+// Copies of the keys of the map.
+fn keys_of(
+    alloc: Global,
+    entities: &HashMap<EntityUID, SharedEntity>,
+) -> Result<Vec<EntityUID>, AllocError>
+    ensures { IfOk result (λ v. (q : EntityUID) →
+        is_member same_uid v.items q ≡ is_some (get same_uid entities.now q)) }
+{
+    let mut copies = Vec::new(alloc);
+    for key in entities.keys() {
+        copies.push(copy_of(key)?)?;
+    }
+    Ok(copies)
+}
+
+// The same of each entity.
+fn strip_all(
+    alloc: Global,
+    entities: &mut HashMap<EntityUID, SharedEntity>,
+    gone: &[EntityUID],
+) -> Result<(), EntitiesError>
+    requires { UidsMatch entities.old }
+    ensures keys { OnOk result (UidsMatch entities.new) }
+    ensures ok { OnOk result ((q : EntityUID) → held entities.new q ≡ option_map
+        (stripped (is_member same_uid gone.now)) (held entities.old q)) }
+    ensures err { IfErr result (λ e. e ≡ Memory) }
+{
+    let all = keys_of(alloc, entities)?;
+    for key in all {
+        strip_at(entities, &key, gone)?;
+    }
+    Ok(())
+}
+
+// Takes out the entity with a uid, and answers whether there was one.
+fn take_at(entities: &mut HashMap<EntityUID, SharedEntity>, uid: &EntityUID) -> bool
+    ensures was { result ≡ is_some (held entities.old uid.now) }
+    ensures left { (q : EntityUID) → held entities.new q
+        ≡ cond (same_uid uid.now q) None (held entities.old q) }
+{
+    entities.remove(uid).is_some()
+}
+
+// Takes out the entities with these uids, and answers the uids that were there.
+fn take_out(
+    alloc: Global,
+    entities: &mut HashMap<EntityUID, SharedEntity>,
+    list: Vec<EntityUID>,
+) -> Result<Vec<EntityUID>, EntitiesError>
+    requires { UidsMatch entities.old }
+    ensures keys { OnOk result (UidsMatch entities.new) }
+    ensures gone { IfOk result (λ v. (q : EntityUID) → is_member same_uid v.items q
+        ≡ (is_member same_uid list.items q && is_some (held entities.old q))) }
+    ensures ok { OnOk result ((q : EntityUID) → held entities.new q
+        ≡ cond (is_member same_uid list.items q) None (held entities.old q)) }
+    ensures err { IfErr result (λ e. e ≡ Memory) }
+{
+    let mut gone = Vec::new(alloc);
+    for uid in list {
+        if take_at(entities, &uid) {
+            gone.push(uid)?;
+        }
+    }
+    Ok(gone)
+}
+
+// The entities, to be shared.
+fn shared_all(alloc: Global, list: Vec<Entity>) -> Result<Vec<Rc<Entity>>, AllocError>
+    ensures { IfOk result (λ v. map (λ r. r.value) v.items ≡ list.items) }
+{
+    let mut shared = Vec::new(alloc);
+    for entity in list {
+        shared.push(Rc::new(alloc, entity)?)?;
+    }
+    Ok(shared)
+}
+
+// The refusal for a fault of the closure; want of memory is told as what it is.
+fn refusal_of(fault: TcError<EntityUID>) -> EntitiesError
+    ensures told { MatchRefusal result (λ _. ⊥) (λ t. (t ≡ fault)
+        × IsClosureFault t (λ _ _ _. ⊤) (λ _. ⊤)) }
+    ensures memory { result ≡ Memory → fault ≡ NoMemory }
+{
+    match fault {
+        TcError::MissingTcEdge(edge) => {
+            EntitiesError::TransitiveClosureError(TcError::MissingTcEdge(edge))
+        }
+        TcError::HasCycle(cycle) => {
+            EntitiesError::TransitiveClosureError(TcError::HasCycle(cycle))
+        }
+        TcError::Memory => EntitiesError::Memory,
+    }
+}
+
+// Checks that the ancestors are closed and that no entity is its own.
+fn check(alloc: Global, entities: &HashMap<EntityUID, SharedEntity>) -> Result<(), EntitiesError>
+    requires { UidsMatch entities.now }
+    ensures ok { OnOk result (IsFinished EnforceAlreadyComputed
+        (seen entities.now) (seen entities.now)) }
+    ensures err { IfErr result (λ e. MatchRefusal e (λ _. ⊥)
+        (IsClosureRefused EnforceAlreadyComputed (seen entities.now))) }
+{
+    match enforce_tc_and_dag(alloc, entities) {
+        Ok(()) => Ok(()),
+        Err(fault) => Err(refusal_of(fault)),
+    }
+}
+
+// Gives each entity the ancestors that it reaches.
+fn compute(
+    alloc: Global,
+    entities: &mut HashMap<EntityUID, SharedEntity>,
+) -> Result<(), EntitiesError>
+    requires { UidsMatch entities.old }
+    ensures keys { UidsMatch entities.new }
+    ensures ok { OnOk result (IsFinished ComputeNow (seen entities.old) (seen entities.new)) }
+    ensures err { IfErr result (λ e. MatchRefusal e (λ _. ⊥)
+        (IsClosureRefused ComputeNow (seen entities.old))) }
+{
+    match compute_tc(alloc, entities, true) {
+        Ok(()) => Ok(()),
+        Err(fault) => Err(refusal_of(fault)),
+    }
+}
+
+// Sees to it that the ancestors are closed, as the mode says.
+fn finish(
+    alloc: Global,
+    entities: &mut HashMap<EntityUID, SharedEntity>,
+    tc_computation: TCComputation,
+) -> Result<(), EntitiesError>
+    requires { UidsMatch entities.old }
+    ensures keys { UidsMatch entities.new }
+    ensures ok { OnOk result (IsFinished tc_computation (seen entities.old) (seen entities.new)) }
+    ensures err { IfErr result (λ e. MatchRefusal e (λ _. ⊥)
+        (IsClosureRefused tc_computation (seen entities.old))) }
+{
+    match tc_computation {
+        TCComputation::AssumeAlreadyComputed => Ok(()),
+        TCComputation::EnforceAlreadyComputed => check(alloc, entities),
+        TCComputation::ComputeNow => compute(alloc, entities),
+    }
+}
+
+// Whether the map has a deeply equal entity at a uid.
+fn is_alike(entity: &Entity, uid: &EntityUID, other: &HashMap<EntityUID, SharedEntity>) -> bool
+    ensures { IsTrue result ↔ FindAlike (Some entity.now) (held other.now uid.now) }
+{
+    match other.get(uid) {
+        Some(node) => entity.deep_eq(&node.0),
+        None => false,
+    }
+}
+
+// Whether the one map has each entity of the other, or a deeply equal one.
+fn have_alike(
+    one: &HashMap<EntityUID, SharedEntity>,
+    other: &HashMap<EntityUID, SharedEntity>,
+) -> bool
+    ensures { IsTrue result ↔ ((q : EntityUID) →
+        IfSome (held one.now q) (λ e. FindAlike (Some e) (held other.now q))) }
+{
+    for (uid, node) in one {
+        if !is_alike(&node.0, uid, other) {
+            return false;
+        }
+    }
+    true
+}
+
+// Whether the one map has each uid of the other.
+fn have_keys_of(
+    one: &HashMap<EntityUID, SharedEntity>,
+    other: &HashMap<EntityUID, SharedEntity>,
+) -> bool
+    ensures { IsTrue result ↔ ((q : EntityUID) →
+        is_some (get same_uid other.now q) ≡ true → is_some (get same_uid one.now q) ≡ true) }
+{
+    for (uid, _node) in other {
+        if !one.contains_key(uid) {
+            return false;
+        }
+    }
+    true
+}
+
+// A copy of the map, with the same entities.
+fn copy_of_map(
+    entities: &HashMap<EntityUID, SharedEntity>,
+) -> Result<HashMap<EntityUID, SharedEntity>, AllocError>
+    requires { UidsMatch entities.now }
+    ensures seen { IfOk result (λ copy. seen copy ≡ seen entities.now) }
+    ensures keys { IfOk result (λ copy. UidsMatch copy) }
+{
+    let copy = entities.clone()?;
+    Ok(copy)
+}
+
+impl Entities {
+    /// The store without entities, not partial. It takes no memory.
+    pub fn new(alloc: Global) -> Entities
+        ensures value { result ≡ record { held = finmap.empty; partial = false } }
+        ensures plain { IsPlainStore empty_world result }
+    {
+        Entities {
+            entities: HashMap::new(alloc),
+            partial: false,
+        }
+    }
+
+    /// The store with the same entities, now partial. It takes no memory.
+    pub fn partial(self) -> Entities
+        ensures value { result ≡ record { held = self.held; partial = true } }
+        ensures plain { (W : World) → IsPlainStore W self →
+            IsPlainStore (record W { partial = true }) result }
+    {
+        Entities {
+            entities: self.entities,
+            partial: true,
+        }
+    }
+
+    /// Whether the store is partial. It takes no memory.
+    pub fn is_partial(&self) -> bool
+        ensures { result ≡ self.now.partial }
+    {
+        self.partial
+    }
+
+    /// A store of these entities, not partial: what adding them to the store without entities gives.
+    ///
+    /// Refused as [`Entities::add_entities`] is. It takes memory.
+    pub fn from_entities(
+        alloc: Global,
+        list: Vec<Entity>,
+        tc_computation: TCComputation,
+    ) -> Result<Entities, EntitiesError>
+        ensures partial { IfOk result (λ s. s.partial ≡ false) }
+        ensures agree { OnOk result (AllMatch (finmap.get no_entities) list.items) }
+        ensures ok { IfOk result (λ s. IsFinished tc_computation
+            (with_first no_entities list.items) s.held) }
+        ensures err { IfErr result (λ e. MatchRefusal e
+            (FirstMismatch (finmap.get no_entities) list.items)
+            (λ t. AllMatch (finmap.get no_entities) list.items
+            × IsClosureRefused tc_computation (with_first no_entities list.items) t)) }
+        ensures plain_agree { OnOk result (AreBare list.items →
+            AllAgree empty_world (map given_of list.items)) }
+        ensures plain { IfOk result (λ s. AreBare list.items → WhereComputed tc_computation
+            (IsPlainStore (added empty_world (map given_of list.items)) s)) }
+        ensures plain_err { IfErr result (λ e. AreBare list.items → WhereComputed tc_computation
+            (IsAddingRefused empty_world (map given_of list.items) e)) }
+    {
+        let list = shared_all(alloc, list)?;
+        Entities::new(alloc).add_entities(alloc, list, tc_computation)
+    }
+
+    /// The store with these entities too, in the order of the list. Of a uid that the store lacks the first
+    /// of the list goes in; any other has to be deeply equal to the one that stands, which stays.
+    ///
+    /// Refused by [`EntitiesError::Duplicate`], with the uid of the first of the list that differs, before
+    /// any work on the closure; then by [`EntitiesError::TransitiveClosureError`] as the mode says; and by
+    /// `Memory`. A refusal gives no store back.
+    ///
+    /// An indirect ancestor that an entity was given with counts as one that it has. It takes memory. It
+    /// looks up each entity once, and closes or checks the whole store.
+    pub fn add_entities(
+        self,
+        alloc: Global,
+        list: Vec<Rc<Entity>>,
+        tc_computation: TCComputation,
+    ) -> Result<Entities, EntitiesError>
+        ensures partial { IfOk result (λ s. s.partial ≡ self.partial) }
+        ensures agree { OnOk result
+            (AllMatch (finmap.get self.held) (map (λ r. r.value) list.items)) }
+        ensures ok { IfOk result (λ s. IsFinished tc_computation
+            (with_first self.held (map (λ r. r.value) list.items)) s.held) }
+        ensures err { IfErr result (λ e. MatchRefusal e
+            (FirstMismatch (finmap.get self.held) (map (λ r. r.value) list.items))
+            (λ t. AllMatch (finmap.get self.held) (map (λ r. r.value) list.items)
+            × IsClosureRefused tc_computation
+            (with_first self.held (map (λ r. r.value) list.items)) t)) }
+        ensures plain_agree { OnOk result ((W : World) → IsPlainStore W self →
+            AreBare (map (λ r. r.value) list.items) →
+            AllAgree W (map given_of (map (λ r. r.value) list.items))) }
+        ensures plain { IfOk result (λ s. (W : World) → IsPlainStore W self →
+            AreBare (map (λ r. r.value) list.items) → WhereComputed tc_computation
+            (IsPlainStore (added W (map given_of (map (λ r. r.value) list.items))) s)) }
+        ensures plain_err { IfErr result (λ e. (W : World) → IsPlainStore W self →
+            AreBare (map (λ r. r.value) list.items) → WhereComputed tc_computation
+            (IsAddingRefused W (map given_of (map (λ r. r.value) list.items)) e)) }
+    {
+        let mut entities = self.entities;
+        put_all(&mut entities, list)?;
+        finish(alloc, &mut entities, tc_computation)?;
+        Ok(Entities {
+            entities,
+            partial: self.partial,
+        })
+    }
+
+    /// The store with these entities, each in the place of any with its uid; of several with one uid the last
+    /// counts. Ancestors are computed anew.
+    ///
+    /// Refused by [`EntitiesError::TransitiveClosureError`] where an entity is among its own ancestors then,
+    /// and by `Memory`; a refusal gives no store back. An indirect ancestor that one of these entities was
+    /// given with counts as one that it has. It takes memory, and closes the whole store.
+    ///
+    /// Unlike the original it takes no mode: it computes the ancestors.
+    pub fn upsert_entities(
+        self,
+        alloc: Global,
+        list: Vec<Rc<Entity>>,
+    ) -> Result<Entities, EntitiesError>
+        ensures partial { IfOk result (λ s. s.partial ≡ self.partial) }
+        ensures ok { IfOk result (λ s. IsClosureOf
+            (with_last self.held (map (λ r. r.value) list.items)) s.held) }
+        ensures err { IfErr result (λ e. MatchRefusal e (λ _. ⊥) (IsClosureRefused ComputeNow
+            (with_last self.held (map (λ r. r.value) list.items)))) }
+        ensures plain { IfOk result (λ s. (W : World) → IsPlainStore W self →
+            AreBare (map (λ r. r.value) list.items) →
+            IsPlainStore (overwritten W (map given_of (map (λ r. r.value) list.items))) s) }
+        ensures plain_err { IfErr result (λ e. (W : World) → IsPlainStore W self →
+            AreBare (map (λ r. r.value) list.items) →
+            IsOverwritingRefused W (map given_of (map (λ r. r.value) list.items)) e) }
+    {
+        let mut entities = self.entities;
+        strip_all(alloc, &mut entities, &[])?;
+        overwrite_all(&mut entities, list)?;
+        compute(alloc, &mut entities)?;
+        Ok(Entities {
+            entities,
+            partial: self.partial,
+        })
+    }
+
+    /// The store without the entities with these uids, which then are no parents either. Uids that are not
+    /// in the store change nothing, so they stay where they are parents. Ancestors are computed anew.
+    ///
+    /// Refused by [`EntitiesError::TransitiveClosureError`] where an entity is among its own ancestors even
+    /// then, which no computed store has, and by `Memory`; a refusal gives no store back. It takes memory,
+    /// and closes the whole store.
+    ///
+    /// Unlike the original it takes no mode: it computes the ancestors.
+    pub fn remove_entities(
+        self,
+        alloc: Global,
+        list: Vec<EntityUID>,
+    ) -> Result<Entities, EntitiesError>
+        ensures partial { IfOk result (λ s. s.partial ≡ self.partial) }
+        ensures ok { IfOk result (λ s. IsClosureOf (with_none self.held list.items) s.held) }
+        ensures err { IfErr result (λ e. MatchRefusal e (λ _. ⊥)
+            (IsClosureRefused ComputeNow (with_none self.held list.items))) }
+        ensures plain { IfOk result (λ s. (W : World) → IsPlainStore W self →
+            IsPlainStore (deleted W list.items) s) }
+        ensures plain_err { IfErr result (λ e. (W : World) → IsPlainStore W self → e ≡ Memory) }
+    {
+        let mut entities = self.entities;
+        let gone = take_out(alloc, &mut entities, list)?;
+        strip_all(alloc, &mut entities, &gone)?;
+        compute(alloc, &mut entities)?;
+        Ok(Entities {
+            entities,
+            partial: self.partial,
+        })
+    }
+
+    /// How many entities there are. It takes no memory.
+    pub fn len(&self) -> usize
+        ensures value { result ≡ finmap.len self.now.held }
+        ensures plain { (W : World) → IsPlainStore W self.now → result ≡ finmap.len W.entities }
+    {
+        self.entities.len()
+    }
+
+    /// Whether there is no entity. It takes no memory.
+    pub fn is_empty(&self) -> bool
+        ensures { IsTrue result ↔ (self.now.held ≡ no_entities) }
+    {
+        self.len() == 0
+    }
+
+    /// What the store has with a uid: the entity or, where there is none, nothing or, in a partial store, an
+    /// unknown that is named by the printed uid and typed by its entity type.
+    ///
+    /// It takes memory for an unknown alone, and is refused only there.
+    pub fn entity(
+        &self,
+        alloc: Global,
+        uid: &EntityUID,
+    ) -> Result<Dereference<'_, Entity>, AllocError>
+        ensures ok { IfOk result (Finds
+            (finmap.get self.now.held uid.now) self.now.partial uid.now) }
+        ensures err { OnErr result ((finmap.get self.now.held uid.now ≡ None)
+            × (self.now.partial ≡ true)) }
+    {
+        match self.entities.get(uid) {
+            Some(node) => Ok(Dereference::Data(&*node.0)),
+            None => {
+                if !self.partial {
+                    return Ok(Dereference::NoSuchEntity);
+                }
+                Ok(Dereference::Residual(unknown_of(alloc, uid)?))
+            }
+        }
+    }
+
+    /// The entities, each once, in an order of their own. It takes no memory.
+    pub fn iter(&self) -> Iter<'_>
+        ensures lists { ListsHeld self.now.held result }
+        ensures keyed { IsKeyed self.now.held }
+    {
+        Iter::of(&self.entities)
+    }
+
+    /// Whether both are partial or neither is, and both have the same uids, under each of them entities that
+    /// are equal by [`Entity::deep_eq`]. It takes no memory; it looks each uid of the one up in the other.
+    pub fn deep_eq(&self, other: &Entities) -> bool
+        ensures equal { IsTrue result ↔ AreDeepEqual self.now other.now }
+        ensures equivalence { IsEquivalenceRelation AreDeepEqual }
+    {
+        if self.partial != other.partial {
+            return false;
+        }
+        if !have_alike(&self.entities, &other.entities) {
+            return false;
+        }
+        have_keys_of(&self.entities, &other.entities)
+    }
+
+    /// The store as it is, where nothing is wrong with it, and else an error and no store. What is looked
+    /// for, in this order:
+    ///
+    /// - `TransitiveClosureError`: the graph of the ancestors is not closed or, where it is closed, an entity
+    ///   is among its own ancestors, as under [`TCComputation::EnforceAlreadyComputed`];
+    /// - what [`Entity::validate`] finds wrong with an entity; of several such entities the one with the least
+    ///   uid is told of, where the original tells of any;
+    /// - `Memory`: a growth was refused. The check of the graph takes memory, the checks of the entities do
+    ///   not, and the error takes what that of [`Entity::validate`] takes.
+    ///
+    /// It checks the closure of the whole store, then looks each entity over once, and one that it tells of
+    /// twice.
+    pub fn try_validate(self, alloc: Global) -> Result<Entities, EntitiesError>
+        ensures ok { IfOk result (λ s. (s ≡ self) × IsValidStore self.held) }
+        ensures err { IfErr result (IsStoreFault self.held) }
+    {
+        check(alloc, &self.entities)?;
+        check_each(alloc, &self.entities)?;
+        Ok(self)
+    }
+
+    // Whether both have the same uids and mode.
+    fn has_same_uids(&self, other: &Entities) -> bool
+        ensures { IsTrue result ↔ HaveSameUids self.now other.now }
+    {
+        if other.partial != self.partial {
+            return false;
+        }
+        if !have_keys_of(&self.entities, &other.entities) {
+            return false;
+        }
+        have_keys_of(&other.entities, &self.entities)
+    }
+}
+
+impl PartialEq for Entities {
+    ghost use Rattle.std.specs.Cmp.{partial_equiv_from_equiv};
+    ghost use Rattle.cedar_entities.specs.SameUids.{same_uids, same_uids_equiv};
+
+    ghost eq = { same_uids };
+
+    ghost laws = { partial_equiv_from_equiv same_uids_equiv };
+
+    /// Whether both have the same uids and both are partial or neither is. What the entities hold is not
+    /// looked at. It takes no memory; it looks each uid of either up in the other.
+    fn eq(&self, other: &Entities) -> bool {
+        self.has_same_uids(other)
+    }
+}
+
+impl Eq for Entities {
+    ghost use Rattle.cedar_entities.specs.SameUids.{same_uids_equiv};
+
+    ghost laws = { same_uids_equiv };
+}
+
+impl Clone for Entities {
+    ghost is_clone = { λ x y. y ≡ x };
+
+    /// A copy of the store, which shares its entities. It is refused only where memory is.
+    fn clone(&self) -> Result<Entities, AllocError> {
+        Ok(Entities {
+            entities: copy_of_map(&self.entities)?,
+            partial: self.partial,
+        })
+    }
+}
+
+impl IntoIterator for Entities {
+    type Item = Result<Entity, AllocError>;
+
+    type IntoIter = IntoIter;
+
+    ghost into_iter_gives = { λ s r. ListsHeld s.held r };
+
+    /// The entities, each once. It takes no memory; each item may.
+    fn into_iter(self) -> IntoIter {
+        IntoIter::of(self.entities)
+    }
+}

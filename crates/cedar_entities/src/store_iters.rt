@@ -1,0 +1,109 @@
+//! The iterators of a store. Contracts see each as the list of what it has left.
+ghost use Rattle.std.specs.Prelude.{◌≡◌, List, map};
+ghost use Rattle.std.specs.Iterator.{YieldsFirstRef, item_count};
+ghost use Rattle.std.specs.List.{IsDistinct};
+ghost use Rattle.std.specs.HashMap.{keys};
+ghost use Rattle.cedar_ids.specs.UidOf.{same_uid};
+ghost use Rattle.cedar_entities.specs.Answers.{ListsHeld};
+ghost use Rattle.cedar_entities.specs.Held.{seen, shared, UidsMatch};
+
+use crate::entity::Entity;
+use crate::node::SharedEntity;
+use cedar_ids::entity::EntityUID;
+use std::alloc::AllocError;
+use std::collections::{HashMap, hash_map};
+use std::marker::Model;
+use std::rc::Rc;
+
+/// The entities of a store, each once, in an order of their own.
+#[derive(Drop)]
+pub struct Iter<'a> {
+    inner: hash_map::Iter<'a, EntityUID, SharedEntity>,
+}
+
+impl<'a> Model for Iter<'a> {
+    ghost use Rattle.std.specs.Prelude.{List, map};
+    ghost use Rattle.std.specs.Coded.{coded_list};
+    ghost use Rattle.cedar_entities.specs.Held.{shared};
+    ghost use Rattle.cedar_entities.specs.View.{EntityView, view_code};
+
+    ghost Value = { List EntityView };
+
+    ghost coded = { coded_list view_code };
+
+    ghost view = { λ i. map (λ e. shared e.1) i.inner };
+}
+
+impl<'a> Iter<'a> {
+    // The entities of a map.
+    pub(crate) fn of(entities: &'a HashMap<EntityUID, SharedEntity>) -> Iter<'a>
+        requires { UidsMatch entities.now }
+        ensures { ListsHeld (seen entities.now) result }
+    {
+        Iter {
+            inner: entities.iter(),
+        }
+    }
+}
+
+impl<'a> Iterator for Iter<'a> {
+    type Item = &'a Entity;
+
+    ghost next_gives = { YieldsFirstRef (λ s. s) };
+
+    ghost remaining = { item_count (λ s. s) };
+
+    fn next(&mut self) -> Option<&'a Entity> {
+        let (_uid, node) = self.inner.next()?;
+        Some(&*node.0)
+    }
+}
+
+/// The entities of a store, each once, in an order of their own. One that is shared elsewhere is copied: that
+/// takes memory, and its item is a refusal where that is.
+#[derive(Drop)]
+pub struct IntoIter {
+    inner: hash_map::IntoIter<EntityUID, SharedEntity>,
+}
+
+impl Model for IntoIter {
+    ghost use Rattle.std.specs.Prelude.{List, map};
+    ghost use Rattle.std.specs.Coded.{coded_list};
+    ghost use Rattle.cedar_entities.specs.Held.{shared};
+    ghost use Rattle.cedar_entities.specs.View.{EntityView, view_code};
+
+    ghost Value = { List EntityView };
+
+    ghost coded = { coded_list view_code };
+
+    ghost view = { λ i. map (λ e. shared e.1) i.inner };
+}
+
+impl IntoIter {
+    // The entities of a map.
+    pub(crate) fn of(entities: HashMap<EntityUID, SharedEntity>) -> IntoIter
+        requires { UidsMatch entities }
+        ensures { ListsHeld (seen entities) result }
+    {
+        // No effect at run time: this call says that each entry is found.
+        let _ = entities.iter();
+        IntoIter {
+            inner: entities.into_iter(),
+        }
+    }
+}
+
+impl Iterator for IntoIter {
+    type Item = Result<Entity, AllocError>;
+
+    ghost use Rattle.cedar_entities.specs.Answers.{TakesOut};
+
+    ghost next_gives = { TakesOut };
+
+    ghost remaining = { item_count (λ s. s) };
+
+    fn next(&mut self) -> Option<Result<Entity, AllocError>> {
+        let (_uid, node) = self.inner.next()?;
+        Some(Rc::unwrap_or_clone(node.0))
+    }
+}

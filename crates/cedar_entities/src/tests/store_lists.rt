@@ -1,0 +1,229 @@
+// Many lists of calls, each on a store and on the world that it stands for.
+use super::store_beside::{End, compared};
+use super::store_world::{Call, Refused, Row, Rows, bit};
+use std::alloc::Global;
+use std::test::Fail;
+
+// How many lists of calls ended in which way.
+#[derive(Clone, Copy, Drop)]
+struct Tally {
+    differs: u32,
+    held: u32,
+    duplicates: u32,
+    cycles: u32,
+}
+
+impl Tally {
+    fn total(&self) -> u32 {
+        let refused = self.duplicates.wrapping_add(self.cycles);
+        self.differs.wrapping_add(self.held).wrapping_add(refused)
+    }
+
+    // Whether at least this many ended in each way in which they may.
+    fn has_each(&self, least: u32) -> bool {
+        self.held >= least && self.duplicates >= least && self.cycles >= least
+    }
+}
+
+fn nothing() -> Tally {
+    Tally {
+        differs: 0,
+        held: 0,
+        duplicates: 0,
+        cycles: 0,
+    }
+}
+
+fn tell(tally: &mut Tally, end: End) {
+    match end {
+        End::Differs => tally.differs = tally.differs.wrapping_add(1),
+        End::Held => tally.held = tally.held.wrapping_add(1),
+        End::Refused(Refused::Duplicate(_)) => tally.duplicates = tally.duplicates.wrapping_add(1),
+        End::Refused(Refused::Cycle(_)) => tally.cycles = tally.cycles.wrapping_add(1),
+    }
+}
+
+// The entity with a number below 24: each uid with each set of parents.
+fn row_at(number: u8) -> Row {
+    Row {
+        uid: number / 8 % 3,
+        parents: number % 8,
+        attr: 0,
+    }
+}
+
+// The list of one entity.
+fn alone(number: u8) -> Rows {
+    [Some(row_at(number)), None, None]
+}
+
+// The call with a number below 82: each that gives one entity in three ways, each that takes away
+// two of the uids or one twice, and the one that makes the store partial.
+fn call_at(number: u8) -> Call {
+    match number / 24 {
+        0 => Call::From(alone(number % 24)),
+        1 => Call::Add(alone(number % 24)),
+        2 => Call::Upsert(alone(number % 24)),
+        _ => match number % 24 {
+            9 => Call::Partial,
+            place => Call::Remove([place / 3, place % 3]),
+        },
+    }
+}
+
+// Tells of each list of two calls that begins with this one.
+fn tell_pairs(alloc: Global, tally: &mut Tally, one: u8) -> Result<(), Fail> {
+    for other in 0..82_u8 {
+        tell(tally, compared(alloc, &[call_at(one), call_at(other)])?);
+    }
+    Ok(())
+}
+
+fn all_pairs(alloc: Global) -> Result<Tally, Fail> {
+    let mut tally = nothing();
+    for one in 0..82_u8 {
+        tell_pairs(alloc, &mut tally, one)?;
+    }
+    Ok(tally)
+}
+
+#[test]
+fn each_list_of_two_calls_leaves_the_plain_store(rt: HostRuntime) -> Result<(), Fail> {
+    let tally = all_pairs(rt.alloc())?;
+    assert_eq!(rt; tally.differs, 0);
+    assert_eq!(rt; tally.total(), 6724);
+    assert!(rt; tally.has_each(200));
+    Ok(())
+}
+
+// The first eight bits of a number.
+fn low(number: u16) -> u8 {
+    let [low, _high] = number.to_le_bytes();
+    low
+}
+
+// The uid with a set of parents.
+fn child(uid: u8, parents: u16) -> Option<Row> {
+    Some(Row {
+        uid,
+        parents: low(parents % 8),
+        attr: 0,
+    })
+}
+
+// The list with a number below 512 of all three uids: each with each set of parents.
+fn three(number: u16) -> Rows {
+    [
+        child(0, number),
+        child(1, number / 8),
+        child(2, number / 64),
+    ]
+}
+
+// Tells of building a list of all three uids and, where that is not refused, of each further call.
+fn tell_edits(alloc: Global, tally: &mut Tally, number: u16) -> Result<(), Fail> {
+    let first = Call::From(three(number));
+    let end = compared(alloc, &[first])?;
+    if end != End::Held {
+        tell(tally, end);
+        return Ok(());
+    }
+    for other in 0..82_u8 {
+        tell(tally, compared(alloc, &[first, call_at(other)])?);
+    }
+    Ok(())
+}
+
+fn all_edits(alloc: Global) -> Result<Tally, Fail> {
+    let mut tally = nothing();
+    for number in 0..512_u16 {
+        tell_edits(alloc, &mut tally, number)?;
+    }
+    Ok(tally)
+}
+
+#[test]
+fn each_call_on_each_store_of_three_leaves_the_plain_store(rt: HostRuntime) -> Result<(), Fail> {
+    let tally = all_edits(rt.alloc())?;
+    assert_eq!(rt; tally.differs, 0);
+    assert_eq!(rt; tally.total(), 25 * 82 + 487);
+    assert!(rt; tally.has_each(200));
+    Ok(())
+}
+
+// The next of a sequence of numbers that has no visible order.
+fn draw(seed: &mut u64) -> u64 {
+    *seed = seed
+        .wrapping_mul(6_364_136_223_846_793_005)
+        .wrapping_add(1_442_695_040_888_963_407);
+    *seed >> 33
+}
+
+// A number below this one, which is not 0.
+fn below(seed: &mut u64, end: u8) -> u8 {
+    let [low, ..] = (draw(seed) % u64::from(end.max(1))).to_le_bytes();
+    low
+}
+
+// Few uids: each with one chance in four, but for those of a cycle of one, which are rarer.
+fn few(seed: &mut u64, uid: u8) -> u8 {
+    let set = below(seed, 8) & below(seed, 8);
+    match below(seed, 8) {
+        0 => set,
+        _ => set & !bit(uid),
+    }
+}
+
+// Three entities out of four, and else none.
+fn drawn_row(seed: &mut u64) -> Option<Row> {
+    if below(seed, 4) == 0 {
+        return None;
+    }
+    let uid = below(seed, 3);
+    let parents = few(seed, uid);
+    let attr = below(seed, 8) / 7;
+    Some(Row { uid, parents, attr })
+}
+
+fn drawn_rows(seed: &mut u64) -> Rows {
+    [drawn_row(seed), drawn_row(seed), drawn_row(seed)]
+}
+
+fn drawn_call(seed: &mut u64) -> Call {
+    match below(seed, 10) {
+        0 | 1 => Call::From(drawn_rows(seed)),
+        2 | 3 => Call::Add(drawn_rows(seed)),
+        4 | 5 | 6 => Call::Upsert(drawn_rows(seed)),
+        7 | 8 => Call::Remove([below(seed, 3), below(seed, 3)]),
+        _ => Call::Partial,
+    }
+}
+
+// Four calls.
+fn drawn_calls(seed: &mut u64) -> [Call; 4] {
+    [
+        drawn_call(seed),
+        drawn_call(seed),
+        drawn_call(seed),
+        drawn_call(seed),
+    ]
+}
+
+// Tells of this many lists of four calls.
+fn all_drawn(alloc: Global, count: u16) -> Result<Tally, Fail> {
+    let mut tally = nothing();
+    let mut seed = 2_026;
+    for _list in 0..count {
+        tell(&mut tally, compared(alloc, &drawn_calls(&mut seed))?);
+    }
+    Ok(tally)
+}
+
+#[test]
+fn long_lists_of_calls_leave_the_plain_store(rt: HostRuntime) -> Result<(), Fail> {
+    let tally = all_drawn(rt.alloc(), 20_000)?;
+    assert_eq!(rt; tally.differs, 0);
+    assert_eq!(rt; tally.total(), 20_000);
+    assert!(rt; tally.has_each(2_000));
+    Ok(())
+}

@@ -1,0 +1,30 @@
+-- What the refusals of the closure calls say.
+use Rattle.std.specs.Prelude.{◌≡◌, Bool, true, false, Result, Ok, Err, ⊤}
+use Rattle.cedar_graph.specs.declared.err.HasCycle.{HasCycle}
+use Rattle.cedar_graph.specs.declared.err.TcError.{TcError}
+use Rattle.cedar_graph.specs.declared.err.TcError.TheVariants.{MissingTcEdge, HasCycle as CycleFound, Memory}
+
+-- the key that a refusal for a cycle names
+abbrev pub vertex_of : {K : Type 0} → HasCycle K → K
+vertex_of e = e.vertex
+
+-- the keys of a missing edge meet P, and the key on a cycle meets Q; nothing is said of memory
+abbrev pub MatchFault : {K : Type 0} → TcError K → (K → K → K → Type 0) → (K → Type 0) → Type 0
+MatchFault (MissingTcEdge e) P Q = P e.child e.parent e.grandparent
+MatchFault (CycleFound e) P Q = Q (vertex_of e)
+MatchFault Memory P Q = ⊤
+
+-- P, unless memory was refused
+abbrev pub UnlessMemory : {T K : Type 0} → Result T (TcError K) → Type 0 → Type 0
+UnlessMemory (Ok x) P = P
+UnlessMemory (Err (MissingTcEdge e)) P = P
+UnlessMemory (Err (CycleFound e)) P = P
+UnlessMemory (Err Memory) P = ⊤
+
+-- three keys that break closedness
+abbrev pub BreaksClosed : {K : Type 0} → (K → K → Bool) → K → K → K → Type 0
+BreaksClosed G a b c = (G a b ≡ true) × (G b c ≡ true) × (G a c ≡ false)
+
+-- a is the child's key, b is near it, b leads far to c, and the child has no edge to c
+abbrev pub ChildLacks : {K V : Type 0} → (K → K → Bool) → (V → K) → (V → K → Bool) → V → (K → Bool) → (K → K → Bool) → K → K → K → Type 0
+ChildLacks eq key edges child near far a b c = (eq (key child) a ≡ true) × (near b ≡ true) × (far b c ≡ true) × (edges child c ≡ false)

@@ -1,0 +1,5 @@
+pub mod Faults
+pub mod Graph
+pub mod NodeLaws
+pub mod ReachLaws
+pub mod Steps

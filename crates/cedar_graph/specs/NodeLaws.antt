@@ -1,0 +1,36 @@
+-- Laws that a node type and a caller cite: of sets of keys, and of maps that keep their nodes.
+use Rattle.std.specs.Prelude.{◌≡◌, Bool, true, List, [], ◌∷◌, ◌||◌, Option, Some, None}
+use Rattle.std.specs.Cmp.{IsEquivalence}
+use Rattle.std.specs.List.{list_any}
+use Rattle.std.specs.HashMap.{HashMap, get}
+use Rattle.std.specs.HashSet.{HashSet, contains}
+use Rattle.std.specs.Option.{option_map, IfSome}
+use Rattle.std.proofs.Common.{refl, subst}
+use Rattle.cedar_graph.specs.Graph.{KeepsNodes, KeysMatch}
+
+module _ {K : Type 0} {eq : K → K → Bool} (laws : IsEquivalence eq) (x y : K) (same : eq x y ≡ true) where
+  any_alike : (ks : List K) → list_any (eq x) ks ≡ list_any (eq y) ks
+  any_alike [] = refl
+  any_alike (k ∷ ks) = rw (laws.congr x y k same, any_alike ks)
+
+  -- a set has both of two equal keys, or none
+  pub contains_alike : {S : Type 0} (s : HashSet K S) → contains eq s x ≡ contains eq s y
+  contains_alike s = any_alike s.keys
+
+  -- one of two sets has both of two equal keys, or none
+  pub either_alike : {S : Type 0} (s t : HashSet K S) → (contains eq s x || contains eq t x) ≡ (contains eq s y || contains eq t y)
+  either_alike s t = rw (contains_alike s, contains_alike t)
+
+-- what is in the first set is in one of the two
+pub first_of_either : (x y : Bool) → x ≡ true → (x || y) ≡ true
+first_of_either x y h = rw h
+
+module _ {K V : Type 0} (key : V → K) (P : K → Type 0) where
+  if_same_key : (m n : Option V) → option_map key n ≡ option_map key m → IfSome m (λ v. P (key v)) → IfSome n (λ v. P (key v))
+  if_same_key m None same h = tt
+  if_same_key None (Some v) same h = cc
+  if_same_key (Some u) (Some v) same h = let keys : key u ≡ key v = cc in subst P keys h
+
+-- where the nodes are kept, each map key still is its node's key
+pub keys_match_kept : {K V R S : Type 0} (eq : K → K → Bool) (key : V → K) (rest : V → R) (old new : HashMap K V S) → KeepsNodes eq key rest old new → KeysMatch eq key old → KeysMatch eq key new
+keys_match_kept eq key rest old new kept match q = if_same_key key (λ k. eq q k ≡ true) (get eq old q) (get eq new q) (kept.node_keys q) (match q)

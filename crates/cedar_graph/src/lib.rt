@@ -1,0 +1,50 @@
+//! The transitive closure of a graph that is kept as a map from keys to nodes.
+//!
+//! It knows nothing of what the keys and nodes are: it serves every node type that keeps the laws
+//! of [`TCNode`]. [`compute_tc`] closes a graph, [`repair_tc`] closes the nodes that changed, and
+//! [`enforce_tc_and_dag`] checks that a graph is closed and has no cycle.
+//!
+//! A node type says by ghost members what its calls mean, and the calls' clauses follow. A node
+//! with number keys that holds a set of them:
+//!
+//! ```text
+//! impl TCNode<u64> for Plain {
+//!     ghost Rest = { Unit {0} };
+//!     ghost Kept = { Unit {0} };
+//!     ghost key = { λ n. n.number };
+//!     ghost edges = { λ n. contains nat_eq n.targets };
+//!     ghost direct = { λ n. contains nat_eq n.targets };
+//!     ghost rest = { λ n. tt };
+//!     ghost kept = { λ n. tt };
+//!
+//!     fn get_key(&self, _alloc: Global) -> Result<u64, AllocError> { Ok(self.number) }
+//!     fn add_edge_to(&mut self, _alloc: Global, k: u64) -> Result<(), AllocError> {
+//!         self.targets.insert(k)?;
+//!         Ok(())
+//!     }
+//!     fn out_edges(&self, alloc: Global) -> Result<Vec<&u64>, AllocError> {
+//!         self.targets.iter().collect(alloc)
+//!     }
+//!     fn has_edge_to(&self, k: &u64) -> bool { self.targets.contains(k) }
+//!     fn reset_edges(&mut self, _alloc: Global) -> Result<(), AllocError> { Ok(()) }
+//!
+//!     ghost respects_eq = { λ n x y h. contains_alike nat_eq_equiv x y h n.targets };
+//!     ghost direct_are_edges = { λ n q h. h };
+//! }
+//! ```
+//!
+//! `contains_alike` is a law of this crate's `specs/NodeLaws`. A caller of the three calls shows
+//! two things: that each map key is its node's key, and that a copy of a key equals it.
+#![tactic(auto)]
+
+mod checks;
+mod close;
+mod copies;
+pub mod err;
+pub mod transitive_closure;
+
+pub use err::{HasCycle, MissingTcEdge, Result, TcError};
+pub use transitive_closure::{TCNode, compute_tc, enforce_tc_and_dag, repair_tc};
+
+#[cfg(test)]
+mod tests;

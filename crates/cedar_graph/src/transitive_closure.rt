@@ -1,0 +1,260 @@
+//! Nodes with edges, and the three closure calls over a map of them.
+ghost use Rattle.std.specs.Prelude.{
+  ◌≡◌,
+  Bool,
+  true,
+  false,
+  map,
+  ◌||◌,
+  IfOk,
+  OnOk,
+  OnErr,
+  IfErr,
+  IsTrue,
+  IsSome,
+};
+ghost use Rattle.std.specs.Set.{is_member, ClonesAreEqual};
+ghost use Rattle.std.specs.HashMap.{get};
+ghost use Rattle.std.specs.HashSet.{contains};
+ghost use Rattle.cedar_graph.specs.Graph.{
+  graph_of,
+  Reach,
+  KeepsNodes,
+  KeysMatch,
+  KeepsEdges,
+  AddsOnlyReached,
+  ReachesSame,
+  IsClosure,
+  IsClosed,
+  IsTrusted,
+  HasNoLoop,
+  HasNoCycle,
+  HasNoCycleAt,
+};
+ghost use Rattle.cedar_graph.specs.Faults.{MatchFault, UnlessMemory, BreaksClosed};
+
+use crate::checks::{enforce_no_loop, enforce_no_loop_for, enforce_tc};
+use crate::close::{close, repair};
+use crate::err::Result;
+use std::alloc::{AllocError, Global};
+use std::collections::{HashMap, HashSet};
+use std::fmt::{Debug, Display};
+use std::hash::Hash;
+
+/// A node of a graph: it has a key, a set of edges to keys, and some of its edges are direct.
+///
+/// Sets of keys are taken by the keys' equality, which may be coarser than identity. A node type
+/// says by its ghost members what it means, and is lawful where it keeps the clauses below:
+///
+/// - `key`, `edges` and `direct` are its key, its edges and its direct edges;
+/// - `rest` is what else it holds, which no call changes;
+/// - `kept` is what adding an edge keeps beside that; resetting says nothing of it. A node that
+///   has no such thing names the empty value.
+pub trait TCNode<K: Eq> {
+    ghost Rest: { Type 0 };
+
+    ghost Kept: { Type 0 };
+
+    ghost key: { Self → K };
+
+    ghost edges: { Self → K → Bool };
+
+    ghost direct: { Self → K → Bool };
+
+    ghost rest: { Self → Rest };
+
+    ghost kept: { Self → Kept };
+
+    /// A copy of the node's key. May take memory and be refused it.
+    fn get_key(&self, alloc: Global) -> std::result::Result<K, AllocError>
+        ensures { IfOk result (λ k. K.eq (key self.now) k ≡ true) };
+
+    /// Adds an edge to `k`; where the node has one the edges stay. Key, rest and what adding keeps
+    /// stay. May take memory; where it is refused, the edges and the direct edges stay too.
+    fn add_edge_to(&mut self, alloc: Global, k: K) -> std::result::Result<(), AllocError>
+        ensures ok { OnOk result ((q : K) → edges self.new q ≡ (edges self.old q || K.eq k q)) }
+        ensures err { OnErr result ((q : K) → edges self.new q ≡ edges self.old q) }
+        ensures err_direct { OnErr result ((q : K) → direct self.new q ≡ direct self.old q) }
+        ensures key { key self.new ≡ key self.old }
+        ensures rest { rest self.new ≡ rest self.old }
+        ensures kept { kept self.new ≡ kept self.old };
+
+    /// The keys that the node has an edge to, in an order of its own; equal keys may come more
+    /// than once. May take memory and be refused it.
+    fn out_edges(&self, alloc: Global) -> std::result::Result<Vec<&K>, AllocError>
+        ensures { IfOk result (λ v. (q : K) →
+            is_member K.eq (map (λ x. x.now) v.items) q ≡ edges self.now q) };
+
+    /// Whether the node has an edge to `k`. Takes no memory.
+    fn has_edge_to(&self, k: &K) -> bool
+        ensures { result ≡ edges self.now k.now };
+
+    /// Takes every edge away but the direct ones. Key, rest and the direct edges stay. May take
+    /// memory; where it is refused, everything stays.
+    fn reset_edges(&mut self, alloc: Global) -> std::result::Result<(), AllocError>
+        ensures ok { OnOk result ((q : K) → edges self.new q ≡ direct self.old q) }
+        ensures err { OnErr result ((q : K) → edges self.new q ≡ edges self.old q) }
+        ensures err_kept { OnErr result (kept self.new ≡ kept self.old) }
+        ensures direct { (q : K) → direct self.new q ≡ direct self.old q }
+        ensures key { key self.new ≡ key self.old }
+        ensures rest { rest self.new ≡ rest self.old };
+
+    /// Each direct edge's key, and of others only keys that the node has an edge to, in an order
+    /// of its own. The default lists all edges; a node type that keeps its direct edges apart
+    /// writes a body of its own, which lists exactly those. May take memory and be refused it.
+    fn direct_edges(&self, alloc: Global) -> std::result::Result<Vec<&K>, AllocError>
+        ensures has { IfOk result (λ v. (q : K) → direct self.now q ≡ true →
+            is_member K.eq (map (λ x. x.now) v.items) q ≡ true) }
+        ensures only { IfOk result (λ v. (q : K) →
+            is_member K.eq (map (λ x. x.now) v.items) q ≡ true → edges self.now q ≡ true) }
+    {
+        self.out_edges(alloc)
+    }
+
+    // a node has an edge to both of two equal keys, or to none
+    ghost respects_eq: { (n : Self) (x y : K) → K.eq x y ≡ true → edges n x ≡ edges n y };
+
+    ghost direct_are_edges: { (n : Self) (q : K) → direct n q ≡ true → edges n q ≡ true };
+}
+
+/// Closes a graph: adds to each node of the map an edge to each key that it reaches over one or
+/// more edges. Keys outside the map may be reached and have no edges themselves.
+///
+/// Each map key must be its node's key, and a copy of a key must equal it.
+///
+/// With `enforce_dag` it is refused exactly where a node of the map lies on a cycle, by
+/// [`TcError::HasCycle`](crate::TcError::HasCycle), which names such a node; the graph is closed
+/// all the same. Without it nothing is refused but for memory. The map's keys and each node's key,
+/// rest and what adding keeps always stay. After `TcError::Memory` the former edges stay, and each
+/// further edge leads to a key that was reached.
+///
+/// Takes memory for copies of keys. Looks up each key of the map once, and then, for each one that
+/// has edges, each other key once.
+///
+/// Unlike the original it takes the allocator and may answer `TcError::Memory`.
+#[tactic(auto, using(crate::specs::NodeLaws::keys_match_kept, crate::proofs::Reaches::no_cycle_where_asked))]
+pub fn compute_tc<K: Clone + Eq + Hash + Debug + Display, V: TCNode<K>>(
+    alloc: Global,
+    nodes: &mut HashMap<K, V>,
+    enforce_dag: bool,
+) -> Result<(), K>
+    requires copies { ClonesAreEqual K.eq K.is_clone }
+    requires keys { KeysMatch K.eq V.key nodes.old }
+    ensures keys { KeysMatch K.eq V.key nodes.new }
+    ensures keeps { KeepsNodes K.eq V.key V.rest nodes.old nodes.new }
+    ensures kept { KeepsNodes K.eq V.key V.kept nodes.old nodes.new }
+    ensures stays { KeepsEdges (graph_of K.eq V.edges nodes.old) (graph_of K.eq V.edges nodes.new) }
+    ensures only { AddsOnlyReached
+        (graph_of K.eq V.edges nodes.old)
+        (graph_of K.eq V.edges nodes.new) }
+    // reach over reach is reach
+    ensures same { ReachesSame (graph_of K.eq V.edges nodes.old) (graph_of K.eq V.edges nodes.new) }
+    ensures closed { UnlessMemory result (IsClosure
+        (graph_of K.eq V.edges nodes.old)
+        (graph_of K.eq V.edges nodes.new)) }
+    // closing it again changes no edge
+    ensures once { UnlessMemory result (IsClosure
+        (graph_of K.eq V.edges nodes.new)
+        (graph_of K.eq V.edges nodes.new)) }
+    ensures ok { OnOk result (IsTrue enforce_dag → HasNoCycle (graph_of K.eq V.edges nodes.old)) }
+    ensures err { IfErr result (λ e. MatchFault e
+        (λ _ _ _. ⊥)
+        (λ v. IsTrue enforce_dag × Reach (graph_of K.eq V.edges nodes.old) v v)) }
+    ensures in_map { IfErr result (λ e. MatchFault e
+        (λ _ _ _. ⊥)
+        (λ v. IsSome (get K.eq nodes.old v))) }
+{
+    close(alloc, nodes)?;
+    if enforce_dag {
+        return enforce_no_loop(nodes);
+    }
+    Ok(())
+}
+
+/// Closes part of a graph: adds to the nodes at the keys `nodes_to_fix` an edge to each key that
+/// they reach. The other nodes are trusted to have an edge to all that they reach, and left alone;
+/// keys of `nodes_to_fix` that the map lacks do nothing.
+///
+/// Each map key must be its node's key, and a copy of a key must equal it.
+///
+/// Where the trust is right: with `enforce_dag` it is Ok exactly where no key of `nodes_to_fix`
+/// lies on a cycle, and then each node's edges are exactly the keys it reaches; without it they
+/// are so where no key of `nodes_to_fix` lies on a cycle. Whatever the graph is, only edges to
+/// reached keys are added, and memory aside it is refused only with `enforce_dag`, by
+/// [`TcError::HasCycle`](crate::TcError::HasCycle), which names a key of `nodes_to_fix` that lies
+/// on a cycle. The map's keys, each node's key, rest and what adding keeps, the former edges and
+/// the nodes that are not to be fixed always stay.
+///
+/// Takes memory for copies of keys. Looks up each key of the map once, and then, for each one that
+/// has edges, each key of `nodes_to_fix` once.
+///
+/// Unlike the original it takes the allocator and may answer `TcError::Memory`.
+#[tactic(auto, using(crate::specs::NodeLaws::keys_match_kept))]
+pub fn repair_tc<K: Clone + Eq + Hash + Debug + Display, V: TCNode<K>>(
+    alloc: Global,
+    nodes_to_fix: &HashSet<K>,
+    nodes: &mut HashMap<K, V>,
+    enforce_dag: bool,
+) -> Result<(), K>
+    requires copies { ClonesAreEqual K.eq K.is_clone }
+    requires keys { KeysMatch K.eq V.key nodes.old }
+    ensures keys { KeysMatch K.eq V.key nodes.new }
+    ensures keeps { KeepsNodes K.eq V.key V.rest nodes.old nodes.new }
+    ensures kept { KeepsNodes K.eq V.key V.kept nodes.old nodes.new }
+    ensures alone { (q : K) → contains K.eq nodes_to_fix.now q ≡ false →
+        get K.eq nodes.new q ≡ get K.eq nodes.old q }
+    ensures stays { KeepsEdges (graph_of K.eq V.edges nodes.old) (graph_of K.eq V.edges nodes.new) }
+    ensures only { AddsOnlyReached
+        (graph_of K.eq V.edges nodes.old)
+        (graph_of K.eq V.edges nodes.new) }
+    ensures closed { OnOk result (
+        IsTrusted (contains K.eq nodes_to_fix.now) (graph_of K.eq V.edges nodes.old)
+        → HasNoCycleAt (contains K.eq nodes_to_fix.now) (graph_of K.eq V.edges nodes.old)
+        → IsClosure (graph_of K.eq V.edges nodes.old) (graph_of K.eq V.edges nodes.new)) }
+    ensures ok { OnOk result (
+        IsTrusted (contains K.eq nodes_to_fix.now) (graph_of K.eq V.edges nodes.old)
+        → IsTrue enforce_dag
+        → HasNoCycleAt (contains K.eq nodes_to_fix.now) (graph_of K.eq V.edges nodes.old)) }
+    ensures err { IfErr result (λ e. MatchFault e
+        (λ _ _ _. ⊥)
+        (λ v. IsTrue enforce_dag
+        × (contains K.eq nodes_to_fix.now v ≡ true)
+        × Reach (graph_of K.eq V.edges nodes.old) v v)) }
+{
+    repair(alloc, nodes_to_fix, nodes)?;
+    if enforce_dag {
+        return enforce_no_loop_for(alloc, nodes_to_fix, nodes);
+    }
+    Ok(())
+}
+
+/// Checks a graph: Ok exactly where it is closed and no node has an edge to itself.
+///
+/// Each map key must be its node's key, and a copy of a key must equal it.
+///
+/// Refused by [`TcError::MissingTcEdge`](crate::TcError::MissingTcEdge), which names three keys
+/// that show that the graph is not closed; by [`TcError::HasCycle`](crate::TcError::HasCycle) only
+/// where the graph is closed, and it names a key with an edge to itself; and by `TcError::Memory`.
+///
+/// Takes memory for lists of edges. Reads each node's edges once, and once more for each edge that
+/// leads to it.
+///
+/// Unlike the original it takes the allocator and may answer `TcError::Memory`.
+pub fn enforce_tc_and_dag<K: Clone + Eq + Hash + Debug + Display, V: TCNode<K>>(
+    alloc: Global,
+    nodes: &HashMap<K, V>,
+) -> Result<(), K>
+    requires copies { ClonesAreEqual K.eq K.is_clone }
+    requires keys { KeysMatch K.eq V.key nodes.now }
+    ensures ok { OnOk result (
+        IsClosed (graph_of K.eq V.edges nodes.now)
+        × HasNoLoop (graph_of K.eq V.edges nodes.now)) }
+    ensures err { IfErr result (λ e. MatchFault e
+        (BreaksClosed (graph_of K.eq V.edges nodes.now))
+        (λ v. IsClosed (graph_of K.eq V.edges nodes.now)
+        × (graph_of K.eq V.edges nodes.now v v ≡ true))
+        ) }
+{
+    enforce_tc(alloc, nodes)?;
+    enforce_no_loop(nodes)
+}

@@ -1,0 +1,37 @@
+-- How the characters of an eid are written.
+use Rattle.std.specs.Prelude.{ℕ, List, [], ◌∷◌, ◌++◌, Bool, Option, Some, None, false, if◌then◌else◌, ◌==◌, nat_lt, ◌||◌, ◌&&◌, not, nat_le, codes}
+use Rattle.std.specs.List.{flat_map, list_all}
+use Rattle.std.specs.Fmt.{digits}
+
+-- the text of an ASCII character
+abbrev pub escape : ℕ → List ℕ
+escape c =
+    if c == 0 then codes "\\0"
+    else (if c == 9 then codes "\\t"
+    else (if c == 13 then codes "\\r"
+    else (if c == 10 then codes "\\n"
+    else (if c == 39 then codes "\\'"
+    else (if c == 34 then codes "\\\""
+    else (if c == 92 then codes "\\\\"
+    else (if nat_lt c 32 || (c == 127) then codes "\\u{" ++ (digits 16 false c ++ codes "}")
+    else c ∷ [])))))))
+
+-- the text of an ASCII text
+abbrev pub escaped : List ℕ → List ℕ
+escaped text = flat_map escape text
+
+-- an ASCII character
+abbrev pub is_ascii_byte : ℕ → Bool
+is_ascii_byte c = nat_lt c 128
+
+-- each character is ASCII
+abbrev pub is_ascii : List ℕ → Bool
+is_ascii text = list_all is_ascii_byte text
+
+-- what is known of the text of any text
+abbrev pub escaped_output : List ℕ → Option (List ℕ)
+escaped_output text = if is_ascii text then Some (escaped text) else None
+
+-- a byte that is written as it is
+abbrev pub is_plain_byte : ℕ → Bool
+is_plain_byte c = nat_le 32 c && nat_lt c 127 && not (c == 39) && not (c == 34) && not (c == 92)

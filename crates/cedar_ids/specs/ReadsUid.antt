@@ -1,0 +1,34 @@
+-- The order of the checks when a uid is read.
+use Rattle.std.specs.Prelude.{◌≡◌, ◌≤◌, ◌++◌, ℕ, List, length, codes, Result, Ok, Err}
+use Rattle.cedar_ids.specs.Name.{NameParts}
+use Rattle.cedar_ids.specs.Laws.{IsName}
+use Rattle.cedar_ids.specs.Printed.{printed_name}
+use Rattle.cedar_ids.specs.UidOf.{uid_parts}
+use Rattle.cedar_ids.specs.declared.entity.EntityUID.{EntityUID}
+use Rattle.cedar_ids.specs.declared.err.ParseErrors.{ParseErrors}
+use Rattle.cedar_ids.specs.declared.err.ParseErrors.TheVariants.{NotNormalized, InvalidName, Memory}
+
+-- the text is `front`, the mark `::"`, `back` and a last `"`
+abbrev pub IsSplit : List ℕ → List ℕ → List ℕ → Type 0
+IsSplit front back text = text ≡ front ++ (codes "::\"" ++ (back ++ codes "\""))
+
+-- there is such a mark, and a last `"` after it
+abbrev pub HasMarks : List ℕ → Type 0
+HasMarks text = (front : List ℕ) × (back : List ℕ) × IsSplit front back text
+
+-- the mark after `front` is the first one
+abbrev pub IsFirstSplit : List ℕ → List ℕ → List ℕ → Type 0
+IsFirstSplit front back text =
+    IsSplit front back text × ((f b : List ℕ) → IsSplit f b text → length front ≤ length f)
+
+-- this name stands before the first mark
+abbrev pub StartsWithName : NameParts → List ℕ → Type 0
+StartsWithName n text = IsName n × ((back : List ℕ) × IsFirstSplit (printed_name n) back text)
+
+-- `NotNormalized` where the marks are missing; else `InvalidName` where no name stands before the first
+-- mark; else `NotNormalized` or a uid, whose type that name is
+abbrev pub FollowsChecks : Result EntityUID ParseErrors → List ℕ → Type 0
+FollowsChecks (Ok u) text = StartsWithName (uid_parts u).name text
+FollowsChecks (Err NotNormalized) text = HasMarks text → (n : NameParts) × StartsWithName n text
+FollowsChecks (Err InvalidName) text = HasMarks text × ((n : NameParts) → StartsWithName n text → ⊥)
+FollowsChecks (Err Memory) text = Unit {0}

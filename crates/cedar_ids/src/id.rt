@@ -1,0 +1,295 @@
+ghost use Rattle.std.specs.Prelude.{◌≡◌, Some, nat_eq, List, ℕ, IsTrue};
+ghost use Rattle.std.specs.Rc.{rc_str_bytes};
+ghost use Rattle.std.specs.Ordering.{nat_cmp};
+ghost use Rattle.std.specs.Cmp.{partial_equiv_from_equiv};
+ghost use Rattle.std.specs.Cmp.Lexicographic.{pointwise, slice_cmp, nat_list_eq_equiv, nat_list_cmp_total, texts_ties, texts_po};
+ghost use Rattle.std.specs.Hash as fed;
+ghost use Rattle.std.specs.List.{list_all};
+ghost use Rattle.cedar_ids.specs.Reading.{is_id_start, is_id_part, is_identifier, is_reserved, is_id};
+ghost use Rattle.cedar_ids.specs.Laws.{IsIdText, IsIdentifierText};
+ghost use Rattle.cedar_ids.specs.Reads.{Reads};
+ghost use Rattle.std.specs.Cmp.Rules.{hashing};
+ghost use Rattle.std.proofs.Common.{rules, refl};
+
+use crate::err::ParseErrors;
+use std::alloc::{AllocError, Global};
+use std::cmp::Ordering;
+use std::fmt;
+use std::hash::{Hash, Hasher};
+use std::marker::Model;
+use std::rc::RcStr;
+
+/// An identifier that is not a reserved word, as a component of a name is: an ASCII letter or `_`, and
+/// then ASCII letters, digits and `_`.
+///
+/// Contracts see its text. Equality, order (by bytes) and hash are those of the text. `clone` shares the
+/// text and copies no letter. `Display` writes the text.
+#[derive(Drop, Debug)]
+pub struct Id {
+    text: RcStr,
+}
+
+impl Model for Id {
+    ghost use Rattle.std.specs.Prelude.{List, ℕ};
+    ghost use Rattle.std.specs.Rc.{rc_str_bytes};
+    ghost use Rattle.std.specs.Prelude.{IsTrue};
+    ghost use Rattle.cedar_ids.specs.Reading.{is_id};
+
+    ghost Value = { List ℕ };
+
+    ghost view = { λ i. rc_str_bytes i.text };
+
+    ghost invariant = { λ i. IsTrue (is_id (rc_str_bytes i.text)) };
+}
+
+fn is_id_start(b: u8) -> bool
+    ensures { result ≡ is_id_start b }
+{
+    b.is_ascii_alphabetic() || b == b'_'
+}
+
+fn is_id_part(b: u8) -> bool
+    ensures { result ≡ is_id_part b }
+{
+    is_id_start(b) || b.is_ascii_digit()
+}
+
+fn are_id_parts(text: &[u8]) -> bool
+    ensures { result ≡ list_all is_id_part text.now }
+{
+    text.iter().all(|b| is_id_part(*b))
+}
+
+fn is_identifier(text: &str) -> bool
+    ensures { result ≡ is_identifier text.now }
+{
+    match text.as_bytes().split_first() {
+        None => false,
+        Some((first, rest)) => is_id_start(*first) && are_id_parts(rest),
+    }
+}
+
+fn is_reserved(text: &str) -> bool
+    ensures { result ≡ is_reserved text.now }
+{
+    text == "true"
+        || text == "false"
+        || text == "if"
+        || text == "then"
+        || text == "else"
+        || text == "in"
+        || text == "is"
+        || text == "like"
+        || text == "has"
+        || text == "__cedar"
+}
+
+#[tactic(auto, unfolding(crate::specs::Reading::is_id))]
+fn is_id(text: &str) -> bool
+    ensures { result ≡ is_id text.now }
+{
+    is_identifier(text) && !is_reserved(text)
+}
+
+impl Id {
+    /// Reads an identifier that is not reserved: the whole text, with no blank around it.
+    ///
+    /// `InvalidName` comes exactly where the text is none; `Memory` where a growth was refused. Takes
+    /// memory for a copy of the text, and time linear in it.
+    pub fn from_normalized_str(alloc: Global, text: &str) -> Result<Id, ParseErrors>
+        ensures { Reads IsIdText result text.now }
+    {
+        if is_id(text) {
+            let text = RcStr::from_str(alloc, text)?;
+            Ok(Id { text })
+        } else {
+            Err(ParseErrors::InvalidName)
+        }
+    }
+
+    /// The text. Takes no memory.
+    pub fn as_ref(&self) -> &str
+        ensures value { result.now ≡ self.now }
+        ensures valid { IsTrue (is_id self.now) }
+    {
+        self.text.as_str()
+    }
+}
+
+impl Clone for Id {
+    ghost is_clone = { λ x y. y ≡ x };
+
+    fn clone(&self) -> Result<Id, AllocError> {
+        let text = self.text.clone()?;
+        Ok(Id { text })
+    }
+}
+
+impl PartialEq for Id {
+    ghost eq = { pointwise nat_eq };
+
+    ghost laws = { partial_equiv_from_equiv nat_list_eq_equiv };
+
+    fn eq(&self, other: &Id) -> bool {
+        self.text == other.text
+    }
+}
+
+impl Eq for Id {
+    ghost laws = { nat_list_eq_equiv };
+}
+
+impl PartialOrd for Id {
+    ghost partial_cmp = { λ x y. Some (slice_cmp nat_cmp x y) };
+
+    ghost laws = { texts_po };
+
+    fn partial_cmp(&self, other: &Id) -> Option<Ordering> {
+        Some(self.cmp(other))
+    }
+}
+
+impl Ord for Id {
+    ghost cmp = { slice_cmp nat_cmp };
+
+    ghost total = { nat_list_cmp_total };
+
+    ghost matches_partial_cmp = { λ x y. refl };
+
+    ghost matches_eq = { texts_ties };
+
+    fn cmp(&self, other: &Id) -> Ordering {
+        self.text.cmp(&other.text)
+    }
+}
+
+impl Hash for Id {
+    ghost hash_input = { fed.str };
+
+    ghost respects_eq = { Prim.search (hashing, rules) };
+
+    fn hash<H: Hasher>(&self, state: &mut H) {
+        self.text.hash(state);
+    }
+}
+
+impl fmt::Display for Id {
+    ghost output = { λ i. Some i };
+
+    fn fmt<W: fmt::Write>(&self, f: &mut fmt::Formatter<W>) -> fmt::Result {
+        fmt::Display::fmt(&self.text, f)
+    }
+}
+
+/// An identifier, reserved or not: an ASCII letter or `_`, and then ASCII letters, digits and `_`. Keys of
+/// annotations are such identifiers.
+///
+/// Contracts see its text. Equality, order (by bytes) and hash are those of the text. `clone` shares the
+/// text and copies no letter. `Display` writes the text.
+#[derive(Drop, Debug)]
+pub struct AnyId {
+    word: RcStr,
+}
+
+impl Model for AnyId {
+    ghost use Rattle.std.specs.Prelude.{List, ℕ};
+    ghost use Rattle.std.specs.Rc.{rc_str_bytes};
+    ghost use Rattle.std.specs.Prelude.{IsTrue};
+    ghost use Rattle.cedar_ids.specs.Reading.{is_identifier};
+
+    ghost Value = { List ℕ };
+
+    ghost view = { λ i. rc_str_bytes i.word };
+
+    ghost invariant = { λ i. IsTrue (is_identifier (rc_str_bytes i.word)) };
+}
+
+impl AnyId {
+    /// Reads an identifier, also a reserved word: the whole text, with no blank around it.
+    ///
+    /// `InvalidName` comes exactly where the text is none; `Memory` where a growth was refused. Takes
+    /// memory for a copy of the text, and time linear in it.
+    pub fn from_normalized_str(alloc: Global, text: &str) -> Result<AnyId, ParseErrors>
+        ensures { Reads IsIdentifierText result text.now }
+    {
+        if is_identifier(text) {
+            let word = RcStr::from_str(alloc, text)?;
+            Ok(AnyId { word })
+        } else {
+            Err(ParseErrors::InvalidName)
+        }
+    }
+
+    /// The text. Takes no memory.
+    pub fn as_ref(&self) -> &str
+        ensures value { result.now ≡ self.now }
+        ensures valid { IsTrue (is_identifier self.now) }
+    {
+        self.word.as_str()
+    }
+}
+
+impl Clone for AnyId {
+    ghost is_clone = { λ x y. y ≡ x };
+
+    fn clone(&self) -> Result<AnyId, AllocError> {
+        let word = self.word.clone()?;
+        Ok(AnyId { word })
+    }
+}
+
+impl PartialEq for AnyId {
+    ghost eq = { pointwise nat_eq };
+
+    ghost laws = { partial_equiv_from_equiv nat_list_eq_equiv };
+
+    fn eq(&self, other: &AnyId) -> bool {
+        self.word == other.word
+    }
+}
+
+impl Eq for AnyId {
+    ghost laws = { nat_list_eq_equiv };
+}
+
+impl PartialOrd for AnyId {
+    ghost partial_cmp = { λ x y. Some (slice_cmp nat_cmp x y) };
+
+    ghost laws = { texts_po };
+
+    fn partial_cmp(&self, other: &AnyId) -> Option<Ordering> {
+        Some(self.cmp(other))
+    }
+}
+
+impl Ord for AnyId {
+    ghost cmp = { slice_cmp nat_cmp };
+
+    ghost total = { nat_list_cmp_total };
+
+    ghost matches_partial_cmp = { λ x y. refl };
+
+    ghost matches_eq = { texts_ties };
+
+    fn cmp(&self, other: &AnyId) -> Ordering {
+        self.word.cmp(&other.word)
+    }
+}
+
+impl Hash for AnyId {
+    ghost hash_input = { fed.str };
+
+    ghost respects_eq = { Prim.search (hashing, rules) };
+
+    fn hash<H: Hasher>(&self, state: &mut H) {
+        self.word.hash(state);
+    }
+}
+
+impl fmt::Display for AnyId {
+    ghost output = { λ i. Some i };
+
+    fn fmt<W: fmt::Write>(&self, f: &mut fmt::Formatter<W>) -> fmt::Result {
+        fmt::Display::fmt(&self.word, f)
+    }
+}

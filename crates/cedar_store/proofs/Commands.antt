@@ -1,0 +1,101 @@
+-- Which fields are those of which command.
+use Rattle.std.specs.Prelude.{◌≡◌, ℕ, zero, suc, ◌+◌, ◌<◌, List, [], ◌∷◌, ◌++◌, map, codes, length, ◌==◌, Bool, true, false}
+use Rattle.std.proofs.Common.{ap, sym, refl, ◌∙◌, get_or, take, arith}
+use Rattle.std.proofs.lemmas.Bool.{false≢true}
+use Rattle.std.specs.Str.{bytes_eq}
+use Rattle.std.specs.Borrow.{Bor}
+use Rattle.std.proofs.lemmas.List.{map-append, take_more}
+use borrow.Author.Tests.{eqb-true}
+use Rattle.cedar_ids.specs.Laws.{IsPrinted}
+use Rattle.cedar_ids.specs.UidOf.{uid_parts}
+use Rattle.cedar_ids.specs.declared.entity.EntityUID.{EntityUID}
+use Rattle.cedar_store.specs.Command.{Command, Nothing, Ent, Build, Add, Upsert, Remove, Anc, AreTexts, IsCommand}
+
+abbrev pub Text : EntityUID → List ℕ → Type 0
+Text u t = IsPrinted (uid_parts u) t
+
+-- one text more
+pub texts_push : (us : List EntityUID) (ts : List (List ℕ)) (u : EntityUID) (t : List ℕ) → AreTexts us ts → Text u t → AreTexts (us ++ u ∷ []) (ts ++ t ∷ [])
+texts_push [] [] u t h p = (p, tt)
+texts_push [] (x ∷ ts) u t h p = absurd h
+texts_push (v ∷ us) [] u t h p = absurd h
+texts_push (v ∷ us) (x ∷ ts) u t h p = (h.0, texts_push us ts u t h.1 p)
+
+-- one field more
+pub texts_more : (us : List EntityUID) (fs : List (Bor (List ℕ))) (i : ℕ) (d : Bor (List ℕ)) (u : EntityUID) → i < length fs → AreTexts us (map (λ f. f.now) (take i fs)) → Text u (get_or fs i d).now
+    → AreTexts (us ++ u ∷ []) (map (λ f. f.now) (take (i + 1) fs))
+texts_more us fs i d u l h p = rw (take_more fs i d l, map-append) (texts_push us (map (λ f. f.now) (take i fs)) u (get_or fs i d).now h p)
+
+-- no fields are the texts of no uids
+pub none_left : (fs : List (Bor (List ℕ))) (b : Bool) → b ≡ (length fs == 0) → b ≡ true → AreTexts [] (map (λ f. f.now) fs)
+none_left [] b e t = tt
+none_left (f ∷ fs) b e t = let z : length (f ∷ fs) ≡ 0 = eqb-true (length (f ∷ fs)) 0 (sym e ∙ t) in absurd (omega arith)
+
+-- a field that is no text leaves none for the whole
+pub no_texts : (fs : List (Bor (List ℕ))) (i : ℕ) (d : Bor (List ℕ)) → i < length fs → ((u : EntityUID) → Text u (get_or fs i d).now → ⊥) → (us : List EntityUID) → AreTexts us (map (λ f. f.now) fs) → ⊥
+no_texts [] i d l none us h = absurd (omega arith)
+no_texts (f ∷ fs) i d l none [] h = h
+no_texts (f ∷ fs) zero d l none (u ∷ us) h = none u h.0
+no_texts (f ∷ fs) (suc i) d l none (u ∷ us) h = no_texts fs i d (omega arith) none us h.1
+
+-- no fields are those of no command
+pub no_fields : (c : Command) → IsCommand c [] → ⊥
+no_fields Nothing h = cc
+no_fields (Ent u ps) h = h
+no_fields Build h = h
+no_fields Add h = h
+no_fields Upsert h = h
+no_fields (Remove us) h = h.0
+no_fields (Anc u) h = h
+
+-- the words of the commands differ
+pub differs : (a b : List ℕ) → bytes_eq a b ≡ false → bytes_eq b b ≡ true → a ≡ b → ⊥
+differs a b apart itself e = false≢true (sym apart ∙ ap (λ w. bytes_eq w b) e ∙ itself)
+
+one_field : (w : List ℕ) (ts : List (List ℕ)) → w ∷ ts ≡ [] ∷ [] → w ≡ []
+one_field w ts h = cc
+
+-- the first field tells which command there may be
+pub not_ent : (w : List ℕ) (ts : List (List ℕ)) → w ≡ codes "ent" → ((u : EntityUID) (ps : List EntityUID) → AreTexts (u ∷ ps) ts → ⊥) → (c : Command) → IsCommand c (w ∷ ts) → ⊥
+not_ent w ts e none Nothing h = differs (codes "ent") [] refl refl (sym e ∙ one_field w ts h)
+not_ent w ts e none (Ent u ps) h = none u ps h.1
+not_ent w ts e none Build h = differs (codes "ent") (codes "build") refl refl (sym e ∙ h.0)
+not_ent w ts e none Add h = differs (codes "ent") (codes "add") refl refl (sym e ∙ h.0)
+not_ent w ts e none Upsert h = differs (codes "ent") (codes "upsert") refl refl (sym e ∙ h.0)
+not_ent w ts e none (Remove us) h = differs (codes "ent") (codes "remove") refl refl (sym e ∙ h.0.0)
+not_ent w ts e none (Anc u) h = differs (codes "ent") (codes "anc") refl refl (sym e ∙ h.0)
+
+pub not_remove : (w : List ℕ) (ts : List (List ℕ)) → w ≡ codes "remove" → ((us : List EntityUID) → (us ≡ [] → ⊥) → AreTexts us ts → ⊥) → (c : Command) → IsCommand c (w ∷ ts) → ⊥
+not_remove w ts e none Nothing h = differs (codes "remove") [] refl refl (sym e ∙ one_field w ts h)
+not_remove w ts e none (Ent u ps) h = differs (codes "remove") (codes "ent") refl refl (sym e ∙ h.0)
+not_remove w ts e none Build h = differs (codes "remove") (codes "build") refl refl (sym e ∙ h.0)
+not_remove w ts e none Add h = differs (codes "remove") (codes "add") refl refl (sym e ∙ h.0)
+not_remove w ts e none Upsert h = differs (codes "remove") (codes "upsert") refl refl (sym e ∙ h.0)
+not_remove w ts e none (Remove us) h = none us h.1 h.0.1
+not_remove w ts e none (Anc u) h = differs (codes "remove") (codes "anc") refl refl (sym e ∙ h.0)
+
+pub not_anc : (w : List ℕ) (ts : List (List ℕ)) → w ≡ codes "anc" → ((u : EntityUID) → AreTexts (u ∷ []) ts → ⊥) → (c : Command) → IsCommand c (w ∷ ts) → ⊥
+not_anc w ts e none Nothing h = differs (codes "anc") [] refl refl (sym e ∙ one_field w ts h)
+not_anc w ts e none (Ent u ps) h = differs (codes "anc") (codes "ent") refl refl (sym e ∙ h.0)
+not_anc w ts e none Build h = differs (codes "anc") (codes "build") refl refl (sym e ∙ h.0)
+not_anc w ts e none Add h = differs (codes "anc") (codes "add") refl refl (sym e ∙ h.0)
+not_anc w ts e none Upsert h = differs (codes "anc") (codes "upsert") refl refl (sym e ∙ h.0)
+not_anc w ts e none (Remove us) h = differs (codes "anc") (codes "remove") refl refl (sym e ∙ h.0.0)
+not_anc w ts e none (Anc u) h = none u h.1
+
+-- a word by itself is one of four commands or none
+pub not_word : (w : List ℕ) → (w ≡ codes "build" → ⊥) → (w ≡ codes "add" → ⊥) → (w ≡ codes "upsert" → ⊥) → (w ≡ [] → ⊥) → (c : Command) → IsCommand c (w ∷ []) → ⊥
+not_word w build add upsert empty Nothing h = empty (one_field w [] h)
+not_word w build add upsert empty (Ent u ps) h = h.1
+not_word w build add upsert empty Build h = build h.0
+not_word w build add upsert empty Add h = add h.0
+not_word w build add upsert empty Upsert h = upsert h.0
+not_word w build add upsert empty (Remove []) h = h.1 refl
+not_word w build add upsert empty (Remove (u ∷ us)) h = h.0.1
+not_word w build add upsert empty (Anc u) h = h.1
+
+-- no field is the text of no uid, and of no others
+pub no_uids : (fs : List (Bor (List ℕ))) (b : Bool) → b ≡ (length fs == 0) → b ≡ true → (us : List EntityUID) → (us ≡ [] → ⊥) → AreTexts us (map (λ f. f.now) fs) → ⊥
+no_uids [] b e t [] n h = n refl
+no_uids [] b e t (u ∷ us) n h = h
+no_uids (f ∷ fs) b e t us n h = let z : length (f ∷ fs) ≡ 0 = eqb-true (length (f ∷ fs)) 0 (sym e ∙ t) in absurd (omega arith)

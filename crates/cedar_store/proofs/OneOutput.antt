@@ -1,0 +1,252 @@
+-- No input has two outputs.
+use Rattle.std.specs.Prelude.{◌≡◌, ℕ, ◌+◌, List, [], ◌∷◌, ◌++◌, codes, Bool, true, false, ◌||◌}
+use Rattle.std.proofs.Common.{ap, sym, refl, subst, ◌∙◌, inl, inr}
+use Rattle.std.proofs.lemmas.Bool.{false≢true, or_cases}
+use Rattle.std.specs.Cmp.{tied_itself}
+use Rattle.std.specs.Fmt.{decimal}
+use Rattle.std.specs.Bool.{MatchBool}
+use Rattle.std.specs.List.{AllByRecursion, flat_map}
+use Rattle.std.specs.List.Sorted.{IsStrictlySortedBy}
+use Rattle.std.specs.Set.{is_member}
+use Rattle.std.specs.FinMap as finmap
+use Rattle.std.specs.Ordering.{is_eq}
+use Rattle.std.specs.declared.cmp.Ordering.TheVariants.{Less}
+use Rattle.cedar_ids.specs.UidOf.{uid_parts, uid_order, same_uid, same_uid_decides, same_uid_equiv, uid_order_total}
+use Rattle.cedar_ids.specs.PrintedLaws.{printed_uid_injective}
+use Rattle.cedar_ids.specs.declared.entity.EntityUID.{EntityUID}
+use Rattle.cedar_ids.specs.declared.entity.EntityUID.TheVariants as uids
+use Rattle.cedar_store.specs.Command.{Command, Nothing, Ent, Build, Add, Upsert, Remove, Anc, AreTexts, AreFields, IsCommand}
+use Rattle.cedar_entities.specs.World.{World, Given, AllAgree, Agrees, FirstDiffers, empty_world}
+use Rattle.cedar_store.specs.Output.{State, Written, Adds, Overwrites, Deletes, AreAncestors, Gives, IsOutputFrom, OutputIsOne, after, written_line, uid_text, field_of}
+use Rattle.cedar_store.proofs.Commands.{Text, differs}
+use Rattle.cedar_store.proofs.Lists.{all_at}
+
+same_uids : (u v : EntityUID) → uid_parts u ≡ uid_parts v → u ≡ v
+same_uids (uids.EntityUID u) (uids.EntityUID v) e = ap uids.EntityUID e
+
+one_text : (u v : EntityUID) (t : List ℕ) → Text u t → Text v t → u ≡ v
+one_text u v t h k = same_uids u v (printed_uid_injective (uid_parts u) (uid_parts v) t h k)
+
+one_list : (us vs : List EntityUID) (ts : List (List ℕ)) → AreTexts us ts → AreTexts vs ts → us ≡ vs
+one_list [] [] [] h k = refl
+one_list [] [] (t ∷ ts) h k = absurd h
+one_list [] (v ∷ vs) [] h k = absurd k
+one_list [] (v ∷ vs) (t ∷ ts) h k = absurd h
+one_list (u ∷ us) [] [] h k = absurd h
+one_list (u ∷ us) [] (t ∷ ts) h k = absurd k
+one_list (u ∷ us) (v ∷ vs) [] h k = absurd h
+one_list (u ∷ us) (v ∷ vs) (t ∷ ts) h k = λ i. one_text u v t h.0 k.0 i ∷ one_list us vs ts h.1 k.1 i
+
+-- two words are not the same first field
+words : (a b : List ℕ) (us vs : List EntityUID) (fs : List (List ℕ)) → (a ≡ b → ⊥) → AreFields a us fs → AreFields b vs fs → ⊥
+words a b us vs [] d h k = h
+words a b us vs (f ∷ fs) d h k = d (sym h.0 ∙ k.0)
+
+empty_field : (b : List ℕ) (us : List EntityUID) (fs : List (List ℕ)) → ([] ≡ b → ⊥) → fs ≡ [] ∷ [] → AreFields b us fs → ⊥
+empty_field b us fs d e h = d (subst (AreFields b us) e h).0
+
+fields_list : (a : List ℕ) (us vs : List EntityUID) (fs : List (List ℕ)) → AreFields a us fs → AreFields a vs fs → us ≡ vs
+fields_list a us vs [] h k = absurd h
+fields_list a us vs (f ∷ fs) h k = one_list us vs fs h.1 k.1
+
+head_of : EntityUID → List EntityUID → EntityUID
+head_of d [] = d
+head_of d (u ∷ us) = u
+
+tail_of : List EntityUID → List EntityUID
+tail_of [] = []
+tail_of (u ∷ us) = us
+
+ent_of : EntityUID → List EntityUID → Command
+ent_of d us = Ent (head_of d us) (tail_of us)
+
+anc_of : EntityUID → List EntityUID → Command
+anc_of d us = Anc (head_of d us)
+
+pub one_command : (c d : Command) (fs : List (List ℕ)) → IsCommand c fs → IsCommand d fs → c ≡ d
+unfolding head_of tail_of ent_of anc_of
+one_command Nothing Nothing fs h k = refl
+one_command Nothing (Ent v qs) fs h k = absurd (empty_field (codes "ent") (v ∷ qs) fs (differs [] (codes "ent") refl refl) h k)
+one_command Nothing Build fs h k = absurd (empty_field (codes "build") [] fs (differs [] (codes "build") refl refl) h k)
+one_command Nothing Add fs h k = absurd (empty_field (codes "add") [] fs (differs [] (codes "add") refl refl) h k)
+one_command Nothing Upsert fs h k = absurd (empty_field (codes "upsert") [] fs (differs [] (codes "upsert") refl refl) h k)
+one_command Nothing (Remove vs) fs h k = absurd (empty_field (codes "remove") vs fs (differs [] (codes "remove") refl refl) h k.0)
+one_command Nothing (Anc v) fs h k = absurd (empty_field (codes "anc") (v ∷ []) fs (differs [] (codes "anc") refl refl) h k)
+one_command (Ent u ps) Nothing fs h k = absurd (empty_field (codes "ent") (u ∷ ps) fs (differs [] (codes "ent") refl refl) k h)
+one_command (Ent u ps) (Ent v qs) fs h k = ap (ent_of u) (fields_list (codes "ent") (u ∷ ps) (v ∷ qs) fs h k)
+one_command (Ent u ps) Build fs h k = absurd (words (codes "ent") (codes "build") (u ∷ ps) [] fs (differs _ _ refl refl) h k)
+one_command (Ent u ps) Add fs h k = absurd (words (codes "ent") (codes "add") (u ∷ ps) [] fs (differs _ _ refl refl) h k)
+one_command (Ent u ps) Upsert fs h k = absurd (words (codes "ent") (codes "upsert") (u ∷ ps) [] fs (differs _ _ refl refl) h k)
+one_command (Ent u ps) (Remove vs) fs h k = absurd (words (codes "ent") (codes "remove") (u ∷ ps) vs fs (differs _ _ refl refl) h k.0)
+one_command (Ent u ps) (Anc v) fs h k = absurd (words (codes "ent") (codes "anc") (u ∷ ps) (v ∷ []) fs (differs _ _ refl refl) h k)
+one_command Build Nothing fs h k = absurd (empty_field (codes "build") [] fs (differs [] (codes "build") refl refl) k h)
+one_command Build (Ent v qs) fs h k = absurd (words (codes "build") (codes "ent") [] (v ∷ qs) fs (differs _ _ refl refl) h k)
+one_command Build Build fs h k = refl
+one_command Build Add fs h k = absurd (words (codes "build") (codes "add") [] [] fs (differs _ _ refl refl) h k)
+one_command Build Upsert fs h k = absurd (words (codes "build") (codes "upsert") [] [] fs (differs _ _ refl refl) h k)
+one_command Build (Remove vs) fs h k = absurd (words (codes "build") (codes "remove") [] vs fs (differs _ _ refl refl) h k.0)
+one_command Build (Anc v) fs h k = absurd (words (codes "build") (codes "anc") [] (v ∷ []) fs (differs _ _ refl refl) h k)
+one_command Add Nothing fs h k = absurd (empty_field (codes "add") [] fs (differs [] (codes "add") refl refl) k h)
+one_command Add (Ent v qs) fs h k = absurd (words (codes "add") (codes "ent") [] (v ∷ qs) fs (differs _ _ refl refl) h k)
+one_command Add Build fs h k = absurd (words (codes "add") (codes "build") [] [] fs (differs _ _ refl refl) h k)
+one_command Add Add fs h k = refl
+one_command Add Upsert fs h k = absurd (words (codes "add") (codes "upsert") [] [] fs (differs _ _ refl refl) h k)
+one_command Add (Remove vs) fs h k = absurd (words (codes "add") (codes "remove") [] vs fs (differs _ _ refl refl) h k.0)
+one_command Add (Anc v) fs h k = absurd (words (codes "add") (codes "anc") [] (v ∷ []) fs (differs _ _ refl refl) h k)
+one_command Upsert Nothing fs h k = absurd (empty_field (codes "upsert") [] fs (differs [] (codes "upsert") refl refl) k h)
+one_command Upsert (Ent v qs) fs h k = absurd (words (codes "upsert") (codes "ent") [] (v ∷ qs) fs (differs _ _ refl refl) h k)
+one_command Upsert Build fs h k = absurd (words (codes "upsert") (codes "build") [] [] fs (differs _ _ refl refl) h k)
+one_command Upsert Add fs h k = absurd (words (codes "upsert") (codes "add") [] [] fs (differs _ _ refl refl) h k)
+one_command Upsert Upsert fs h k = refl
+one_command Upsert (Remove vs) fs h k = absurd (words (codes "upsert") (codes "remove") [] vs fs (differs _ _ refl refl) h k.0)
+one_command Upsert (Anc v) fs h k = absurd (words (codes "upsert") (codes "anc") [] (v ∷ []) fs (differs _ _ refl refl) h k)
+one_command (Remove us) Nothing fs h k = absurd (empty_field (codes "remove") us fs (differs [] (codes "remove") refl refl) k h.0)
+one_command (Remove us) (Ent v qs) fs h k = absurd (words (codes "remove") (codes "ent") us (v ∷ qs) fs (differs _ _ refl refl) h.0 k)
+one_command (Remove us) Build fs h k = absurd (words (codes "remove") (codes "build") us [] fs (differs _ _ refl refl) h.0 k)
+one_command (Remove us) Add fs h k = absurd (words (codes "remove") (codes "add") us [] fs (differs _ _ refl refl) h.0 k)
+one_command (Remove us) Upsert fs h k = absurd (words (codes "remove") (codes "upsert") us [] fs (differs _ _ refl refl) h.0 k)
+one_command (Remove us) (Remove vs) fs h k = ap Remove (fields_list (codes "remove") us vs fs h.0 k.0)
+one_command (Remove us) (Anc v) fs h k = absurd (words (codes "remove") (codes "anc") us (v ∷ []) fs (differs _ _ refl refl) h.0 k)
+one_command (Anc u) Nothing fs h k = absurd (empty_field (codes "anc") (u ∷ []) fs (differs [] (codes "anc") refl refl) k h)
+one_command (Anc u) (Ent v qs) fs h k = absurd (words (codes "anc") (codes "ent") (u ∷ []) (v ∷ qs) fs (differs _ _ refl refl) h k)
+one_command (Anc u) Build fs h k = absurd (words (codes "anc") (codes "build") (u ∷ []) [] fs (differs _ _ refl refl) h k)
+one_command (Anc u) Add fs h k = absurd (words (codes "anc") (codes "add") (u ∷ []) [] fs (differs _ _ refl refl) h k)
+one_command (Anc u) Upsert fs h k = absurd (words (codes "anc") (codes "upsert") (u ∷ []) [] fs (differs _ _ refl refl) h k)
+one_command (Anc u) (Remove vs) fs h k = absurd (words (codes "anc") (codes "remove") (u ∷ []) vs fs (differs _ _ refl refl) h k.0)
+one_command (Anc u) (Anc v) fs h k = ap (anc_of u) (fields_list (codes "anc") (u ∷ []) (v ∷ []) fs h k)
+
+-- the first place that differs is one place
+split_agrees : {X : Type 0} (P : X → Type 0) (before before' : List X) (at at' : X) (after after' : List X) → before ++ at ∷ after ≡ before' ++ at' ∷ after'
+    → AllByRecursion P before → AllByRecursion P before' → (P at → ⊥) → (P at' → ⊥) → at ≡ at'
+split_agrees P [] [] at at' after after' e h k d d' = cc
+split_agrees P [] (b ∷ bs) at at' after after' e h k d d' = absurd (d (subst P (sym (heads e)) k.0))
+  where
+    heads : {X : Type 0} {x y : X} {xs ys : List X} → x ∷ xs ≡ y ∷ ys → x ≡ y
+    heads p = cc
+split_agrees P (a ∷ rest) [] at at' after after' e h k d d' = absurd (d' (subst P (heads e) h.0))
+  where
+    heads : {X : Type 0} {x y : X} {xs ys : List X} → x ∷ xs ≡ y ∷ ys → x ≡ y
+    heads p = cc
+split_agrees P (a ∷ rest) (b ∷ bs) at at' after after' e h k d d' = split_agrees P rest bs at at' after after' (tails e) h.1 k.1 d d'
+  where
+    tails : {X : Type 0} {x y : X} {xs ys : List X} → x ∷ xs ≡ y ∷ ys → xs ≡ ys
+    tails p = cc
+
+one_differs : (W : World) (L : List Given) (u v : EntityUID) → FirstDiffers W L u → FirstDiffers W L v → u ≡ v
+one_differs W L u v f g =
+    sym f.uid ∙ ap (λ (x : Given). x.uid) (split_agrees (Agrees W L) f.before g.before f.at g.at f.after g.after (sym f.place ∙ g.place) f.agree g.agree f.differs g.differs) ∙ g.uid
+
+agree_apart : (W : World) (L : List Given) (u : EntityUID) → FirstDiffers W L u → AllAgree W L → ⊥
+agree_apart W L u f h = f.differs (all_at (Agrees W L) f.before f.at f.after (subst (AllByRecursion (Agrees W L)) f.place h))
+
+one_adds : (base : World) (L : List Given) (V W : World) (out out' : List ℕ) → Adds base L V out → Adds base L W out' → (V ≡ W) × (out ≡ out')
+one_adds base L V W out out' (inl a) (inl b) = (a.2 ∙ sym b.2, a.3 ∙ ap (λ u. written_line (codes "refused: duplicate " ++ uid_text u)) (one_differs base L a.0 b.0 a.1 b.1) ∙ sym b.3)
+one_adds base L V W out out' (inl a) (inr (inl b)) = absurd (agree_apart base L a.0 a.1 b.0)
+one_adds base L V W out out' (inl a) (inr (inr b)) = absurd (agree_apart base L a.0 a.1 b.0)
+one_adds base L V W out out' (inr (inl a)) (inl b) = absurd (agree_apart base L b.0 b.1 a.0)
+one_adds base L V W out out' (inr (inl a)) (inr (inl b)) = (a.2 ∙ sym b.2, a.3 ∙ sym b.3)
+one_adds base L V W out out' (inr (inl a)) (inr (inr b)) = absurd (b.1 a.1)
+one_adds base L V W out out' (inr (inr a)) (inl b) = absurd (agree_apart base L b.0 b.1 a.0)
+one_adds base L V W out out' (inr (inr a)) (inr (inl b)) = absurd (a.1 b.1)
+one_adds base L V W out out' (inr (inr a)) (inr (inr b)) =
+    let same : V ≡ W = a.2 ∙ sym b.2 in
+    (same, a.3 ∙ ap (λ X. written_line (codes "ok " ++ decimal (finmap.len X.entities))) same ∙ sym b.3)
+
+one_overwrites : (base : World) (L : List Given) (V W : World) (out out' : List ℕ) → Overwrites base L V out → Overwrites base L W out' → (V ≡ W) × (out ≡ out')
+one_overwrites base L V W out out' (inl a) (inl b) = (a.1 ∙ sym b.1, a.2 ∙ sym b.2)
+one_overwrites base L V W out out' (inl a) (inr b) = absurd (b.0 a.0)
+one_overwrites base L V W out out' (inr a) (inl b) = absurd (a.0 b.0)
+one_overwrites base L V W out out' (inr a) (inr b) =
+    let same : V ≡ W = a.1 ∙ sym b.1 in
+    (same, a.2 ∙ ap (λ X. written_line (codes "ok " ++ decimal (finmap.len X.entities))) same ∙ sym b.2)
+
+one_deletes : (base : World) (U : List EntityUID) (V W : World) (out out' : List ℕ) → Deletes base U V out → Deletes base U W out' → (V ≡ W) × (out ≡ out')
+one_deletes base U V W out out' a b =
+    let same : V ≡ W = a.0 ∙ sym b.0 in
+    (same, a.1 ∙ ap (λ X. written_line (codes "ok " ++ decimal (finmap.len X.entities))) same ∙ sym b.1)
+
+-- a list that ascends is one by its members
+not_itself : (u : EntityUID) → uid_order u u ≡ Less → ⊥
+not_itself u h = false≢true (ap is_eq (sym h ∙ tied_itself uid_order_total u))
+
+above_all : (u : EntityUID) (us : List EntityUID) → AllByRecursion (λ y. uid_order u y ≡ Less) us → (q : EntityUID) → is_member same_uid us q ≡ true → uid_order u q ≡ Less
+above_all u [] h q m = absurd (false≢true m)
+above_all u (x ∷ us) h q m = elim (or_cases (same_uid q x) (is_member same_uid us q) m) [
+  | inl e ↦ ap (uid_order u) ((same_uid_decides q x).0 e) ∙ h.0
+  | inr r ↦ above_all u us h.1 q r
+]
+
+here : (u : EntityUID) (us : List EntityUID) → is_member same_uid (u ∷ us) u ≡ true
+here u us = ap (λ b. b || is_member same_uid us u) (same_uid_equiv.refl u)
+
+pub or_right : (a b : Bool) → b ≡ true → (a || b) ≡ true
+or_right true b h = refl
+or_right false b h = h
+
+heads_agree : (u v : EntityUID) (us vs : List EntityUID) → AllByRecursion (λ y. uid_order u y ≡ Less) us → AllByRecursion (λ y. uid_order v y ≡ Less) vs
+    → is_member same_uid (v ∷ vs) u ≡ true → is_member same_uid (u ∷ us) v ≡ true → u ≡ v
+heads_agree u v us vs h k a b = elim (or_cases (same_uid u v) (is_member same_uid vs u) a) [
+  | inl e ↦ (same_uid_decides u v).0 e
+  | inr r ↦ elim (or_cases (same_uid v u) (is_member same_uid us v) b) [
+    | inl e ↦ sym ((same_uid_decides v u).0 e)
+    | inr t ↦ absurd (not_itself u (uid_order_total.trans u v u (above_all u us h v t) (above_all v vs k u r)))
+  ]
+]
+
+in_tail : (u q : EntityUID) (us vs : List EntityUID) → AllByRecursion (λ y. uid_order u y ≡ Less) us → is_member same_uid us q ≡ true → is_member same_uid (u ∷ vs) q ≡ true → is_member same_uid vs q ≡ true
+in_tail u q us vs h m a = elim (or_cases (same_uid q u) (is_member same_uid vs q) a) [
+  | inl e ↦ absurd (not_itself u (ap (uid_order u) (sym ((same_uid_decides q u).0 e)) ∙ above_all u us h q m))
+  | inr r ↦ r
+]
+
+abbrev pub Members : List EntityUID → List EntityUID → Type 0
+Members us vs = (q : EntityUID) → is_member same_uid us q ≡ true → is_member same_uid vs q ≡ true
+
+pub same_ascending : (us vs : List EntityUID) → IsStrictlySortedBy uid_order us → IsStrictlySortedBy uid_order vs → Members us vs → Members vs us → us ≡ vs
+unfolding IsStrictlySortedBy
+same_ascending [] [] h k f g = refl
+same_ascending [] (v ∷ vs) h k f g = absurd (false≢true (g v (here v vs)))
+same_ascending (u ∷ us) [] h k f g = absurd (false≢true (f u (here u us)))
+same_ascending (u ∷ us) (v ∷ vs) h k f g =
+    let same : u ≡ v = heads_agree u v us vs h.0 k.0 (f u (here u us)) (g v (here v vs)) in
+    let forth = λ (q : EntityUID) (m : is_member same_uid us q ≡ true). in_tail u q us vs h.0 m (subst (λ x. is_member same_uid (x ∷ vs) q ≡ true) (sym same) (f q (or_right (same_uid q u) _ m))) in
+    let back = λ (q : EntityUID) (m : is_member same_uid vs q ≡ true). in_tail v q vs us k.0 m (subst (λ x. is_member same_uid (x ∷ us) q ≡ true) same (g q (or_right (same_uid q v) _ m))) in
+    λ i. same i ∷ same_ascending us vs h.1 k.1 forth back i
+
+one_ancestors : (W : World) (u : EntityUID) (us vs : List EntityUID) → AreAncestors W u us → AreAncestors W u vs → us ≡ vs
+one_ancestors W u us vs a b = same_ascending us vs a.ascend b.ascend (λ q m. (b.reached q).1 ((a.reached q).0 m)) (λ q m. (a.reached q).1 ((b.reached q).0 m))
+
+one_shown : (W : World) (u : EntityUID) (out out' : List ℕ) (b : Bool)
+    → MatchBool b ((uids : List EntityUID) × AreAncestors W u uids × (out ≡ written_line (codes "anc" ++ flat_map field_of uids))) (out ≡ written_line (codes "no entity"))
+    → MatchBool b ((uids : List EntityUID) × AreAncestors W u uids × (out' ≡ written_line (codes "anc" ++ flat_map field_of uids))) (out' ≡ written_line (codes "no entity"))
+    → out ≡ out'
+one_shown W u out out' true h k = h.2 ∙ ap (λ l. written_line (codes "anc" ++ flat_map field_of l)) (one_ancestors W u h.0 k.0 h.1 k.1) ∙ sym k.2
+one_shown W u out out' false h k = h ∙ sym k
+
+-- one list that waits and one world are one state
+joined : (t t' : State) (out out' : List ℕ) → t.waiting ≡ t'.waiting → (t.world ≡ t'.world) × (out ≡ out') → (t ≡ t') × (out ≡ out')
+joined t t' out out' w a = (λ i. record { waiting = w i; world = a.0 i }, a.1)
+
+one_step : (s t t' : State) (c : Command) (out out' : List ℕ) → Gives s c t out → Gives s c t' out' → (t ≡ t') × (out ≡ out')
+one_step s t t' Nothing out out' h k = (h.0 ∙ sym k.0, h.1 ∙ sym k.1)
+one_step s t t' (Ent u ps) out out' h k = (h.0 ∙ sym k.0, h.1 ∙ sym k.1)
+one_step s t t' Build out out' h k = joined t t' _ _ (h.0 ∙ sym k.0) (one_adds empty_world s.waiting t.world t'.world out out' h.1 k.1)
+one_step s t t' Add out out' h k = joined t t' _ _ (h.0 ∙ sym k.0) (one_adds s.world s.waiting t.world t'.world out out' h.1 k.1)
+one_step s t t' Upsert out out' h k = joined t t' _ _ (h.0 ∙ sym k.0) (one_overwrites s.world s.waiting t.world t'.world out out' h.1 k.1)
+one_step s t t' (Remove us) out out' h k = joined t t' _ _ (h.0 ∙ sym k.0) (one_deletes s.world us t.world t'.world out out' h.1 k.1)
+one_step s t t' (Anc u) out out' h k = (h.0 ∙ sym k.0, one_shown s.world u out out' (finmap.contains_key s.world.entities u) h.1 k.1)
+
+one_from : (ls : List (List ℕ)) (n : ℕ) (s : State) (v w : Written) → IsOutputFrom n s ls v → IsOutputFrom n s ls w → v ≡ w
+unfolding IsOutputFrom
+one_from [] n s v w h k = h ∙ sym k
+one_from (l ∷ ls) n s v w (inl h) (inl k) =
+    let c : h.0 ≡ k.0 = one_command h.0 k.0 _ h.4.1 k.4.1 in
+    let step = one_step s h.1 k.1 k.0 h.2 k.2 (subst (λ d. Gives s d h.1 h.2) c h.5) k.5 in
+    let rest = one_from ls (n + 1) k.1 h.3 k.3 (subst (λ t. IsOutputFrom (n + 1) t ls h.3) step.0 h.6) k.6 in
+    h.7 ∙ (λ i. after (step.1 i) (rest i)) ∙ sym k.7
+one_from (l ∷ ls) n s v w (inl h) (inr k) = absurd (k.0 h.0 h.4)
+one_from (l ∷ ls) n s v w (inr h) (inl k) = absurd (h.0 k.0 k.4)
+one_from (l ∷ ls) n s v w (inr h) (inr k) = h.1 ∙ sym k.1
+
+pub one_output : OutputIsOne
+one_output input v w h k = one_from _ 1 _ v w h k

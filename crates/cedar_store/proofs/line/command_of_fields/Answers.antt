@@ -1,0 +1,19 @@
+use Rattle.std.proofs.Common.{◌≡◌, ◌∙◌, sym, codes}
+use Rattle.std.specs.Cmp.Lexicographic.{bytes_decides}
+use Rattle.cedar_store.proofs.Commands.{not_ent, not_anc, not_remove}
+use Rattle.cedar_store.proofs.line.command_of_fields.Goals as goal
+
+pub returns-in-None : goal.returns-in-None
+returns-in-None c d =
+    let word : c.in-Some.word.now.now ≡ codes "ent" = (bytes_decides _ _).0 (sym c.eq.ensures ∙ c.if-eq.true) in
+    rw c.in-Some.ensures.cases.0 (not_ent c.in-Some.word.now.now _ word (rw c.in-None.is at c.in_ok-ent_fields.ensures) d)
+
+pub returns-in-None-2 : goal.returns-in-None-2
+returns-in-None-2 c d =
+    let word : c.in-Some.word.now.now ≡ codes "anc" = (bytes_decides _ _).0 (sym c.eq-2.ensures ∙ c.if-eq-2.true) in
+    rw c.in-Some.ensures.cases.0 (not_anc c.in-Some.word.now.now _ word (rw c.in-None-2.is at c.in_ok-anc_fields.ensures) d)
+
+pub returns-in-None-3 : goal.returns-in-None-3
+returns-in-None-3 c d =
+    let word : c.in-Some.word.now.now ≡ codes "remove" = (bytes_decides _ _).0 (sym c.eq-3.ensures ∙ c.if-eq-3.true) in
+    rw c.in-Some.ensures.cases.0 (not_remove c.in-Some.word.now.now _ word (rw c.in-None-3.is at c.in_ok-remove_fields.ensures) d)

@@ -1,0 +1,8 @@
+use Rattle.cedar_store.specs.Lines.{command_of}
+use Rattle.cedar_store.proofs.Steps.{command_ascii}
+use Rattle.cedar_store.proofs.machine.Machine.line.Goals as goal
+
+pub returns-in_ok-take-in-Some : goal.returns-in_ok-take-in-Some
+returns-in_ok-take-in-Some c s h =
+    let known = rw c.in-Some.is at c.in_ok-read_line.ensures in
+    (command_of c.in-Some.command, known, c.in_ok-take-in-Some.ensures s h (command_ascii (command_of c.in-Some.command) _ known.1))

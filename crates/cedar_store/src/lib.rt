@@ -1,0 +1,76 @@
+//! The store layer of the Cedar authorization language: one crate with every public name of the layers below it,
+//! and the program over them.
+//!
+//! The names stand at the original's module paths: [`ast`] has ids, values, expressions and entities, [`entities`]
+//! their store, [`transitive_closure`] the closure calls. Beside them are this project's own: [`replay_entities`]
+//! makes a list of calls on a store, and its contract says what that leaves and where it ends; [`run`] reads lines
+//! and writes their answers, and its contract says that what is written is the output of what was read, by
+//! `specs/Output.antt`, and that no input has two.
+#![tactic(auto, using(cedar_ids::specs::UidOf::same_uid_decides))]
+
+mod line;
+mod machine;
+mod program;
+mod replay;
+#[cfg(test)]
+mod tests;
+
+pub use cedar_entities::{
+    Ancestors, Dereference, Entities, EntitiesError, Entity, Keys, Pairs, SharedEntity,
+    TCComputation, Uids,
+};
+pub use cedar_graph::{
+    HasCycle, MissingTcEdge, TCNode, TcError, compute_tc, enforce_tc_and_dag, repair_tc,
+};
+pub use cedar_ids::{
+    ACTION_ENTITY_TYPE, AnyId, Eid, EntityType, EntityUID, EntityUIDImpl, Escaped, Id, Loc, Name,
+    NonEmpty, ParseErrors, PolicyID,
+};
+pub use cedar_terms::{
+    Expr, ExprValidationError, ExtensionValue, Literal, PartialValue, Slot, SlotId, StaticType,
+    StaticallyTyped, Unknown, Value, ValueKind, Var, is_reserved_key,
+};
+pub use program::{RunError, run};
+pub use replay::{EntityCall, replay_entities};
+
+/// Ids, names, uids, values, expressions and entities, at the original's path.
+pub mod ast {
+    pub use cedar_entities::Entity;
+    pub use cedar_ids::{
+        ACTION_ENTITY_TYPE, AnyId, Eid, EntityType, EntityUID, EntityUIDImpl, Id, Name, NonEmpty,
+        ParseErrors, PolicyID,
+    };
+    pub use cedar_terms::{
+        Expr, ExprValidationError, ExtensionValue, Literal, PartialValue, Slot, SlotId, StaticType,
+        StaticallyTyped, Unknown, Value, ValueKind, Var, is_reserved_key,
+    };
+}
+
+/// The store of entities, at the original's path.
+pub mod entities {
+    pub use cedar_entities::{
+        Dereference, Entities, EntitiesError, IntoIter, Iter, SharedEntity, TCComputation,
+    };
+
+    /// The refusals of entities and of their store, at the original's path.
+    pub mod err {
+        pub use cedar_entities::EntitiesError;
+    }
+}
+
+/// Locations and the refusals of reading, at the original's path.
+pub mod parser {
+    pub use cedar_ids::Loc;
+
+    /// The refusals of reading.
+    pub mod err {
+        pub use cedar_ids::ParseErrors;
+    }
+}
+
+/// Nodes with edges and the closure calls, at the original's path.
+pub mod transitive_closure {
+    pub use cedar_graph::{
+        HasCycle, MissingTcEdge, Result, TCNode, TcError, compute_tc, enforce_tc_and_dag, repair_tc,
+    };
+}

@@ -1,0 +1,207 @@
+ghost use Rattle.std.specs.Prelude.{◌≡◌, ◌∷◌, [], List, ℕ, IfOk, MatchOption, map, codes, ◌==◌};
+ghost use Rattle.std.specs.List.{list_all, slice_split};
+ghost use Rattle.cedar_ids.specs.Escape.{is_ascii};
+ghost use Rattle.cedar_ids.specs.Laws.{IsPrinted};
+ghost use Rattle.cedar_ids.specs.UidOf.{uid_parts};
+ghost use Rattle.cedar_ids.specs.declared.entity.EntityUID.{EntityUID};
+ghost use Rattle.cedar_store.specs.Command.{Command, AreTexts, IsCommand, IsLine, is_plain};
+ghost use Rattle.cedar_store.specs.Lines.{command_of};
+
+use cedar_ids::entity::EntityUID;
+use cedar_ids::err::ParseErrors;
+use std::alloc::{AllocError, Global};
+
+// A line that is a command.
+#[derive(Drop)]
+pub(crate) enum Line {
+    // An empty line.
+    Nothing,
+    // An entity and its parents.
+    Ent(EntityUID, Vec<EntityUID>),
+    // The entities that wait become the store.
+    Build,
+    // They are added to the store.
+    Add,
+    // They are put over what the store holds.
+    Upsert,
+    // The entities with these uids go out of the store.
+    Remove(Vec<EntityUID>),
+    // The ancestors of an entity are asked for.
+    Anc(EntityUID),
+}
+
+// Whether the eid of a uid is ASCII.
+fn has_ascii_eid(uid: &EntityUID) -> bool
+    ensures { result ≡ is_ascii (uid_parts uid.now).eid }
+{
+    uid.eid().as_ref().is_ascii()
+}
+
+// The uid with an ASCII eid whose text a field is, if there is one.
+fn uid_field(alloc: Global, text: &str) -> Result<Option<EntityUID>, AllocError>
+    ensures { IfOk result (λ o. MatchOption o
+        ((u : EntityUID) → IsPrinted (uid_parts u) text.now → ⊥)
+        (λ u. IsPrinted (uid_parts u) text.now)) }
+{
+    match EntityUID::from_normalized_str(alloc, text) {
+        Ok(uid) => {
+            if has_ascii_eid(&uid) {
+                Ok(Some(uid))
+            } else {
+                Ok(None)
+            }
+        }
+        Err(ParseErrors::Memory) => Err(AllocError),
+        Err(ParseErrors::NotNormalized) => Ok(None),
+        Err(ParseErrors::InvalidName) => Ok(None),
+    }
+}
+
+// The uids whose texts the fields are, if each is one.
+fn uid_fields(alloc: Global, fields: &[&str]) -> Result<Option<Vec<EntityUID>>, AllocError>
+    ensures { IfOk result (λ o. MatchOption o
+        ((us : List EntityUID) → AreTexts us (map (λ f. f.now) fields.now) → ⊥)
+        (λ us. AreTexts us.items (map (λ f. f.now) fields.now))) }
+{
+    let mut uids = Vec::with_capacity(alloc, fields.len())?;
+    for field in fields {
+        match uid_field(alloc, field)? {
+            None => return Ok(None),
+            Some(uid) => uids.push(uid)?,
+        }
+    }
+    Ok(Some(uids))
+}
+
+// The uid of the first field and those of the others, if each is the text of one.
+fn ent_fields(
+    alloc: Global,
+    fields: &[&str],
+) -> Result<Option<(EntityUID, Vec<EntityUID>)>, AllocError>
+    ensures { IfOk result (λ o. MatchOption o
+        ((u : EntityUID) (ps : List EntityUID) →
+        AreTexts (u ∷ ps) (map (λ f. f.now) fields.now) → ⊥)
+        (λ p. AreTexts (p.0 ∷ p.1.items) (map (λ f. f.now) fields.now))) }
+{
+    let Some((first, rest)) = fields.split_first() else {
+        return Ok(None);
+    };
+    let Some(uid) = uid_field(alloc, first)? else {
+        return Ok(None);
+    };
+    let Some(parents) = uid_fields(alloc, rest)? else {
+        return Ok(None);
+    };
+    Ok(Some((uid, parents)))
+}
+
+// The uids whose texts the fields are, if there is a field and each is one.
+fn remove_fields(alloc: Global, fields: &[&str]) -> Result<Option<Vec<EntityUID>>, AllocError>
+    ensures { IfOk result (λ o. MatchOption o
+        ((us : List EntityUID) → (us ≡ [] → ⊥) → AreTexts us (map (λ f. f.now) fields.now) → ⊥)
+        (λ us. (us.items ≡ [] → ⊥) × AreTexts us.items (map (λ f. f.now) fields.now))) }
+{
+    if fields.is_empty() {
+        return Ok(None);
+    }
+    uid_fields(alloc, fields)
+}
+
+// The uid of the one field, if it is the text of one.
+fn anc_fields(alloc: Global, fields: &[&str]) -> Result<Option<EntityUID>, AllocError>
+    ensures { IfOk result (λ o. MatchOption o
+        ((u : EntityUID) → AreTexts (u ∷ []) (map (λ f. f.now) fields.now) → ⊥)
+        (λ u. AreTexts (u ∷ []) (map (λ f. f.now) fields.now))) }
+{
+    let Some((first, rest)) = fields.split_first() else {
+        return Ok(None);
+    };
+    if !rest.is_empty() {
+        return Ok(None);
+    }
+    uid_field(alloc, first)
+}
+
+// The fields between the tabs of a line.
+fn fields_of(alloc: Global, line: &str) -> Result<Vec<&str>, AllocError>
+    ensures { IfOk result (λ v. map (λ x. x.now) v.items ≡ slice_split (λ b. b == 9) line.now) }
+{
+    line.split('\t').collect(alloc)
+}
+
+// The command that a word is by itself, if there is one.
+fn command_of_word(word: &str) -> Option<Line>
+    ensures { MatchOption result
+        ((c : Command) → IsCommand c (word.now ∷ []) → ⊥)
+        (λ l. IsCommand (command_of l) (word.now ∷ [])) }
+{
+    if word == "build" {
+        return Some(Line::Build);
+    }
+    if word == "add" {
+        return Some(Line::Add);
+    }
+    if word == "upsert" {
+        return Some(Line::Upsert);
+    }
+    if word == "" {
+        return Some(Line::Nothing);
+    }
+    None
+}
+
+// The command whose fields these are, if there is one.
+fn command_of_fields(alloc: Global, fields: &[&str]) -> Result<Option<Line>, AllocError>
+    ensures { IfOk result (λ o. MatchOption o
+        ((c : Command) → IsCommand c (map (λ f. f.now) fields.now) → ⊥)
+        (λ l. IsCommand (command_of l) (map (λ f. f.now) fields.now))) }
+{
+    let Some((word, rest)) = fields.split_first() else {
+        return Ok(None);
+    };
+    if *word == "ent" {
+        return match ent_fields(alloc, rest)? {
+            None => Ok(None),
+            Some((uid, parents)) => Ok(Some(Line::Ent(uid, parents))),
+        };
+    }
+    if *word == "anc" {
+        return match anc_fields(alloc, rest)? {
+            None => Ok(None),
+            Some(uid) => Ok(Some(Line::Anc(uid))),
+        };
+    }
+    if *word == "remove" {
+        return match remove_fields(alloc, rest)? {
+            None => Ok(None),
+            Some(uids) => Ok(Some(Line::Remove(uids))),
+        };
+    }
+    if !rest.is_empty() {
+        return Ok(None);
+    }
+    Ok(command_of_word(word))
+}
+
+// Whether a line has tabs and printable ASCII alone.
+fn is_plain(line: &[u8]) -> bool
+    ensures { result ≡ list_all is_plain line.now }
+{
+    line.iter().all(|b| *b == b'\t' || (32 <= *b && *b <= 126))
+}
+
+// The command that a line is, if it is one.
+pub(crate) fn read_line(alloc: Global, line: &[u8]) -> Result<Option<Line>, AllocError>
+    ensures { IfOk result (λ o. MatchOption o
+        ((c : Command) → IsLine c line.now → ⊥)
+        (λ l. IsLine (command_of l) line.now)) }
+{
+    if !is_plain(line) {
+        return Ok(None);
+    }
+    let Ok(text) = str::from_utf8(line) else {
+        return Ok(None);
+    };
+    let fields = fields_of(alloc, text)?;
+    command_of_fields(alloc, &fields)
+}

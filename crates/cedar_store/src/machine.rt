@@ -1,0 +1,304 @@
+ghost use Rattle.std.specs.Prelude.{◌≡◌, ◌++◌, [], ◌∷◌, List, ℕ, IfOk, IfErr, OnOk, map, length, codes};
+ghost use Rattle.std.specs.List.{AllByRecursion, flat_map};
+ghost use Rattle.std.specs.List.Sorted.{IsStrictlySortedBy};
+ghost use Rattle.std.specs.Option.{option_map};
+ghost use Rattle.std.specs.FinMap as finmap;
+ghost use Rattle.std.specs.Set.{is_member};
+ghost use Rattle.std.specs.Fmt.{decimal};
+ghost use Rattle.cedar_ids.specs.UidOf.{same_uid, uid_order};
+ghost use Rattle.cedar_ids.specs.declared.entity.EntityUID.{EntityUID};
+ghost use Rattle.cedar_entities.specs.Plain.{IsPlainStore, IsBare, given_of};
+ghost use Rattle.cedar_entities.specs.View.{EntityView, has_ancestor};
+ghost use Rattle.cedar_entities.specs.World.{World, empty_world, given};
+ghost use Rattle.cedar_store.specs.Command.{Command, Ent, Build, Add, Upsert, Remove, Anc};
+ghost use Rattle.cedar_store.specs.Lines.{command_of};
+ghost use Rattle.cedar_store.specs.Machines.{Holds, Takes, LineTakes, IsAsciiUid, AreAsciiUids, HasAsciiUids, Refused, Settles};
+ghost use Rattle.cedar_store.specs.Output.{State, start, Gives, ShowsAncestors, count_line, written_line, uid_text, field_of, not_command};
+
+use crate::line::{Line, read_line};
+use cedar_entities::{Dereference, Entities, EntitiesError, Entity, TCComputation};
+use cedar_graph::TcError;
+use cedar_ids::entity::EntityUID;
+use std::alloc::{AllocError, Global};
+use std::collections::{BTreeSet, HashSet};
+use std::mem;
+use std::rc::Rc;
+
+// The state of a run: the entities that wait, and the store.
+#[derive(Drop)]
+pub(crate) struct Machine {
+    waiting: Vec<Rc<Entity>>,
+    store: Entities,
+}
+
+// Adds a text and a line feed.
+fn push_line(out: &mut Vec<u8>, text: &str) -> Result<(), AllocError>
+    ensures { OnOk result (out.new.items ≡ out.old.items ++ written_line text.now) }
+{
+    out.extend_from_slice(text.as_bytes())?;
+    out.push(b'\n')?;
+    Ok(())
+}
+
+// Adds how many entities there are.
+fn push_count(alloc: Global, out: &mut Vec<u8>, count: usize) -> Result<(), AllocError>
+    ensures { OnOk result (out.new.items
+        ≡ out.old.items ++ written_line (codes "ok " ++ decimal count)) }
+{
+    let text = format!(in alloc; "ok {count}")?;
+    push_line(out, text.as_str())
+}
+
+// Adds that a uid came twice with other parents.
+fn push_duplicate(alloc: Global, out: &mut Vec<u8>, uid: &EntityUID) -> Result<(), AllocError>
+    ensures { OnOk result (IsAsciiUid uid.now → out.new.items ≡
+        out.old.items ++ written_line (codes "refused: duplicate " ++ uid_text uid.now)) }
+{
+    let text = format!(in alloc; "refused: duplicate {uid}")?;
+    push_line(out, text.as_str())
+}
+
+// Adds that a line is no command.
+pub(crate) fn push_fault(alloc: Global, out: &mut Vec<u8>, number: usize) -> Result<(), AllocError>
+    ensures { OnOk result (out.new.items ≡ out.old.items ++ not_command number) }
+{
+    let text = format!(in alloc; "line {number}: not a command")?;
+    push_line(out, text.as_str())
+}
+
+// Adds why a call on the store was refused.
+fn push_refusal(alloc: Global, out: &mut Vec<u8>, error: &EntitiesError) -> Result<(), AllocError>
+    ensures { OnOk result (Refused error.now out.old.items out.new.items) }
+{
+    match error {
+        EntitiesError::Duplicate(uid) => push_duplicate(alloc, out, uid),
+        EntitiesError::TransitiveClosureError(TcError::HasCycle(_)) => push_line(
+            out,
+            "refused: cycle",
+        ),
+        _ => Err(AllocError),
+    }
+}
+
+// Adds a tab and a uid.
+fn push_field(alloc: Global, out: &mut Vec<u8>, uid: &EntityUID) -> Result<(), AllocError>
+    ensures { OnOk result (IsAsciiUid uid.now → out.new.items ≡ out.old.items ++ field_of uid.now) }
+{
+    out.push(b'\t')?;
+    let text = uid.to_string(alloc)?;
+    out.extend_from_slice(text.as_bytes())
+}
+
+// Adds the uids, each after a tab.
+fn push_fields(
+    alloc: Global,
+    out: &mut Vec<u8>,
+    uids: BTreeSet<&EntityUID>,
+) -> Result<(), AllocError>
+    ensures { OnOk result (AreAsciiUids (map (λ x. x.now) uids.entry.keys) →
+        out.new.items ≡ out.old.items ++ flat_map field_of (map (λ x. x.now) uids.entry.keys)) }
+{
+    for uid in uids {
+        push_field(alloc, out, uid)?;
+    }
+    Ok(())
+}
+
+// Adds the line of an entity's ancestors.
+fn push_ancestors(
+    alloc: Global,
+    out: &mut Vec<u8>,
+    uids: BTreeSet<&EntityUID>,
+) -> Result<(), AllocError>
+    ensures { OnOk result (AreAsciiUids (map (λ x. x.now) uids.entry.keys) → out.new.items ≡
+        out.old.items ++ written_line
+        (codes "anc" ++ flat_map field_of (map (λ x. x.now) uids.entry.keys))) }
+{
+    out.extend_from_slice(b"anc")?;
+    push_fields(alloc, out, uids)?;
+    out.push(b'\n')?;
+    Ok(())
+}
+
+// The entity with a uid, where the store has one.
+fn entity_at<'a>(
+    alloc: Global,
+    store: &'a Entities,
+    uid: &EntityUID,
+) -> Result<Option<&'a Entity>, AllocError>
+    ensures { IfOk result (λ o. option_map (λ e. e.now) o ≡ finmap.get store.now.held uid.now) }
+{
+    match store.entity(alloc, uid)? {
+        Dereference::Data(entity) => Ok(Some(entity)),
+        Dereference::NoSuchEntity => Ok(None),
+        Dereference::Residual(_) => Ok(None),
+    }
+}
+
+// The ancestors of an entity in their order, each once.
+fn ancestors_of(alloc: Global, entity: &Entity) -> Result<BTreeSet<&EntityUID>, AllocError>
+    ensures ascend { IfOk result (λ s. IsStrictlySortedBy uid_order (map (λ x. x.now) s.keys)) }
+    ensures members { IfOk result (λ s. (q : EntityUID) →
+        is_member same_uid (map (λ x. x.now) s.keys) q ≡ has_ancestor entity.now q) }
+{
+    entity.ancestors().collect(alloc)
+}
+
+// An entity with the uid and these parents.
+pub(crate) fn entity_with(
+    alloc: Global,
+    uid: EntityUID,
+    parents: Vec<EntityUID>,
+) -> Result<Entity, AllocError>
+    ensures given { IfOk result (λ e. given_of e ≡ given uid parents.items) }
+    ensures bare { IfOk result IsBare }
+{
+    let parents: HashSet<EntityUID> = parents.into_iter().collect(alloc)?;
+    let indirect = HashSet::new(alloc);
+    let attrs = Vec::new(alloc);
+    let tags = Vec::new(alloc);
+    let entity = Entity::new_with_attr_partial_value(alloc, uid, attrs, indirect, parents, tags)?;
+    Ok(entity)
+}
+
+impl Machine {
+    // Nothing waits, and the store is empty.
+    pub(crate) fn new(alloc: Global) -> Machine
+        ensures { Holds result start }
+    {
+        Machine {
+            waiting: Vec::new(alloc),
+            store: Entities::new(alloc),
+        }
+    }
+
+    // The entity waits for a call on the store.
+    fn ent(
+        &mut self,
+        alloc: Global,
+        uid: EntityUID,
+        parents: Vec<EntityUID>,
+    ) -> Result<(), AllocError>
+        ensures { OnOk result ((s : State) → Holds self.old s → AreAsciiUids (uid ∷ parents.items) →
+            (out : List ℕ) → Takes (Ent uid parents.items) s self.new out out) }
+    {
+        let entity = Rc::new(alloc, entity_with(alloc, uid, parents)?)?;
+        self.waiting.push(entity)?;
+        Ok(())
+    }
+
+    // Keeps the store that a call gave and adds its count or, where the call was refused, keeps the store
+    // without entities and adds why.
+    fn settle(
+        &mut self,
+        alloc: Global,
+        given: Result<Entities, EntitiesError>,
+        out: &mut Vec<u8>,
+    ) -> Result<(), AllocError>
+        ensures waiting { self.new.waiting ≡ self.old.waiting }
+        ensures settles { OnOk result (Settles given self.new out.old.items out.new.items) }
+    {
+        match given {
+            Ok(store) => {
+                self.store = store;
+                push_count(alloc, out, self.store.len())
+            }
+            Err(error) => {
+                self.store = Entities::new(alloc);
+                push_refusal(alloc, out, &error)
+            }
+        }
+    }
+
+    // The entities that wait are added to the store.
+    fn add(&mut self, alloc: Global, out: &mut Vec<u8>) -> Result<(), AllocError>
+        ensures { OnOk result ((s : State) → Holds self.old s →
+            Takes Add s self.new out.old.items out.new.items) }
+    {
+        let list = mem::replace(&mut self.waiting, Vec::new(alloc));
+        let store = mem::replace(&mut self.store, Entities::new(alloc));
+        let given = store.add_entities(alloc, list, TCComputation::ComputeNow);
+        self.settle(alloc, given, out)
+    }
+
+    // The entities that wait become the store.
+    fn build(&mut self, alloc: Global, out: &mut Vec<u8>) -> Result<(), AllocError>
+        ensures { OnOk result ((s : State) → Holds self.old s →
+            Takes Build s self.new out.old.items out.new.items) }
+    {
+        self.store = Entities::new(alloc);
+        self.add(alloc, out)
+    }
+
+    // The entities that wait are put over what the store holds.
+    fn upsert(&mut self, alloc: Global, out: &mut Vec<u8>) -> Result<(), AllocError>
+        ensures { OnOk result ((s : State) → Holds self.old s →
+            Takes Upsert s self.new out.old.items out.new.items) }
+    {
+        let list = mem::replace(&mut self.waiting, Vec::new(alloc));
+        let store = mem::replace(&mut self.store, Entities::new(alloc));
+        let given = store.upsert_entities(alloc, list);
+        self.settle(alloc, given, out)
+    }
+
+    // The entities with these uids go out of the store.
+    fn remove(
+        &mut self,
+        alloc: Global,
+        uids: Vec<EntityUID>,
+        out: &mut Vec<u8>,
+    ) -> Result<(), AllocError>
+        ensures { OnOk result ((s : State) → Holds self.old s →
+            Takes (Remove uids.items) s self.new out.old.items out.new.items) }
+    {
+        let store = mem::replace(&mut self.store, Entities::new(alloc));
+        let given = store.remove_entities(alloc, uids);
+        self.settle(alloc, given, out)
+    }
+
+    // The ancestors of an entity are written.
+    fn anc(&self, alloc: Global, uid: &EntityUID, out: &mut Vec<u8>) -> Result<(), AllocError>
+        ensures { OnOk result ((s : State) → Holds self.now s →
+            (text : List ℕ) × ShowsAncestors s.world uid.now text × (out.new.items ≡ out.old.items ++ text)) }
+    {
+        match entity_at(alloc, &self.store, uid)? {
+            None => push_line(out, "no entity"),
+            Some(entity) => push_ancestors(alloc, out, ancestors_of(alloc, entity)?),
+        }
+    }
+
+    // Takes a command.
+    fn take(&mut self, alloc: Global, line: Line, out: &mut Vec<u8>) -> Result<(), AllocError>
+        ensures { OnOk result ((s : State) → Holds self.old s → HasAsciiUids (command_of line) →
+            Takes (command_of line) s self.new out.old.items out.new.items) }
+    {
+        match line {
+            Line::Nothing => Ok(()),
+            Line::Ent(uid, parents) => self.ent(alloc, uid, parents),
+            Line::Build => self.build(alloc, out),
+            Line::Add => self.add(alloc, out),
+            Line::Upsert => self.upsert(alloc, out),
+            Line::Remove(uids) => self.remove(alloc, uids, out),
+            Line::Anc(uid) => self.anc(alloc, &uid, out),
+        }
+    }
+
+    // Takes a line, and says whether it is a command.
+    pub(crate) fn line(
+        &mut self,
+        alloc: Global,
+        line: &[u8],
+        out: &mut Vec<u8>,
+    ) -> Result<bool, AllocError>
+        ensures { IfOk result (λ known. (s : State) → Holds self.old s →
+            LineTakes known line.now s self.new out.old.items out.new.items) }
+    {
+        match read_line(alloc, line)? {
+            None => Ok(false),
+            Some(command) => {
+                self.take(alloc, command, out)?;
+                Ok(true)
+            }
+        }
+    }
+}

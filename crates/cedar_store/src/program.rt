@@ -1,0 +1,96 @@
+//! The program's work, from bytes to bytes.
+ghost use Rattle.std.specs.Prelude.{◌≡◌, ◌==◌, List, ℕ, IfOk, OnOk, IfSome, IfErr, map};
+ghost use Rattle.std.specs.List.{slice_split};
+ghost use Rattle.std.specs.Io.KnownBytes.{IsAtEnd, Appends};
+ghost use Rattle.cedar_store.specs.Output.{IsOutput, OutputIsOne};
+ghost use Rattle.cedar_store.specs.Faults.{Leaves};
+
+use crate::machine::{Machine, push_fault};
+use std::alloc::{AllocError, Global};
+use std::io::{Read, Write};
+use thiserror::Error;
+
+/// Why a run ended early.
+#[derive(Debug, Drop, Error)]
+pub enum RunError {
+    /// A read failed. Nothing was written.
+    #[error("read fault")]
+    Read,
+    /// A write failed, or the flush after it. How much was written is not said.
+    #[error("write fault")]
+    Write,
+    /// A growth was refused. Nothing was written.
+    #[error("out of memory")]
+    Memory,
+}
+
+// All bytes that a reader has left.
+fn read_all<R: Read>(alloc: Global, reader: &mut R) -> Result<Vec<u8>, RunError>
+    ensures bytes { IfOk result (λ v. IfSome (R.remaining reader.old) (λ xs. v.items ≡ xs)) }
+    ensures end { OnOk result (IsAtEnd (R.remaining reader.new)) }
+{
+    let mut input = Vec::new(alloc);
+    let mut buffer = [0u8; 4096];
+    for _ in 0..u64::MAX {
+        let count = reader.read(&mut buffer).map_err(|_| RunError::Read)?;
+        if count == 0 {
+            return Ok(input);
+        }
+        input
+            .extend_from_slice(&buffer[..count])
+            .map_err(|_| RunError::Memory)?;
+    }
+    Err(RunError::Read)
+}
+
+// The lines of an input, between its line feeds.
+fn lines_of(alloc: Global, input: &[u8]) -> Result<Vec<&[u8]>, AllocError>
+    ensures { IfOk result (λ v. map (λ x. x.now) v.items ≡ slice_split (λ b. b == 10) input.now) }
+{
+    input.split(|b| *b == b'\n').collect(alloc)
+}
+
+// What is written for an input, and the status.
+fn answer(alloc: Global, input: &[u8]) -> Result<(Vec<u8>, u8), AllocError>
+    ensures { IfOk result (λ r. IsOutput input.now (record { bytes = r.0.items; status = r.1 })) }
+{
+    let lines = lines_of(alloc, input)?;
+    let mut machine = Machine::new(alloc);
+    let mut out = Vec::new(alloc);
+    for (i, line) in lines.iter().enumerate() {
+        if !machine.line(alloc, line, &mut out)? {
+            push_fault(alloc, &mut out, i + 1)?;
+            return Ok((out, 2));
+        }
+    }
+    Ok((out, 0))
+}
+
+/// Reads the input to its end, and writes its output: what each line that is a command writes, up to the
+/// first line that is none. The status is 0, or 2 after a line that is no command.
+///
+/// `Read` comes where a read failed and `Memory` where a growth was refused, and then nothing was written;
+/// `Write` comes where the write or the flush failed. Takes memory and, but for ancestors and their sorting,
+/// time linear in the input and the output. The program is this project's own.
+pub fn run<R: Read, W: Write>(alloc: Global, reader: &mut R, writer: &mut W) -> Result<u8, RunError>
+    // Where the reader and the writer tell their bytes, what was written is the output of what was read,
+    // and so is the status.
+    ensures written { IfOk result (λ status. IfSome (R.remaining reader.old) (λ input.
+        (bytes : List ℕ) × IsOutput input (record { bytes = bytes; status = status })
+        × Appends (W.contents writer.old) (W.contents writer.new) bytes)) }
+
+    // No input has two outputs.
+    ensures one { OutputIsOne }
+
+    // The input was read to its end.
+    ensures end { OnOk result (IsAtEnd (R.remaining reader.new)) }
+
+    // After a read fault, or where memory ran out, nothing was written.
+    ensures err { IfErr result (λ e. Leaves e (writer.new ≡ writer.old)) }
+{
+    let input = read_all(alloc, reader)?;
+    let (out, status) = answer(alloc, &input).map_err(|_| RunError::Memory)?;
+    writer.write_all(&out).map_err(|_| RunError::Write)?;
+    writer.flush().map_err(|_| RunError::Write)?;
+    Ok(status)
+}

@@ -1,0 +1,5 @@
+pub mod Records
+pub mod Sets
+pub mod TextsJoined
+pub mod Told
+pub mod Walks

@@ -1,0 +1,169 @@
+-- Keys: binary trees of numbers, by which values and expressions are told apart and ordered.
+use Rattle.std.specs.Prelude.{◌≡◌, ℕ, ℤ, pos, List, [], ◌∷◌, refl}
+use Rattle.std.proofs.Common.{ap, sym, ◌∙◌, arith}
+use Rattle.std.specs.Coded.{Coded, coded_ℤ}
+use Rattle.std.specs.declared.cmp.Ordering.{Ordering}
+use Rattle.std.specs.declared.cmp.Ordering.TheVariants.{Less, Equal, Greater}
+use Rattle.std.specs.Ordering.{ordering_then, ordering_reverse, int_cmp, nat_cmp}
+use Rattle.std.specs.Cmp.{IsTotalOrder, int_cmp_total, tied_itself}
+use Rattle.std.proofs.lemmas.Cmp.{int_ranked}
+use Rattle.std.proofs.lemmas.Bool.Decides.{nat_tests}
+use Rattle.std.specs.Cmp.Lexicographic.{slice_cmp}
+use base.Stored.{Gv, gnum, gcons}
+
+-- a number, or two keys
+pub data Key : Type 0 where
+  tip : ℤ → Key
+  fork : Key → Key → Key
+
+-- numbers by size, before pairs; pairs by the first part, then by the second
+abbrev pub key_cmp : Key → Key → Ordering
+key_cmp (tip a) (tip b) = int_cmp a b
+key_cmp (tip a) (fork c d) = Less
+key_cmp (fork a b) (tip c) = Greater
+key_cmp (fork a b) (fork c d) = ordering_then (key_cmp a c) (key_cmp b d)
+
+then_reverse : (a b : Ordering) → ordering_reverse (ordering_then a b) ≡ ordering_then (ordering_reverse a) (ordering_reverse b)
+then_reverse Less b = refl
+then_reverse Equal b = refl
+then_reverse Greater b = refl
+
+key_antisymm : (x y : Key) → key_cmp x y ≡ ordering_reverse (key_cmp y x)
+key_antisymm (tip a) (tip b) = int_cmp_total.antisymm a b
+key_antisymm (tip a) (fork c d) = refl
+key_antisymm (fork a b) (tip c) = refl
+key_antisymm (fork a b) (fork c d) = (λ i. ordering_then (key_antisymm a c i) (key_antisymm b d i)) ∙ sym (then_reverse (key_cmp c a) (key_cmp d b))
+
+then_equal : (a b : Ordering) → ordering_then a b ≡ Equal → (a ≡ Equal) × (b ≡ Equal)
+then_equal Less b e = absurd (cc)
+then_equal Equal b e = (refl, e)
+then_equal Greater b e = absurd (cc)
+
+int_equal : (a b : ℤ) → int_cmp a b ≡ Equal → a ≡ b
+int_equal a b e = int_ranked a b Equal (sym e)
+
+-- keys that are not told apart are the same
+pub key_cmp-Equal : (x y : Key) → key_cmp x y ≡ Equal → x ≡ y
+key_cmp-Equal (tip a) (tip b) e = ap tip (int_equal a b e)
+key_cmp-Equal (tip a) (fork c d) e = absurd (cc)
+key_cmp-Equal (fork a b) (tip c) e = absurd (cc)
+key_cmp-Equal (fork a b) (fork c d) e =
+    let p = then_equal (key_cmp a c) (key_cmp b d) e in
+    let q : a ≡ c = key_cmp-Equal a c p.0 in
+    let r : b ≡ d = key_cmp-Equal b d p.1 in
+    λ i. fork (q i) (r i)
+
+-- no key stands before itself
+pub key_cmp-itself : (x : Key) → key_cmp x x ≡ Equal
+key_cmp-itself (tip a) = tied_itself int_cmp_total a
+key_cmp-itself (fork a b) = (λ i. ordering_then (key_cmp-itself a i) (key_cmp-itself b i))
+
+then_less : (a b : Ordering) → ordering_then a b ≡ Less → (c d : Ordering) → ordering_then c d ≡ Less → (f g : Ordering) → (a ≡ Less → c ≡ Less → f ≡ Less) → (a ≡ Equal → f ≡ c) → (c ≡ Equal → f ≡ a) → (b ≡ Less → d ≡ Less → g ≡ Less) → ordering_then f g ≡ Less
+then_less Less b p Less d q f g chain left right more = rw (chain refl refl) refl
+then_less Less b p Equal d q f g chain left right more = rw (right refl) refl
+then_less Less b p Greater d q f g chain left right more = absurd (cc)
+then_less Equal b p Less d q f g chain left right more = rw (left refl) refl
+then_less Equal b p Equal d q f g chain left right more = rw (left refl) (more p q)
+then_less Equal b p Greater d q f g chain left right more = absurd (cc)
+then_less Greater b p c d q f g chain left right more = absurd (cc)
+
+key_trans : (x y z : Key) → key_cmp x y ≡ Less → key_cmp y z ≡ Less → key_cmp x z ≡ Less
+key_trans (tip a) (tip b) (tip c) p q = int_cmp_total.trans a b c p q
+key_trans (tip a) (tip b) (fork e f) p q = refl
+key_trans (tip a) (fork c d) (tip b) p q = absurd (cc)
+key_trans (tip a) (fork c d) (fork e f) p q = refl
+key_trans (fork a b) (tip c) z p q = absurd (cc)
+key_trans (fork a b) (fork c d) (tip e) p q = absurd (cc)
+key_trans (fork a b) (fork c d) (fork e f) p q =
+    then_less (key_cmp a c) (key_cmp b d) p (key_cmp c e) (key_cmp d f) q (key_cmp a e) (key_cmp b f)
+    (key_trans a c e) (λ s. ap (λ k. key_cmp k e) (key_cmp-Equal a c s)) (λ s. sym (ap (λ k. key_cmp a k) (key_cmp-Equal c e s))) (key_trans b d f)
+
+-- the order of keys is total
+pub key_cmp_total : IsTotalOrder key_cmp
+key_cmp_total = record { antisymm = key_antisymm; trans = key_trans; congr = λ x y z e. ap (λ k. key_cmp k z) (key_cmp-Equal x y e) }
+
+-- ---- the code
+
+-- a key as the data by which a proof tells it apart
+abbrev pub key_gv : Key → Gv
+key_gv (tip a) = gcons (gnum 0) (coded_ℤ.code a)
+key_gv (fork a b) = gcons (gnum 1) (gcons (key_gv a) (key_gv b))
+
+-- pairs that are the same have the same second part
+pub second : (a b c d : Gv) → gcons a b ≡ gcons c d → b ≡ d
+second a b c d e = cc
+
+-- and the same first part
+pub first : (a b c d : Gv) → gcons a b ≡ gcons c d → a ≡ c
+first a b c d e = cc
+
+-- keys with the same data are the same
+pub key_gv_inj : (x y : Key) → key_gv x ≡ key_gv y → x ≡ y
+key_gv_inj (tip a) (tip b) e = ap tip (coded_ℤ.inj a b (second _ _ _ _ e))
+key_gv_inj (tip a) (fork c d) e = absurd (cc)
+key_gv_inj (fork a b) (tip c) e = absurd (cc)
+key_gv_inj (fork a b) (fork c d) e =
+    let s : gcons (key_gv a) (key_gv b) ≡ gcons (key_gv c) (key_gv d) = second _ _ _ _ e in
+    let q : a ≡ c = key_gv_inj a c (first _ _ _ _ s) in
+    let r : b ≡ d = key_gv_inj b d (second _ _ _ _ s) in
+    λ i. fork (q i) (r i)
+
+-- how a proof tells keys apart
+abbrev pub key_code : Coded Key
+key_code = record { code = key_gv; inj = key_gv_inj }
+
+-- keys that are the same have the same first part
+pub left : (a b c d : Key) → fork a b ≡ fork c d → a ≡ c
+left a b c d e = cc
+
+-- and the same second part
+pub right : (a b c d : Key) → fork a b ≡ fork c d → b ≡ d
+right a b c d e = cc
+
+-- ---- keys of numbers and lists
+
+-- the key of a number
+abbrev pub nat_key : ℕ → Key
+nat_key n = tip (pos n)
+
+-- numbers of one key are the same
+pub nat_key-inj : (a b : ℕ) → nat_key a ≡ nat_key b → a ≡ b
+nat_key-inj a b e = cc
+
+-- numbers are ordered as their keys are
+pub nat_key-cmp : (a b : ℕ) → key_cmp (nat_key a) (nat_key b) ≡ nat_cmp a b
+nat_key-cmp a b = grind (arith, nat_tests)
+
+-- the key of a list: that of its first element and that of the rest
+abbrev pub list_key : {A : Type 0} → (A → Key) → List A → Key
+list_key f [] = nat_key 0
+list_key f (x ∷ xs) = fork (f x) (list_key f xs)
+
+-- where elements of one key are the same, so are lists
+pub list_key-inj : {A : Type 0} (f : A → Key) → ((x y : A) → f x ≡ f y → x ≡ y) → (xs ys : List A) → list_key f xs ≡ list_key f ys → xs ≡ ys
+list_key-inj f h [] [] e = refl
+list_key-inj f h [] (y ∷ ys) e = absurd (cc)
+list_key-inj f h (x ∷ xs) [] e = absurd (cc)
+list_key-inj f h (x ∷ xs) (y ∷ ys) e =
+    let q : x ≡ y = h x y (left _ _ _ _ e) in
+    let r : xs ≡ ys = list_key-inj f h xs ys (right _ _ _ _ e) in
+    λ i. q i ∷ r i
+
+-- where elements are ordered as their keys, so are lists
+pub list_key-cmp : {A : Type 0} (f : A → Key) (R : A → A → Ordering) → ((x y : A) → key_cmp (f x) (f y) ≡ R x y) → (xs ys : List A) → key_cmp (list_key f xs) (list_key f ys) ≡ slice_cmp R xs ys
+list_key-cmp f R h [] [] = refl
+list_key-cmp f R h [] (y ∷ ys) = refl
+list_key-cmp f R h (x ∷ xs) [] = refl
+list_key-cmp f R h (x ∷ xs) (y ∷ ys) = λ i. ordering_then (h x y i) (list_key-cmp f R h xs ys i)
+
+-- the key of a text
+abbrev pub text_key : List ℕ → Key
+text_key s = list_key nat_key s
+
+-- texts of one key are the same
+pub text_key-inj : (s t : List ℕ) → text_key s ≡ text_key t → s ≡ t
+text_key-inj s t e = list_key-inj nat_key nat_key-inj s t e
+
+-- texts are ordered as their keys are
+pub text_key-cmp : (s t : List ℕ) → key_cmp (text_key s) (text_key t) ≡ slice_cmp nat_cmp s t
+text_key-cmp s t = list_key-cmp nat_key nat_cmp nat_key-cmp s t

@@ -1,0 +1,44 @@
+-- What callers see of values and of what stands in them.
+use Rattle.std.specs.Prelude.{◌≡◌, ℕ, List, [], ◌∷◌, Bool, true, String, string_bytes, map}
+use Rattle.std.proofs.Common.{ap}
+use Rattle.std.specs.Ordering.{on}
+use Rattle.std.specs.Cmp.{IsEquivalence, on_equiv}
+use Rattle.std.specs.declared.alloc.Global.{Global}
+use Rattle.cedar_terms.specs.ValueTree.{ValueTree, literal_value, set_value, record_value, extension_value, value_trees, FieldTrees, no_fields, field_then, same_value}
+use Rattle.cedar_terms.specs.ValueLaws.{same_value_equiv, same_value_decides}
+use Rattle.cedar_terms.specs.ValueHash.{value_hash}
+use Rattle.cedar_terms.specs.Views.{literal_tree}
+use Rattle.cedar_terms.specs.declared.value.ValueKind.{ValueKind}
+use Rattle.cedar_terms.specs.declared.value.ValueKind.TheVariants as kinds
+
+-- the pairs of a map, keys as their bytes
+abbrev pub field_trees : List (String Global × ValueTree) → FieldTrees
+field_trees [] = no_fields
+field_trees (f ∷ fs) = field_then (string_bytes f.0) f.1 (field_trees fs)
+
+-- the value of a kind
+abbrev pub kind_tree : ValueKind → ValueTree
+kind_tree (kinds.Lit l) = literal_value (literal_tree l)
+kind_tree (kinds.Set v) = set_value (value_trees v.value.items)
+kind_tree (kinds.Record m) = record_value (field_trees m.value.entries)
+kind_tree (kinds.ExtensionValue x) = extension_value x.value.func x.value.arg
+
+-- the pairs of a list, keys as their bytes
+abbrev pub named_pairs : List (String Global × ValueTree) → List (List ℕ × ValueTree)
+named_pairs ps = map (λ p. (string_bytes p.0, p.1)) ps
+
+-- what `==` answers for the kinds of two values
+abbrev pub same_kind : ValueKind → ValueKind → Bool
+same_kind = on kind_tree same_value
+
+-- what the kind of a value feeds to a hasher
+abbrev pub kind_hash : ValueKind → List (List ℕ)
+kind_hash k = value_hash (kind_tree k)
+
+-- `==` is an equivalence
+pub same_kind_equiv : IsEquivalence same_kind
+same_kind_equiv = on_equiv kind_tree same_value_equiv
+
+-- equal kinds hash alike
+pub kind_hash_respects : (x y : ValueKind) → same_kind x y ≡ true → kind_hash x ≡ kind_hash y
+kind_hash_respects x y e = ap value_hash ((same_value_decides (kind_tree x) (kind_tree y)).0 e)

@@ -1,0 +1,99 @@
+// How expressions are written.
+ghost use Rattle.std.specs.Prelude.{◌≡◌, true};
+ghost use Rattle.std.specs.Fmt.{WritesOnOk};
+ghost use Rattle.cedar_terms.specs.ExprTree.{expr_trees};
+ghost use Rattle.cedar_terms.specs.ExprTexts.{expr_text, exprs_text, operand, operator_text, is_atom, is_ascii_expr, are_ascii_exprs};
+ghost use Rattle.cedar_terms.specs.ExprViews.{operator_of};
+
+use crate::expr::{BinaryOp, Expr, ExprKind};
+use std::fmt;
+
+// Writes an expression.
+#[cycle(show)]
+pub(crate) fn show<W: fmt::Write>(expr: &Expr, f: &mut fmt::Formatter<W>) -> fmt::Result
+    ensures { is_ascii_expr expr.now ≡ true
+        → WritesOnOk W.write_str_gives f.old result (expr_text expr.now) f.new }
+{
+    match &expr.kind {
+        ExprKind::Lit(literal) => write!(f, "{literal}"),
+        ExprKind::Var(var) => write!(f, "{var}"),
+        ExprKind::Slot(id) => write!(f, "{id}"),
+        ExprKind::Unknown(unknown) => write!(f, "{unknown}"),
+        ExprKind::Set(exprs) => {
+            f.write_str("[")?;
+            show_all(exprs, f)?;
+            f.write_str("]")
+        }
+        ExprKind::Call(name, args) => {
+            write!(f, "{name}(")?;
+            show_all(args, f)?;
+            f.write_str(")")
+        }
+        ExprKind::Not(operand) => {
+            f.write_str("!")?;
+            show_operand(operand, f)
+        }
+        ExprKind::Binary(op, left, right) => {
+            show_operand(left, f)?;
+            show_operator(*op, f)?;
+            show_operand(right, f)
+        }
+        ExprKind::Is(operand, ty) => {
+            show_operand(operand, f)?;
+            write!(f, " is {ty}")
+        }
+    }
+}
+
+// Writes an operand: an atom as it is, any other in parentheses.
+#[cycle(show)]
+fn show_operand<W: fmt::Write>(expr: &Expr, f: &mut fmt::Formatter<W>) -> fmt::Result
+    ensures { is_ascii_expr expr.now ≡ true → WritesOnOk W.write_str_gives f.old result
+        (operand (is_atom expr.now) (expr_text expr.now)) f.new }
+{
+    if stands_bare(expr) {
+        show(expr, f)
+    } else {
+        f.write_str("(")?;
+        show(expr, f)?;
+        f.write_str(")")
+    }
+}
+
+// Writes the expressions of a list, joined by a comma and a blank.
+#[cycle(show)]
+fn show_all<W: fmt::Write>(exprs: &Vec<Expr>, f: &mut fmt::Formatter<W>) -> fmt::Result
+    ensures { are_ascii_exprs (expr_trees exprs.now.items) ≡ true
+        → WritesOnOk W.write_str_gives f.old result
+        (exprs_text (expr_trees exprs.now.items)) f.new }
+{
+    let mut before = "";
+    for expr in exprs {
+        f.write_str(before)?;
+        show(expr, f)?;
+        before = ", ";
+    }
+    Ok(())
+}
+
+// Whether an operand stands without parentheses.
+fn stands_bare(expr: &Expr) -> bool
+    ensures { result ≡ is_atom expr.now }
+{
+    match &expr.kind {
+        ExprKind::Lit(_) | ExprKind::Var(_) | ExprKind::Slot(_) | ExprKind::Unknown(_) => true,
+        ExprKind::Set(_) | ExprKind::Call(_, _) => true,
+        ExprKind::Not(_) | ExprKind::Binary(_, _, _) | ExprKind::Is(_, _) => false,
+    }
+}
+
+// Writes an operator, between blanks.
+fn show_operator<W: fmt::Write>(op: BinaryOp, f: &mut fmt::Formatter<W>) -> fmt::Result
+    ensures { WritesOnOk W.write_str_gives f.old result (operator_text (operator_of op)) f.new }
+{
+    match op {
+        BinaryOp::And => f.write_str(" && "),
+        BinaryOp::Eq => f.write_str(" == "),
+        BinaryOp::In => f.write_str(" in "),
+    }
+}

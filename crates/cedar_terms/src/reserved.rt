@@ -1,0 +1,11 @@
+ghost use Rattle.std.specs.Prelude.{◌≡◌};
+ghost use Rattle.cedar_terms.specs.Reserved.{is_reserved};
+
+/// Whether a record may not have this key: it is `__extn`, `__expr` or `__entity`.
+///
+/// It takes no memory.
+pub fn is_reserved_key(key: &str) -> bool
+    ensures { result ≡ is_reserved key.now }
+{
+    key == "__extn" || key == "__expr" || key == "__entity"
+}
