@@ -1,2 +1,5 @@
+pub mod Closing
+pub mod Keyed
 pub mod Members
+pub mod Numbers
 pub mod Reaches

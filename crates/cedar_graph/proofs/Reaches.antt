@@ -1,17 +1,14 @@
--- Paths, and the step of the closure.
+-- Tests on keys, look-ups, and graphs before and after a node is written.
 use Rattle.std.proofs.lemmas.List.Folds.{list_any_more}
 use Rattle.std.specs.List.{list_any}
-use Rattle.std.proofs.Common.{◌≡◌, Bool, true, false, ℕ, ◌<◌, ◌+◌, length, get_or, take, List, [], ◌∷◌, ◌||◌, ◌&&◌, ◌⊎◌, inl, inr, Option, Some, None, Result, Ok, Err, OnOk, IsTrue, refl, sym, ap, ◌∙◌}
+use Rattle.std.proofs.Common.{◌≡◌, Bool, true, false, ℕ, ◌<◌, ◌+◌, length, get_or, take, List, [], ◌∷◌, ◌||◌, ◌&&◌, ◌⊎◌, inl, inr, Option, Some, None, Result, Ok, Err, OnOk, IsTrue, cond, refl, sym, ap, ◌∙◌}
 use Rattle.std.specs.Cmp.{IsEquivalence}
 use Rattle.std.specs.HashMap.{HashMap, get, keys}
 use Rattle.std.specs.Option.{is_some}
 use Rattle.std.proofs.lemmas.Map.Made.{is_some-lookup}
 use Rattle.std.specs.Map.{lookup}
 use Rattle.std.proofs.lemmas.Bool.{false≢true}
-use Rattle.cedar_graph.specs.Graph.{graph_of, edge_at, Path, Reach, KeepsNodes, HasReached, HasNoLoop, HasNoCycle, IsTrusted}
-use Rattle.std.specs.Set.{is_member}
-use Rattle.cedar_graph.specs.Steps.{GraphGrows, HasEdges, edges_over}
-use Rattle.cedar_graph.specs.ReachLaws.{reach_trans}
+use Rattle.cedar_graph.specs.Graph.{graph_of, edge_at, Path, Reach, KeepsNodes, HasReached, HasNoLoop, HasNoCycle}
 
 pub or_cases : (x y : Bool) → (x || y) ≡ true → (x ≡ true) ⊎ (y ≡ true)
 or_cases true y h = inl refl
@@ -41,50 +38,6 @@ module _ {K V : Type 0} {eq : K → K → Bool} (laws : IsEquivalence eq) (edges
   pub graph_to : {S : Type 0} (m : HashMap K V S) (a b c : K) → eq b c ≡ true → graph_of eq edges m a b ≡ graph_of eq edges m a c
   graph_to m a b c h = edge_to (get eq m a) b c h
 
-module _ {K : Type 0} (G : K → K → Bool) where
-  -- a closed graph that has the edges of G has an edge to each key that is reached
-  path_in_closed : (N : K → K → Bool) → ((a b c : K) → G a b ≡ true → N b c ≡ true → N a c ≡ true) → ((a b : K) → G a b ≡ true → N a b ≡ true) → (a b : K) (xs : List K) → Path G a xs b → N a b ≡ true
-  path_in_closed N closed has a b [] p = has a b p
-  path_in_closed N closed has a b (x ∷ xs) p = closed a x b p.0 (path_in_closed N closed has x b xs p.1)
-
-  pub reach_in_closed : (N : K → K → Bool) → ((a b c : K) → G a b ≡ true → N b c ≡ true → N a c ≡ true) → ((a b : K) → G a b ≡ true → N a b ≡ true) → (a b : K) → Reach G a b → N a b ≡ true
-  reach_in_closed N closed has a b p = path_in_closed N closed has a b p.0 p.1
-
-module _ {K : Type 0} (now after : K → K → Bool) (via : K) (grows : GraphGrows now after (edges_over now via)) where
-  -- what is reached stays what is reached
-  pub reached_over : (G : K → K → Bool) → ((a b : K) → now a b ≡ true → Reach G a b) → (a b : K) → after a b ≡ true → Reach G a b
-  reached_over G only a b h =
-      elim (or_cases (now a b) (edges_over now via a b) (grows.only a b h)) [
-        | inl p ↦ only a b p
-        | inr p ↦ let q = and_parts (now a via) (now via b) p in reach_trans G a via b (only a via q.0) (only via b q.1)
-      ]
-
-  -- where the graph was closed over the keys that pass, it now is over `via` too
-  pub closed_over : (P : K → Bool) → ((a b c : K) → P b ≡ true → now a b ≡ true → now b c ≡ true → now a c ≡ true) → HasEdges (edges_over now via) after
-      → (eq : K → K → Bool) → ((a b c : K) → eq b c ≡ true → now a b ≡ now a c) → ((a b c : K) → eq a b ≡ true → now a c ≡ now b c)
-      → (a b c : K) → (P b ≡ true) ⊎ (eq b via ≡ true) → after a b ≡ true → after b c ≡ true → after a c ≡ true
-  closed_over P closed has eq to from a b c (inl p) h k =
-      elim (or_cases (now a b) (edges_over now via a b) (grows.only a b h)) [
-        | inl ab ↦ elim (or_cases (now b c) (edges_over now via b c) (grows.only b c k)) [
-          | inl bc ↦ grows.stays a c (closed a b c p ab bc)
-          | inr over ↦ let q = and_parts (now b via) (now via c) over in has a c (and_from _ _ (closed a b via p ab q.0) q.1)
-        ]
-        | inr over ↦ let q = and_parts (now a via) (now via b) over in elim (or_cases (now b c) (edges_over now via b c) (grows.only b c k)) [
-          | inl bc ↦ has a c (and_from _ _ q.0 (closed via b c p q.1 bc))
-          | inr next ↦ has a c (and_from _ _ q.0 (and_parts (now b via) (now via c) next).1)
-        ]
-      ]
-  closed_over P closed has eq to from a b c (inr e) h k =
-      let first : now a via ≡ true = elim (or_cases (now a b) (edges_over now via a b) (grows.only a b h)) [
-        | inl ab ↦ sym (to a b via e) ∙ ab
-        | inr over ↦ (and_parts (now a via) (now via b) over).0
-      ] in
-      let second : now via c ≡ true = elim (or_cases (now b c) (edges_over now via b c) (grows.only b c k)) [
-        | inl bc ↦ sym (from b via c e) ∙ bc
-        | inr over ↦ (and_parts (now b via) (now via c) over).1
-      ] in
-      has a c (and_from _ _ first second)
-
 -- a list with one more element of `all` passes at the same keys, and at that element
 pub member_more : {K : Type 0} (test : K → Bool) (xs : List K) (i : ℕ) (x : K) → i < length xs → x ≡ get_or xs i x → list_any test (take (i + 1) xs) ≡ true → (list_any test (take i xs) ≡ true) ⊎ (test x ≡ true)
 member_more test xs i x within is h = or_cases _ _ (ap (λ y. list_any test (take i xs) || test y) is ∙ sym (list_any_more test xs i x within) ∙ h)
@@ -108,50 +61,12 @@ edge_found eq edges m a b h = found_edge edges (get eq m a) b h
 pub same_found : {K V S : Type 0} (eq : K → K → Bool) (m n : HashMap K V S) (q : K) → keys n ≡ keys m → is_some (get eq n q) ≡ is_some (get eq m q)
 same_found eq m n q h = is_some-lookup (eq q) n.entries ∙ ap (list_any (eq q)) h ∙ sym (is_some-lookup (eq q) m.entries)
 
-both : (b : Bool) → (b ≡ true) ⊎ (b ≡ false)
+pub both : (b : Bool) → (b ≡ true) ⊎ (b ≡ false)
 both true = inl refl
 both false = inr refl
 
--- the step of a repair: only the rows that pass R grow
-module _ {K : Type 0} (now after : K → K → Bool) (via : K) (R : K → Bool) (grows : GraphGrows now after (edges_over now via)) (alone : (a b : K) → R a ≡ false → after a b ≡ now a b) (has : (a b : K) → R a ≡ true → edges_over now via a b ≡ true → after a b ≡ true)
-    (P : K → Bool) (closed : (a b c : K) → (R a ≡ false) ⊎ (P b ≡ true) → now a b ≡ true → now b c ≡ true → now a c ≡ true)
-    (eq : K → K → Bool) (to : (a b c : K) → eq b c ≡ true → now a b ≡ now a c) (from : (a b c : K) → eq a b ≡ true → now a c ≡ now b c) where
-  row_alone : (a b c : K) → R a ≡ false → after a b ≡ true → after b c ≡ true → after a c ≡ true
-  row_alone a b c f h k =
-      let ab = sym (alone a b f) ∙ h in
-      elim (or_cases (now b c) (edges_over now via b c) (grows.only b c k)) [
-        | inl bc ↦ grows.stays a c (closed a b c (inl f) ab bc)
-        | inr over ↦ let q = and_parts (now b via) (now via c) over in grows.stays a c (closed a via c (inl f) (closed a b via (inl f) ab q.0) q.1)
-      ]
-
-  row_fixed : (a b c : K) → R a ≡ true → (P b ≡ true) ⊎ (eq b via ≡ true) → after a b ≡ true → after b c ≡ true → after a c ≡ true
-  row_fixed a b c r (inl p) h k =
-      elim (or_cases (now a b) (edges_over now via a b) (grows.only a b h)) [
-        | inl ab ↦ elim (or_cases (now b c) (edges_over now via b c) (grows.only b c k)) [
-          | inl bc ↦ grows.stays a c (closed a b c (inr p) ab bc)
-          | inr over ↦ let q = and_parts (now b via) (now via c) over in has a c r (and_from _ _ (closed a b via (inr p) ab q.0) q.1)
-        ]
-        | inr over ↦ let q = and_parts (now a via) (now via b) over in elim (or_cases (now b c) (edges_over now via b c) (grows.only b c k)) [
-          | inl bc ↦ has a c r (and_from _ _ q.0 (closed via b c (inr p) q.1 bc))
-          | inr next ↦ has a c r (and_from _ _ q.0 (and_parts (now b via) (now via c) next).1)
-        ]
-      ]
-  row_fixed a b c r (inr e) h k =
-      let first : now a via ≡ true = elim (or_cases (now a b) (edges_over now via a b) (grows.only a b h)) [
-        | inl ab ↦ sym (to a b via e) ∙ ab
-        | inr over ↦ (and_parts (now a via) (now via b) over).0
-      ] in
-      let second : now via c ≡ true = elim (or_cases (now b c) (edges_over now via b c) (grows.only b c k)) [
-        | inl bc ↦ sym (from b via c e) ∙ bc
-        | inr over ↦ (and_parts (now b via) (now via c) over).1
-      ] in
-      has a c r (and_from _ _ first second)
-
-  pub repaired_over : (a b c : K) → (R a ≡ false) ⊎ ((P b ≡ true) ⊎ (eq b via ≡ true)) → after a b ≡ true → after b c ≡ true → after a c ≡ true
-  repaired_over a b c (inl f) h k = row_alone a b c f h k
-  repaired_over a b c (inr p) h k = elim (both (R a)) [ inl r ↦ row_fixed a b c r p h k | inr f ↦ row_alone a b c f h k ]
-
-first_edge : {K : Type 0} (G : K → K → Bool) (a b : K) (xs : List K) → Path G a xs b → (c : K) × (G a c ≡ true)
+-- what is reached has a first edge
+pub first_edge : {K : Type 0} (G : K → K → Bool) (a b : K) (xs : List K) → Path G a xs b → (c : K) × (G a c ≡ true)
 first_edge G a b [] p = (b, p)
 first_edge G a b (x ∷ xs) p = (x, p.0)
 
@@ -163,11 +78,30 @@ reach_found eq edges m a b p = let e = first_edge (graph_of eq edges m) a b p.0 
 pub no_cycle_before : {K : Type 0} (G H : K → K → Bool) → HasReached G H → HasNoLoop H → HasNoCycle G
 no_cycle_before G H has free a p = false≢true (sym (free a) ∙ has a a p)
 
--- the keys of the map are all that has edges, so that no other has to be trusted
-pub all_rows : {K V S : Type 0} (eq : K → K → Bool) (edges : V → K → Bool) (m : HashMap K V S) (rows : List K) → ((q : K) → is_member eq rows q ≡ is_some (get eq m q)) → IsTrusted (is_member eq rows) (graph_of eq edges m)
-all_rows eq edges m rows all a b f p = absurd (false≢true (sym f ∙ all a ∙ reach_found eq edges m a b p))
-
 -- what an answer says of loops in the new graph it says of cycles in the old one
 pub no_cycle_where_asked : {T E K : Type 0} (r : Result T E) (G H : K → K → Bool) (asked : Bool) → (HasNoLoop H → HasNoCycle G) → OnOk r (HasNoLoop H) → OnOk r (IsTrue asked → HasNoCycle G)
 no_cycle_where_asked (Ok x) G H asked f h = λ _. f h
 no_cycle_where_asked (Err e) G H asked f h = tt
+
+-- the graph after the node at a key is written
+module _ {K V S : Type 0} (eq : K → K → Bool) (edges : V → K → Bool) (m n : HashMap K V S) (at : K) (v w : V) (updates : (q : K) → get eq n q ≡ cond (eq at q) (Some w) (get eq m q)) (value : (q : K) → eq at q ≡ true → get eq m q ≡ Some v) where
+  here : (a b : K) → eq at a ≡ true → graph_of eq edges n a b ≡ edges w b
+  here a b t = ap (λ o. edge_at edges o b) (updates a ∙ ap (λ c. cond c (Some w) (get eq m a)) t)
+
+  before : (a b : K) → eq at a ≡ true → graph_of eq edges m a b ≡ edges v b
+  before a b t = ap (λ o. edge_at edges o b) (value a t)
+
+  away : (a b : K) → eq at a ≡ false → graph_of eq edges n a b ≡ graph_of eq edges m a b
+  away a b t = ap (λ o. edge_at edges o b) (updates a ∙ ap (λ c. cond c (Some w) (get eq m a)) t)
+
+  pub written_stays : ((q : K) → edges v q ≡ true → edges w q ≡ true) → (a b : K) → graph_of eq edges m a b ≡ true → graph_of eq edges n a b ≡ true
+  written_stays f a b h = elim (both (eq at a)) [
+    | inl t ↦ here a b t ∙ f b (sym (before a b t) ∙ h)
+    | inr t ↦ away a b t ∙ h
+  ]
+
+  pub written_only : (X : K → Type 0) → ((q : K) → edges w q ≡ true → (edges v q ≡ true) ⊎ X q) → (a b : K) → graph_of eq edges n a b ≡ true → (graph_of eq edges m a b ≡ true) ⊎ ((eq at a ≡ true) × X b)
+  written_only X f a b h = elim (both (eq at a)) [
+    | inl t ↦ elim (f b (sym (here a b t) ∙ h)) [ inl o ↦ inl (before a b t ∙ o) | inr x ↦ inr (t, x) ]
+    | inr t ↦ inl (sym (away a b t) ∙ h)
+  ]

@@ -2,4 +2,4 @@ pub mod Faults
 pub mod Graph
 pub mod NodeLaws
 pub mod ReachLaws
-pub mod Steps
+pub mod laws

@@ -1,8 +1,24 @@
-// The closure of nodes of a map, over one key after another.
-ghost use Rattle.std.specs.Prelude.{◌≡◌, Bool, true, false, is_some, OnOk};
-ghost use Rattle.std.specs.Set.{is_member, ClonesAreEqual};
-ghost use Rattle.std.specs.HashMap.{get};
-ghost use Rattle.std.specs.HashSet.{contains};
+// Closing and repairing: what the nodes' numbers reach, written back as edges.
+ghost use Rattle.std.specs.Prelude.{
+  ◌≡◌,
+  ◌<◌,
+  ◌≤◌,
+  ◌+◌,
+  ◌⊎◌,
+  ℕ,
+  true,
+  false,
+  length,
+  is_some,
+  slice_get,
+  slice_index,
+  Some,
+  IfOk,
+  OnOk,
+};
+ghost use Rattle.std.specs.Set.{ClonesAreEqual};
+ghost use Rattle.std.specs.HashMap.{get, hash_map_len};
+ghost use Rattle.std.specs.HashSet.{contains, hash_set_len};
 ghost use Rattle.cedar_graph.specs.Graph.{
   graph_of,
   KeepsNodes,
@@ -15,131 +31,302 @@ ghost use Rattle.cedar_graph.specs.Graph.{
   HasNoLoop,
   HasNoCycle,
 };
-ghost use Rattle.cedar_graph.specs.Steps.{Grows, GraphGrows, HasEdges, edges_through, edges_over};
+ghost use Rattle.cedar_graph.specs.laws.Arcs.{
+  AreEdges,
+  IsPicked,
+  ReachesKey,
+  IsRowEdge,
+  IsRowEdgeBelow,
+};
+ghost use Rattle.cedar_graph.specs.laws.Steps.{Grows};
+ghost use Rattle.cedar_components.specs.Reach.{HasArc, AreArcs, IsReach};
 
-use crate::copies::{keys_of, members_of, targets_of};
-use crate::transitive_closure::TCNode;
+use crate::arcs::{FixReading, read_arcs, read_fix};
+use crate::transitive_closure::{TCNode, Work};
+use cedar_components::{Reached, reach};
 use std::alloc::{AllocError, Global};
 use std::collections::{HashMap, HashSet};
 use std::hash::Hash;
 
-// Adds an edge to each of the targets.
-fn add_all<K: Clone + Eq + Hash, V: TCNode<K>>(
+// Adds an edge to a key, unless the node is known to have it.
+fn add_unknown<K: Clone + Eq + Hash, V: TCNode<K>>(
     alloc: Global,
     node: &mut V,
-    targets: &[K],
+    target: &K,
+    known: bool,
 ) -> Result<(), AllocError>
-    requires { ClonesAreEqual K.eq K.is_clone }
-    ensures grows { Grows (V.edges node.old) (V.edges node.new) (is_member K.eq targets.now) }
-    ensures ok { OnOk result ((q : K) →
-        is_member K.eq targets.now q ≡ true → V.edges node.new q ≡ true) }
+    requires copies { ClonesAreEqual K.eq K.is_clone }
+    requires known { known ≡ true → V.edges node.old target.now ≡ true }
+    ensures grows { Grows (V.edges node.old) (V.edges node.new) (K.eq target.now) }
+    ensures ok { OnOk result ((q : K) → K.eq target.now q ≡ true → V.edges node.new q ≡ true) }
     ensures key { V.key node.new ≡ V.key node.old }
     ensures rest { V.rest node.new ≡ V.rest node.old }
     ensures kept { V.kept node.new ≡ V.kept node.old }
 {
-    for target in targets {
-        if !node.has_edge_to(target) {
-            node.add_edge_to(alloc, target.clone()?)?;
-        }
+    if known {
+        return Ok(());
+    }
+    node.add_edge_to(alloc, target.clone()?)
+}
+
+// Adds an edge to the key of each number from place i up to j. The node has those to numbers with
+// this mark already.
+fn add_numbers<K: Clone + Eq + Hash, V: TCNode<K>>(
+    alloc: Global,
+    node: &mut V,
+    keys: &[K],
+    lists: &[usize],
+    i: usize,
+    j: usize,
+    marks: &[usize],
+    mark: usize,
+) -> Result<(), AllocError>
+    requires copies { ClonesAreEqual K.eq K.is_clone }
+    requires lists { (k : ℕ) → k < length lists.now → slice_index lists.now k < length keys.now }
+    requires ordered { i ≤ j }
+    requires within { j ≤ length lists.now }
+    requires marks { length marks.now ≡ length keys.now }
+    requires known { (y : ℕ) (k : K) → slice_get keys.now y ≡ Some k
+        → slice_index marks.now y ≡ mark → V.edges node.old k ≡ true }
+    ensures stays { (q : K) → V.edges node.old q ≡ true → V.edges node.new q ≡ true }
+    ensures only { (q : K) → V.edges node.new q ≡ true →
+        (V.edges node.old q ≡ true) ⊎ IsPicked K.eq keys.now lists.now i j q }
+    ensures ok { OnOk result ((q : K) →
+        IsPicked K.eq keys.now lists.now i j q → V.edges node.new q ≡ true) }
+    ensures key { V.key node.new ≡ V.key node.old }
+    ensures rest { V.rest node.new ≡ V.rest node.old }
+    ensures kept { V.kept node.new ≡ V.kept node.old }
+{
+    for k in i..j {
+        let y = lists[k];
+        add_unknown(alloc, node, &keys[y], marks[y] == mark)?;
     }
     Ok(())
 }
 
-// Where the node at a key has an edge to `via`, adds an edge to each of the targets.
-fn add_through<K: Clone + Eq + Hash, V: TCNode<K>>(
+// Adds to the node at a key an edge to the key of each number from place i up to j, and says how
+// many nodes it found. It has those to numbers with this mark already.
+fn write_row<K: Clone + Eq + Hash, V: TCNode<K>>(
     alloc: Global,
     nodes: &mut HashMap<K, V>,
     at: &K,
-    via: &K,
-    targets: &[K],
-) -> Result<(), AllocError>
-    requires { ClonesAreEqual K.eq K.is_clone }
+    keys: &[K],
+    lists: &[usize],
+    i: usize,
+    j: usize,
+    marks: &[usize],
+    mark: usize,
+) -> Result<usize, AllocError>
+    requires copies { ClonesAreEqual K.eq K.is_clone }
+    requires lists { (k : ℕ) → k < length lists.now → slice_index lists.now k < length keys.now }
+    requires ordered { i ≤ j }
+    requires within { j ≤ length lists.now }
+    requires marks { length marks.now ≡ length keys.now }
+    requires known { (y : ℕ) (k : K) → slice_get keys.now y ≡ Some k
+        → slice_index marks.now y ≡ mark
+        → graph_of K.eq V.edges nodes.old at.now k ≡ true }
     ensures keeps { KeepsNodes K.eq V.key V.rest nodes.old nodes.new }
     ensures kept { KeepsNodes K.eq V.key V.kept nodes.old nodes.new }
-    ensures grows { GraphGrows
-        (graph_of K.eq V.edges nodes.old)
-        (graph_of K.eq V.edges nodes.new)
-        (edges_through K.eq (graph_of K.eq V.edges nodes.old) at.now via.now targets.now) }
+    ensures stays { KeepsEdges (graph_of K.eq V.edges nodes.old) (graph_of K.eq V.edges nodes.new) }
     ensures alone { (q : K) →
         K.eq at.now q ≡ false → get K.eq nodes.new q ≡ get K.eq nodes.old q }
-    ensures ok { OnOk result (HasEdges
-        (edges_through K.eq (graph_of K.eq V.edges nodes.old) at.now via.now targets.now)
-        (graph_of K.eq V.edges nodes.new)) }
+    ensures only { (a b : K) → graph_of K.eq V.edges nodes.new a b ≡ true →
+        (graph_of K.eq V.edges nodes.old a b ≡ true)
+        ⊎ ((K.eq at.now a ≡ true) × IsPicked K.eq keys.now lists.now i j b) }
+    ensures ok { OnOk result ((b : K) → is_some (get K.eq nodes.old at.now) ≡ true
+        → IsPicked K.eq keys.now lists.now i j b
+        → graph_of K.eq V.edges nodes.new at.now b ≡ true) }
+    ensures one { IfOk result (λ n. n ≤ 1) }
+    ensures found { IfOk result (λ n. is_some (get K.eq nodes.old at.now) ≡ true → n ≡ 1) }
 {
-    if let Some(node) = nodes.get_mut(at) {
-        if node.has_edge_to(via) {
-            add_all(alloc, node, targets)?;
-        }
-    }
-    Ok(())
-}
-
-// Adds to the nodes at the keys of `rows` the edges that lead over a key.
-fn add_over<K: Clone + Eq + Hash, V: TCNode<K>>(
-    alloc: Global,
-    nodes: &mut HashMap<K, V>,
-    rows: &[K],
-    via: &K,
-) -> Result<(), AllocError>
-    requires copies { ClonesAreEqual K.eq K.is_clone }
-    ensures keeps { KeepsNodes K.eq V.key V.rest nodes.old nodes.new }
-    ensures kept { KeepsNodes K.eq V.key V.kept nodes.old nodes.new }
-    ensures alone { (q : K) →
-        is_member K.eq rows.now q ≡ false → get K.eq nodes.new q ≡ get K.eq nodes.old q }
-    ensures grows { GraphGrows
-        (graph_of K.eq V.edges nodes.old)
-        (graph_of K.eq V.edges nodes.new)
-        (edges_over (graph_of K.eq V.edges nodes.old) via.now) }
-    ensures ok { OnOk result ((a b : K) → is_member K.eq rows.now a ≡ true
-        → edges_over (graph_of K.eq V.edges nodes.old) via.now a b ≡ true
-        → graph_of K.eq V.edges nodes.new a b ≡ true) }
-{
-    let targets = match nodes.get(via) {
-        Some(node) => targets_of(alloc, node)?,
-        None => return Ok(()),
+    let node = match nodes.get_mut(at) {
+        Some(node) => node,
+        None => return Ok(0),
     };
-    if targets.is_empty() {
-        return Ok(());
-    }
-    for at in rows {
-        add_through(alloc, nodes, at, via, &targets)?;
-    }
-    Ok(())
+    add_numbers(alloc, node, keys, lists, i, j, marks, mark)?;
+    Ok(1)
 }
 
-// Adds to the nodes at the keys of `rows` an edge to each key that is reached, where the others
-// have an edge to all that they reach. `all` lists the keys of the map.
-fn close_rows<K: Clone + Eq + Hash, V: TCNode<K>>(
+// Adds to the node of number x an edge to the key of each number that it reaches, and says how
+// many nodes it found. It has those to numbers with this mark already.
+fn write_number<K: Clone + Eq + Hash, V: TCNode<K>>(
     alloc: Global,
     nodes: &mut HashMap<K, V>,
-    rows: &[K],
-    all: &[K],
-) -> Result<(), AllocError>
+    keys: &[K],
+    from: &[usize],
+    to: &[usize],
+    reached: &Reached,
+    x: usize,
+    marks: &[usize],
+    mark: usize,
+) -> Result<usize, AllocError>
     requires copies { ClonesAreEqual K.eq K.is_clone }
-    requires all { (q : K) → is_member K.eq all.now q ≡ is_some (get K.eq nodes.old q) }
+    requires reach { IsReach (HasArc from.now to.now) (length keys.now)
+        reached.now.component.items reached.now.start.items reached.now.lists.items }
+    requires within { x < length keys.now }
+    requires marks { length marks.now ≡ length keys.now }
+    requires known { (y : ℕ) (k l : K) → slice_get keys.now x ≡ Some k
+        → slice_get keys.now y ≡ Some l → slice_index marks.now y ≡ mark
+        → graph_of K.eq V.edges nodes.old k l ≡ true }
     ensures keeps { KeepsNodes K.eq V.key V.rest nodes.old nodes.new }
     ensures kept { KeepsNodes K.eq V.key V.kept nodes.old nodes.new }
-    ensures alone { (q : K) →
-        is_member K.eq rows.now q ≡ false → get K.eq nodes.new q ≡ get K.eq nodes.old q }
     ensures stays { KeepsEdges (graph_of K.eq V.edges nodes.old) (graph_of K.eq V.edges nodes.new) }
-    ensures only { AddsOnlyReached
-        (graph_of K.eq V.edges nodes.old)
-        (graph_of K.eq V.edges nodes.new) }
-    ensures ok { OnOk result (
-        IsTrusted (is_member K.eq rows.now) (graph_of K.eq V.edges nodes.old)
-        → HasReached (graph_of K.eq V.edges nodes.old) (graph_of K.eq V.edges nodes.new)) }
+    ensures alone { (q : K) → ((k : K) → slice_get keys.now x ≡ Some k → K.eq k q ≡ false)
+        → get K.eq nodes.new q ≡ get K.eq nodes.old q }
+    ensures only { (a b : K) → graph_of K.eq V.edges nodes.new a b ≡ true →
+        (graph_of K.eq V.edges nodes.old a b ≡ true)
+        ⊎ IsRowEdge K.eq keys.now (HasArc from.now to.now) x a b }
+    ensures ok { OnOk result ((k b : K) → slice_get keys.now x ≡ Some k
+        → is_some (get K.eq nodes.old k) ≡ true
+        → ReachesKey K.eq keys.now (HasArc from.now to.now) x b
+        → graph_of K.eq V.edges nodes.new k b ≡ true) }
+    ensures one { IfOk result (λ n. n ≤ 1) }
+    ensures found { IfOk result (λ n. (k : K) → slice_get keys.now x ≡ Some k
+        → is_some (get K.eq nodes.old k) ≡ true → n ≡ 1) }
 {
-    for via in all {
-        add_over(alloc, nodes, rows, via)?;
+    let p = reached.component[x];
+    write_row(
+        alloc,
+        nodes,
+        &keys[x],
+        keys,
+        &reached.lists,
+        reached.start[p],
+        reached.start[p + 1],
+        marks,
+        mark,
+    )
+}
+
+// Marks by x + 1 the targets of the arcs from place e on that leave number x, and gives the place
+// after them.
+fn mark_targets(from: &[usize], to: &[usize], marks: &mut Vec<usize>, x: usize, e: usize) -> usize
+    requires arcs { AreArcs from.now to.now (length marks.old.items) }
+    requires below { (y : ℕ) → y < length marks.old.items → slice_index marks.old.items y ≤ x }
+    requires place { e ≤ length from.now }
+    requires fits { x < length marks.old.items }
+    ensures len { length marks.new.items ≡ length marks.old.items }
+    ensures below { (y : ℕ) → y < length marks.old.items → slice_index marks.new.items y ≤ x + 1 }
+    ensures marked { (y : ℕ) → y < length marks.old.items → slice_index marks.new.items y ≡ x + 1
+        → HasArc from.now to.now x y }
+    ensures place { result ≤ length from.now }
+{
+    let mut k = e;
+    while k < from.len() && from[k] == x {
+        marks[to[k]] = x + 1;
+        k += 1;
     }
-    Ok(())
+    k
+}
+
+// Adds to the node of each number below `fixed` an edge to the key of each number that it
+// reaches, and counts the nodes.
+fn write_rows<K: Clone + Eq + Hash, V: TCNode<K>>(
+    alloc: Global,
+    nodes: &mut HashMap<K, V>,
+    keys: &[K],
+    from: &[usize],
+    to: &[usize],
+    reached: &Reached,
+    fixed: usize,
+    reads: usize,
+) -> Result<Work, AllocError>
+    requires copies { ClonesAreEqual K.eq K.is_clone }
+    requires reach { IsReach (HasArc from.now to.now) (length keys.now)
+        reached.now.component.items reached.now.start.items reached.now.lists.items }
+    requires fixed { fixed ≤ length keys.now }
+    requires arcs { AreArcs from.now to.now (length keys.now) }
+    requires edges { AreEdges (graph_of K.eq V.edges nodes.old) keys.now
+        (HasArc from.now to.now) }
+    ensures keeps { KeepsNodes K.eq V.key V.rest nodes.old nodes.new }
+    ensures kept { KeepsNodes K.eq V.key V.kept nodes.old nodes.new }
+    ensures stays { KeepsEdges (graph_of K.eq V.edges nodes.old) (graph_of K.eq V.edges nodes.new) }
+    ensures alone { (q : K) →
+        ((i : ℕ) (k : K) → i < fixed → slice_get keys.now i ≡ Some k → K.eq k q ≡ false)
+        → get K.eq nodes.new q ≡ get K.eq nodes.old q }
+    ensures only { (a b : K) → graph_of K.eq V.edges nodes.new a b ≡ true →
+        (graph_of K.eq V.edges nodes.old a b ≡ true)
+        ⊎ IsRowEdgeBelow K.eq fixed keys.now (HasArc from.now to.now) a b }
+    ensures ok { OnOk result ((i : ℕ) (k b : K) → i < fixed → slice_get keys.now i ≡ Some k
+        → is_some (get K.eq nodes.old k) ≡ true
+        → ReachesKey K.eq keys.now (HasArc from.now to.now) i b
+        → graph_of K.eq V.edges nodes.new k b ≡ true) }
+    ensures reads { IfOk result (λ w. w.reads ≡ reads) }
+    ensures closings { IfOk result (λ w. w.closings ≤ fixed) }
+    ensures visits { IfOk result (λ w.
+        ((i : ℕ) (k : K) → i < fixed → slice_get keys.now i ≡ Some k
+        → is_some (get K.eq nodes.old k) ≡ true)
+        → w.closings ≡ fixed) }
+{
+    let mut marks = vec![in alloc; 0; keys.len()]?;
+    let mut place = 0;
+    let mut closings = 0;
+    for x in 0..fixed {
+        place = mark_targets(from, to, &mut marks, x, place);
+        closings += write_number(alloc, nodes, keys, from, to, reached, x, &marks, x + 1)?;
+    }
+    Ok(Work { reads, closings })
+}
+
+// Adds to the nodes of the numbers to fix the edges that what was read asks for.
+fn close_read<K: Clone + Eq + Hash, V: TCNode<K>>(
+    alloc: Global,
+    nodes: &mut HashMap<K, V>,
+    read: &FixReading<K>,
+) -> Result<Work, AllocError>
+    requires copies { ClonesAreEqual K.eq K.is_clone }
+    requires arcs { AreArcs read.now.reading.from.items read.now.reading.to.items
+        (length read.now.reading.numbering.keys.items) }
+    requires fixed { read.now.fixed ≤ length read.now.reading.numbering.keys.items }
+    requires edges { AreEdges (graph_of K.eq V.edges nodes.old)
+        read.now.reading.numbering.keys.items
+        (HasArc read.now.reading.from.items read.now.reading.to.items) }
+    ensures keeps { KeepsNodes K.eq V.key V.rest nodes.old nodes.new }
+    ensures kept { KeepsNodes K.eq V.key V.kept nodes.old nodes.new }
+    ensures stays { KeepsEdges (graph_of K.eq V.edges nodes.old) (graph_of K.eq V.edges nodes.new) }
+    ensures alone { (q : K) →
+        ((i : ℕ) (k : K) → i < read.now.fixed
+        → slice_get read.now.reading.numbering.keys.items i ≡ Some k → K.eq k q ≡ false)
+        → get K.eq nodes.new q ≡ get K.eq nodes.old q }
+    ensures only { (a b : K) → graph_of K.eq V.edges nodes.new a b ≡ true →
+        (graph_of K.eq V.edges nodes.old a b ≡ true)
+        ⊎ IsRowEdgeBelow K.eq read.now.fixed read.now.reading.numbering.keys.items
+        (HasArc read.now.reading.from.items read.now.reading.to.items) a b }
+    ensures ok { OnOk result ((i : ℕ) (k b : K) → i < read.now.fixed
+        → slice_get read.now.reading.numbering.keys.items i ≡ Some k
+        → is_some (get K.eq nodes.old k) ≡ true
+        → ReachesKey K.eq read.now.reading.numbering.keys.items
+        (HasArc read.now.reading.from.items read.now.reading.to.items) i b
+        → graph_of K.eq V.edges nodes.new k b ≡ true) }
+    ensures reads { IfOk result (λ w. w.reads ≡ read.now.reading.reads) }
+    ensures closings { IfOk result (λ w. w.closings ≤ read.now.fixed) }
+    ensures visits { IfOk result (λ w.
+        ((i : ℕ) (k : K) → i < read.now.fixed
+        → slice_get read.now.reading.numbering.keys.items i ≡ Some k
+        → is_some (get K.eq nodes.old k) ≡ true)
+        → w.closings ≡ read.now.fixed) }
+{
+    let keys = &read.reading.numbering.keys;
+    let from = &read.reading.from;
+    let to = &read.reading.to;
+    let reached = reach(alloc, from, to, keys.len())?;
+    write_rows(
+        alloc,
+        nodes,
+        keys,
+        from,
+        to,
+        &reached,
+        read.fixed,
+        read.reading.reads,
+    )
 }
 
 // Adds an edge to each key that is reached.
 pub(crate) fn close<K: Clone + Eq + Hash, V: TCNode<K>>(
     alloc: Global,
     nodes: &mut HashMap<K, V>,
-) -> Result<(), AllocError>
+) -> Result<Work, AllocError>
     requires { ClonesAreEqual K.eq K.is_clone }
     ensures keeps { KeepsNodes K.eq V.key V.rest nodes.old nodes.new }
     ensures kept { KeepsNodes K.eq V.key V.kept nodes.old nodes.new }
@@ -154,9 +341,11 @@ pub(crate) fn close<K: Clone + Eq + Hash, V: TCNode<K>>(
         IsClosure (graph_of K.eq V.edges nodes.new) (graph_of K.eq V.edges nodes.new)) }
     ensures loops { OnOk result (
         HasNoLoop (graph_of K.eq V.edges nodes.new) → HasNoCycle (graph_of K.eq V.edges nodes.old)) }
+    ensures reads { IfOk result (λ w. w.reads ≤ hash_map_len nodes.old) }
+    ensures closings { IfOk result (λ w. w.closings ≤ hash_map_len nodes.old) }
 {
-    let all = keys_of(alloc, nodes)?;
-    close_rows(alloc, nodes, &all, &all)
+    let read = read_arcs(alloc, nodes)?;
+    close_read(alloc, nodes, &read)
 }
 
 // Adds to the nodes to fix an edge to each key that is reached.
@@ -164,7 +353,7 @@ pub(crate) fn repair<K: Clone + Eq + Hash, V: TCNode<K>>(
     alloc: Global,
     fix: &HashSet<K>,
     nodes: &mut HashMap<K, V>,
-) -> Result<(), AllocError>
+) -> Result<Work, AllocError>
     requires { ClonesAreEqual K.eq K.is_clone }
     ensures keeps { KeepsNodes K.eq V.key V.rest nodes.old nodes.new }
     ensures kept { KeepsNodes K.eq V.key V.kept nodes.old nodes.new }
@@ -177,8 +366,11 @@ pub(crate) fn repair<K: Clone + Eq + Hash, V: TCNode<K>>(
     ensures ok { OnOk result (
         IsTrusted (contains K.eq fix.now) (graph_of K.eq V.edges nodes.old)
         → HasReached (graph_of K.eq V.edges nodes.old) (graph_of K.eq V.edges nodes.new)) }
+    ensures closings { IfOk result (λ w. w.closings ≤ hash_set_len fix.now) }
+    ensures visits { IfOk result (λ w.
+        ((q : K) → contains K.eq fix.now q ≡ true → is_some (get K.eq nodes.old q) ≡ true)
+        → hash_set_len fix.now ≤ w.closings) }
 {
-    let rows = members_of(alloc, fix)?;
-    let all = keys_of(alloc, nodes)?;
-    close_rows(alloc, nodes, &rows, &all)
+    let read = read_fix(alloc, fix, nodes)?;
+    close_read(alloc, nodes, &read)
 }

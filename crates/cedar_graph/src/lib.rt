@@ -2,7 +2,11 @@
 //!
 //! It knows nothing of what the keys and nodes are: it serves every node type that keeps the laws
 //! of [`TCNode`]. [`compute_tc`] closes a graph, [`repair_tc`] closes the nodes that changed, and
-//! [`enforce_tc_and_dag`] checks that a graph is closed and has no cycle.
+//! [`enforce_tc_and_dag`] checks that a graph is closed and has no cycle. The first two have
+//! variants that count their [`Work`].
+//!
+//! Both number the keys that matter, read the edges as arcs between numbers, leave it to
+//! `cedar_components` to find what each number reaches, and write that back as edges.
 //!
 //! A node type says by ghost members what its calls mean, and the calls' clauses follow. A node
 //! with number keys that holds a set of them:
@@ -37,14 +41,15 @@
 //! two things: that each map key is its node's key, and that a copy of a key equals it.
 #![tactic(auto)]
 
+mod arcs;
 mod checks;
 mod close;
 mod copies;
 pub mod err;
+mod numbering;
 pub mod transitive_closure;
 
 pub use err::{HasCycle, MissingTcEdge, Result, TcError};
-pub use transitive_closure::{TCNode, compute_tc, enforce_tc_and_dag, repair_tc};
-
-#[cfg(test)]
-mod tests;
+pub use transitive_closure::{
+    TCNode, Work, compute_tc, compute_tc_counted, enforce_tc_and_dag, repair_tc, repair_tc_counted,
+};

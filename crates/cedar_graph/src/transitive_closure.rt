@@ -6,6 +6,9 @@ ghost use Rattle.std.specs.Prelude.{
   false,
   map,
   ◌||◌,
+  ◌≤◌,
+  ◌*◌,
+  is_some,
   IfOk,
   OnOk,
   OnErr,
@@ -14,23 +17,9 @@ ghost use Rattle.std.specs.Prelude.{
   IsSome,
 };
 ghost use Rattle.std.specs.Set.{is_member, ClonesAreEqual};
-ghost use Rattle.std.specs.HashMap.{get};
-ghost use Rattle.std.specs.HashSet.{contains};
-ghost use Rattle.cedar_graph.specs.Graph.{
-  graph_of,
-  Reach,
-  KeepsNodes,
-  KeysMatch,
-  KeepsEdges,
-  AddsOnlyReached,
-  ReachesSame,
-  IsClosure,
-  IsClosed,
-  IsTrusted,
-  HasNoLoop,
-  HasNoCycle,
-  HasNoCycleAt,
-};
+ghost use Rattle.std.specs.HashMap.{get, hash_map_len};
+ghost use Rattle.std.specs.HashSet.{contains, hash_set_len};
+ghost use Rattle.cedar_graph.specs.Graph.{graph_of, Reach, KeepsNodes, KeysMatch, KeepsEdges, AddsOnlyReached, ReachesSame, IsClosure, IsClosed, IsTrusted, HasNoLoop, HasNoCycle, HasNoCycleAt};
 ghost use Rattle.cedar_graph.specs.Faults.{MatchFault, UnlessMemory, BreaksClosed};
 
 use crate::checks::{enforce_no_loop, enforce_no_loop_for, enforce_tc};
@@ -117,6 +106,15 @@ pub trait TCNode<K: Eq> {
     ghost direct_are_edges: { (n : Self) (q : K) → direct n q ≡ true → edges n q ≡ true };
 }
 
+/// How much a closure call did.
+#[derive(Clone, Copy, Debug, PartialEq, Eq)]
+pub struct Work {
+    /// How often the edges of a node were listed, by [`TCNode::out_edges`].
+    pub reads: usize,
+    /// How often a node of the map that was to be fixed was visited.
+    pub closings: usize,
+}
+
 /// Closes a graph: adds to each node of the map an edge to each key that it reaches over one or
 /// more edges. Keys outside the map may be reached and have no edges themselves.
 ///
@@ -128,11 +126,12 @@ pub trait TCNode<K: Eq> {
 /// rest and what adding keeps always stay. After `TcError::Memory` the former edges stay, and each
 /// further edge leads to a key that was reached.
 ///
-/// Takes memory for copies of keys. Looks up each key of the map once, and then, for each one that
-/// has edges, each other key once.
+/// Takes memory for copies of keys, for numbers in the number of keys and edges, and for the lists
+/// of what each strong component of the graph reaches. Lists each node's edges once, and then costs
+/// what the keys, the edges read and the edges added cost, and nothing for a pair of keys without
+/// an edge. It does not recurse, whatever the graph is.
 ///
 /// Unlike the original it takes the allocator and may answer `TcError::Memory`.
-#[tactic(auto, using(crate::specs::NodeLaws::keys_match_kept, crate::proofs::Reaches::no_cycle_where_asked))]
 pub fn compute_tc<K: Clone + Eq + Hash + Debug + Display, V: TCNode<K>>(
     alloc: Global,
     nodes: &mut HashMap<K, V>,
@@ -164,11 +163,54 @@ pub fn compute_tc<K: Clone + Eq + Hash + Debug + Display, V: TCNode<K>>(
         (λ _ _ _. ⊥)
         (λ v. IsSome (get K.eq nodes.old v))) }
 {
-    close(alloc, nodes)?;
-    if enforce_dag {
-        return enforce_no_loop(nodes);
-    }
+    compute_tc_counted(alloc, nodes, enforce_dag)?;
     Ok(())
+}
+
+/// As [`compute_tc`], and counts: lists the edges of each node at most once, and visits each node
+/// at most twice. The counts stay at `usize::MAX` once there.
+///
+/// The original counts nothing.
+#[tactic(auto, using(crate::specs::NodeLaws::keys_match_kept, crate::proofs::Reaches::no_cycle_where_asked))]
+pub fn compute_tc_counted<K: Clone + Eq + Hash + Debug + Display, V: TCNode<K>>(
+    alloc: Global,
+    nodes: &mut HashMap<K, V>,
+    enforce_dag: bool,
+) -> Result<Work, K>
+    requires copies { ClonesAreEqual K.eq K.is_clone }
+    requires keys { KeysMatch K.eq V.key nodes.old }
+    ensures keys { KeysMatch K.eq V.key nodes.new }
+    ensures keeps { KeepsNodes K.eq V.key V.rest nodes.old nodes.new }
+    ensures kept { KeepsNodes K.eq V.key V.kept nodes.old nodes.new }
+    ensures stays { KeepsEdges (graph_of K.eq V.edges nodes.old) (graph_of K.eq V.edges nodes.new) }
+    ensures only { AddsOnlyReached
+        (graph_of K.eq V.edges nodes.old)
+        (graph_of K.eq V.edges nodes.new) }
+    // reach over reach is reach
+    ensures same { ReachesSame (graph_of K.eq V.edges nodes.old) (graph_of K.eq V.edges nodes.new) }
+    ensures closed { UnlessMemory result (IsClosure
+        (graph_of K.eq V.edges nodes.old)
+        (graph_of K.eq V.edges nodes.new)) }
+    // closing it again changes no edge
+    ensures once { UnlessMemory result (IsClosure
+        (graph_of K.eq V.edges nodes.new)
+        (graph_of K.eq V.edges nodes.new)) }
+    ensures ok { OnOk result (IsTrue enforce_dag → HasNoCycle (graph_of K.eq V.edges nodes.old)) }
+    ensures err { IfErr result (λ e. MatchFault e
+        (λ _ _ _. ⊥)
+        (λ v. IsTrue enforce_dag × Reach (graph_of K.eq V.edges nodes.old) v v)) }
+    ensures in_map { IfErr result (λ e. MatchFault e
+        (λ _ _ _. ⊥)
+        (λ v. IsSome (get K.eq nodes.old v))) }
+    ensures reads { IfOk result (λ w. w.reads ≤ hash_map_len nodes.old) }
+    ensures closings { IfOk result (λ w. w.closings ≤ 2 * hash_map_len nodes.old) }
+{
+    let work = close(alloc, nodes)?;
+    if !enforce_dag {
+        return Ok(work);
+    }
+    enforce_no_loop(nodes)?;
+    Ok(work)
 }
 
 /// Closes part of a graph: adds to the nodes at the keys `nodes_to_fix` an edge to each key that
@@ -185,11 +227,11 @@ pub fn compute_tc<K: Clone + Eq + Hash + Debug + Display, V: TCNode<K>>(
 /// on a cycle. The map's keys, each node's key, rest and what adding keeps, the former edges and
 /// the nodes that are not to be fixed always stay.
 ///
-/// Takes memory for copies of keys. Looks up each key of the map once, and then, for each one that
-/// has edges, each key of `nodes_to_fix` once.
+/// Takes memory as [`compute_tc`] does, for the keys to fix and those that they have an edge to.
+/// Lists the edges of the nodes at these keys once, and looks at no other node. It does not
+/// recurse.
 ///
 /// Unlike the original it takes the allocator and may answer `TcError::Memory`.
-#[tactic(auto, using(crate::specs::NodeLaws::keys_match_kept))]
 pub fn repair_tc<K: Clone + Eq + Hash + Debug + Display, V: TCNode<K>>(
     alloc: Global,
     nodes_to_fix: &HashSet<K>,
@@ -221,11 +263,56 @@ pub fn repair_tc<K: Clone + Eq + Hash + Debug + Display, V: TCNode<K>>(
         × (contains K.eq nodes_to_fix.now v ≡ true)
         × Reach (graph_of K.eq V.edges nodes.old) v v)) }
 {
-    repair(alloc, nodes_to_fix, nodes)?;
-    if enforce_dag {
-        return enforce_no_loop_for(alloc, nodes_to_fix, nodes);
-    }
+    repair_tc_counted(alloc, nodes_to_fix, nodes, enforce_dag)?;
     Ok(())
+}
+
+/// As [`repair_tc`], and counts: visits each key of `nodes_to_fix` that the map has at least once
+/// and at most twice. The counts stay at `usize::MAX` once there.
+///
+/// The original counts nothing.
+#[tactic(auto, using(crate::specs::NodeLaws::keys_match_kept))]
+pub fn repair_tc_counted<K: Clone + Eq + Hash + Debug + Display, V: TCNode<K>>(
+    alloc: Global,
+    nodes_to_fix: &HashSet<K>,
+    nodes: &mut HashMap<K, V>,
+    enforce_dag: bool,
+) -> Result<Work, K>
+    requires copies { ClonesAreEqual K.eq K.is_clone }
+    requires keys { KeysMatch K.eq V.key nodes.old }
+    ensures keys { KeysMatch K.eq V.key nodes.new }
+    ensures keeps { KeepsNodes K.eq V.key V.rest nodes.old nodes.new }
+    ensures kept { KeepsNodes K.eq V.key V.kept nodes.old nodes.new }
+    ensures alone { (q : K) → contains K.eq nodes_to_fix.now q ≡ false →
+        get K.eq nodes.new q ≡ get K.eq nodes.old q }
+    ensures stays { KeepsEdges (graph_of K.eq V.edges nodes.old) (graph_of K.eq V.edges nodes.new) }
+    ensures only { AddsOnlyReached
+        (graph_of K.eq V.edges nodes.old)
+        (graph_of K.eq V.edges nodes.new) }
+    ensures closed { OnOk result (
+        IsTrusted (contains K.eq nodes_to_fix.now) (graph_of K.eq V.edges nodes.old)
+        → HasNoCycleAt (contains K.eq nodes_to_fix.now) (graph_of K.eq V.edges nodes.old)
+        → IsClosure (graph_of K.eq V.edges nodes.old) (graph_of K.eq V.edges nodes.new)) }
+    ensures ok { OnOk result (
+        IsTrusted (contains K.eq nodes_to_fix.now) (graph_of K.eq V.edges nodes.old)
+        → IsTrue enforce_dag
+        → HasNoCycleAt (contains K.eq nodes_to_fix.now) (graph_of K.eq V.edges nodes.old)) }
+    ensures err { IfErr result (λ e. MatchFault e
+        (λ _ _ _. ⊥)
+        (λ v. IsTrue enforce_dag
+        × (contains K.eq nodes_to_fix.now v ≡ true)
+        × Reach (graph_of K.eq V.edges nodes.old) v v)) }
+    ensures closings { IfOk result (λ w. w.closings ≤ 2 * hash_set_len nodes_to_fix.now) }
+    ensures visits { IfOk result (λ w.
+        ((q : K) → contains K.eq nodes_to_fix.now q ≡ true
+        → is_some (get K.eq nodes.old q) ≡ true)
+        → hash_set_len nodes_to_fix.now ≤ w.closings) }
+{
+    let work = repair(alloc, nodes_to_fix, nodes)?;
+    if enforce_dag {
+        enforce_no_loop_for(alloc, nodes_to_fix, nodes)?;
+    }
+    Ok(work)
 }
 
 /// Checks a graph: Ok exactly where it is closed and no node has an edge to itself.

@@ -1,0 +1,4 @@
+pub mod ComponentSteps
+pub mod Steps
+pub mod Fills
+pub mod Rows

@@ -1,0 +1,2 @@
+-- What only the private contracts and the proofs cite.
+pub mod Search

@@ -1,0 +1,28 @@
+// The places of each value of a list.
+ghost use Rattle.std.specs.Prelude.{◌≡◌, ℕ, ◌<◌, length, slice_index, IfOk};
+ghost use Rattle.cedar_components.specs.laws.Search.{AreLinks};
+
+use std::alloc::{AllocError, Global};
+
+// `head` has for each value one more than its last place, `link` for each place one more than the
+// place of the same value before it; 0 where there is none.
+#[derive(Drop)]
+pub(crate) struct Links {
+    pub(crate) head: Vec<usize>,
+    pub(crate) link: Vec<usize>,
+}
+
+// The places of each value of a list of numbers below n, as chains from the last to the first.
+pub(crate) fn make_links(alloc: Global, ends: &[usize], n: usize) -> Result<Links, AllocError>
+    requires { (k : ℕ) → k < length ends.now → slice_index ends.now k < n }
+    ensures { IfOk result (λ l. AreLinks ends.now l.head.items l.link.items n) }
+{
+    let mut head = vec![in alloc; 0; n]?;
+    let mut link = Vec::new(alloc);
+    for k in 0..ends.len() {
+        let a = ends[k];
+        link.push(head[a])?;
+        head[a] = k + 1;
+    }
+    Ok(Links { head, link })
+}

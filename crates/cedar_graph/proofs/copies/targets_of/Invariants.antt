@@ -1,7 +1,0 @@
-use Rattle.std.proofs.Common.{◌≡◌, map}
-use Rattle.std.specs.Set.{is_member}
-use Rattle.cedar_graph.proofs.copies.targets_of.Given as goal
-
-abbrev pub invariant-loop-edge : goal.invariant-loop-edge
-invariant-loop-edge g l =
-    (q : g.row.K.Denot) → is_member g.K.PartialEq.eq l.copies.items q ≡ is_member g.K.PartialEq.eq (map (λ x. x.now) l.yielded) q

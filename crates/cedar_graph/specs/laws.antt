@@ -1,0 +1,4 @@
+-- What only the private contracts and the proofs cite, and laws with their proofs.
+pub mod Arcs
+pub mod Deciding
+pub mod Steps

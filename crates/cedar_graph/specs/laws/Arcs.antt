@@ -1,0 +1,74 @@
+-- Numbers for keys, and arcs between them.
+use Rattle.std.specs.Prelude.{◌≡◌, ℕ, ◌<◌, ◌+◌, slice_get, slice_index, Bool, true, ◌&&◌, List, ◌++◌, Some, length}
+use Rattle.std.specs.Set.{is_member}
+use Rattle.std.specs.HashMap.{HashMap, get}
+use Rattle.cedar_components.specs.Reach.{IsWithin, Goes}
+
+-- each key's number is its place in the list, and each number that the map has is of an equal key of the list
+pub record IsNumbering {K S : Type 0} (eq : K → K → Bool) (number : HashMap K ℕ S) (keys : List K) : Type 0 where
+  pub placed : (i : ℕ) (k : K) → slice_get keys i ≡ Some k → get eq number k ≡ Some i
+  pub found : (q : K) (i : ℕ) → get eq number q ≡ Some i → (k : K) × (slice_get keys i ≡ Some k) × (eq q k ≡ true)
+
+-- there is an arc from number a to the number of q
+abbrev pub HasArcTo : {K : Type 0} → (K → K → Bool) → List K → List ℕ → List ℕ → ℕ → K → Type 0
+HasArcTo {K} eq keys from to a q = (k : ℕ) × (y : K) × (k < length from) × (slice_index from k ≡ a) × (slice_get keys (slice_index to k) ≡ Some y) × (eq q y ≡ true)
+
+-- the arcs of the numbers below `done` are the edges of their keys, and the others are edges
+pub record AreArcsOf {K : Type 0} (eq : K → K → Bool) (G : K → K → Bool) (done : ℕ) (keys : List K) (from to : List ℕ) : Type 0 where
+  pub same_len : length to ≡ length from
+  pub from_in : (k : ℕ) → k < length from → slice_index from k < done
+  pub to_in : (k : ℕ) → k < length from → slice_index to k < length keys
+  pub sound : (k : ℕ) (x y : K) → k < length from → slice_get keys (slice_index from k) ≡ Some x → slice_get keys (slice_index to k) ≡ Some y → G x y ≡ true
+  pub complete : (a : ℕ) (x q : K) → a < done → slice_get keys a ≡ Some x → G x q ≡ true → HasArcTo eq keys from to a q
+
+-- the list goes on
+abbrev pub IsPrefix : {K : Type 0} → List K → List K → Type 0
+IsPrefix {K} keys more = (xs : List K) × (more ≡ keys ++ xs)
+
+-- the same, with the arcs of number a so far, to the keys that pass
+pub record AreArcsIn {K : Type 0} (eq : K → K → Bool) (G : K → K → Bool) (a : ℕ) (keys : List K) (from to : List ℕ) (P : K → Bool) : Type 0 where
+  pub same_len : length to ≡ length from
+  pub from_in : (k : ℕ) → k < length from → slice_index from k < a + 1
+  pub to_in : (k : ℕ) → k < length from → slice_index to k < length keys
+  pub sound : (k : ℕ) (x y : K) → k < length from → slice_get keys (slice_index from k) ≡ Some x → slice_get keys (slice_index to k) ≡ Some y → G x y ≡ true
+  pub complete : (i : ℕ) (x q : K) → i < a → slice_get keys i ≡ Some x → G x q ≡ true → HasArcTo eq keys from to i q
+  pub here : (q : K) → P q ≡ true → HasArcTo eq keys from to a q
+
+-- an arc between two numbers is an edge between their keys
+abbrev pub AreEdges : {K : Type 0} → (K → K → Bool) → List K → (ℕ → ℕ → Type 0) → Type 0
+AreEdges {K} G keys E = (a b : ℕ) (x y : K) → E a b → slice_get keys a ≡ Some x → slice_get keys b ≡ Some y → G x y ≡ true
+
+-- the numbers' arcs are the edges of their keys
+pub record AreSameEdges {K : Type 0} (eq : K → K → Bool) (G : K → K → Bool) (keys : List K) (E : ℕ → ℕ → Type 0) : Type 0 where
+  pub alike : (x y z : K) → eq x y ≡ true → G x z ≡ G y z
+  pub has_key : (a b : ℕ) → E a b → (k : K) × (slice_get keys b ≡ Some k)
+  pub sound : AreEdges G keys E
+  pub complete : (a : ℕ) (x q : K) → slice_get keys a ≡ Some x → G x q ≡ true → (b : ℕ) × (y : K) × E a b × (slice_get keys b ≡ Some y) × (eq q y ≡ true)
+
+-- q is a key of the list
+abbrev pub HasNumber : {K : Type 0} → (K → K → Bool) → List K → K → Type 0
+HasNumber {K} eq keys q = (i : ℕ) × (k : K) × (slice_get keys i ≡ Some k) × (eq q k ≡ true)
+
+-- q is a key of the list before place n
+abbrev pub HasNumberBelow : {K : Type 0} → (K → K → Bool) → ℕ → List K → K → Type 0
+HasNumberBelow {K} eq n keys q = (i : ℕ) × (k : K) × (i < n) × (slice_get keys i ≡ Some k) × (eq q k ≡ true)
+
+-- q is the key of a number of the list from place i up to j
+abbrev pub IsPicked : {K : Type 0} → (K → K → Bool) → List K → List ℕ → ℕ → ℕ → K → Type 0
+IsPicked {K} eq keys lists i j q = (y : ℕ) × (k : K) × IsWithin lists i j y × (slice_get keys y ≡ Some k) × (eq q k ≡ true)
+
+-- q is the key of a number that number x reaches
+abbrev pub ReachesKey : {K : Type 0} → (K → K → Bool) → List K → (ℕ → ℕ → Type 0) → ℕ → K → Type 0
+ReachesKey {K} eq keys E x q = (y : ℕ) × (k : K) × Goes E x y × (slice_get keys y ≡ Some k) × (eq q k ≡ true)
+
+-- a is the key of number x, and b that of a number that x reaches
+abbrev pub IsRowEdge : {K : Type 0} → (K → K → Bool) → List K → (ℕ → ℕ → Type 0) → ℕ → K → K → Type 0
+IsRowEdge {K} eq keys E x a b = (k : K) × (slice_get keys x ≡ Some k) × (eq k a ≡ true) × ReachesKey eq keys E x b
+
+-- the same of some number below n
+abbrev pub IsRowEdgeBelow : {K : Type 0} → (K → K → Bool) → ℕ → List K → (ℕ → ℕ → Type 0) → K → K → Type 0
+IsRowEdgeBelow eq n keys E a b = (x : ℕ) × (x < n) × IsRowEdge eq keys E x a b
+
+-- the graph's edges from the keys of a list
+abbrev pub near_graph : {K : Type 0} → (K → K → Bool) → (K → K → Bool) → List K → K → K → Bool
+near_graph eq G ks a b = is_member eq ks a && G a b

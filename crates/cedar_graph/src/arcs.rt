@@ -1,0 +1,186 @@
+// Reading the edges of a map of nodes as arcs between numbers.
+ghost use Rattle.std.specs.Prelude.{List, ◌≡◌, ◌<◌, ◌≤◌, ◌+◌, ℕ, true, length, is_some, IsSome, IfOk, OnOk, slice_get, Some, ◌++◌, ◌∷◌, [], slice_index, take, false};
+ghost use Rattle.std.specs.Set.{is_member, ClonesAreEqual};
+ghost use Rattle.std.specs.HashMap.{get, hash_map_len};
+ghost use Rattle.std.specs.HashSet.{contains, hash_set_len};
+ghost use Rattle.cedar_graph.specs.Graph.{graph_of};
+ghost use Rattle.cedar_graph.specs.laws.Arcs.{IsNumbering};
+ghost use Rattle.cedar_graph.specs.laws.Arcs.{AreArcsOf, IsPrefix, HasNumber, HasNumberBelow, AreSameEdges, near_graph};
+ghost use Rattle.cedar_components.specs.Reach.{HasArc, AreArcs};
+
+use crate::copies::{keys_of, members_of};
+use crate::numbering::{Numbering, no_numbers, number_of};
+use crate::transitive_closure::TCNode;
+use std::alloc::{AllocError, Global};
+use std::collections::{HashMap, HashSet};
+use std::hash::Hash;
+
+// Numbers for the keys of the map.
+fn number_keys<K: Clone + Eq + Hash, V>(
+    alloc: Global,
+    nodes: &HashMap<K, V>,
+) -> Result<Numbering<K>, AllocError>
+    requires { ClonesAreEqual K.eq K.is_clone }
+    ensures numbering { IfOk result (λ s. IsNumbering K.eq s.number s.keys.items) }
+    ensures all { IfOk result (λ s. (q : K) → is_some (get K.eq nodes.now q) ≡ true → HasNumber K.eq s.keys.items q) }
+    ensures len { IfOk result (λ s. length s.keys.items ≤ hash_map_len nodes.now) }
+{
+    let all = keys_of(alloc, nodes)?;
+    let mut numbering = no_numbers(alloc);
+    for key in &all {
+        number_of(&mut numbering, key)?;
+    }
+    Ok(numbering)
+}
+
+#[derive(Drop)]
+pub(crate) struct Reading<K: Eq + Hash> {
+    pub(crate) numbering: Numbering<K>,
+    pub(crate) from: Vec<usize>,
+    pub(crate) to: Vec<usize>,
+    pub(crate) reads: usize,
+}
+
+// One more arc.
+fn add_arc<K: Clone + Eq + Hash>(s: &mut Reading<K>, a: usize, key: &K) -> Result<usize, AllocError>
+    requires copies { ClonesAreEqual K.eq K.is_clone }
+    requires numbering { IsNumbering K.eq s.old.numbering.number s.old.numbering.keys.items }
+    ensures numbering { OnOk result (IsNumbering K.eq s.new.numbering.number s.new.numbering.keys.items) }
+    ensures keys { OnOk result (IsPrefix s.old.numbering.keys.items s.new.numbering.keys.items) }
+    ensures from { OnOk result (s.new.from.items ≡ s.old.from.items ++ a ∷ []) }
+    ensures to { IfOk result (λ b. s.new.to.items ≡ s.old.to.items ++ b ∷ []) }
+    ensures reads { s.new.reads ≡ s.old.reads }
+    ensures found { IfOk result (λ b. (k : K) × (slice_get s.new.numbering.keys.items b ≡ Some k) × (K.eq key.now k ≡ true)) }
+{
+    let b = number_of(&mut s.numbering, key)?;
+    s.from.push(a)?;
+    s.to.push(b)?;
+    Ok(b)
+}
+
+// The arcs of a node.
+fn read_row<K: Clone + Eq + Hash, V: TCNode<K>>(
+    alloc: Global,
+    nodes: &HashMap<K, V>,
+    s: &mut Reading<K>,
+    a: usize,
+) -> Result<(), AllocError>
+    requires copies { ClonesAreEqual K.eq K.is_clone }
+    requires numbering { IsNumbering K.eq s.old.numbering.number s.old.numbering.keys.items }
+    requires within { a < length s.old.numbering.keys.items }
+    requires arcs { AreArcsOf K.eq (graph_of K.eq V.edges nodes.now) a s.old.numbering.keys.items s.old.from.items s.old.to.items }
+    ensures numbering { OnOk result (IsNumbering K.eq s.new.numbering.number s.new.numbering.keys.items) }
+    ensures keys { OnOk result (IsPrefix s.old.numbering.keys.items s.new.numbering.keys.items) }
+    ensures arcs { OnOk result (AreArcsOf K.eq (graph_of K.eq V.edges nodes.now) (a + 1) s.new.numbering.keys.items s.new.from.items s.new.to.items) }
+    ensures reads { OnOk result (s.new.reads ≤ s.old.reads + 1) }
+{
+    let edges = match nodes.get(&s.numbering.keys[a]) {
+        Some(node) => {
+            s.reads = s.reads.saturating_add(1);
+            node.out_edges(alloc)?
+        }
+        None => return Ok(()),
+    };
+    for edge in &edges {
+        add_arc(s, a, *edge)?;
+    }
+    Ok(())
+}
+
+// What was read, and how many of the numbers are to be fixed, and how many were read.
+#[derive(Drop)]
+pub(crate) struct FixReading<K: Eq + Hash> {
+    pub(crate) reading: Reading<K>,
+    pub(crate) fixed: usize,
+    pub(crate) near: usize,
+}
+
+// The arcs of the nodes of the map: each node's edges are read once.
+pub(crate) fn read_arcs<K: Clone + Eq + Hash, V: TCNode<K>>(
+    alloc: Global,
+    nodes: &HashMap<K, V>,
+) -> Result<FixReading<K>, AllocError>
+    requires copies { ClonesAreEqual K.eq K.is_clone }
+    ensures arcs { IfOk result (λ s. AreArcs s.reading.from.items s.reading.to.items (length s.reading.numbering.keys.items)) }
+    ensures same { IfOk result (λ s. AreSameEdges K.eq (graph_of K.eq V.edges nodes.now) s.reading.numbering.keys.items (HasArc s.reading.from.items s.reading.to.items)) }
+    ensures fixed { IfOk result (λ s. s.fixed ≤ length s.reading.numbering.keys.items) }
+    ensures all { IfOk result (λ s. (q : K) → is_some (get K.eq nodes.now q) ≡ true → HasNumberBelow K.eq s.fixed s.reading.numbering.keys.items q) }
+    ensures nodes { IfOk result (λ s. s.fixed ≤ hash_map_len nodes.now) }
+    ensures reads { IfOk result (λ s. s.reading.reads ≤ s.fixed) }
+{
+    let numbering = number_keys(alloc, nodes)?;
+    let count = numbering.keys.len();
+    let mut s = Reading {
+        numbering,
+        from: Vec::new(alloc),
+        to: Vec::new(alloc),
+        reads: 0,
+    };
+    for a in 0..count {
+        read_row(alloc, nodes, &mut s, a)?;
+    }
+    Ok(FixReading {
+        reading: s,
+        fixed: count,
+        near: count,
+    })
+}
+
+// Numbers for the keys of a set.
+fn number_set<K: Clone + Eq + Hash>(
+    alloc: Global,
+    fix: &HashSet<K>,
+) -> Result<Numbering<K>, AllocError>
+    requires { ClonesAreEqual K.eq K.is_clone }
+    ensures numbering { IfOk result (λ s. IsNumbering K.eq s.number s.keys.items) }
+    ensures all { IfOk result (λ s. (q : K) → contains K.eq fix.now q ≡ true → HasNumber K.eq s.keys.items q) }
+    ensures only { IfOk result (λ s. (i : ℕ) (k : K) → slice_get s.keys.items i ≡ Some k → contains K.eq fix.now k ≡ true) }
+    ensures len { IfOk result (λ s. length s.keys.items ≤ hash_set_len fix.now) }
+    ensures least { IfOk result (λ s. hash_set_len fix.now ≤ length s.keys.items) }
+{
+    let all = members_of(alloc, fix)?;
+    let mut numbering = no_numbers(alloc);
+    for key in &all {
+        number_of(&mut numbering, key)?;
+    }
+    Ok(numbering)
+}
+
+// The arcs of the keys to fix, and of the keys that they have an edge to.
+pub(crate) fn read_fix<K: Clone + Eq + Hash, V: TCNode<K>>(
+    alloc: Global,
+    fix: &HashSet<K>,
+    nodes: &HashMap<K, V>,
+) -> Result<FixReading<K>, AllocError>
+    requires copies { ClonesAreEqual K.eq K.is_clone }
+    ensures arcs { IfOk result (λ s. AreArcs s.reading.from.items s.reading.to.items (length s.reading.numbering.keys.items)) }
+    ensures fixed { IfOk result (λ s. s.fixed ≤ length s.reading.numbering.keys.items) }
+    ensures same { IfOk result (λ s. AreSameEdges K.eq (near_graph K.eq (graph_of K.eq V.edges nodes.now) (take s.near s.reading.numbering.keys.items)) s.reading.numbering.keys.items (HasArc s.reading.from.items s.reading.to.items)) }
+    ensures len { IfOk result (λ s. s.fixed ≤ hash_set_len fix.now) }
+    ensures least { IfOk result (λ s. hash_set_len fix.now ≤ s.fixed) }
+    ensures all { IfOk result (λ s. (q : K) → contains K.eq fix.now q ≡ true → HasNumberBelow K.eq s.fixed s.reading.numbering.keys.items q) }
+    ensures only { IfOk result (λ s. (i : ℕ) (k : K) → i < s.fixed → slice_get s.reading.numbering.keys.items i ≡ Some k → contains K.eq fix.now k ≡ true) }
+    ensures near { IfOk result (λ s. (x u : K) → contains K.eq fix.now x ≡ true → graph_of K.eq V.edges nodes.now x u ≡ true → is_member K.eq (take s.near s.reading.numbering.keys.items) u ≡ true) }
+    ensures near_fixed { IfOk result (λ s. (x : K) → contains K.eq fix.now x ≡ true → is_member K.eq (take s.near s.reading.numbering.keys.items) x ≡ true) }
+{
+    let numbering = number_set(alloc, fix)?;
+    let fixed = numbering.keys.len();
+    let mut s = Reading {
+        numbering,
+        from: Vec::new(alloc),
+        to: Vec::new(alloc),
+        reads: 0,
+    };
+    for a in 0..fixed {
+        read_row(alloc, nodes, &mut s, a)?;
+    }
+    let near = s.numbering.keys.len();
+    for b in fixed..near {
+        read_row(alloc, nodes, &mut s, b)?;
+    }
+    Ok(FixReading {
+        reading: s,
+        fixed,
+        near,
+    })
+}

@@ -1,0 +1,8 @@
+// Tests of the closure calls over four node types.
+mod calls;
+mod coarse;
+mod counted;
+mod counting;
+mod nodes;
+mod random;
+mod small;

@@ -1,0 +1,171 @@
+// A node type with number keys that counts how often its edges are listed.
+ghost use Rattle.std.specs.Prelude.{◌≡◌, ◌<◌, nat_eq, IfOk};
+ghost use Rattle.std.specs.HashSet.{contains};
+ghost use Rattle.cedar_graph.specs.Graph.{KeysMatch};
+
+use crate::tests::nodes::{Edges, targets};
+use cedar_graph::TCNode;
+use std::alloc::{AllocError, Global};
+use std::cell::Cell;
+use std::collections::{HashMap, HashSet};
+
+/// A node that counts the calls that list its edges; no contract speaks of the count.
+#[derive(Drop)]
+pub struct Counting {
+    pub number: u64,
+    pub targets: HashSet<u64>,
+    pub listed: Cell<usize>,
+}
+
+impl TCNode<u64> for Counting {
+    ghost use Rattle.std.specs.Cmp.{nat_eq_equiv};
+    ghost use Rattle.cedar_graph.specs.NodeLaws.{contains_alike};
+
+    ghost Rest = { Unit {0} };
+
+    ghost Kept = { Unit {0} };
+
+    ghost key = { λ n. n.number };
+
+    ghost edges = { λ n. contains nat_eq n.targets };
+
+    ghost direct = { λ n. contains nat_eq n.targets };
+
+    ghost rest = { λ n. tt };
+
+    ghost kept = { λ n. tt };
+
+    fn get_key(&self, _alloc: Global) -> Result<u64, AllocError> {
+        Ok(self.number)
+    }
+
+    fn add_edge_to(&mut self, _alloc: Global, k: u64) -> Result<(), AllocError> {
+        self.targets.insert(k)?;
+        Ok(())
+    }
+
+    fn out_edges(&self, alloc: Global) -> Result<Vec<&u64>, AllocError> {
+        self.listed.set(self.listed.get().saturating_add(1));
+        self.targets.iter().collect(alloc)
+    }
+
+    fn has_edge_to(&self, k: &u64) -> bool {
+        self.targets.contains(k)
+    }
+
+    fn reset_edges(&mut self, _alloc: Global) -> Result<(), AllocError> {
+        Ok(())
+    }
+
+    ghost respects_eq = { λ n x y h. contains_alike nat_eq_equiv x y h n.targets };
+
+    ghost direct_are_edges = { λ n q h. h };
+}
+
+/// The graph with these edges, in a map with a node for each of the keys.
+pub fn counting_graph(
+    alloc: Global,
+    keys: &[u64],
+    edges: Edges<'_>,
+) -> Result<HashMap<u64, Counting>, AllocError>
+    ensures { IfOk result (λ m. KeysMatch nat_eq (λ n. n.number) m) }
+{
+    let mut nodes = HashMap::new(alloc);
+    for key in keys {
+        let number = *key;
+        let targets = targets(alloc, edges, number)?;
+        let listed = Cell::new(0);
+        nodes.insert(
+            number,
+            Counting {
+                number,
+                targets,
+                listed,
+            },
+        )?;
+    }
+    Ok(nodes)
+}
+
+/// The keys from `first` to before `end`, each with an edge to the next one.
+pub fn chain(alloc: Global, first: u64, end: u64) -> Result<HashMap<u64, Counting>, AllocError>
+    ensures { IfOk result (λ m. KeysMatch nat_eq (λ n. n.number) m) }
+{
+    let mut nodes = HashMap::new(alloc);
+    for number in first..end {
+        let mut targets = HashSet::new(alloc);
+        targets.insert(number + 1)?;
+        let listed = Cell::new(0);
+        nodes.insert(
+            number,
+            Counting {
+                number,
+                targets,
+                listed,
+            },
+        )?;
+    }
+    Ok(nodes)
+}
+
+/// Puts in a node with these edges, in the place of one that is there.
+pub fn put_counting(
+    alloc: Global,
+    nodes: &mut HashMap<u64, Counting>,
+    number: u64,
+    row: &[u64],
+) -> Result<(), AllocError>
+    requires { KeysMatch nat_eq (λ n. n.number) nodes.old }
+    ensures { KeysMatch nat_eq (λ n. n.number) nodes.new }
+{
+    let mut targets = HashSet::new(alloc);
+    for target in row {
+        targets.insert(*target)?;
+    }
+    let listed = Cell::new(0);
+    nodes.insert(
+        number,
+        Counting {
+            number,
+            targets,
+            listed,
+        },
+    )?;
+    Ok(())
+}
+
+/// The keys from 1 to `count`, each with an edge to 0, which has one to the absent key `count + 1`.
+pub fn star(alloc: Global, count: u64) -> Result<HashMap<u64, Counting>, AllocError>
+    requires { count < 1000000 }
+    ensures { IfOk result (λ m. KeysMatch nat_eq (λ n. n.number) m) }
+{
+    let mut nodes = HashMap::new(alloc);
+    put_counting(alloc, &mut nodes, 0, &[count + 1])?;
+    for number in 1..count + 1 {
+        put_counting(alloc, &mut nodes, number, &[0])?;
+    }
+    Ok(nodes)
+}
+
+/// How often edges were listed in all, and the most often of one node.
+pub fn listed(nodes: &HashMap<u64, Counting>) -> (usize, usize) {
+    let mut all: usize = 0;
+    let mut most: usize = 0;
+    for node in nodes.values() {
+        let times = node.listed.get();
+        all = all.saturating_add(times);
+        if times > most {
+            most = times;
+        }
+    }
+    (all, most)
+}
+
+/// How many edges there are in all.
+pub fn edge_count(nodes: &HashMap<u64, Counting>) -> usize {
+    let mut all: usize = 0;
+    for node in nodes.values() {
+        all = all.saturating_add(node.targets.len());
+    }
+    all
+}
