@@ -4,7 +4,7 @@ use Rattle.cedar_ids.specs.declared.err.ParseErrors.{ParseErrors}
 use Rattle.cedar_ids.specs.declared.err.ParseErrors.TheVariants.{NotNormalized, InvalidName, Memory}
 use Rattle.cedar_ids.specs.declared.entity.EntityType.{EntityType}
 use Rattle.cedar_ids.specs.declared.entity.EntityUID.{EntityUID}
-use Rattle.cedar_ids.specs.Laws.{IsNameText, IsUnqualifiedText}
+use Rattle.cedar_ids.specs.TextOf.{IsNameText, IsUnqualifiedText}
 use Rattle.cedar_ids.specs.Views.{type_name}
 use Rattle.cedar_ids.specs.UidOf.{uid_parts}
 

@@ -1,7 +1,7 @@
 -- The order of the checks when a uid is read.
 use Rattle.std.specs.Prelude.{◌≡◌, ◌≤◌, ◌++◌, ℕ, List, length, codes, Result, Ok, Err}
 use Rattle.cedar_ids.specs.Name.{NameParts}
-use Rattle.cedar_ids.specs.Laws.{IsName}
+use Rattle.cedar_ids.specs.TextOf.{IsName}
 use Rattle.cedar_ids.specs.Printed.{printed_name}
 use Rattle.cedar_ids.specs.UidOf.{uid_parts}
 use Rattle.cedar_ids.specs.declared.entity.EntityUID.{EntityUID}

@@ -6,7 +6,7 @@ use Rattle.std.specs.Ordering.{on, eq_of_both}
 use Rattle.std.specs.Cmp.{IsEquivalence, and_equiv, on_equiv, first_so, second_so}
 use Rattle.std.specs.Cmp.Lexicographic.{pointwise, bytes_decides, on_texts_equal}
 use Rattle.cedar_ids.specs.Name.{NameParts, name_eq}
-use Rattle.cedar_ids.specs.NameLaws.{name_eq_equiv, name_eq-Decides}
+use Rattle.cedar_ids.specs.laws.NameLaws.{name_eq_equiv, name_eq-Decides}
 use Rattle.cedar_terms.specs.ValueHash.{extension_hash}
 
 -- the function, and the bytes of the text that it is called on

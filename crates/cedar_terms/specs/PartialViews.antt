@@ -6,8 +6,8 @@ use Rattle.std.specs.Hash as fed
 use Rattle.std.specs.Cmp.{IsEquivalence, decided}
 use Rattle.cedar_terms.specs.ValueTree.{same_value}
 use Rattle.cedar_terms.specs.ValueHash.{value_hash}
-use Rattle.cedar_terms.specs.ValueLaws.{same_value_decides}
-use Rattle.cedar_terms.specs.ExprLaws.{same_expr, same_expr_decides, expr_hash}
+use Rattle.cedar_terms.specs.laws.ValueLaws.{same_value_decides}
+use Rattle.cedar_terms.specs.laws.ExprLaws.{same_expr, same_expr_decides, expr_hash}
 use Rattle.cedar_terms.specs.declared.partial_value.PartialValue.{PartialValue}
 use Rattle.cedar_terms.specs.declared.partial_value.PartialValue.TheVariants as partials
 

@@ -8,7 +8,7 @@ use Rattle.std.specs.Cmp.{IsEquivalence, and_equiv, on_equiv, first_so, second_s
 use Rattle.std.specs.Cmp.Lexicographic.{pointwise, bytes_decides, on_texts_equal, options_equiv}
 use Rattle.std.specs.Hash as fed
 use Rattle.cedar_ids.specs.Name.{NameParts, name_eq, name_hash_input}
-use Rattle.cedar_ids.specs.NameLaws.{name_eq_equiv, name_eq-Decides}
+use Rattle.cedar_ids.specs.laws.NameLaws.{name_eq_equiv, name_eq-Decides}
 
 -- the bytes of its name, and the name of the entity type that it is said to have
 pub record UnknownParts : Type 0 where

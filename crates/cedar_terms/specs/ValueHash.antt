@@ -6,7 +6,7 @@ use Rattle.cedar_ids.specs.Name.{NameParts, name_hash_input}
 use Rattle.cedar_ids.specs.Uid.{uid_hash_input}
 use Rattle.cedar_terms.specs.LiteralTree.{LiteralTree, bool_literal, long_literal, string_literal, uid_literal}
 use Rattle.cedar_terms.specs.ValueTree.{ValueTree, literal_value, set_value, record_value, extension_value, ValueTrees, no_values, value_then, FieldTrees, no_fields, field_then, same_value}
-use Rattle.cedar_terms.specs.ValueLaws.{same_value_decides}
+use Rattle.cedar_terms.specs.laws.ValueLaws.{same_value_decides}
 
 -- a literal: the place of its kind, then its content
 abbrev pub literal_hash : LiteralTree → List (List ℕ)

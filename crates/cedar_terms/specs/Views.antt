@@ -4,7 +4,7 @@ use Rattle.std.proofs.Common.{ap}
 use Rattle.std.specs.Ordering.{on}
 use Rattle.cedar_ids.specs.UidOf.{uid_parts}
 use Rattle.cedar_terms.specs.LiteralTree.{LiteralTree, bool_literal, long_literal, string_literal, uid_literal, same_literal}
-use Rattle.cedar_terms.specs.LiteralLaws.{same_literal_decides}
+use Rattle.cedar_terms.specs.laws.LiteralLaws.{same_literal_decides}
 use Rattle.cedar_terms.specs.ValueHash.{literal_hash}
 use Rattle.cedar_terms.specs.declared.literal.Literal.{Literal}
 use Rattle.cedar_terms.specs.declared.literal.Literal.TheVariants as literals

@@ -1,0 +1,13 @@
+pub mod Decode
+pub mod Eids
+pub mod EscapeLaws
+pub mod Escapes
+pub mod Halves
+pub mod NameLaws
+pub mod NameReading
+pub mod NameTextLaws
+pub mod NameTexts
+pub mod PrintedLaws
+pub mod UidLaws
+pub mod UidReading
+pub mod UidTexts

@@ -1,0 +1,4 @@
+pub mod Bunch
+pub mod Filled
+pub mod Pairs
+pub mod UidLists

@@ -1,0 +1,65 @@
+-- How a proof tells references, constraints and annotations apart.
+use Rattle.std.specs.Prelude.{◌≡◌, ℕ, List, [], ◌∷◌, Option, Some, None, refl, if◌then◌else◌, ◌==◌}
+use Rattle.std.specs.Coded.{Coded, code_by, coded×, coded_ℕ, coded_list, coded_option}
+use Rattle.cedar_ids.specs.Name.{NameParts}
+use Rattle.cedar_ids.specs.Uid.{UidParts}
+use Rattle.cedar_ids.specs.Codes.{text_code, name_code, uid_parts_code}
+use Rattle.cedar_scope.specs.Scope.{Reference, to_uid, to_slot, Constraint, any, within, equals, of_type, of_type_within, ActionRule, any_action, among, just}
+use Rattle.cedar_scope.specs.ScopeReads.{uid_of, constraint_kind, stated_type, reference_in, rule_kind, rule_uids}
+
+-- the reference of a uid, the slot where there is none
+abbrev pub reference_with : Option UidParts → Reference
+reference_with None = to_slot
+reference_with (Some u) = to_uid u
+
+pub reference_with-uid_of : (r : Reference) → reference_with (uid_of r) ≡ r
+reference_with-uid_of (to_uid u) = refl
+reference_with-uid_of to_slot = refl
+
+abbrev pub reference_code : Coded Reference
+reference_code = code_by (Option UidParts) (coded_option uid_parts_code) uid_of reference_with reference_with-uid_of
+
+-- the constraint of a kind, with these parts
+abbrev pub constraint_with : ℕ → Option NameParts → Option Reference → Constraint
+constraint_with k None None = any
+constraint_with k None (Some r) = if k == 1 then within r else equals r
+constraint_with k (Some t) None = of_type t
+constraint_with k (Some t) (Some r) = of_type_within t r
+
+-- a constraint is that of its kind, with its parts
+pub constraint_with-parts : (c : Constraint) → constraint_with (constraint_kind c) (stated_type c) (reference_in c) ≡ c
+constraint_with-parts any = refl
+constraint_with-parts (within r) = refl
+constraint_with-parts (equals r) = refl
+constraint_with-parts (of_type t) = refl
+constraint_with-parts (of_type_within t r) = refl
+
+abbrev pub constraint_code : Coded Constraint
+constraint_code =
+    code_by (ℕ × (Option NameParts × Option Reference)) (coded× coded_ℕ (coded× (coded_option name_code) (coded_option reference_code)))
+    (λ c. (constraint_kind c, (stated_type c, reference_in c))) (λ p. constraint_with p.0 p.1.0 p.1.1) constraint_with-parts
+
+-- the rule of a kind that is not `any`, with these uids
+abbrev pub rule_with_uids : ℕ → List UidParts → ActionRule
+rule_with_uids k [] = among []
+rule_with_uids k (u ∷ us) = if k == 1 then among (u ∷ us) else just u
+
+-- the rule of a kind, with these uids
+abbrev pub rule_with : ℕ → List UidParts → ActionRule
+rule_with k us = if k == 0 then any_action else rule_with_uids k us
+
+-- a rule is that of its kind, with its uids
+pub rule_with-parts : (a : ActionRule) → rule_with (rule_kind a) (rule_uids a) ≡ a
+rule_with-parts any_action = refl
+rule_with-parts (among []) = refl
+rule_with-parts (among (u ∷ us)) = refl
+rule_with-parts (just u) = refl
+
+abbrev pub rule_code : Coded ActionRule
+rule_code =
+    code_by (ℕ × List UidParts) (coded× coded_ℕ (coded_list uid_parts_code))
+    (λ a. (rule_kind a, rule_uids a)) (λ p. rule_with p.0 p.1) rule_with-parts
+
+-- annotations: their keys and values
+abbrev pub annotations_code : Coded (List (List ℕ × List ℕ))
+annotations_code = coded_list (coded× text_code text_code)

@@ -1,0 +1,12 @@
+pub mod ActionTypes
+pub mod AnnotationOrder
+pub mod Annotations
+pub mod Codes
+pub mod Scope
+pub mod ScopeOrder
+pub mod ScopeReads
+pub mod ScopeTexts
+pub mod ScopeTrees
+pub mod Variables
+pub mod Views
+pub mod laws

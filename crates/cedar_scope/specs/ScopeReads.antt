@@ -1,0 +1,104 @@
+-- What stands in references and constraints, and how a slot is filled.
+use Rattle.std.specs.Prelude.{ℕ, List, [], ◌∷◌, ◌++◌, Bool, true, false, not, Option, Some, None, reverse, codes}
+use Rattle.std.specs.Option.{option_map, option_to_list}
+use Rattle.std.specs.Str.{bytes_eq}
+use Rattle.std.specs.List.{filter}
+use Rattle.cedar_ids.specs.Name.{NameParts}
+use Rattle.cedar_ids.specs.Uid.{UidParts, name_part}
+use Rattle.cedar_scope.specs.Scope.{Reference, to_uid, to_slot, Constraint, any, within, equals, of_type, of_type_within, ActionRule, any_action, among, just}
+
+-- the uid, if it is one
+abbrev pub uid_of : Reference → Option UidParts
+uid_of (to_uid u) = Some u
+uid_of to_slot = None
+
+-- the place of a constraint's kind among the kinds
+abbrev pub constraint_kind : Constraint → ℕ
+constraint_kind any = 0
+constraint_kind (within r) = 1
+constraint_kind (equals r) = 2
+constraint_kind (of_type t) = 3
+constraint_kind (of_type_within t r) = 4
+
+-- the type that is stated, if one is
+abbrev pub stated_type : Constraint → Option NameParts
+stated_type any = None
+stated_type (within r) = None
+stated_type (equals r) = None
+stated_type (of_type t) = Some t
+stated_type (of_type_within t r) = Some t
+
+-- what is referred to, if anything is
+abbrev pub reference_in : Constraint → Option Reference
+reference_in any = None
+reference_in (within r) = Some r
+reference_in (equals r) = Some r
+reference_in (of_type t) = None
+reference_in (of_type_within t r) = Some r
+
+-- the uid that is referred to, if one is
+abbrev pub constraint_uid : Constraint → Option UidParts
+constraint_uid any = None
+constraint_uid (within r) = uid_of r
+constraint_uid (equals r) = uid_of r
+constraint_uid (of_type t) = None
+constraint_uid (of_type_within t r) = uid_of r
+
+-- the types that are named: that of the uid, then the stated one
+abbrev pub constraint_types : Constraint → List NameParts
+constraint_types c = option_to_list (option_map name_part (constraint_uid c)) ++ option_to_list (stated_type c)
+
+-- whether it is the slot
+abbrev pub is_slot : Reference → Bool
+is_slot (to_uid u) = false
+is_slot to_slot = true
+
+-- whether the slot is referred to
+abbrev pub has_slot : Constraint → Bool
+has_slot any = false
+has_slot (within r) = is_slot r
+has_slot (equals r) = is_slot r
+has_slot (of_type t) = false
+has_slot (of_type_within t r) = is_slot r
+
+-- the uid in place of the slot
+abbrev pub filled_reference : UidParts → Reference → Reference
+filled_reference u (to_uid v) = to_uid v
+filled_reference u to_slot = to_uid u
+
+-- the constraint with the uid in place of the slot, all else as it was
+abbrev pub filled : UidParts → Constraint → Constraint
+filled u any = any
+filled u (within r) = within (filled_reference u r)
+filled u (equals r) = equals (filled_reference u r)
+filled u (of_type t) = of_type t
+filled u (of_type_within t r) = of_type_within t (filled_reference u r)
+
+-- the place of a rule's kind among the kinds
+abbrev pub rule_kind : ActionRule → ℕ
+rule_kind any_action = 0
+rule_kind (among us) = 1
+rule_kind (just u) = 2
+
+-- the uids of a rule, in the order of its list
+abbrev pub rule_uids : ActionRule → List UidParts
+rule_uids any_action = []
+rule_uids (among us) = us
+rule_uids (just u) = u ∷ []
+
+-- the uids of a rule in the order in which they are given: those of a list from the back
+abbrev pub uids_given : ActionRule → List UidParts
+uids_given any_action = []
+uids_given (among us) = reverse us
+uids_given (just u) = u ∷ []
+
+-- whether it is the uid of an action: whether the last component of its type is `Action`
+abbrev pub is_action_uid : UidParts → Bool
+is_action_uid u = bytes_eq u.name.basename (codes "Action")
+
+abbrev pub is_no_action : UidParts → Bool
+is_no_action u = not (is_action_uid u)
+
+-- the uids of a rule that are not actions, in the order of its list, as often as they stand there
+abbrev pub non_actions : ActionRule → List UidParts
+non_actions a = filter is_no_action (rule_uids a)

@@ -1,0 +1,50 @@
+-- The expressions that references and constraints stand for.
+use Rattle.std.specs.Prelude.{map, true}
+use Rattle.cedar_ids.specs.Uid.{UidParts}
+use Rattle.cedar_terms.specs.LiteralTree.{bool_literal, uid_literal}
+use Rattle.cedar_terms.specs.ExprTree.{ExprTree, val_node, var_node, slot_node, and_node, eq_node, in_node, set_node, is_node, expr_trees}
+use Rattle.cedar_terms.specs.declared.slot.SlotId.{SlotId}
+use Rattle.cedar_terms.specs.declared.slot.SlotId.TheVariants as slots
+use Rattle.cedar_terms.specs.declared.var.Var.{Var}
+use Rattle.cedar_terms.specs.declared.var.Var.TheVariants as vars
+use Rattle.cedar_scope.specs.Scope.{Reference, to_uid, to_slot, Constraint, any, within, equals, of_type, of_type_within, ActionRule, any_action, among, just}
+use Rattle.cedar_scope.specs.declared.variable.PrincipalOrResource.{PrincipalOrResource}
+use Rattle.cedar_scope.specs.declared.variable.PrincipalOrResource.TheVariants.{Principal, Resource}
+
+-- the variable itself
+abbrev pub var_of : PrincipalOrResource → Var
+var_of Principal = vars.Principal
+var_of Resource = vars.Resource
+
+-- the slot of the variable
+abbrev pub slot_id_of : PrincipalOrResource → SlotId
+slot_id_of Principal = slots.Principal
+slot_id_of Resource = slots.Resource
+
+-- the variable as an expression
+abbrev pub variable_expr : PrincipalOrResource → ExprTree
+variable_expr v = var_node (var_of v)
+
+-- a uid as an expression
+abbrev pub uid_expr : UidParts → ExprTree
+uid_expr u = val_node (uid_literal u)
+
+-- the uid, or the slot
+abbrev pub reference_expr : SlotId → Reference → ExprTree
+reference_expr s (to_uid u) = uid_expr u
+reference_expr s to_slot = slot_node s
+
+-- `true`; `v in X`; `v == X`; `v is T`; `v is T` and `v in X`
+abbrev pub constraint_expr : PrincipalOrResource → Constraint → ExprTree
+constraint_expr v any = val_node (bool_literal true)
+constraint_expr v (within r) = in_node (variable_expr v) (reference_expr (slot_id_of v) r)
+constraint_expr v (equals r) = eq_node (variable_expr v) (reference_expr (slot_id_of v) r)
+constraint_expr v (of_type t) = is_node (variable_expr v) t
+constraint_expr v (of_type_within t r) =
+    and_node (is_node (variable_expr v) t) (in_node (variable_expr v) (reference_expr (slot_id_of v) r))
+
+-- `true`; `action in` the set of the uids in their order; `action == U`
+abbrev pub rule_expr : ActionRule → ExprTree
+rule_expr any_action = val_node (bool_literal true)
+rule_expr (among us) = in_node (var_node vars.Action) (set_node (expr_trees (map uid_expr us)))
+rule_expr (just u) = eq_node (var_node vars.Action) (uid_expr u)

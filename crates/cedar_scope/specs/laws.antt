@@ -1,0 +1,4 @@
+pub mod AnnotationOrders
+pub mod Filling
+pub mod ScopeOrders
+pub mod ScopeSlots

@@ -1,0 +1,10 @@
+pub mod Children
+pub mod ExprKeys
+pub mod ExprLaws
+pub mod ExprSizes
+pub mod Key
+pub mod LiteralLaws
+pub mod NameKeys
+pub mod ValueLaws
+pub mod ValueSizes
+pub mod VarLaws

@@ -1,0 +1,89 @@
+-- The laws of a literal's equality and order.
+use Rattle.std.specs.Prelude.{◌≡◌, ℤ, Bool, true, false, refl}
+use Rattle.std.proofs.Common.{ap, sym, ◌∙◌, subst}
+use Rattle.std.specs.Bool.{Decides}
+use Rattle.std.specs.Ordering.{bool_cmp, is_eq}
+use Rattle.std.specs.Cmp.{IsTotalOrder, IsEquivalence, on_total, eq_by_cmp_equiv, Equal-is, tied_itself}
+use Rattle.cedar_terms.specs.laws.Key.{Key, tip, fork, key_cmp, key_cmp-Equal, key_cmp_total, nat_key, right, text_key, text_key-inj, text_key-cmp}
+use Rattle.cedar_terms.specs.laws.NameKeys.{uid_key, uid_key-inj, uid_key-cmp}
+use Rattle.cedar_terms.specs.LiteralTree.{LiteralTree, bool_literal, long_literal, string_literal, uid_literal, literal_cmp, same_literal}
+
+-- the key of a truth value
+abbrev pub bool_key : Bool → Key
+bool_key false = nat_key 0
+bool_key true = nat_key 1
+
+bool_key-inj : (a b : Bool) → bool_key a ≡ bool_key b → a ≡ b
+bool_key-inj false false e = refl
+bool_key-inj false true e = absurd (cc)
+bool_key-inj true false e = absurd (cc)
+bool_key-inj true true e = refl
+
+bool_key-cmp : (a b : Bool) → key_cmp (bool_key a) (bool_key b) ≡ bool_cmp a b
+bool_key-cmp false false = refl
+bool_key-cmp false true = refl
+bool_key-cmp true false = refl
+bool_key-cmp true true = refl
+
+-- the key of a literal: the place of its kind, and that of its content
+abbrev pub literal_key : LiteralTree → Key
+literal_key (bool_literal b) = fork (nat_key 0) (bool_key b)
+literal_key (long_literal n) = fork (nat_key 1) (tip n)
+literal_key (string_literal s) = fork (nat_key 2) (text_key s)
+literal_key (uid_literal u) = fork (nat_key 3) (uid_key u)
+
+in_tip : (a b : ℤ) → tip a ≡ tip b → a ≡ b
+in_tip a b e = cc
+
+-- literals of one key are the same
+pub literal_key-inj : (x y : LiteralTree) → literal_key x ≡ literal_key y → x ≡ y
+literal_key-inj (bool_literal a) (bool_literal b) e = ap bool_literal (bool_key-inj a b (right _ _ _ _ e))
+literal_key-inj (bool_literal a) (long_literal b) e = absurd (cc)
+literal_key-inj (bool_literal a) (string_literal b) e = absurd (cc)
+literal_key-inj (bool_literal a) (uid_literal b) e = absurd (cc)
+literal_key-inj (long_literal a) (bool_literal b) e = absurd (cc)
+literal_key-inj (long_literal a) (long_literal b) e = ap long_literal (in_tip a b (right _ _ _ _ e))
+literal_key-inj (long_literal a) (string_literal b) e = absurd (cc)
+literal_key-inj (long_literal a) (uid_literal b) e = absurd (cc)
+literal_key-inj (string_literal a) (bool_literal b) e = absurd (cc)
+literal_key-inj (string_literal a) (long_literal b) e = absurd (cc)
+literal_key-inj (string_literal a) (string_literal b) e = ap string_literal (text_key-inj a b (right _ _ _ _ e))
+literal_key-inj (string_literal a) (uid_literal b) e = absurd (cc)
+literal_key-inj (uid_literal a) (bool_literal b) e = absurd (cc)
+literal_key-inj (uid_literal a) (long_literal b) e = absurd (cc)
+literal_key-inj (uid_literal a) (string_literal b) e = absurd (cc)
+literal_key-inj (uid_literal a) (uid_literal b) e = ap uid_literal (uid_key-inj a b (right _ _ _ _ e))
+
+-- literals are ordered as their keys are
+pub literal_key-cmp : (x y : LiteralTree) → key_cmp (literal_key x) (literal_key y) ≡ literal_cmp x y
+literal_key-cmp (bool_literal a) (bool_literal b) = bool_key-cmp a b
+literal_key-cmp (bool_literal a) (long_literal b) = refl
+literal_key-cmp (bool_literal a) (string_literal b) = refl
+literal_key-cmp (bool_literal a) (uid_literal b) = refl
+literal_key-cmp (long_literal a) (bool_literal b) = refl
+literal_key-cmp (long_literal a) (long_literal b) = refl
+literal_key-cmp (long_literal a) (string_literal b) = refl
+literal_key-cmp (long_literal a) (uid_literal b) = refl
+literal_key-cmp (string_literal a) (bool_literal b) = refl
+literal_key-cmp (string_literal a) (long_literal b) = refl
+literal_key-cmp (string_literal a) (string_literal b) = text_key-cmp a b
+literal_key-cmp (string_literal a) (uid_literal b) = refl
+literal_key-cmp (uid_literal a) (bool_literal b) = refl
+literal_key-cmp (uid_literal a) (long_literal b) = refl
+literal_key-cmp (uid_literal a) (string_literal b) = refl
+literal_key-cmp (uid_literal a) (uid_literal b) = uid_key-cmp a b
+
+-- the order of literals is total
+pub literal_cmp_total : IsTotalOrder literal_cmp
+literal_cmp_total = subst IsTotalOrder (λ i x y. literal_key-cmp x y i) (on_total literal_key key_cmp_total)
+
+-- `==` is an equivalence
+pub same_literal_equiv : IsEquivalence same_literal
+same_literal_equiv = eq_by_cmp_equiv literal_cmp_total
+
+-- two literals are equal exactly where they are the same value
+pub same_literal_decides : (x y : LiteralTree) → Decides (same_literal x y) (x ≡ y)
+same_literal_decides x y = (
+  λ e. literal_key-inj x y (key_cmp-Equal (literal_key x) (literal_key y) (literal_key-cmp x y ∙ (Equal-is (literal_cmp x y)).0 e)),
+  λ e. ap (λ z. is_eq (literal_cmp x z)) (sym e) ∙ ap is_eq (tied_itself literal_cmp_total x),
+)

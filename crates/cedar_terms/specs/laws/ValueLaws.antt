@@ -1,0 +1,127 @@
+-- The laws of a value's equality and order, and how a proof tells values apart.
+use Rattle.std.specs.Prelude.{◌≡◌, refl}
+use Rattle.std.proofs.Common.{ap, sym, ◌∙◌, subst}
+use Rattle.std.specs.Bool.{Decides}
+use Rattle.std.specs.Coded.{Coded}
+use Rattle.std.specs.Ordering.{is_eq, ordering_then, as_partial_cmp}
+use Rattle.std.specs.Cmp.{IsTotalOrder, IsEquivalence, IsPartialOrder, on_total, eq_by_cmp_equiv, Equal-is, tied_itself, po}
+use base.Stored.{coded_via}
+use Rattle.cedar_terms.specs.laws.Key.{Key, fork, key_cmp, key_cmp-Equal, key_cmp_total, key_code, nat_key, left, right, text_key, text_key-inj, text_key-cmp}
+use Rattle.cedar_terms.specs.laws.NameKeys.{name_key, name_key-inj, name_key-cmp}
+use Rattle.cedar_terms.specs.laws.LiteralLaws.{literal_key, literal_key-inj, literal_key-cmp}
+use Rattle.cedar_terms.specs.ValueTree.{ValueTree, literal_value, set_value, record_value, extension_value, ValueTrees, no_values, value_then, FieldTrees, no_fields, field_then, value_cmp, values_cmp, fields_cmp, same_value}
+
+-- the key of a value: the place of its kind, and the keys of what it holds
+abbrev mutual
+  pub value_key : ValueTree → Key
+  value_key (literal_value l) = fork (nat_key 0) (literal_key l)
+  value_key (set_value vs) = fork (nat_key 1) (values_key vs)
+  value_key (record_value fs) = fork (nat_key 2) (fields_key fs)
+  value_key (extension_value f a) = fork (nat_key 3) (fork (name_key f) (text_key a))
+
+  pub values_key : ValueTrees → Key
+  values_key no_values = nat_key 0
+  values_key (value_then v vs) = fork (value_key v) (values_key vs)
+
+  pub fields_key : FieldTrees → Key
+  fields_key no_fields = nat_key 0
+  fields_key (field_then k v fs) = fork (fork (text_key k) (value_key v)) (fields_key fs)
+
+-- values of one key are the same
+mutual
+  pub value_key-inj : (x y : ValueTree) → value_key x ≡ value_key y → x ≡ y
+  value_key-inj (literal_value a) (literal_value b) e = ap literal_value (literal_key-inj a b (right _ _ _ _ e))
+  value_key-inj (literal_value a) (set_value b) e = absurd (cc)
+  value_key-inj (literal_value a) (record_value b) e = absurd (cc)
+  value_key-inj (literal_value a) (extension_value g b) e = absurd (cc)
+  value_key-inj (set_value a) (literal_value b) e = absurd (cc)
+  value_key-inj (set_value a) (set_value b) e = ap set_value (values_key-inj a b (right _ _ _ _ e))
+  value_key-inj (set_value a) (record_value b) e = absurd (cc)
+  value_key-inj (set_value a) (extension_value g b) e = absurd (cc)
+  value_key-inj (record_value a) (literal_value b) e = absurd (cc)
+  value_key-inj (record_value a) (set_value b) e = absurd (cc)
+  value_key-inj (record_value a) (record_value b) e = ap record_value (fields_key-inj a b (right _ _ _ _ e))
+  value_key-inj (record_value a) (extension_value g b) e = absurd (cc)
+  value_key-inj (extension_value f a) (literal_value b) e = absurd (cc)
+  value_key-inj (extension_value f a) (set_value b) e = absurd (cc)
+  value_key-inj (extension_value f a) (record_value b) e = absurd (cc)
+  value_key-inj (extension_value f a) (extension_value g b) e =
+      let p : fork (name_key f) (text_key a) ≡ fork (name_key g) (text_key b) = right _ _ _ _ e in
+      let q : f ≡ g = name_key-inj f g (left _ _ _ _ p) in
+      let r : a ≡ b = text_key-inj a b (right _ _ _ _ p) in
+      λ i. extension_value (q i) (r i)
+
+  pub values_key-inj : (x y : ValueTrees) → values_key x ≡ values_key y → x ≡ y
+  values_key-inj no_values no_values e = refl
+  values_key-inj no_values (value_then w ws) e = absurd (cc)
+  values_key-inj (value_then v vs) no_values e = absurd (cc)
+  values_key-inj (value_then v vs) (value_then w ws) e =
+      let p : v ≡ w = value_key-inj v w (left _ _ _ _ e) in
+      let q : vs ≡ ws = values_key-inj vs ws (right _ _ _ _ e) in
+      λ i. value_then (p i) (q i)
+
+  pub fields_key-inj : (x y : FieldTrees) → fields_key x ≡ fields_key y → x ≡ y
+  fields_key-inj no_fields no_fields e = refl
+  fields_key-inj no_fields (field_then l w ws) e = absurd (cc)
+  fields_key-inj (field_then k v vs) no_fields e = absurd (cc)
+  fields_key-inj (field_then k v vs) (field_then l w ws) e =
+      let s : fork (text_key k) (value_key v) ≡ fork (text_key l) (value_key w) = left _ _ _ _ e in
+      let r : k ≡ l = text_key-inj k l (left _ _ _ _ s) in
+      let p : v ≡ w = value_key-inj v w (right _ _ _ _ s) in
+      let q : vs ≡ ws = fields_key-inj vs ws (right _ _ _ _ e) in
+      λ i. field_then (r i) (p i) (q i)
+
+-- how a proof tells values apart
+abbrev pub value_code : Coded ValueTree
+value_code = coded_via key_code value_key value_key-inj
+
+-- values are ordered as their keys are
+mutual
+  pub value_key-cmp : (x y : ValueTree) → key_cmp (value_key x) (value_key y) ≡ value_cmp x y
+  value_key-cmp (literal_value a) (literal_value b) = literal_key-cmp a b
+  value_key-cmp (literal_value a) (set_value b) = refl
+  value_key-cmp (literal_value a) (record_value b) = refl
+  value_key-cmp (literal_value a) (extension_value g b) = refl
+  value_key-cmp (set_value a) (literal_value b) = refl
+  value_key-cmp (set_value a) (set_value b) = values_key-cmp a b
+  value_key-cmp (set_value a) (record_value b) = refl
+  value_key-cmp (set_value a) (extension_value g b) = refl
+  value_key-cmp (record_value a) (literal_value b) = refl
+  value_key-cmp (record_value a) (set_value b) = refl
+  value_key-cmp (record_value a) (record_value b) = fields_key-cmp a b
+  value_key-cmp (record_value a) (extension_value g b) = refl
+  value_key-cmp (extension_value f a) (literal_value b) = refl
+  value_key-cmp (extension_value f a) (set_value b) = refl
+  value_key-cmp (extension_value f a) (record_value b) = refl
+  value_key-cmp (extension_value f a) (extension_value g b) = λ i. ordering_then (name_key-cmp f g i) (text_key-cmp a b i)
+
+  pub values_key-cmp : (x y : ValueTrees) → key_cmp (values_key x) (values_key y) ≡ values_cmp x y
+  values_key-cmp no_values no_values = refl
+  values_key-cmp no_values (value_then w ws) = refl
+  values_key-cmp (value_then v vs) no_values = refl
+  values_key-cmp (value_then v vs) (value_then w ws) = λ i. ordering_then (value_key-cmp v w i) (values_key-cmp vs ws i)
+
+  pub fields_key-cmp : (x y : FieldTrees) → key_cmp (fields_key x) (fields_key y) ≡ fields_cmp x y
+  fields_key-cmp no_fields no_fields = refl
+  fields_key-cmp no_fields (field_then l w ws) = refl
+  fields_key-cmp (field_then k v vs) no_fields = refl
+  fields_key-cmp (field_then k v vs) (field_then l w ws) = λ i. ordering_then (ordering_then (text_key-cmp k l i) (value_key-cmp v w i)) (fields_key-cmp vs ws i)
+
+-- the order of values is total
+pub value_cmp_total : IsTotalOrder value_cmp
+value_cmp_total = subst IsTotalOrder (λ i x y. value_key-cmp x y i) (on_total value_key key_cmp_total)
+
+-- `==` is an equivalence
+pub same_value_equiv : IsEquivalence same_value
+same_value_equiv = eq_by_cmp_equiv value_cmp_total
+
+-- and the order agrees with it
+pub value_po : IsPartialOrder same_value (as_partial_cmp value_cmp)
+value_po = po value_cmp_total (λ x y. refl)
+
+-- two values are equal exactly where they are the same
+pub same_value_decides : (x y : ValueTree) → Decides (same_value x y) (x ≡ y)
+same_value_decides x y = (
+  λ e. value_key-inj x y (key_cmp-Equal (value_key x) (value_key y) (value_key-cmp x y ∙ (Equal-is (value_cmp x y)).0 e)),
+  λ e. ap (λ z. is_eq (value_cmp x z)) (sym e) ∙ ap is_eq (tied_itself value_cmp_total x),
+)
