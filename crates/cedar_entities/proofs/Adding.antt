@@ -11,8 +11,8 @@ use Rattle.cedar_graph.specs.ReachLaws.{reach_edge, reach_over_reach}
 use Rattle.cedar_graph.specs.declared.err.TcError.{TcError}
 use Rattle.cedar_ids.specs.UidOf.{uid_order_total}
 use Rattle.cedar_ids.specs.declared.entity.EntityUID.{EntityUID}
-use Rattle.cedar_entities.specs.UidSets.{one_equal}
-use Rattle.cedar_entities.specs.View.{EntityView, has_ancestor, IsDeepEqual, deep_equality, parents_are_ancestors}
+use Rattle.cedar_entity.specs.UidSets.{one_equal}
+use Rattle.cedar_entity.specs.View.{EntityView, has_ancestor, IsDeepEqual, deep_equality, parents_are_ancestors}
 use Rattle.cedar_entities.specs.ClosureFaults.{IsClosureFault}
 use Rattle.cedar_entities.specs.Plain.{StoreView, IsPlainStore, IsBare, AreBare, IsApart, parts_of, given_of}
 use Rattle.cedar_entities.specs.Modes.{ancestry, is_ancestor_in, IsClosureOf, IsFinished, IsClosureRefused, WhereComputed}
@@ -22,7 +22,7 @@ use Rattle.cedar_entities.specs.Present.{first_entity, with_first, MatchesPresen
 use Rattle.cedar_entities.specs.World.{World, Parts, Given, graph, is_parent_in, added, first, Agrees, AgreesWith, AgreesWithFirst, AllAgree, FirstDiffers}
 use Rattle.cedar_entities.proofs.StoreMaps.{get_with_first}
 use Rattle.cedar_entities.proofs.Versions.{map_at}
-use Rattle.cedar_entities.proofs.Worlds.{get_added}
+use Rattle.cedar_entities.specs.laws.Worlds.{get_added}
 use Rattle.cedar_entities.proofs.PlainStores.{plain_from, cycle_in, found_parts, map_or, if_or, if_map, first_all, first_keyed, bare_apart, bare_leads, leads_or, parents_alone}
 
 parent_stays : (o p : Option Parts) (b : EntityUID) → is_parent_in o b ≡ true → is_parent_in (option_or o p) b ≡ true

@@ -6,27 +6,27 @@ use Rattle.std.specs.HashMap.{HashMap}
 use Rattle.std.specs.FinMap as finmap
 use Rattle.cedar_graph.specs.declared.err.TcError.{TcError}
 use Rattle.cedar_ids.specs.declared.entity.EntityUID.{EntityUID}
-use Rattle.cedar_entities.specs.declared.node.SharedEntity.{SharedEntity}
+use Rattle.cedar_entity.specs.declared.node.SharedEntity.{SharedEntity}
 use Rattle.cedar_entities.specs.declared.entities.TCComputation.{TCComputation}
 use Rattle.cedar_entities.specs.declared.entities.TCComputation.TheVariants as modes
-use Rattle.cedar_entities.specs.declared.err.EntitiesError.{EntitiesError}
-use Rattle.cedar_entities.specs.declared.err.EntitiesError.TheVariants as errors
-use Rattle.cedar_entities.specs.Held.{held, seen}
+use Rattle.cedar_entity.specs.declared.err.EntitiesError.{EntitiesError}
+use Rattle.cedar_entity.specs.declared.err.EntitiesError.TheVariants as errors
+use Rattle.cedar_entities.specs.laws.Held.{held, held_map}
 use Rattle.cedar_entities.specs.Modes.{IsClosureRefused, WhereComputed}
 use Rattle.cedar_entities.specs.Plain.{StoreView, Held, IsPlainStore, AreBare, given_of}
 use Rattle.cedar_entities.specs.Present.{first_entity, with_first, AllMatch, FirstMismatch}
 use Rattle.cedar_entities.specs.Refusals.{MatchRefusal, IsAddingRefused}
 use Rattle.cedar_entities.specs.World.{World}
-use Rattle.cedar_entities.specs.View.{EntityView}
+use Rattle.cedar_entity.specs.View.{EntityView}
 use Rattle.cedar_entities.proofs.Adding.{all_agree, first_differs, refused_plain}
 use Rattle.cedar_entities.proofs.StoreMaps.{get_seen, seen_as, get_with_first}
 
 -- what the map of a store has, as what the store holds
-pub stored : {S : Type 0} (m : HashMap EntityUID SharedEntity S) (D : Held) → seen m ≡ D → held m ≡ finmap.get D
+pub stored : {S : Type 0} (m : HashMap EntityUID SharedEntity S) (D : Held) → held_map m ≡ D → held m ≡ finmap.get D
 stored m D is = (λ i q. sym (get_seen m q) i) ∙ ap (λ (E : Held). finmap.get E) is
 
-pub put_in : {S : Type 0} (m n : HashMap EntityUID SharedEntity S) (D : Held) (L : List EntityView) → seen m ≡ D
-    → ((q : EntityUID) → held n q ≡ option_or (held m q) (first_entity L q)) → seen n ≡ with_first D L
+pub put_in : {S : Type 0} (m n : HashMap EntityUID SharedEntity S) (D : Held) (L : List EntityView) → held_map m ≡ D
+    → ((q : EntityUID) → held n q ≡ option_or (held m q) (first_entity L q)) → held_map n ≡ with_first D L
 put_in m n D L is put = seen_as n (with_first D L) (λ q. put q ∙ ap (λ f. option_or (f q) (first_entity L q)) (stored m D is) ∙ sym (get_with_first D L q))
 
 -- a refusal for a mismatch, over the same versions

@@ -11,23 +11,23 @@ use Rattle.std.specs.FinMap as finmap
 use Rattle.cedar_ids.specs.UidOf.{same_uid, same_uid_decides}
 use Rattle.cedar_ids.specs.declared.entity.EntityUID.{EntityUID}
 use Rattle.cedar_ids.specs.declared.entity.EntityUID.TheVariants as uids
-use Rattle.cedar_entities.specs.declared.node.SharedEntity.{SharedEntity}
-use Rattle.cedar_entities.specs.Answers.{FindAlike, AreDeepEqual}
-use Rattle.cedar_entities.specs.Held.{held, seen, shared, UidsMatch}
+use Rattle.cedar_entity.specs.declared.node.SharedEntity.{SharedEntity}
+use Rattle.cedar_entities.specs.Answers.{HasDeepEqual, AreDeepEqual}
+use Rattle.cedar_entities.specs.laws.Held.{held, held_map, shared, UidsMatch}
 use Rattle.cedar_entities.specs.Plain.{StoreView, Held}
-use Rattle.cedar_entities.specs.View.{EntityView, IsEquivalenceRelation, deep_equality}
+use Rattle.cedar_entity.specs.View.{EntityView, IsEquivalenceRelation, deep_equality}
 use Rattle.cedar_entities.proofs.Adds.{stored}
 use Rattle.cedar_entities.proofs.Editing.{left_match}
 use Rattle.cedar_entities.proofs.StoreMaps.{get_seen}
 
 module _ (o : EntityUID → Option EntityView) (q : EntityUID) where
-  alike_at : (b : Bool) (e : EntityUID × SharedEntity) (rest : Option SharedEntity) → same_uid q e.0 ≡ b → FindAlike (Some (shared e.1)) (o e.0)
-      → IfSome (option_map shared rest) (λ x. FindAlike (Some x) (o q)) → IfSome (option_map shared (cond b (Some e.1) rest)) (λ x. FindAlike (Some x) (o q))
-  alike_at true e rest s h k = subst (λ x. FindAlike (Some (shared e.1)) (o x)) (sym ((same_uid_decides q e.0).0 s)) h
+  alike_at : (b : Bool) (e : EntityUID × SharedEntity) (rest : Option SharedEntity) → same_uid q e.0 ≡ b → HasDeepEqual (Some (shared e.1)) (o e.0)
+      → IfSome (option_map shared rest) (λ x. HasDeepEqual (Some x) (o q)) → IfSome (option_map shared (cond b (Some e.1) rest)) (λ x. HasDeepEqual (Some x) (o q))
+  alike_at true e rest s h k = subst (λ x. HasDeepEqual (Some (shared e.1)) (o x)) (sym ((same_uid_decides q e.0).0 s)) h
   alike_at false e rest s h k = k
 
   -- what is found in a list is alike where each of the list is
-  pub found_alike : (es : List (EntityUID × SharedEntity)) → AllByRecursion (λ e. FindAlike (Some (shared e.1)) (o e.0)) es → IfSome (option_map shared (lookup (same_uid q) es)) (λ x. FindAlike (Some x) (o q))
+  pub found_alike : (es : List (EntityUID × SharedEntity)) → AllByRecursion (λ e. HasDeepEqual (Some (shared e.1)) (o e.0)) es → IfSome (option_map shared (lookup (same_uid q) es)) (λ x. HasDeepEqual (Some x) (o q))
   found_alike [] h = tt
   found_alike (e ∷ es) h = alike_at (same_uid q e.0) e (lookup (same_uid q) es) refl h.0 (found_alike es h.1)
 
@@ -42,48 +42,48 @@ module _ (o : EntityUID → Option SharedEntity) (q : EntityUID) where
   found_key [] h t = absurd (false≢true t)
   found_key (e ∷ es) h t = key_at (same_uid q e.0) e (lookup (same_uid q) es) refl h.0 (found_key es h.1) t
 
-both_at : (o p : Option SharedEntity) → IfSome (option_map shared o) (λ e. FindAlike (Some e) (option_map shared p)) → (is_some p ≡ true → is_some o ≡ true) → FindAlike (option_map shared o) (option_map shared p)
+both_at : (o p : Option SharedEntity) → IfSome (option_map shared o) (λ e. HasDeepEqual (Some e) (option_map shared p)) → (is_some p ≡ true → is_some o ≡ true) → HasDeepEqual (option_map shared o) (option_map shared p)
 both_at None None h k = tt
 both_at None (Some p) h k = absurd (false≢true (k refl))
 both_at (Some o) p h k = h
 
-first_at : (o p : Option SharedEntity) → FindAlike (option_map shared o) (option_map shared p) → IfSome (option_map shared o) (λ e. FindAlike (Some e) (option_map shared p))
+first_at : (o p : Option SharedEntity) → HasDeepEqual (option_map shared o) (option_map shared p) → IfSome (option_map shared o) (λ e. HasDeepEqual (Some e) (option_map shared p))
 first_at None p h = tt
 first_at (Some o) p h = h
 
-keys_at : (o p : Option SharedEntity) → FindAlike (option_map shared o) (option_map shared p) → is_some p ≡ true → is_some o ≡ true
+keys_at : (o p : Option SharedEntity) → HasDeepEqual (option_map shared o) (option_map shared p) → is_some p ≡ true → is_some o ≡ true
 keys_at None None h t = t
 keys_at None (Some p) h t = absurd h
 keys_at (Some o) p h t = refl
 
-module _ {S : Type 0} (m n : HashMap EntityUID SharedEntity S) (A B : StoreView) (is_m : seen m ≡ A.held) (is_n : seen n ≡ B.held) where
-  pub to_deep : A.partial ≡ B.partial → ((q : EntityUID) → IfSome (held m q) (λ e. FindAlike (Some e) (held n q))) → ((q : EntityUID) → is_some (get same_uid n q) ≡ true → is_some (get same_uid m q) ≡ true) → AreDeepEqual A B
+module _ {S : Type 0} (m n : HashMap EntityUID SharedEntity S) (A B : StoreView) (is_m : held_map m ≡ A.held) (is_n : held_map n ≡ B.held) where
+  pub to_deep : A.partial ≡ B.partial → ((q : EntityUID) → IfSome (held m q) (λ e. HasDeepEqual (Some e) (held n q))) → ((q : EntityUID) → is_some (get same_uid n q) ≡ true → is_some (get same_uid m q) ≡ true) → AreDeepEqual A B
   to_deep mode alike keys = record {
     mode = mode;
-    entities = λ q. subst (λ f. FindAlike (f q) (finmap.get B.held q)) (stored m A.held is_m)
-        (subst (λ f. FindAlike (held m q) (f q)) (stored n B.held is_n) (both_at (get same_uid m q) (get same_uid n q) (alike q) (keys q)));
+    entities = λ q. subst (λ f. HasDeepEqual (f q) (finmap.get B.held q)) (stored m A.held is_m)
+        (subst (λ f. HasDeepEqual (held m q) (f q)) (stored n B.held is_n) (both_at (get same_uid m q) (get same_uid n q) (alike q) (keys q)));
   }
 
-  alike_held : AreDeepEqual A B → (q : EntityUID) → FindAlike (held m q) (held n q)
-  alike_held d q = subst (λ f. FindAlike (f q) (held n q)) (sym (stored m A.held is_m)) (subst (λ f. FindAlike (finmap.get A.held q) (f q)) (sym (stored n B.held is_n)) (d.entities q))
+  alike_held : AreDeepEqual A B → (q : EntityUID) → HasDeepEqual (held m q) (held n q)
+  alike_held d q = subst (λ f. HasDeepEqual (f q) (held n q)) (sym (stored m A.held is_m)) (subst (λ f. HasDeepEqual (finmap.get A.held q) (f q)) (sym (stored n B.held is_n)) (d.entities q))
 
-  pub deep_alike : AreDeepEqual A B → (q : EntityUID) → IfSome (held m q) (λ e. FindAlike (Some e) (held n q))
+  pub deep_alike : AreDeepEqual A B → (q : EntityUID) → IfSome (held m q) (λ e. HasDeepEqual (Some e) (held n q))
   deep_alike d q = first_at (get same_uid m q) (get same_uid n q) (alike_held d q)
 
   pub deep_keys : AreDeepEqual A B → (q : EntityUID) → is_some (get same_uid n q) ≡ true → is_some (get same_uid m q) ≡ true
   deep_keys d q = keys_at (get same_uid m q) (get same_uid n q) (alike_held d q)
 
-alike_itself : (o : Option EntityView) → FindAlike o o
+alike_itself : (o : Option EntityView) → HasDeepEqual o o
 alike_itself None = tt
 alike_itself (Some e) = deep_equality.itself e
 
-alike_turned : (o p : Option EntityView) → FindAlike o p → FindAlike p o
+alike_turned : (o p : Option EntityView) → HasDeepEqual o p → HasDeepEqual p o
 alike_turned None None h = tt
 alike_turned None (Some b) h = h
 alike_turned (Some a) None h = h
 alike_turned (Some a) (Some b) h = deep_equality.turned a b h
 
-alike_joined : (o p r : Option EntityView) → FindAlike o p → FindAlike p r → FindAlike o r
+alike_joined : (o p r : Option EntityView) → HasDeepEqual o p → HasDeepEqual p r → HasDeepEqual o r
 alike_joined None None r h k = k
 alike_joined None (Some b) r h k = absurd h
 alike_joined (Some a) None r h k = absurd h
@@ -117,5 +117,5 @@ same_flag true false h = absurd (false≢true (sym h))
 same_flag false true h = absurd (false≢true (sym h))
 same_flag false false h = refl
 
-pub copied_match : {S : Type 0} (m n : HashMap EntityUID SharedEntity S) → seen n ≡ seen m → UidsMatch m → UidsMatch n
+pub copied_match : {S : Type 0} (m n : HashMap EntityUID SharedEntity S) → held_map n ≡ held_map m → UidsMatch m → UidsMatch n
 copied_match m n same h = left_match m n (λ _. false) (λ q. sym (get_seen n q) ∙ ap (λ (D : Held). finmap.get D q) same ∙ get_seen m q) h

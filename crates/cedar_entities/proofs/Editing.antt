@@ -3,7 +3,6 @@ use Rattle.std.specs.Prelude.{◌≡◌, ℕ, ◌+◌, ◌<◌, Bool, true, fals
 use Rattle.std.proofs.Common.{ap, sym, refl, subst, ◌∙◌, get_or}
 use Rattle.std.proofs.lemmas.List.Folds.{list_any_more, list_any-append}
 use Rattle.std.proofs.lemmas.Bool.{false≢true}
-use Rattle.std.specs.declared.cmp.Ordering.TheVariants.{Equal}
 use Rattle.std.specs.Option.{option_map, IfSome, is_some}
 use Rattle.std.specs.HashMap.{HashMap, get}
 use Rattle.std.specs.Set.{is_member}
@@ -11,11 +10,12 @@ use Rattle.std.specs.FinSet as set
 use Rattle.std.specs.Ordering.{eq_by_cmp}
 use Rattle.cedar_ids.specs.UidOf.{same_uid, uid_order, uid_order_total, same_uid_decides, same_uid_equiv}
 use Rattle.cedar_ids.specs.declared.entity.EntityUID.{EntityUID}
-use Rattle.cedar_entities.specs.declared.node.SharedEntity.{SharedEntity}
+use Rattle.cedar_entity.specs.declared.node.SharedEntity.{SharedEntity}
 use Rattle.cedar_entities.specs.Edits.{stripped}
-use Rattle.cedar_entities.specs.Held.{held, shared, UidsMatch}
-use Rattle.cedar_entities.specs.UidSets.{UidSet, same_tests, one_equal}
-use Rattle.cedar_entities.specs.View.{EntityView}
+use Rattle.cedar_entities.specs.laws.Held.{held, shared, UidsMatch}
+use Rattle.cedar_entity.specs.UidSets.{UidSet, same_tests, one_equal}
+use Rattle.cedar_entity.specs.laws.UidSets.{kept_in}
+use Rattle.cedar_entity.specs.View.{EntityView}
 
 -- the keys, read from what is held
 key_back : (q : EntityUID) (o : Option SharedEntity) → IfSome (option_map shared o) (λ e. e.uid ≡ q) → IfSome o (λ n. same_uid q (shared n).uid ≡ true)
@@ -51,12 +51,6 @@ member_push done k q = list_any-append (same_uid q) done (k ∷ []) ∙ ap (λ b
     one false = refl
 
 -- a set without what goes
-respects : (p : EntityUID → Bool) (q x : EntityUID) → uid_order q x ≡ Equal → p x ≡ p q
-respects p q x t = ap p (sym (one_equal q x t))
-
-pub kept_in : (s : UidSet) (gone : EntityUID → Bool) (q : EntityUID) → set.contains (set.retain s (λ p. not (gone p))) q ≡ (set.contains s q && not (gone q))
-kept_in s gone q = set.contains-retain s (λ p. not (gone p)) q (respects (λ p. not (gone p)) q)
-
 and_true : (x : Bool) → (x && true) ≡ x
 and_true true = refl
 and_true false = refl

@@ -14,15 +14,16 @@ use Rattle.std.specs.FinMap as finmap
 use Rattle.std.specs.declared.cmp.Ordering.TheVariants.{Less}
 use Rattle.cedar_ids.specs.UidOf.{same_uid, uid_order, uid_order_total}
 use Rattle.cedar_ids.specs.declared.entity.EntityUID.{EntityUID}
-use Rattle.cedar_entities.specs.declared.node.SharedEntity.{SharedEntity}
-use Rattle.cedar_entities.specs.Held.{held, seen, shared, UidsMatch}
-use Rattle.cedar_entities.specs.StoreFaults.{AreAllValid, IsFirstFaulty, IsFirstFault, IsSound, IsStoreFault, TakesFaulty, sooner_of}
+use Rattle.cedar_entity.specs.declared.node.SharedEntity.{SharedEntity}
+use Rattle.cedar_entities.specs.laws.Held.{held, held_map, shared, UidsMatch}
+use Rattle.cedar_entities.specs.StoreFaults.{AreAllValid, IsFirstFaulty, IsFirstFault, IsStoreFault, TakesFaulty, lesser_of}
+use Rattle.cedar_entities.specs.Modes.{IsSound}
 use Rattle.cedar_entities.specs.Plain.{Held}
-use Rattle.cedar_entities.specs.Validity.{IsValid}
-use Rattle.cedar_entities.specs.declared.err.EntitiesError.{EntitiesError}
-use Rattle.cedar_entities.specs.declared.err.EntitiesError.TheVariants as errors
-use Rattle.cedar_entities.specs.View.{EntityView}
-use Rattle.cedar_entities.proofs.LeastUids.{irreflexive, less}
+use Rattle.cedar_entity.specs.Validity.{IsValid}
+use Rattle.cedar_entity.specs.declared.err.EntitiesError.{EntitiesError}
+use Rattle.cedar_entity.specs.declared.err.EntitiesError.TheVariants as errors
+use Rattle.cedar_entity.specs.View.{EntityView}
+use Rattle.cedar_entity.specs.laws.UidOrder.{irreflexive, less}
 use Rattle.cedar_entities.proofs.StoreMaps.{get_seen, seen_keyed}
 
 -- what may hold of each uid that stands before u
@@ -50,20 +51,20 @@ module _ {Y : Type 0} (o : EntityUID → Option EntityView) (entity : Y → Enti
   )
   chosen a false l at faulty h = (h.0, h.1, All-push (λ x. ValidBefore a.uid (entity x)) ys y h.2 (λ g. absurd (false≢true (sym l ∙ ap is_lt g))))
 
-  sooner : (r : Option EntityView) → o (entity y).uid ≡ Some (entity y) → (IsValid (entity y) → ⊥) → IsFirstOf o entity ys r → IsFirstOf o entity (ys ++ y ∷ []) (sooner_of (entity y) r)
-  sooner None at faulty h = (
+  lesser_faulty : (r : Option EntityView) → o (entity y).uid ≡ Some (entity y) → (IsValid (entity y) → ⊥) → IsFirstOf o entity ys r → IsFirstOf o entity (ys ++ y ∷ []) (lesser_of (entity y) r)
+  lesser_faulty None at faulty h = (
     at,
     faulty,
     All-push (λ x. ValidBefore (entity y).uid (entity x)) ys y
         (All-weaker (λ x. IsValid (entity x)) (λ x. ValidBefore (entity y).uid (entity x)) (λ x v _. v) ys h)
         (λ g. absurd (irreflexive (entity y).uid g)),
   )
-  sooner (Some a) at faulty h = chosen a (is_lt (uid_order (entity y).uid a.uid)) refl at faulty h
+  lesser_faulty (Some a) at faulty h = chosen a (is_lt (uid_order (entity y).uid a.uid)) refl at faulty h
 
   -- one entity more
   pub first_step : (r s : Option EntityView) → o (entity y).uid ≡ Some (entity y) → TakesFaulty (entity y) r s → IsFirstOf o entity ys r → IsFirstOf o entity (ys ++ y ∷ []) s
   first_step r s at (inl t) h = subst (IsFirstOf o entity (ys ++ y ∷ [])) (sym t.1) (kept r t.0 h)
-  first_step r s at (inr t) h = subst (IsFirstOf o entity (ys ++ y ∷ [])) (sym t.1) (sooner r at t.0 h)
+  first_step r s at (inr t) h = subst (IsFirstOf o entity (ys ++ y ∷ [])) (sym t.1) (lesser_faulty r at t.0 h)
 
 module _ (P : EntityView → Type 0) (q : EntityUID) where
   found_in : (b : Bool) (e : SharedEntity) (rest : Option SharedEntity) → P (shared e) → IfSome (option_map shared rest) P → IfSome (option_map shared (cond b (Some e) rest)) P
@@ -92,17 +93,17 @@ module _ {S : Type 0} (m : HashMap EntityUID SharedEntity S) where
       let Q : EntityUID × SharedEntity → Type 0 = λ e. P (shared e.1) in
       found_so P q m.entries (recursion_from_All Q m.entries (All-same Q m.entries (map deref_pair ys) (sym whole) (All-map Q deref_pair ys h)))
 
-  seen_so : (P : EntityView → Type 0) → ((q : EntityUID) → IfSome (held m q) P) → (q : EntityUID) → IfSome (finmap.get (seen m) q) P
+  seen_so : (P : EntityView → Type 0) → ((q : EntityUID) → IfSome (held m q) P) → (q : EntityUID) → IfSome (finmap.get (held_map m) q) P
   seen_so P h q = subst (λ o. IfSome o P) (sym (get_seen m q)) (h q)
 
   -- the first of all entries
   pub first_of_all : UidsMatch m → (ys : List (Bor EntityUID × Bor SharedEntity)) → map deref_pair ys ≡ m.entries → (r : Option EntityView) → IsFirstOf (held m) (λ p. shared p.1.now) ys r
-      → MatchOption r (AreAllValid (seen m)) (IsFirstFaulty (seen m))
+      → MatchOption r (AreAllValid (held_map m)) (IsFirstFaulty (held_map m))
   first_of_all match ys whole None h = seen_so IsValid (held_so IsValid ys whole h)
   first_of_all match ys whole (Some a) h = record {
     held = get_seen m a.uid ∙ h.0;
     faulty = h.1;
-    before = λ q l. before_at a.uid q (finmap.get (seen m) q) l (seen_keyed m match q) (seen_so (ValidBefore a.uid) (held_so (ValidBefore a.uid) ys whole h.2) q);
+    before = λ q l. before_at a.uid q (finmap.get (held_map m) q) l (seen_keyed m match q) (seen_so (ValidBefore a.uid) (held_so (ValidBefore a.uid) ys whole h.2) q);
   }
 
 -- what is wrong with an entity, where nothing is with the graph

@@ -8,11 +8,11 @@ use Rattle.std.proofs.lemmas.List.Elements.{recursion_from_All}
 use Rattle.std.specs.FinMap as finmap
 use Rattle.cedar_ids.specs.UidOf.{same_uid, same_uid_decides}
 use Rattle.cedar_ids.specs.declared.entity.EntityUID.{EntityUID}
-use Rattle.cedar_entities.specs.declared.node.SharedEntity.{SharedEntity}
+use Rattle.cedar_entity.specs.declared.node.SharedEntity.{SharedEntity}
 use Rattle.cedar_entities.specs.Answers.{ListsHeld}
-use Rattle.cedar_entities.specs.Held.{seen, shared, UidsMatch}
+use Rattle.cedar_entities.specs.laws.Held.{held_map, shared, UidsMatch}
 use Rattle.cedar_entities.specs.Present.{keyed}
-use Rattle.cedar_entities.specs.View.{EntityView}
+use Rattle.cedar_entity.specs.View.{EntityView}
 use Rattle.cedar_entities.proofs.StoreMaps.{len_seen}
 
 listed_keyed : {S : Type 0} (m : HashMap EntityUID SharedEntity S) → UidsMatch m → (es : List (EntityUID × SharedEntity)) → AllByRecursion (λ e. get same_uid m e.0 ≡ Some e.1) es
@@ -27,7 +27,7 @@ length_listed [] = refl
 length_listed (e ∷ es) = ap suc (length_listed es)
 
 -- the entities of the entries, each once
-pub lists_held : {S : Type 0} (m : HashMap EntityUID SharedEntity S) → UidsMatch m → All (λ e. get same_uid m e.0 ≡ Some e.1) m.entries → IsDistinct same_uid (keys m) → ListsHeld (seen m) (map (λ e. shared e.1) m.entries)
+pub lists_held : {S : Type 0} (m : HashMap EntityUID SharedEntity S) → UidsMatch m → All (λ e. get same_uid m e.0 ≡ Some e.1) m.entries → IsDistinct same_uid (keys m) → ListsHeld (held_map m) (map (λ e. shared e.1) m.entries)
 lists_held m match found distinct = record {
   held = ap (λ es. finmap.from_entries es) (listed_keyed m match m.entries (recursion_from_All (λ e. get same_uid m e.0 ≡ Some e.1) m.entries found));
   once = length_listed m.entries ∙ len_seen m distinct;

@@ -13,25 +13,26 @@ use Rattle.cedar_graph.specs.declared.err.TcError.{TcError}
 use Rattle.cedar_graph.specs.declared.err.TcError.TheVariants as tc
 use Rattle.cedar_ids.specs.UidOf.{same_uid, uid_order}
 use Rattle.cedar_ids.specs.declared.entity.EntityUID.{EntityUID}
-use Rattle.cedar_entities.specs.View.{EntityView}
+use Rattle.cedar_entity.specs.View.{EntityView}
 use Rattle.cedar_entities.specs.Edits.{last_entity, stripped, bare, with_last, leaves, with_none}
-use Rattle.cedar_entities.specs.Held.{held, seen}
+use Rattle.cedar_entities.specs.laws.Held.{held, held_map}
 use Rattle.cedar_entities.specs.Modes.{IsClosureOf, IsClosureRefused}
 use Rattle.cedar_entities.specs.Plain.{StoreView, Held, IsPlainStore, IsKeyed, IsBare, AreBare, parts_of, given_of}
 use Rattle.cedar_entities.specs.Present.{first_entity, keyed}
 use Rattle.cedar_entities.specs.Refusals.{MatchRefusal, IsOverwritingRefused, NamesCycle}
 use Rattle.cedar_entities.specs.World.{World, Parts, graph, is_parent_in, entry_of, reversed, overwritten, goes, without, deleted}
-use Rattle.cedar_entities.specs.declared.node.SharedEntity.{SharedEntity}
-use Rattle.cedar_entities.specs.declared.err.EntitiesError.{EntitiesError}
-use Rattle.cedar_entities.specs.declared.err.EntitiesError.TheVariants as errors
+use Rattle.cedar_entity.specs.declared.node.SharedEntity.{SharedEntity}
+use Rattle.cedar_entity.specs.declared.err.EntitiesError.{EntitiesError}
+use Rattle.cedar_entity.specs.declared.err.EntitiesError.TheVariants as errors
 use Rattle.cedar_entities.specs.declared.entities.TCComputation.TheVariants as modes
 use Rattle.cedar_entities.proofs.Adding.{reach_stays}
 use Rattle.cedar_entities.proofs.Adds.{stored}
-use Rattle.cedar_entities.proofs.Editing.{kept_in, retain_none}
+use Rattle.cedar_entities.proofs.Editing.{retain_none}
 use Rattle.cedar_entities.proofs.PlainStores.{plain_from, cycle_in, found_parts, map_or, if_or, first_all, first_keyed, bare_apart, bare_only}
 use Rattle.cedar_entities.proofs.StoreMaps.{seen_as}
-use Rattle.cedar_entities.proofs.Versions.{all_push}
-use Rattle.cedar_entities.proofs.Worlds.{get_joined, find-mapped, get_reduced, get_overwritten, get_deleted}
+use Rattle.cedar_entities.specs.laws.Worlds.{get_joined, find-mapped, get_reduced, get_overwritten, get_deleted}
+use Rattle.cedar_entity.specs.laws.UidSets.{kept_in}
+use Rattle.cedar_entities.specs.laws.Lists.{all_push}
 
 map_append : {X Y : Type 0} (f : X → Y) (xs ys : List X) → map f (xs ++ ys) ≡ map f xs ++ map f ys
 map_append f [] ys = refl
@@ -54,7 +55,7 @@ last_parts L q =
     ap (finmap.find uid_order q) (map_reversed entry_of (map given_of L) ∙ ap (map entry_of) (map_reversed given_of L))
     ∙ found_parts (reversed L) q ∙ ap (option_map parts_of) (sym (last_first L q))
 
--- the last of the list, or else what was held, without further ancestors
+-- the last of the list, or else what was held, without indirect ancestors
 pub get_with_last : (D : Held) (L : List EntityView) (q : EntityUID) → finmap.get (with_last D L) q ≡ option_or (last_entity L q) (option_map bare (finmap.get D q))
 get_with_last D L q =
     get_joined (reversed (map keyed L)) (map (λ e. (e.0, bare e.1)) (finmap.entries D)) q
@@ -75,8 +76,8 @@ map_bare : (f : EntityView → EntityView) → ((e : EntityView) → IsBare (f e
 map_bare f k None = tt
 map_bare f k (Some e) = k e
 
-no_further : (e : EntityView) → IsBare (bare e)
-no_further e q = set.contains-empty uid_order q
+no_indirect : (e : EntityView) → IsBare (bare e)
+no_indirect e q = set.contains-empty uid_order q
 
 module _ (W : World) (S : StoreView) (L : List EntityView) (plain : IsPlainStore W S) (given : AreBare L) where
   holds_over : (q : EntityUID) → option_map parts_of (finmap.get (with_last S.held L) q) ≡ finmap.get (overwritten W (map given_of L)).entities q
@@ -90,7 +91,7 @@ module _ (W : World) (S : StoreView) (L : List EntityView) (plain : IsPlainStore
   all_bare q = subst (λ o. IfSome o IsBare) (sym (get_with_last S.held L q))
       (if_or IsBare (last_entity L q) (option_map bare (finmap.get S.held q))
       (subst (λ o. IfSome o IsBare) (sym (last_first L q)) (first_all IsBare (reversed L) (all_reversed IsBare L given) q))
-      (map_bare bare no_further (finmap.get S.held q)))
+      (map_bare bare no_indirect (finmap.get S.held q)))
 
   all_keyed : IsKeyed (with_last S.held L)
   all_keyed q = subst (λ o. IfSome o (λ e. e.uid ≡ q)) (sym (get_with_last S.held L q))
@@ -118,9 +119,9 @@ bare_stripped : (o : Option EntityView) → option_map (stripped (is_member same
 bare_stripped None = refl
 bare_stripped (Some e) = λ i. Some (record e { parents = retain_none e.parents i; indirect = set.empty })
 
-pub laid_over : {S : Type 0} (l m n : HashMap EntityUID SharedEntity S) (D : Held) (L : List EntityView) → seen l ≡ D
+pub laid_over : {S : Type 0} (l m n : HashMap EntityUID SharedEntity S) (D : Held) (L : List EntityView) → held_map l ≡ D
     → ((q : EntityUID) → held m q ≡ option_map (stripped (is_member same_uid [])) (held l q))
-    → ((q : EntityUID) → held n q ≡ option_or (last_entity L q) (held m q)) → seen n ≡ with_last D L
+    → ((q : EntityUID) → held n q ≡ option_or (last_entity L q) (held m q)) → held_map n ≡ with_last D L
 laid_over l m n D L is strip over = seen_as n (with_last D L) (λ q.
     over q ∙ ap (option_or (last_entity L q)) (strip q ∙ bare_stripped (held l q) ∙ ap (λ f. option_map bare (f q)) (stored l D is))
     ∙ sym (get_with_last D L q))
@@ -197,10 +198,10 @@ gone_cases true f None = refl
 gone_cases true f (Some e) = refl
 gone_cases false f o = refl
 
-pub taken_from : {S : Type 0} (l m n : HashMap EntityUID SharedEntity S) (D : Held) (U gone : List EntityUID) → seen l ≡ D
+pub taken_from : {S : Type 0} (l m n : HashMap EntityUID SharedEntity S) (D : Held) (U gone : List EntityUID) → held_map l ≡ D
     → ((q : EntityUID) → is_member same_uid gone q ≡ (is_member same_uid U q && is_some (held l q)))
     → ((q : EntityUID) → held m q ≡ cond (is_member same_uid U q) None (held l q))
-    → ((q : EntityUID) → held n q ≡ option_map (stripped (is_member same_uid gone)) (held m q)) → seen n ≡ with_none D U
+    → ((q : EntityUID) → held n q ≡ option_map (stripped (is_member same_uid gone)) (held m q)) → held_map n ≡ with_none D U
 taken_from l m n D U gone is out take strip =
     let f : held l ≡ finmap.get D = stored l D is in
     let g : is_member same_uid gone ≡ leaves D U = (λ i q. (out q ∙ ap (λ h. is_member same_uid U q && is_some (h q)) f) i) in

@@ -7,13 +7,13 @@ use Rattle.std.specs.List.{IsDistinct}
 use Rattle.std.specs.FinMap as finmap
 use Rattle.cedar_ids.specs.UidOf.{same_uid, uid_order, uid_order_total}
 use Rattle.cedar_ids.specs.declared.entity.EntityUID.{EntityUID}
-use Rattle.cedar_entities.specs.declared.node.SharedEntity.{SharedEntity}
-use Rattle.cedar_entities.specs.Held.{seen, shared}
+use Rattle.cedar_entity.specs.declared.node.SharedEntity.{SharedEntity}
+use Rattle.cedar_entities.specs.laws.Held.{held_map, shared}
 use Rattle.cedar_entities.specs.Plain.{StoreView, Held, IsPlainStore, parts_of}
-use Rattle.cedar_entities.specs.UidSets.{one_equal}
+use Rattle.cedar_entity.specs.UidSets.{one_equal}
 use Rattle.cedar_entities.specs.World.{World, Parts}
 use Rattle.cedar_entities.proofs.StoreMaps.{len_listed, keys_mapped, length_mapped}
-use Rattle.cedar_entities.proofs.Worlds.{find-mapped}
+use Rattle.cedar_entities.specs.laws.Worlds.{find-mapped}
 
 node_parts : SharedEntity → Parts
 node_parts n = parts_of (shared n)
@@ -24,7 +24,7 @@ parts_at None = refl
 parts_at (Some n) = refl
 
 -- a map that is seen as a plain store has as many entries as the world
-pub plain_len : {S : Type 0} (m : HashMap EntityUID SharedEntity S) (W : World) (T : StoreView) → seen m ≡ T.held → IsDistinct same_uid (keys m) → IsPlainStore W T → hash_map_len m ≡ finmap.len W.entities
+pub plain_len : {S : Type 0} (m : HashMap EntityUID SharedEntity S) (W : World) (T : StoreView) → held_map m ≡ T.held → IsDistinct same_uid (keys m) → IsPlainStore W T → hash_map_len m ≡ finmap.len W.entities
 plain_len m W T is distinct plain =
     let same : W.entities ≡ finmap.from_entries (map (λ e. (e.0, node_parts e.1)) m.entries) = finmap.same_map uid_order_total one_equal _ _ (λ q.
     sym (plain.holds q) ∙ ap (λ (D : Held). option_map parts_of (finmap.get D q)) (sym is)

@@ -13,8 +13,8 @@ use Rattle.cedar_graph.specs.declared.err.TcError.{TcError}
 use Rattle.cedar_graph.specs.declared.err.TcError.TheVariants as tc
 use Rattle.cedar_ids.specs.UidOf.{uid_order, uid_order_total, same_uid_decides}
 use Rattle.cedar_ids.specs.declared.entity.EntityUID.{EntityUID}
-use Rattle.cedar_entities.specs.UidSets.{same_tests}
-use Rattle.cedar_entities.specs.View.{EntityView, has_ancestor, Kept, kept, overlap}
+use Rattle.cedar_entity.specs.UidSets.{same_tests}
+use Rattle.cedar_entity.specs.View.{EntityView, has_ancestor, Kept, kept, overlap}
 use Rattle.cedar_entities.specs.ClosureFaults.{IsClosureFault}
 use Rattle.cedar_entities.specs.Plain.{StoreView, Held, IsPlainStore, IsKeyed, IsBare, IsApart, parts_of, given_of}
 use Rattle.cedar_entities.specs.Modes.{ancestry, is_ancestor_in, IsClosureOf}
@@ -154,17 +154,17 @@ pub if_map : (P Q : EntityView → Type 0) (o : Option EntityView) → ((e : Ent
 if_map P Q None f h = tt
 if_map P Q (Some e) f h = f e h
 
--- the ancestors of an entity without further ones are its parents
+-- the ancestors of an entity without indirect ones are its parents
 pub bare_leads : (o : Option EntityView) (b : EntityUID) → IfSome o IsBare → is_ancestor_in o b ≡ is_parent_in (option_map parts_of o) b
 bare_leads None b h = refl
 bare_leads (Some e) b h = parents_alone e b (h b)
 
--- each ancestor of an entity that was held, or else of one without further ancestors
+-- each ancestor of an entity that was held, or else of one without indirect ancestors
 pub leads_or : (R : EntityUID → Type 0) (o p : Option EntityView) (b : EntityUID) → IfSome o (λ e. (x : EntityUID) → has_ancestor e x ≡ true → R x)
     → (o ≡ None → is_ancestor_in p b ≡ true → R b) → is_ancestor_in (option_or o p) b ≡ true → R b
 leads_or R None p b h k e = k refl e
 leads_or R (Some x) p b h k e = h b e
 
--- an entity without further ancestors leads to its parents alone
+-- an entity without indirect ancestors leads to its parents alone
 pub bare_only : (W : World) (D : Held) → ((q : EntityUID) → option_map parts_of (finmap.get D q) ≡ finmap.get W.entities q) → ((q : EntityUID) → IfSome (finmap.get D q) IsBare) → AddsOnlyReached (graph W) (ancestry D)
 bare_only W D holds bares a b h = reach_edge (graph W) a b (ap (λ o. is_parent_in o b) (sym (holds a)) ∙ sym (bare_leads (finmap.get D a) b (bares a)) ∙ h)

@@ -8,36 +8,36 @@ use Rattle.std.specs.Map.{lookup, keys_of}
 use Rattle.std.specs.FinMap as finmap
 use Rattle.cedar_ids.specs.UidOf.{same_uid, uid_order, uid_order_total, same_uid_decides}
 use Rattle.cedar_ids.specs.declared.entity.EntityUID.{EntityUID}
-use Rattle.cedar_entities.specs.declared.node.SharedEntity.{SharedEntity}
-use Rattle.cedar_entities.specs.Held.{held, seen, shared, UidsMatch}
+use Rattle.cedar_entity.specs.declared.node.SharedEntity.{SharedEntity}
+use Rattle.cedar_entities.specs.laws.Held.{held, held_map, shared, UidsMatch}
 use Rattle.cedar_entities.specs.Plain.{Held, IsKeyed}
 use Rattle.cedar_entities.specs.Present.{first_entity, with_first, keyed}
-use Rattle.cedar_entities.specs.UidSets.{same_tests, one_equal}
-use Rattle.cedar_entities.specs.View.{EntityView}
-use Rattle.cedar_entities.proofs.Worlds.{find-mapped, get_joined}
+use Rattle.cedar_entity.specs.UidSets.{same_tests, one_equal}
+use Rattle.cedar_entity.specs.View.{EntityView}
+use Rattle.cedar_entities.specs.laws.Worlds.{find-mapped, get_joined}
 
 found : (es : List (EntityUID × SharedEntity)) (q : EntityUID) → finmap.find uid_order q es ≡ lookup (same_uid q) es
 found [] q = refl
 found (e ∷ es) q = ap (λ f. cond (f q e.0) (Some e.1) (finmap.find uid_order q es)) same_tests ∙ ap (cond (same_uid q e.0) (Some e.1)) (found es q)
 
 -- the finite map that is seen has what the map has
-pub get_seen : {S : Type 0} (m : HashMap EntityUID SharedEntity S) (q : EntityUID) → finmap.get (seen m) q ≡ held m q
+pub get_seen : {S : Type 0} (m : HashMap EntityUID SharedEntity S) (q : EntityUID) → finmap.get (held_map m) q ≡ held m q
 get_seen m q =
     finmap.get-from_entries uid_order_total (map (λ e. (e.0, shared e.1)) m.entries) q
     ∙ find-mapped shared m.entries q ∙ ap (option_map shared) (found m.entries q)
 
 -- a map that has at each uid what a finite map has is seen as that
-pub seen_as : {S : Type 0} (m : HashMap EntityUID SharedEntity S) (D : Held) → ((q : EntityUID) → held m q ≡ finmap.get D q) → seen m ≡ D
-seen_as m D h = finmap.same_map uid_order_total one_equal (seen m) D (λ q. get_seen m q ∙ h q)
+pub seen_as : {S : Type 0} (m : HashMap EntityUID SharedEntity S) (D : Held) → ((q : EntityUID) → held m q ≡ finmap.get D q) → held_map m ≡ D
+seen_as m D h = finmap.same_map uid_order_total one_equal (held_map m) D (λ q. get_seen m q ∙ h q)
 
-pub seen_empty : {S : Type 0} (m : HashMap EntityUID SharedEntity S) → m.entries ≡ [] → seen m ≡ finmap.empty
+pub seen_empty : {S : Type 0} (m : HashMap EntityUID SharedEntity S) → m.entries ≡ [] → held_map m ≡ finmap.empty
 seen_empty m e = seen_as m finmap.empty (λ q. ap (λ es. option_map shared (lookup (same_uid q) es)) e ∙ sym (finmap.get-empty uid_order q))
 
 key_at : (q : EntityUID) (o : Option SharedEntity) → IfSome o (λ n. same_uid q (shared n).uid ≡ true) → IfSome (option_map shared o) (λ e. e.uid ≡ q)
 key_at q None h = tt
 key_at q (Some n) h = sym ((same_uid_decides q (shared n).uid).0 h)
 
-pub seen_keyed : {S : Type 0} (m : HashMap EntityUID SharedEntity S) → UidsMatch m → IsKeyed (seen m)
+pub seen_keyed : {S : Type 0} (m : HashMap EntityUID SharedEntity S) → UidsMatch m → IsKeyed (held_map m)
 seen_keyed m h q = subst (λ o. IfSome o (λ e. e.uid ≡ q)) (sym (get_seen m q)) (key_at q (get same_uid m q) (h q))
 
 -- what is held, or else the first of the list
@@ -70,7 +70,7 @@ length_mapped f [] = refl
 length_mapped f (e ∷ es) = ap suc (length_mapped f es)
 
 -- the finite map that is seen has as many entries as the map
-pub len_seen : {S : Type 0} (m : HashMap EntityUID SharedEntity S) → IsDistinct same_uid (keys m) → hash_map_len m ≡ finmap.len (seen m)
+pub len_seen : {S : Type 0} (m : HashMap EntityUID SharedEntity S) → IsDistinct same_uid (keys m) → hash_map_len m ≡ finmap.len (held_map m)
 len_seen m distinct =
     sym (length_mapped shared m.entries)
     ∙ sym (len_listed (map (λ e. (e.0, shared e.1)) m.entries) (subst (IsDistinct same_uid) (sym (keys_mapped shared m.entries)) distinct))

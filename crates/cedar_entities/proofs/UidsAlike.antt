@@ -15,11 +15,11 @@ use Rattle.std.specs.FinSet as set
 use Rattle.std.specs.FinMap as finmap
 use Rattle.cedar_ids.specs.UidOf.{same_uid, same_uid_decides, uid_order, uid_order_total}
 use Rattle.cedar_ids.specs.declared.entity.EntityUID.{EntityUID}
-use Rattle.cedar_entities.specs.declared.node.SharedEntity.{SharedEntity}
-use Rattle.cedar_entities.specs.Held.{seen, shared}
+use Rattle.cedar_entity.specs.declared.node.SharedEntity.{SharedEntity}
+use Rattle.cedar_entities.specs.laws.Held.{held_map, shared}
 use Rattle.cedar_entities.specs.Plain.{StoreView, Held}
 use Rattle.cedar_entities.specs.SameUids.{uids_of, uids_in, same_uids, HaveSameUids}
-use Rattle.cedar_entities.specs.UidSets.{one_equal}
+use Rattle.cedar_entity.specs.UidSets.{one_equal}
 use Rattle.cedar_entities.proofs.Adding.{same_bool}
 use Rattle.cedar_entities.proofs.Adds.{stored}
 
@@ -61,10 +61,10 @@ some_shared : (o : Option SharedEntity) → is_some (option_map shared o) ≡ is
 some_shared None = refl
 some_shared (Some n) = refl
 
-key_held : {S : Type 0} (m : HashMap EntityUID SharedEntity S) (D : Held) → seen m ≡ D → (q : EntityUID) → finmap.contains_key D q ≡ is_some (get same_uid m q)
+key_held : {S : Type 0} (m : HashMap EntityUID SharedEntity S) (D : Held) → held_map m ≡ D → (q : EntityUID) → finmap.contains_key D q ≡ is_some (get same_uid m q)
 key_held m D is q = ap (λ f. is_some (f q)) (sym (stored m D is)) ∙ some_shared (get same_uid m q)
 
-module _ {S : Type 0} (m n : HashMap EntityUID SharedEntity S) (A B : StoreView) (is_m : seen m ≡ A.held) (is_n : seen n ≡ B.held) where
+module _ {S : Type 0} (m n : HashMap EntityUID SharedEntity S) (A B : StoreView) (is_m : held_map m ≡ A.held) (is_n : held_map n ≡ B.held) where
   pub to_same : A.partial ≡ B.partial → ((q : EntityUID) → is_some (get same_uid n q) ≡ true → is_some (get same_uid m q) ≡ true) → ((q : EntityUID) → is_some (get same_uid m q) ≡ true → is_some (get same_uid n q) ≡ true) → HaveSameUids A B
   to_same mode one other = record {
     mode = mode;

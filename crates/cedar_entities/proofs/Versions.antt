@@ -7,17 +7,18 @@ use Rattle.std.specs.List.{AllByRecursion}
 use Rattle.std.specs.Ordering.{eq_by_cmp}
 use Rattle.cedar_ids.specs.UidOf.{same_uid, uid_order, same_uid_decides, same_uid_equiv}
 use Rattle.cedar_ids.specs.declared.entity.EntityUID.{EntityUID}
-use Rattle.cedar_entities.specs.UidSets.{same_tests}
-use Rattle.cedar_entities.specs.View.{EntityView, IsDeepEqual, deep_equality}
+use Rattle.cedar_entity.specs.UidSets.{same_tests}
+use Rattle.cedar_entity.specs.View.{EntityView, IsDeepEqual, deep_equality}
 use Rattle.std.specs.HashMap.{HashMap, get}
-use Rattle.cedar_entities.specs.declared.node.SharedEntity.{SharedEntity}
-use Rattle.cedar_entities.specs.Held.{held, shared, UidsMatch}
+use Rattle.cedar_entity.specs.declared.node.SharedEntity.{SharedEntity}
+use Rattle.cedar_entities.specs.laws.Held.{held, shared, UidsMatch}
 use Rattle.cedar_entities.specs.Present.{first_entity, keyed, MatchesPresent, FirstMismatch, present}
 use Rattle.cedar_entities.specs.Edits.{last_entity}
 use Rattle.cedar_entities.specs.Refusals.{MatchRefusal}
-use Rattle.cedar_entities.specs.declared.err.EntitiesError.{EntitiesError}
-use Rattle.cedar_entities.specs.declared.err.EntitiesError.TheVariants as errors
+use Rattle.cedar_entity.specs.declared.err.EntitiesError.{EntitiesError}
+use Rattle.cedar_entity.specs.declared.err.EntitiesError.TheVariants as errors
 use Rattle.cedar_entities.specs.World.{reversed}
+use Rattle.cedar_entities.specs.laws.Lists.{all_push}
 
 abbrev pub Fn : Type 0
 Fn = EntityUID → Option EntityView
@@ -113,10 +114,6 @@ agrees_now f now done e rest items is so h = subst (λ v. IsDeepEqual v e) (sym 
 
 pub differs_now : (f now : Fn) (done : List EntityView) (e h : EntityView) (rest items : List EntityView) → items ≡ done ++ e ∷ rest → ((q : EntityUID) → now q ≡ option_or (f q) (first_entity done q)) → now e.uid ≡ Some h → (IsDeepEqual h e → ⊥) → MatchesPresent f items e → ⊥
 differs_now f now done e h rest items is so at apart d = apart (subst (λ v. IsDeepEqual v e) (present_now f done e rest items is ∙ ap (λ o. unwrap_or o e) (sym (so e.uid) ∙ at)) d)
-
-pub all_push : {X : Type 0} (P : X → Type 0) (xs : List X) (x : X) → AllByRecursion P xs → P x → AllByRecursion P (xs ++ x ∷ [])
-all_push P [] x a p = (p, tt)
-all_push P (y ∷ ys) x a p = (a.0, all_push P ys x a.1 p)
 
 pub held_push : (f now new : Fn) (done : List EntityView) (e : EntityView) → ((q : EntityUID) → now q ≡ option_or (f q) (first_entity done q)) → ((q : EntityUID) → new q ≡ option_or (now q) (just e q)) → (q : EntityUID) → new q ≡ option_or (f q) (first_entity (done ++ e ∷ []) q)
 held_push f now new done e so step q =

@@ -8,7 +8,7 @@ use Rattle.cedar_ids.specs.declared.entity.EntityUID.{EntityUID}
 use Rattle.cedar_terms.specs.ExprTree.{ExprTree, unknown_node}
 use Rattle.cedar_entities.specs.Plain.{StoreView, Held}
 use Rattle.cedar_entities.specs.Present.{keyed}
-use Rattle.cedar_entities.specs.View.{EntityView, IsDeepEqual}
+use Rattle.cedar_entity.specs.View.{EntityView, IsDeepEqual}
 use Rattle.cedar_entities.specs.declared.dereference.Dereference.{Dereference}
 use Rattle.cedar_entities.specs.declared.dereference.Dereference.TheVariants as answers
 
@@ -44,16 +44,16 @@ pub record ListsHeld (D : Held) (es : List EntityView) : Type 0 where
   pub once : length es ≡ finmap.len D
 
 -- of two look-ups both find nothing, or both find entities that are deeply equal
-abbrev pub FindAlike : Option EntityView → Option EntityView → Type 0
-FindAlike None None = Unit {0}
-FindAlike None (Some b) = ⊥
-FindAlike (Some a) None = ⊥
-FindAlike (Some a) (Some b) = IsDeepEqual a b
+abbrev pub HasDeepEqual : Option EntityView → Option EntityView → Type 0
+HasDeepEqual None None = Unit {0}
+HasDeepEqual None (Some b) = ⊥
+HasDeepEqual (Some a) None = ⊥
+HasDeepEqual (Some a) (Some b) = IsDeepEqual a b
 
 -- two stores are both partial or both not, and have deeply equal entities under the same uids
 pub record AreDeepEqual (S T : StoreView) : Type 0 where
   pub mode : S.partial ≡ T.partial
-  pub entities : (q : EntityUID) → FindAlike (finmap.get S.held q) (finmap.get T.held q)
+  pub entities : (q : EntityUID) → HasDeepEqual (finmap.get S.held q) (finmap.get T.held q)
 
 -- a call took the first entity from the list: it answered the entity, or want of memory for a copy of its own
 abbrev pub TakesOut : {E : Type 0} → List EntityView → Option (Result EntityView E) → List EntityView → Type 0

@@ -1,5 +1,7 @@
 -- What a store holds, and the plain store of a world.
-use Rattle.std.specs.Prelude.{◌≡◌, ◌↔◌, Bool, true, false, List}
+use Rattle.std.specs.Prelude.{◌≡◌, ◌↔◌, Bool, true, false, List, map}
+use Rattle.std.specs.declared.alloc.Global.{Global}
+use Rattle.std.specs.declared.rc.Rc.{Rc}
 use Rattle.std.proofs.Common.{refl}
 use Rattle.std.specs.Coded.{Coded, code_by, coded×, coded_bool}
 use Rattle.std.specs.List.{AllByRecursion}
@@ -9,8 +11,8 @@ use Rattle.std.specs.FinMap as finmap
 use Rattle.cedar_graph.specs.Graph.{Reach}
 use Rattle.cedar_ids.specs.UidOf.{uid_order}
 use Rattle.cedar_ids.specs.declared.entity.EntityUID.{EntityUID}
-use Rattle.cedar_entities.specs.Codes.{uid_code}
-use Rattle.cedar_entities.specs.View.{EntityView, view_code, has_ancestor}
+use Rattle.cedar_ids.specs.Codes.{uid_code}
+use Rattle.cedar_entity.specs.View.{EntityView, view_code, has_ancestor}
 use Rattle.cedar_entities.specs.World.{World, Parts, Given, graph}
 
 -- entities under their uids
@@ -29,6 +31,10 @@ pub record StoreView : Type 0 where
 abbrev pub store_code : Coded StoreView
 store_code = code_by (Held × Bool) (coded× (finmap.code uid_code view_code) coded_bool) (λ s. (s.held, s.partial)) (λ p. record { held = p.0; partial = p.1 }) (λ _. refl)
 
+-- the entities of a list of shared ones
+abbrev pub entities_in : List (Rc EntityView Global) → List EntityView
+entities_in list = map (λ r. r.value) list
+
 -- what a world holds of an entity of the store
 abbrev pub parts_of : EntityView → Parts
 parts_of e = record { attrs = e.attrs; tags = e.tags; parents = e.parents }
@@ -37,15 +43,15 @@ parts_of e = record { attrs = e.attrs; tags = e.tags; parents = e.parents }
 abbrev pub given_of : EntityView → Given
 given_of e = record { uid = e.uid; parts = parts_of e }
 
--- no further ancestors
+-- no indirect ancestors
 abbrev pub IsBare : EntityView → Type 0
 IsBare e = (q : EntityUID) → set.contains e.indirect q ≡ false
 
--- no entity of the list has further ancestors
+-- no entity of the list has indirect ancestors
 abbrev pub AreBare : List EntityView → Type 0
 AreBare L = AllByRecursion IsBare L
 
--- no parent is a further ancestor too
+-- no parent is an indirect ancestor too
 abbrev pub IsApart : EntityView → Type 0
 IsApart e = (x : EntityUID) → set.contains e.parents x ≡ true → set.contains e.indirect x ≡ false
 
@@ -54,7 +60,7 @@ abbrev pub IsKeyed : Held → Type 0
 IsKeyed D = (q : EntityUID) → IfSome (finmap.get D q) (λ e. e.uid ≡ q)
 
 -- the store holds W's entities under their uids, with W's parts and flag; the ancestors of each are exactly
--- the uids that it reaches over the parents, the further ones being those that are not parents; and no uid
+-- the uids that it reaches over the parents, the indirect ones being those that are not parents; and no uid
 -- reaches itself
 pub record IsPlainStore (W : World) (S : StoreView) : Type 0 where
   pub partial : S.partial ≡ W.partial

@@ -1,11 +1,11 @@
--- Adding entities to those that are held, as they stand with their further ancestors.
+-- Adding entities to those that are held, as they stand with their indirect ancestors.
 use Rattle.std.specs.Prelude.{◌≡◌, List, ◌∷◌, ◌++◌, map, Option}
 use Rattle.std.specs.Option.{option_or, unwrap_or}
 use Rattle.std.specs.List.{AllByRecursion}
 use Rattle.std.specs.FinMap as finmap
 use Rattle.cedar_ids.specs.UidOf.{uid_order}
 use Rattle.cedar_ids.specs.declared.entity.EntityUID.{EntityUID}
-use Rattle.cedar_entities.specs.View.{EntityView, IsDeepEqual}
+use Rattle.cedar_entity.specs.View.{EntityView, IsDeepEqual}
 use Rattle.cedar_entities.specs.Plain.{Held}
 
 -- an entity as an entry of a map

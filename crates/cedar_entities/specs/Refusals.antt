@@ -5,18 +5,15 @@ use Rattle.cedar_graph.specs.declared.err.TcError.{TcError}
 use Rattle.cedar_ids.specs.declared.entity.EntityUID.{EntityUID}
 use Rattle.cedar_entities.specs.ClosureFaults.{IsClosureFault}
 use Rattle.cedar_entities.specs.World.{World, Given, graph, added, overwritten, AllAgree, FirstDiffers}
-use Rattle.cedar_entities.specs.declared.err.EntitiesError.{EntitiesError}
-use Rattle.cedar_entities.specs.declared.err.EntitiesError.TheVariants as errors
+use Rattle.cedar_entity.specs.declared.err.EntitiesError.{EntitiesError}
+use Rattle.cedar_entity.specs.declared.err.EntitiesError.TheVariants as errors
 
 -- D of a duplicate's uid, C of what the closure refused; nothing is said of memory, and nothing else is refused
 abbrev pub MatchRefusal : EntitiesError → (EntityUID → Type 0) → (TcError EntityUID → Type 0) → Type 0
 MatchRefusal (errors.Duplicate u) D C = D u
 MatchRefusal (errors.TransitiveClosureError t) D C = C t
-MatchRefusal (errors.SelfAncestor u) D C = ⊥
-MatchRefusal (errors.DuplicateAncestor u a) D C = ⊥
-MatchRefusal (errors.ActionParentIsNotAction u p) D C = ⊥
-MatchRefusal (errors.ReservedKey k) D C = ⊥
 MatchRefusal errors.Memory D C = ⊤
+MatchRefusal e D C = ⊥
 
 -- what names a uid that reaches itself over the parents of W, and nothing else
 abbrev pub NamesCycle : World → TcError EntityUID → Type 0

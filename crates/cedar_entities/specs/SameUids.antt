@@ -10,7 +10,7 @@ use Rattle.std.specs.FinMap as finmap
 use Rattle.cedar_ids.specs.UidOf.{same_uid, same_uid_equiv}
 use Rattle.cedar_ids.specs.declared.entity.EntityUID.{EntityUID}
 use Rattle.cedar_entities.specs.Plain.{StoreView, Held}
-use Rattle.cedar_entities.specs.UidSets.{UidSet}
+use Rattle.cedar_entity.specs.UidSets.{UidSet}
 
 -- the uids under which there are entities
 abbrev pub uids_of : Held → UidSet

@@ -4,17 +4,16 @@ use Rattle.std.specs.Option.{IfSome}
 use Rattle.std.specs.Ordering.{is_lt}
 use Rattle.std.specs.FinMap as finmap
 use Rattle.std.specs.declared.cmp.Ordering.TheVariants.{Less}
-use Rattle.cedar_graph.specs.Graph.{IsClosed, HasNoLoop}
 use Rattle.cedar_graph.specs.declared.err.TcError.{TcError}
 use Rattle.cedar_ids.specs.UidOf.{uid_order}
 use Rattle.cedar_ids.specs.declared.entity.EntityUID.{EntityUID}
-use Rattle.cedar_entities.specs.Modes.{ancestry, IsClosureRefused}
+use Rattle.cedar_entities.specs.Modes.{IsClosureRefused, IsSound}
 use Rattle.cedar_entities.specs.Plain.{Held}
-use Rattle.cedar_entities.specs.Validity.{IsValid, IsFault}
-use Rattle.cedar_entities.specs.View.{EntityView}
+use Rattle.cedar_entity.specs.Validity.{IsValid, IsFault}
+use Rattle.cedar_entity.specs.View.{EntityView}
 use Rattle.cedar_entities.specs.declared.entities.TCComputation.TheVariants as modes
-use Rattle.cedar_entities.specs.declared.err.EntitiesError.{EntitiesError}
-use Rattle.cedar_entities.specs.declared.err.EntitiesError.TheVariants as errors
+use Rattle.cedar_entity.specs.declared.err.EntitiesError.{EntitiesError}
+use Rattle.cedar_entity.specs.declared.err.EntitiesError.TheVariants as errors
 
 -- each entity is valid
 abbrev pub AreAllValid : Held → Type 0
@@ -32,19 +31,11 @@ pub record IsFirstFault (D : Held) (r : EntitiesError) : Type 0 where
   pub first : IsFirstFaulty D at
   pub fault : IsFault at r
 
--- the graph of the ancestors is closed, and no entity is among its own
-abbrev pub IsSound : Held → Type 0
-IsSound D = IsClosed (ancestry D) × HasNoLoop (ancestry D)
-
 -- C of what the closure refused, and F of any other refusal; nothing is said of memory
 abbrev pub MatchStoreFault : EntitiesError → (TcError EntityUID → Type 0) → (EntitiesError → Type 0) → Type 0
 MatchStoreFault (errors.TransitiveClosureError t) C F = C t
 MatchStoreFault errors.Memory C F = ⊤
-MatchStoreFault (errors.Duplicate u) C F = F (errors.Duplicate u)
-MatchStoreFault (errors.SelfAncestor u) C F = F (errors.SelfAncestor u)
-MatchStoreFault (errors.DuplicateAncestor u a) C F = F (errors.DuplicateAncestor u a)
-MatchStoreFault (errors.ActionParentIsNotAction u p) C F = F (errors.ActionParentIsNotAction u p)
-MatchStoreFault (errors.ReservedKey k) C F = F (errors.ReservedKey k)
+MatchStoreFault e C F = F e
 
 -- the graph of the ancestors is closed and without loop, and each entity is valid
 abbrev pub IsValidStore : Held → Type 0
@@ -56,10 +47,10 @@ abbrev pub IsStoreFault : Held → EntitiesError → Type 0
 IsStoreFault D r = MatchStoreFault r (IsClosureRefused modes.EnforceAlreadyComputed D) (λ f. IsSound D × IsFirstFault D f)
 
 -- a faulty entity, where there is none so far or it stands before that one, and that one elsewhere
-abbrev pub sooner_of : EntityView → Option EntityView → Option EntityView
-sooner_of e None = Some e
-sooner_of e (Some a) = if is_lt (uid_order e.uid a.uid) then Some e else Some a
+abbrev pub lesser_of : EntityView → Option EntityView → Option EntityView
+lesser_of e None = Some e
+lesser_of e (Some a) = if is_lt (uid_order e.uid a.uid) then Some e else Some a
 
--- r is o where e is valid, and else the sooner of the two
+-- r is o where e is valid, and else the one with the lesser uid
 abbrev pub TakesFaulty : EntityView → Option EntityView → Option EntityView → Type 0
-TakesFaulty e o r = (IsValid e × (r ≡ o)) ⊎ ((IsValid e → ⊥) × (r ≡ sooner_of e o))
+TakesFaulty e o r = (IsValid e × (r ≡ o)) ⊎ ((IsValid e → ⊥) × (r ≡ lesser_of e o))

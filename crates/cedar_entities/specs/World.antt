@@ -8,8 +8,8 @@ use Rattle.std.specs.FinMap as finmap
 use Rattle.cedar_graph.specs.Graph.{Reach}
 use Rattle.cedar_ids.specs.UidOf.{uid_order, same_uid}
 use Rattle.cedar_ids.specs.declared.entity.EntityUID.{EntityUID}
-use Rattle.cedar_entities.specs.Fields.{Fields}
-use Rattle.cedar_entities.specs.UidSets.{UidSet}
+use Rattle.cedar_entity.specs.Fields.{Fields}
+use Rattle.cedar_entity.specs.UidSets.{UidSet}
 
 -- what a world holds of an entity, beside its uid
 pub record Parts : Type 0 where

@@ -7,29 +7,28 @@ ghost use Rattle.std.specs.Set.{is_member};
 ghost use Rattle.cedar_ids.specs.UidOf.{same_uid, uid_order};
 ghost use Rattle.cedar_ids.specs.declared.entity.EntityUID.{EntityUID};
 ghost use Rattle.cedar_graph.specs.Graph.{Reach};
-ghost use Rattle.cedar_graph.specs.declared.err.TcError.TheVariants.{Memory as NoMemory};
 ghost use Rattle.cedar_entities.specs.ClosureFaults.{IsClosureFault};
-ghost use Rattle.cedar_entities.specs.View.{EntityView, IsDeepEqual, IsEquivalenceRelation};
-ghost use Rattle.cedar_entities.specs.Answers.{AreDeepEqual, FindAlike, Finds, IsUnknownOf, ListsHeld};
+ghost use Rattle.cedar_entity.specs.View.{EntityView, IsDeepEqual, IsEquivalenceRelation};
+ghost use Rattle.cedar_entities.specs.Answers.{AreDeepEqual, HasDeepEqual, Finds, IsUnknownOf, ListsHeld};
 ghost use Rattle.cedar_entities.specs.Edits.{last_entity, stripped, with_last, with_none};
-ghost use Rattle.cedar_entities.specs.Held.{held, seen, shared, UidsMatch};
+ghost use Rattle.cedar_entities.specs.laws.Held.{held, held_map, shared, UidsMatch};
 ghost use Rattle.cedar_entities.specs.Modes.{IsFinished, IsClosureOf, IsClosureRefused, WhereComputed};
-ghost use Rattle.cedar_entities.specs.Plain.{StoreView, IsPlainStore, IsKeyed, AreBare, given_of, no_entities};
+ghost use Rattle.cedar_entities.specs.Plain.{StoreView, entities_in, IsPlainStore, IsKeyed, AreBare, given_of, no_entities};
 ghost use Rattle.cedar_entities.specs.Present.{first_entity, with_first, AllMatch, FirstMismatch};
 ghost use Rattle.cedar_entities.specs.Refusals.{MatchRefusal, IsAddingRefused, IsOverwritingRefused};
-ghost use Rattle.cedar_entities.specs.declared.err.EntitiesError.TheVariants.{Memory};
+ghost use Rattle.cedar_entity.specs.declared.err.EntitiesError.TheVariants.{Memory};
 ghost use Rattle.cedar_entities.specs.declared.entities.TCComputation.TheVariants.{EnforceAlreadyComputed, ComputeNow};
-ghost use Rattle.cedar_entities.specs.SameUids.{HaveSameUids};
+ghost use Rattle.cedar_entities.specs.SameUids.{HaveSameUids, same_uids};
 ghost use Rattle.cedar_entities.specs.StoreFaults.{IsStoreFault, IsValidStore};
 ghost use Rattle.cedar_entities.specs.World.{World, empty_world, added, overwritten, deleted, graph, AllAgree, FirstDiffers};
 
 use crate::dereference::Dereference;
-use crate::entity::Entity;
-use crate::err::EntitiesError;
-use crate::node::SharedEntity;
 use crate::store_iters::{IntoIter, Iter};
 use crate::store_valid::check_each;
-use cedar_graph::{TcError, compute_tc, enforce_tc_and_dag};
+use cedar_entity::entity::Entity;
+use cedar_entity::err::EntitiesError;
+use cedar_entity::node::SharedEntity;
+use cedar_graph::{compute_tc, enforce_tc_and_dag};
 use cedar_ids::entity::EntityUID;
 use cedar_terms::{Expr, StaticallyTyped, Unknown};
 use std::alloc::{AllocError, Global};
@@ -59,14 +58,14 @@ pub struct Entities {
 }
 
 impl Model for Entities {
-    ghost use Rattle.cedar_entities.specs.Held.{seen, UidsMatch};
-    ghost use Rattle.cedar_entities.specs.Plain.{StoreView, store_code};
+    ghost use Rattle.cedar_entities.specs.laws.Held.{held_map, UidsMatch};
+    ghost use Rattle.cedar_entities.specs.Plain.{StoreView, entities_in, store_code};
 
     ghost Value = { StoreView };
 
     ghost coded = { store_code };
 
-    ghost view = { λ s. record { held = seen s.entities; partial = s.partial } };
+    ghost view = { λ s. record { held = held_map s.entities; partial = s.partial } };
 
     ghost invariant = { λ s. UidsMatch s.entities };
 }
@@ -120,11 +119,11 @@ fn put_all(
 ) -> Result<(), EntitiesError>
     requires { UidsMatch entities.old }
     ensures keys { UidsMatch entities.new }
-    ensures agree { OnOk result (AllMatch (held entities.old) (map (λ r. r.value) list.items)) }
+    ensures agree { OnOk result (AllMatch (held entities.old) (entities_in list.items)) }
     ensures ok { OnOk result ((q : EntityUID) → held entities.new q ≡ option_or
-        (held entities.old q) (first_entity (map (λ r. r.value) list.items) q)) }
+        (held entities.old q) (first_entity (entities_in list.items) q)) }
     ensures err { IfErr result (λ e. MatchRefusal e
-        (FirstMismatch (held entities.old) (map (λ r. r.value) list.items)) (λ _. ⊥)) }
+        (FirstMismatch (held entities.old) (entities_in list.items)) (λ _. ⊥)) }
 {
     for entity in list {
         put_new(entities, entity)?;
@@ -156,7 +155,7 @@ fn overwrite_all(
     requires { UidsMatch entities.old }
     ensures keys { OnOk result (UidsMatch entities.new) }
     ensures ok { OnOk result ((q : EntityUID) → held entities.new q ≡ option_or
-        (last_entity (map (λ r. r.value) list.items) q) (held entities.old q)) }
+        (last_entity (entities_in list.items) q) (held entities.old q)) }
     ensures err { IfErr result (λ e. e ≡ Memory) }
 {
     for entity in list {
@@ -165,7 +164,7 @@ fn overwrite_all(
     Ok(())
 }
 
-// Takes its further ancestors from an entity, and the parents that go.
+// Takes its indirect ancestors from an entity, and the parents that go.
 fn strip(entity: &mut Entity, gone: &[EntityUID])
     ensures { entity.new ≡ stripped (is_member same_uid gone.now) entity.old }
 {
@@ -260,7 +259,7 @@ fn take_out(
 
 // The entities, to be shared.
 fn shared_all(alloc: Global, list: Vec<Entity>) -> Result<Vec<Rc<Entity>>, AllocError>
-    ensures { IfOk result (λ v. map (λ r. r.value) v.items ≡ list.items) }
+    ensures { IfOk result (λ v. entities_in v.items ≡ list.items) }
 {
     let mut shared = Vec::new(alloc);
     for entity in list {
@@ -269,35 +268,16 @@ fn shared_all(alloc: Global, list: Vec<Entity>) -> Result<Vec<Rc<Entity>>, Alloc
     Ok(shared)
 }
 
-// The refusal for a fault of the closure; want of memory is told as what it is.
-fn refusal_of(fault: TcError<EntityUID>) -> EntitiesError
-    ensures told { MatchRefusal result (λ _. ⊥) (λ t. (t ≡ fault)
-        × IsClosureFault t (λ _ _ _. ⊤) (λ _. ⊤)) }
-    ensures memory { result ≡ Memory → fault ≡ NoMemory }
-{
-    match fault {
-        TcError::MissingTcEdge(edge) => {
-            EntitiesError::TransitiveClosureError(TcError::MissingTcEdge(edge))
-        }
-        TcError::HasCycle(cycle) => {
-            EntitiesError::TransitiveClosureError(TcError::HasCycle(cycle))
-        }
-        TcError::Memory => EntitiesError::Memory,
-    }
-}
-
 // Checks that the ancestors are closed and that no entity is its own.
 fn check(alloc: Global, entities: &HashMap<EntityUID, SharedEntity>) -> Result<(), EntitiesError>
     requires { UidsMatch entities.now }
     ensures ok { OnOk result (IsFinished EnforceAlreadyComputed
-        (seen entities.now) (seen entities.now)) }
+        (held_map entities.now) (held_map entities.now)) }
     ensures err { IfErr result (λ e. MatchRefusal e (λ _. ⊥)
-        (IsClosureRefused EnforceAlreadyComputed (seen entities.now))) }
+        (IsClosureRefused EnforceAlreadyComputed (held_map entities.now))) }
 {
-    match enforce_tc_and_dag(alloc, entities) {
-        Ok(()) => Ok(()),
-        Err(fault) => Err(refusal_of(fault)),
-    }
+    enforce_tc_and_dag(alloc, entities)?;
+    Ok(())
 }
 
 // Gives each entity the ancestors that it reaches.
@@ -307,14 +287,12 @@ fn compute(
 ) -> Result<(), EntitiesError>
     requires { UidsMatch entities.old }
     ensures keys { UidsMatch entities.new }
-    ensures ok { OnOk result (IsFinished ComputeNow (seen entities.old) (seen entities.new)) }
+    ensures ok { OnOk result (IsFinished ComputeNow (held_map entities.old) (held_map entities.new)) }
     ensures err { IfErr result (λ e. MatchRefusal e (λ _. ⊥)
-        (IsClosureRefused ComputeNow (seen entities.old))) }
+        (IsClosureRefused ComputeNow (held_map entities.old))) }
 {
-    match compute_tc(alloc, entities, true) {
-        Ok(()) => Ok(()),
-        Err(fault) => Err(refusal_of(fault)),
-    }
+    compute_tc(alloc, entities, true)?;
+    Ok(())
 }
 
 // Sees to it that the ancestors are closed, as the mode says.
@@ -325,9 +303,9 @@ fn finish(
 ) -> Result<(), EntitiesError>
     requires { UidsMatch entities.old }
     ensures keys { UidsMatch entities.new }
-    ensures ok { OnOk result (IsFinished tc_computation (seen entities.old) (seen entities.new)) }
+    ensures ok { OnOk result (IsFinished tc_computation (held_map entities.old) (held_map entities.new)) }
     ensures err { IfErr result (λ e. MatchRefusal e (λ _. ⊥)
-        (IsClosureRefused tc_computation (seen entities.old))) }
+        (IsClosureRefused tc_computation (held_map entities.old))) }
 {
     match tc_computation {
         TCComputation::AssumeAlreadyComputed => Ok(()),
@@ -337,8 +315,12 @@ fn finish(
 }
 
 // Whether the map has a deeply equal entity at a uid.
-fn is_alike(entity: &Entity, uid: &EntityUID, other: &HashMap<EntityUID, SharedEntity>) -> bool
-    ensures { IsTrue result ↔ FindAlike (Some entity.now) (held other.now uid.now) }
+fn has_deep_equal_at(
+    entity: &Entity,
+    uid: &EntityUID,
+    other: &HashMap<EntityUID, SharedEntity>,
+) -> bool
+    ensures { IsTrue result ↔ HasDeepEqual (Some entity.now) (held other.now uid.now) }
 {
     match other.get(uid) {
         Some(node) => entity.deep_eq(&node.0),
@@ -347,15 +329,15 @@ fn is_alike(entity: &Entity, uid: &EntityUID, other: &HashMap<EntityUID, SharedE
 }
 
 // Whether the one map has each entity of the other, or a deeply equal one.
-fn have_alike(
+fn have_deep_equals(
     one: &HashMap<EntityUID, SharedEntity>,
     other: &HashMap<EntityUID, SharedEntity>,
 ) -> bool
     ensures { IsTrue result ↔ ((q : EntityUID) →
-        IfSome (held one.now q) (λ e. FindAlike (Some e) (held other.now q))) }
+        IfSome (held one.now q) (λ e. HasDeepEqual (Some e) (held other.now q))) }
 {
     for (uid, node) in one {
-        if !is_alike(&node.0, uid, other) {
+        if !has_deep_equal_at(&node.0, uid, other) {
             return false;
         }
     }
@@ -383,7 +365,7 @@ fn copy_of_map(
     entities: &HashMap<EntityUID, SharedEntity>,
 ) -> Result<HashMap<EntityUID, SharedEntity>, AllocError>
     requires { UidsMatch entities.now }
-    ensures seen { IfOk result (λ copy. seen copy ≡ seen entities.now) }
+    ensures held { IfOk result (λ copy. held_map copy ≡ held_map entities.now) }
     ensures keys { IfOk result (λ copy. UidsMatch copy) }
 {
     let copy = entities.clone()?;
@@ -465,23 +447,23 @@ impl Entities {
     ) -> Result<Entities, EntitiesError>
         ensures partial { IfOk result (λ s. s.partial ≡ self.partial) }
         ensures agree { OnOk result
-            (AllMatch (finmap.get self.held) (map (λ r. r.value) list.items)) }
+            (AllMatch (finmap.get self.held) (entities_in list.items)) }
         ensures ok { IfOk result (λ s. IsFinished tc_computation
-            (with_first self.held (map (λ r. r.value) list.items)) s.held) }
+            (with_first self.held (entities_in list.items)) s.held) }
         ensures err { IfErr result (λ e. MatchRefusal e
-            (FirstMismatch (finmap.get self.held) (map (λ r. r.value) list.items))
-            (λ t. AllMatch (finmap.get self.held) (map (λ r. r.value) list.items)
+            (FirstMismatch (finmap.get self.held) (entities_in list.items))
+            (λ t. AllMatch (finmap.get self.held) (entities_in list.items)
             × IsClosureRefused tc_computation
-            (with_first self.held (map (λ r. r.value) list.items)) t)) }
+            (with_first self.held (entities_in list.items)) t)) }
         ensures plain_agree { OnOk result ((W : World) → IsPlainStore W self →
-            AreBare (map (λ r. r.value) list.items) →
-            AllAgree W (map given_of (map (λ r. r.value) list.items))) }
+            AreBare (entities_in list.items) →
+            AllAgree W (map given_of (entities_in list.items))) }
         ensures plain { IfOk result (λ s. (W : World) → IsPlainStore W self →
-            AreBare (map (λ r. r.value) list.items) → WhereComputed tc_computation
-            (IsPlainStore (added W (map given_of (map (λ r. r.value) list.items))) s)) }
+            AreBare (entities_in list.items) → WhereComputed tc_computation
+            (IsPlainStore (added W (map given_of (entities_in list.items))) s)) }
         ensures plain_err { IfErr result (λ e. (W : World) → IsPlainStore W self →
-            AreBare (map (λ r. r.value) list.items) → WhereComputed tc_computation
-            (IsAddingRefused W (map given_of (map (λ r. r.value) list.items)) e)) }
+            AreBare (entities_in list.items) → WhereComputed tc_computation
+            (IsAddingRefused W (map given_of (entities_in list.items)) e)) }
     {
         let mut entities = self.entities;
         put_all(&mut entities, list)?;
@@ -507,15 +489,15 @@ impl Entities {
     ) -> Result<Entities, EntitiesError>
         ensures partial { IfOk result (λ s. s.partial ≡ self.partial) }
         ensures ok { IfOk result (λ s. IsClosureOf
-            (with_last self.held (map (λ r. r.value) list.items)) s.held) }
+            (with_last self.held (entities_in list.items)) s.held) }
         ensures err { IfErr result (λ e. MatchRefusal e (λ _. ⊥) (IsClosureRefused ComputeNow
-            (with_last self.held (map (λ r. r.value) list.items)))) }
+            (with_last self.held (entities_in list.items)))) }
         ensures plain { IfOk result (λ s. (W : World) → IsPlainStore W self →
-            AreBare (map (λ r. r.value) list.items) →
-            IsPlainStore (overwritten W (map given_of (map (λ r. r.value) list.items))) s) }
+            AreBare (entities_in list.items) →
+            IsPlainStore (overwritten W (map given_of (entities_in list.items))) s) }
         ensures plain_err { IfErr result (λ e. (W : World) → IsPlainStore W self →
-            AreBare (map (λ r. r.value) list.items) →
-            IsOverwritingRefused W (map given_of (map (λ r. r.value) list.items)) e) }
+            AreBare (entities_in list.items) →
+            IsOverwritingRefused W (map given_of (entities_in list.items)) e) }
     {
         let mut entities = self.entities;
         strip_all(alloc, &mut entities, &[])?;
@@ -615,7 +597,7 @@ impl Entities {
         if self.partial != other.partial {
             return false;
         }
-        if !have_alike(&self.entities, &other.entities) {
+        if !have_deep_equals(&self.entities, &other.entities) {
             return false;
         }
         have_keys_of(&self.entities, &other.entities)
@@ -666,7 +648,10 @@ impl PartialEq for Entities {
 
     /// Whether both have the same uids and both are partial or neither is. What the entities hold is not
     /// looked at. It takes no memory; it looks each uid of either up in the other.
-    fn eq(&self, other: &Entities) -> bool {
+    fn eq(&self, other: &Entities) -> bool
+        ensures value { result ≡ same_uids self.now other.now }
+        ensures uids { IsTrue result ↔ HaveSameUids self.now other.now }
+    {
         self.has_same_uids(other)
     }
 }

@@ -1,25 +1,19 @@
-//! Entities: what they hold, how they compare, when they are valid, and how they are nodes of a graph.
+//! The store of entities: building, adding, overwriting, removing, looking up, comparing and checking.
+//!
+//! Proved: what each call makes of any store and, over a world of entities that bring no indirect ancestors, that it
+//! leaves the plain store of the world that plain adding, overwriting or deletion makes. The entity itself is of
+//! `cedar_entity`, whose names stand here too.
 #![tactic(auto, using(cedar_ids::specs::UidOf::same_uid_decides))]
 
 pub mod dereference;
 pub mod entities;
-pub mod entity;
-mod entity_text;
-pub mod err;
-pub mod iters;
-mod least;
-pub mod node;
-mod reserved;
 pub mod store_iters;
 mod store_text;
 mod store_valid;
-#[cfg(test)]
-mod tests;
 
+pub use cedar_entity::{
+    Ancestors, EntitiesError, Entity, Keys, Pairs, SharedEntity, Uids, entity, err, iters, node,
+};
 pub use dereference::Dereference;
 pub use entities::{Entities, TCComputation};
-pub use entity::Entity;
-pub use err::EntitiesError;
-pub use iters::{Ancestors, Keys, Pairs, Uids};
-pub use node::SharedEntity;
 pub use store_iters::{IntoIter, Iter};

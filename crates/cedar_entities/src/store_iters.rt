@@ -5,10 +5,10 @@ ghost use Rattle.std.specs.List.{IsDistinct};
 ghost use Rattle.std.specs.HashMap.{keys};
 ghost use Rattle.cedar_ids.specs.UidOf.{same_uid};
 ghost use Rattle.cedar_entities.specs.Answers.{ListsHeld};
-ghost use Rattle.cedar_entities.specs.Held.{seen, shared, UidsMatch};
+ghost use Rattle.cedar_entities.specs.laws.Held.{held_map, shared, UidsMatch};
 
-use crate::entity::Entity;
-use crate::node::SharedEntity;
+use cedar_entity::entity::Entity;
+use cedar_entity::node::SharedEntity;
 use cedar_ids::entity::EntityUID;
 use std::alloc::AllocError;
 use std::collections::{HashMap, hash_map};
@@ -24,8 +24,8 @@ pub struct Iter<'a> {
 impl<'a> Model for Iter<'a> {
     ghost use Rattle.std.specs.Prelude.{List, map};
     ghost use Rattle.std.specs.Coded.{coded_list};
-    ghost use Rattle.cedar_entities.specs.Held.{shared};
-    ghost use Rattle.cedar_entities.specs.View.{EntityView, view_code};
+    ghost use Rattle.cedar_entities.specs.laws.Held.{shared};
+    ghost use Rattle.cedar_entity.specs.View.{EntityView, view_code};
 
     ghost Value = { List EntityView };
 
@@ -38,7 +38,7 @@ impl<'a> Iter<'a> {
     // The entities of a map.
     pub(crate) fn of(entities: &'a HashMap<EntityUID, SharedEntity>) -> Iter<'a>
         requires { UidsMatch entities.now }
-        ensures { ListsHeld (seen entities.now) result }
+        ensures { ListsHeld (held_map entities.now) result }
     {
         Iter {
             inner: entities.iter(),
@@ -69,8 +69,8 @@ pub struct IntoIter {
 impl Model for IntoIter {
     ghost use Rattle.std.specs.Prelude.{List, map};
     ghost use Rattle.std.specs.Coded.{coded_list};
-    ghost use Rattle.cedar_entities.specs.Held.{shared};
-    ghost use Rattle.cedar_entities.specs.View.{EntityView, view_code};
+    ghost use Rattle.cedar_entities.specs.laws.Held.{shared};
+    ghost use Rattle.cedar_entity.specs.View.{EntityView, view_code};
 
     ghost Value = { List EntityView };
 
@@ -83,7 +83,7 @@ impl IntoIter {
     // The entities of a map.
     pub(crate) fn of(entities: HashMap<EntityUID, SharedEntity>) -> IntoIter
         requires { UidsMatch entities }
-        ensures { ListsHeld (seen entities) result }
+        ensures { ListsHeld (held_map entities) result }
     {
         // No effect at run time: this call says that each entry is found.
         let _ = entities.iter();

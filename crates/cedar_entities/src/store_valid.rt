@@ -1,18 +1,18 @@
-// Which entity of a store is not valid.
+//! Which entity of a store is not valid.
 ghost use Rattle.std.specs.Prelude.{MatchOption, OnOk, IfErr};
 ghost use Rattle.std.specs.Option.{option_copied};
-ghost use Rattle.cedar_entities.specs.Held.{seen, UidsMatch};
+ghost use Rattle.cedar_entities.specs.laws.Held.{held_map, UidsMatch};
 ghost use Rattle.cedar_entities.specs.StoreFaults.{AreAllValid, IsFirstFaulty, IsFirstFault, TakesFaulty};
 
-use crate::entity::Entity;
-use crate::err::EntitiesError;
-use crate::node::SharedEntity;
+use cedar_entity::entity::Entity;
+use cedar_entity::err::EntitiesError;
+use cedar_entity::node::SharedEntity;
 use cedar_ids::entity::EntityUID;
 use std::alloc::Global;
 use std::collections::HashMap;
 
 // An entity that is not valid, where it is the first or stands before the one so far, and that one elsewhere.
-fn sooner<'a>(entity: &'a Entity, least: Option<&'a Entity>) -> Option<&'a Entity>
+fn lesser_faulty<'a>(entity: &'a Entity, least: Option<&'a Entity>) -> Option<&'a Entity>
     ensures { TakesFaulty entity.now (option_copied least.entry) (option_copied result) }
 {
     if entity.is_valid() {
@@ -34,11 +34,11 @@ fn sooner<'a>(entity: &'a Entity, least: Option<&'a Entity>) -> Option<&'a Entit
 fn first_faulty<'a>(entities: &'a HashMap<EntityUID, SharedEntity>) -> Option<&'a Entity>
     requires { UidsMatch entities.now }
     ensures { MatchOption (option_copied result)
-        (AreAllValid (seen entities.now)) (IsFirstFaulty (seen entities.now)) }
+        (AreAllValid (held_map entities.now)) (IsFirstFaulty (held_map entities.now)) }
 {
     let mut least = None;
     for (_uid, node) in entities {
-        least = sooner(&node.0, least);
+        least = lesser_faulty(&node.0, least);
     }
     least
 }
@@ -49,8 +49,8 @@ pub(crate) fn check_each(
     entities: &HashMap<EntityUID, SharedEntity>,
 ) -> Result<(), EntitiesError>
     requires { UidsMatch entities.now }
-    ensures ok { OnOk result (AreAllValid (seen entities.now)) }
-    ensures err { IfErr result (IsFirstFault (seen entities.now)) }
+    ensures ok { OnOk result (AreAllValid (held_map entities.now)) }
+    ensures err { IfErr result (IsFirstFault (held_map entities.now)) }
 {
     match first_faulty(entities) {
         None => Ok(()),

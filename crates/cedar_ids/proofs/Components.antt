@@ -3,7 +3,7 @@ use Rattle.std.proofs.Common.{◌≡◌, ◌≢◌, ℕ, suc, zero, ◌<◌, ◌
 use Rattle.std.proofs.lemmas.Bool.{eqb-true}
 use Rattle.std.specs.Borrow.{Bor}
 use Rattle.std.specs.Str.Pattern.{FindsText, SplitsAroundMatch}
-use Rattle.cedar_ids.specs.NameReading.{components}
+use Rattle.cedar_ids.specs.laws.NameReading.{components}
 
 mark : List ℕ
 mark = 58 ∷ 58 ∷ []

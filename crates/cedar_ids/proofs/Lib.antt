@@ -1,10 +1,6 @@
 pub mod Components
 pub mod Decoding
 pub mod EidTexts
-pub mod Escapes
-pub mod Halves
 pub mod Names
-pub mod NameTexts
 pub mod PlainTexts
 pub mod UidSteps
-pub mod UidTexts

@@ -3,12 +3,12 @@ use Rattle.std.proofs.Common.{◌≡◌, ℕ, List, [], ◌∷◌, ◌++◌, tru
 use Rattle.cedar_ids.specs.declared.err.ParseErrors.{ParseErrors}
 use Rattle.cedar_ids.specs.declared.err.ParseErrors.TheVariants.{NotNormalized, InvalidName, Memory}
 use Rattle.cedar_ids.specs.Name.{NameParts}
-use Rattle.cedar_ids.specs.Laws.{IsIdText}
+use Rattle.cedar_ids.specs.TextOf.{IsIdText}
 use Rattle.cedar_ids.specs.Reads.{Reads, IsTextOfOne, IsTextOfNone}
 use Rattle.std.proofs.lemmas.Bool.{false_from_ne_true}
 use Rattle.cedar_ids.specs.Reading.{is_id}
-use Rattle.cedar_ids.specs.NameReading.{components, name_of_components}
-use Rattle.cedar_ids.specs.NameTextLaws.{some_piece, names_more, names_last}
+use Rattle.cedar_ids.specs.laws.NameReading.{components, name_of_components}
+use Rattle.cedar_ids.specs.laws.NameTextLaws.{some_piece, names_more, names_last}
 
 -- a component that was read
 pub id_some : (t x : List ℕ) → IsTextOfOne IsIdText x t → (is_id t ≡ true) × (t ≡ x)

@@ -7,9 +7,9 @@ use Rattle.std.specs.List.{list_all}
 use Rattle.std.specs.Str.{bytes_eq}
 use Rattle.std.proofs.lemmas.Slice.Eq.{bytes_eq-Decides}
 use Rattle.cedar_ids.specs.Escape.{escape, escaped, is_ascii, is_ascii_byte, is_plain_byte, escaped_output}
-use Rattle.cedar_ids.specs.Decode.{eid_of}
-use Rattle.cedar_ids.specs.Eids.{ascii_text}
-use Rattle.cedar_ids.specs.EscapeLaws.{all_below, below_at, eid_of-escaped}
+use Rattle.cedar_ids.specs.laws.Decode.{eid_of}
+use Rattle.cedar_ids.specs.laws.Eids.{ascii_text}
+use Rattle.cedar_ids.specs.laws.EscapeLaws.{all_below, below_at, eid_of-escaped}
 
 -- c is not plain, or its escape is c
 plain_stays : ℕ → Bool

@@ -6,20 +6,20 @@ use Rattle.cedar_ids.specs.Uid.{UidParts}
 use Rattle.cedar_ids.specs.UidOf.{uid_parts}
 use Rattle.cedar_ids.specs.Escape.{escaped, is_ascii}
 use Rattle.cedar_ids.specs.Printed.{printed_name}
-use Rattle.cedar_ids.specs.Decode.{eid_of}
-use Rattle.cedar_ids.specs.Eids.{ascii_text}
-use Rattle.cedar_ids.specs.Laws.{IsNameText, IsPrinted}
-use Rattle.cedar_ids.specs.NameReading.{name_of}
+use Rattle.cedar_ids.specs.laws.Decode.{eid_of}
+use Rattle.cedar_ids.specs.laws.Eids.{ascii_text}
+use Rattle.cedar_ids.specs.TextOf.{IsNameText, IsPrinted}
+use Rattle.cedar_ids.specs.laws.NameReading.{name_of}
 use Rattle.cedar_ids.specs.Reads.{Reads, IsTextOfOne, IsOkUnlessMemory}
 use Rattle.cedar_ids.specs.ReadsUid.{FollowsChecks, StartsWithName}
-use Rattle.cedar_ids.specs.UidReading.{uid_halves, uid_reading, uid_with, ascii_uid}
+use Rattle.cedar_ids.specs.laws.UidReading.{uid_halves, uid_reading, uid_with, ascii_uid}
 use Rattle.cedar_ids.specs.declared.entity.EntityUID.{EntityUID}
 use Rattle.cedar_ids.specs.declared.entity.EntityUID.TheVariants as uids
 use Rattle.cedar_ids.specs.declared.err.ParseErrors.{ParseErrors}
 use Rattle.cedar_ids.specs.declared.err.ParseErrors.TheVariants.{NotNormalized, InvalidName, Memory}
-use Rattle.cedar_ids.specs.NameTextLaws.{name_of_text}
-use Rattle.cedar_ids.specs.PrintedLaws.{uid_reading-printed, halves-printed}
-use Rattle.cedar_ids.proofs.UidTexts.{uid_found, no_marks, halves_sound, starts_named, named_half}
+use Rattle.cedar_ids.specs.laws.NameTextLaws.{name_of_text}
+use Rattle.cedar_ids.specs.laws.PrintedLaws.{uid_reading-printed, halves-printed}
+use Rattle.cedar_ids.specs.laws.UidTexts.{uid_found, no_marks, halves_sound, starts_named, named_half}
 
 -- what the contract says of an answer
 abbrev pub Answered : Result EntityUID ParseErrors → List ℕ → Type 0

@@ -1,3 +1,4 @@
+//! Entity types, eids and uids: making, taking apart, reading, comparing and printing them.
 ghost use Rattle.std.specs.Prelude.{◌≡◌, ◌↔◌, Some, IsTrue, IfOk, codes};
 ghost use Rattle.std.specs.Option.{option_copied};
 ghost use Rattle.std.specs.Ordering.{as_partial_cmp};
@@ -6,12 +7,12 @@ ghost use Rattle.std.specs.Cmp.{partial_equiv_from_equiv};
 ghost use Rattle.std.proofs.Common.{refl};
 ghost use Rattle.cedar_ids.specs.Uid.{UidParts, uid_eq, uid_cmp, uid_hash_input};
 ghost use Rattle.cedar_ids.specs.Views.{type_name, eid_bytes};
-ghost use Rattle.cedar_ids.specs.Laws.{IsName};
+ghost use Rattle.cedar_ids.specs.TextOf.{IsName};
 ghost use Rattle.cedar_ids.specs.Escape.{escaped, is_ascii};
 ghost use Rattle.cedar_ids.specs.Printed.{printed_name, uid_output};
 ghost use Rattle.cedar_ids.specs.Qualified.{qualified};
 ghost use Rattle.cedar_ids.specs.Reads.{Reads, IsTypeText, IsTypeTextAndEid};
-ghost use Rattle.cedar_ids.specs.UidLaws.{uid_eq_equiv, uid_cmp_total, uid_ties, uid_po, uid_hash_respects};
+ghost use Rattle.cedar_ids.specs.laws.UidLaws.{uid_eq_equiv, uid_cmp_total, uid_ties, uid_po, uid_hash_respects};
 ghost use Rattle.cedar_ids.specs.UidOf.{uid_parts, same_uid, uid_order, uid_hash, same_uid_equiv, uid_order_total, uid_order_ties, uid_order_po, uid_hash_respects as uid_hashes};
 
 use crate::err::ParseErrors;

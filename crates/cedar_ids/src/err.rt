@@ -1,3 +1,4 @@
+//! Why a text is no id, name or uid.
 ghost use Rattle.std.specs.Prelude.{◌≡◌};
 ghost use Rattle.cedar_ids.specs.declared.err.ParseErrors.TheVariants.{Memory};
 

@@ -1,12 +1,14 @@
-ghost use Rattle.std.specs.Prelude.{◌≡◌, Some, nat_eq, List, ℕ, IsTrue};
+//! Identifiers: those that are no reserved word, and any.
+ghost use Rattle.std.specs.Prelude.{◌≡◌, Some, List, ℕ, IsTrue};
 ghost use Rattle.std.specs.Rc.{rc_str_bytes};
 ghost use Rattle.std.specs.Ordering.{nat_cmp};
 ghost use Rattle.std.specs.Cmp.{partial_equiv_from_equiv};
-ghost use Rattle.std.specs.Cmp.Lexicographic.{pointwise, slice_cmp, nat_list_eq_equiv, nat_list_cmp_total, texts_ties, texts_po};
+ghost use Rattle.std.specs.Cmp.Lexicographic.{slice_cmp, nat_list_eq_equiv, nat_list_cmp_total, texts_ties, texts_po};
 ghost use Rattle.std.specs.Hash as fed;
 ghost use Rattle.std.specs.List.{list_all};
+ghost use Rattle.cedar_ids.specs.Texts.{same_text};
 ghost use Rattle.cedar_ids.specs.Reading.{is_id_start, is_id_part, is_identifier, is_reserved, is_id};
-ghost use Rattle.cedar_ids.specs.Laws.{IsIdText, IsIdentifierText};
+ghost use Rattle.cedar_ids.specs.TextOf.{IsIdText, IsIdentifierText};
 ghost use Rattle.cedar_ids.specs.Reads.{Reads};
 ghost use Rattle.std.specs.Cmp.Rules.{hashing};
 ghost use Rattle.std.proofs.Common.{rules, refl};
@@ -126,7 +128,7 @@ impl Clone for Id {
 }
 
 impl PartialEq for Id {
-    ghost eq = { pointwise nat_eq };
+    ghost eq = { same_text };
 
     ghost laws = { partial_equiv_from_equiv nat_list_eq_equiv };
 
@@ -239,7 +241,7 @@ impl Clone for AnyId {
 }
 
 impl PartialEq for AnyId {
-    ghost eq = { pointwise nat_eq };
+    ghost eq = { same_text };
 
     ghost laws = { partial_equiv_from_equiv nat_list_eq_equiv };
 

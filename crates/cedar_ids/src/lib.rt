@@ -15,8 +15,6 @@ pub mod name;
 pub mod non_empty;
 pub mod policy_id;
 mod reading;
-#[cfg(test)]
-mod tests;
 
 pub use entity::{ACTION_ENTITY_TYPE, Eid, EntityType, EntityUID, EntityUIDImpl};
 pub use err::ParseErrors;

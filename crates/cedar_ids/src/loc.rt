@@ -1,3 +1,4 @@
+//! Places in a text. Nothing that compares, orders or hashes looks at one.
 ghost use Rattle.std.specs.Prelude.{◌≡◌};
 
 use std::rc::RcStr;

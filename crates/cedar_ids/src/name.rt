@@ -1,17 +1,18 @@
+//! Names: components that are joined by `::`.
 ghost use Rattle.std.specs.Prelude.{◌≡◌, ◌<◌, ◌∷◌, [], Some, IsTrue, IfOk, MatchOption, length};
 ghost use Rattle.std.specs.Option.{option_copied};
 ghost use Rattle.std.specs.List.{list_all};
 ghost use Rattle.cedar_ids.specs.Reading.{is_id};
-ghost use Rattle.cedar_ids.specs.NameReading.{components};
+ghost use Rattle.cedar_ids.specs.laws.NameReading.{components};
 ghost use Rattle.cedar_ids.specs.Reads.{Reads};
-ghost use Rattle.cedar_ids.specs.Laws.{IsName, IsNameText, IsUnqualifiedText};
+ghost use Rattle.cedar_ids.specs.TextOf.{IsName, IsNameText, IsUnqualifiedText};
 ghost use Rattle.cedar_ids.specs.Qualified.{qualified, all_components};
 ghost use Rattle.std.specs.Ordering.{as_partial_cmp};
 ghost use Rattle.std.specs.Cmp.{partial_equiv_from_equiv};
 ghost use Rattle.std.proofs.Common.{refl};
 ghost use Rattle.cedar_ids.specs.Name.{NameParts, name_eq, name_cmp, name_hash_input};
 ghost use Rattle.cedar_ids.specs.Printed.{printed_name};
-ghost use Rattle.cedar_ids.specs.NameLaws.{name_eq_equiv, name_cmp_total, name_ties, name_po, name_hash_respects};
+ghost use Rattle.cedar_ids.specs.laws.NameLaws.{name_eq_equiv, name_cmp_total, name_ties, name_po, name_hash_respects};
 
 use crate::err::ParseErrors;
 use crate::id::Id;
@@ -40,7 +41,7 @@ impl Model for Name {
 
     ghost Value = { NameParts };
 
-    ghost use Rattle.cedar_ids.specs.Laws.{IsName};
+    ghost use Rattle.cedar_ids.specs.TextOf.{IsName};
 
     ghost view = { λ n. record { path = n.path.value.items; basename = n.basename } };
 

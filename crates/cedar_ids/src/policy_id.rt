@@ -1,11 +1,13 @@
-ghost use Rattle.std.specs.Prelude.{◌≡◌, Some, nat_eq, List, ℕ, IfOk};
+//! Ids of policies and templates: any text.
+ghost use Rattle.std.specs.Prelude.{◌≡◌, Some, List, ℕ, IfOk};
 ghost use Rattle.std.specs.String.{string_bytes};
 ghost use Rattle.std.specs.Ordering.{nat_cmp};
 ghost use Rattle.std.specs.Cmp.{partial_equiv_from_equiv};
-ghost use Rattle.std.specs.Cmp.Lexicographic.{pointwise, slice_cmp, nat_list_eq_equiv, nat_list_cmp_total, texts_ties, texts_po};
+ghost use Rattle.std.specs.Cmp.Lexicographic.{slice_cmp, nat_list_eq_equiv, nat_list_cmp_total, texts_ties, texts_po};
 ghost use Rattle.std.specs.Hash as fed;
 ghost use Rattle.std.specs.Cmp.Rules.{hashing};
 ghost use Rattle.std.proofs.Common.{rules, refl};
+ghost use Rattle.cedar_ids.specs.Texts.{same_text};
 ghost use Rattle.cedar_ids.specs.Escape.{escaped_output};
 
 use crate::escape::Escaped;
@@ -75,7 +77,7 @@ impl Clone for PolicyID {
 }
 
 impl PartialEq for PolicyID {
-    ghost eq = { pointwise nat_eq };
+    ghost eq = { same_text };
 
     ghost laws = { partial_equiv_from_equiv nat_list_eq_equiv };
 

@@ -1,13 +1,14 @@
+//! Reading a uid: the marks in its text, and what stands between them.
 ghost use Rattle.std.specs.Prelude.{◌≡◌, IfOk, true, IsTrue};
 ghost use Rattle.std.specs.Str.{bytes_eq};
 ghost use Rattle.std.specs.Option.{option_map};
 ghost use Rattle.cedar_ids.specs.Escape.{escaped, is_ascii};
-ghost use Rattle.cedar_ids.specs.UidReading.{uid_halves};
-ghost use Rattle.cedar_ids.specs.Decode.{eid_of};
-ghost use Rattle.cedar_ids.specs.Eids.{ascii_part};
+ghost use Rattle.cedar_ids.specs.laws.UidReading.{uid_halves};
+ghost use Rattle.cedar_ids.specs.laws.Decode.{eid_of};
+ghost use Rattle.cedar_ids.specs.laws.Eids.{ascii_part};
 ghost use Rattle.cedar_ids.specs.Uid.{UidParts};
 ghost use Rattle.cedar_ids.specs.UidOf.{uid_parts};
-ghost use Rattle.cedar_ids.specs.Laws.{IsPrinted};
+ghost use Rattle.cedar_ids.specs.TextOf.{IsPrinted};
 ghost use Rattle.cedar_ids.specs.Reads.{IsOkUnlessMemory};
 ghost use Rattle.cedar_ids.specs.ReadsUid.{FollowsChecks};
 

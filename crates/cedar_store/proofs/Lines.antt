@@ -6,7 +6,7 @@ use Rattle.std.proofs.Math.Seq.{drop-cons}
 use Rattle.std.proofs.Math.ListN.{drop_of_length-le}
 use Rattle.std.specs.Borrow.{Bor}
 use Rattle.cedar_store.specs.Output.{State, Written, after, IsOutputFrom, not_command}
-use Rattle.cedar_store.specs.Machines.{Holds, LineTakes}
+use Rattle.cedar_store.specs.laws.Machines.{Holds, LineTakes}
 use Rattle.cedar_store.specs.declared.machine.Machine.{Machine}
 
 after_after : (a b : List ℕ) (w : Written) → after a (after b w) ≡ after (a ++ b) w

@@ -1,10 +1,11 @@
 -- No input has two outputs.
-use Rattle.std.specs.Prelude.{◌≡◌, ℕ, ◌+◌, List, [], ◌∷◌, ◌++◌, codes, Bool, true, false, ◌||◌}
+use Rattle.std.specs.Prelude.{◌≡◌, ℕ, ◌+◌, List, [], ◌∷◌, ◌++◌, codes, Bool, true, false, ◌||◌, if◌then◌else◌}
 use Rattle.std.proofs.Common.{ap, sym, refl, subst, ◌∙◌, inl, inr}
 use Rattle.std.proofs.lemmas.Bool.{false≢true, or_cases}
 use Rattle.std.specs.Cmp.{tied_itself}
 use Rattle.std.specs.Fmt.{decimal}
 use Rattle.std.specs.Bool.{MatchBool}
+use Rattle.std.specs.Str.{bytes_eq}
 use Rattle.std.specs.List.{AllByRecursion, flat_map}
 use Rattle.std.specs.List.Sorted.{IsStrictlySortedBy}
 use Rattle.std.specs.Set.{is_member}
@@ -12,13 +13,13 @@ use Rattle.std.specs.FinMap as finmap
 use Rattle.std.specs.Ordering.{is_eq}
 use Rattle.std.specs.declared.cmp.Ordering.TheVariants.{Less}
 use Rattle.cedar_ids.specs.UidOf.{uid_parts, uid_order, same_uid, same_uid_decides, same_uid_equiv, uid_order_total}
-use Rattle.cedar_ids.specs.PrintedLaws.{printed_uid_injective}
+use Rattle.cedar_ids.specs.laws.PrintedLaws.{printed_uid_injective}
 use Rattle.cedar_ids.specs.declared.entity.EntityUID.{EntityUID}
 use Rattle.cedar_ids.specs.declared.entity.EntityUID.TheVariants as uids
 use Rattle.cedar_store.specs.Command.{Command, Nothing, Ent, Build, Add, Upsert, Remove, Anc, AreTexts, AreFields, IsCommand}
 use Rattle.cedar_entities.specs.World.{World, Given, AllAgree, Agrees, FirstDiffers, empty_world}
-use Rattle.cedar_store.specs.Output.{State, Written, Adds, Overwrites, Deletes, AreAncestors, Gives, IsOutputFrom, OutputIsOne, after, written_line, uid_text, field_of}
-use Rattle.cedar_store.proofs.Commands.{Text, differs}
+use Rattle.cedar_store.specs.Output.{State, Written, Adds, Overwrites, Deletes, AreAncestors, Gives, IsOutput, IsOutputFrom, after, written_line, uid_text, field_of}
+use Rattle.cedar_store.proofs.Commands.{Text}
 use Rattle.cedar_store.proofs.Lists.{all_at}
 
 same_uids : (u v : EntityUID) → uid_parts u ≡ uid_parts v → u ≡ v
@@ -37,83 +38,77 @@ one_list (u ∷ us) [] (t ∷ ts) h k = absurd k
 one_list (u ∷ us) (v ∷ vs) [] h k = absurd h
 one_list (u ∷ us) (v ∷ vs) (t ∷ ts) h k = λ i. one_text u v t h.0 k.0 i ∷ one_list us vs ts h.1 k.1 i
 
--- two words are not the same first field
-words : (a b : List ℕ) (us vs : List EntityUID) (fs : List (List ℕ)) → (a ≡ b → ⊥) → AreFields a us fs → AreFields b vs fs → ⊥
-words a b us vs [] d h k = h
-words a b us vs (f ∷ fs) d h k = d (sym h.0 ∙ k.0)
+-- the word of a command, and the uids that it names
+abbrev word_of : Command → List ℕ
+word_of Nothing = []
+word_of (Ent u ps) = codes "ent"
+word_of Build = codes "build"
+word_of Add = codes "add"
+word_of Upsert = codes "upsert"
+word_of (Remove us) = codes "remove"
+word_of (Anc u) = codes "anc"
 
-empty_field : (b : List ℕ) (us : List EntityUID) (fs : List (List ℕ)) → ([] ≡ b → ⊥) → fs ≡ [] ∷ [] → AreFields b us fs → ⊥
-empty_field b us fs d e h = d (subst (AreFields b us) e h).0
+abbrev named_by : Command → List EntityUID
+named_by Nothing = []
+named_by (Ent u ps) = u ∷ ps
+named_by Build = []
+named_by Add = []
+named_by Upsert = []
+named_by (Remove us) = us
+named_by (Anc u) = u ∷ []
 
-fields_list : (a : List ℕ) (us vs : List EntityUID) (fs : List (List ℕ)) → AreFields a us fs → AreFields a vs fs → us ≡ vs
-fields_list a us vs [] h k = absurd h
-fields_list a us vs (f ∷ fs) h k = one_list us vs fs h.1 k.1
+-- a command's fields are its word and the texts of the uids that it names
+fields_are : (c : Command) (fs : List (List ℕ)) → IsCommand c fs → AreFields (word_of c) (named_by c) fs
+fields_are Nothing fs h = subst (AreFields [] []) (sym h) (refl, tt)
+fields_are (Ent u ps) fs h = h
+fields_are Build fs h = h
+fields_are Add fs h = h
+fields_are Upsert fs h = h
+fields_are (Remove us) fs h = h.0
+fields_are (Anc u) fs h = h
 
-head_of : EntityUID → List EntityUID → EntityUID
-head_of d [] = d
-head_of d (u ∷ us) = u
+-- a command with a first uid
+abbrev with_first : (EntityUID → List EntityUID → Command) → List EntityUID → Command
+with_first c [] = Nothing
+with_first c (u ∷ us) = c u us
 
-tail_of : List EntityUID → List EntityUID
-tail_of [] = []
-tail_of (u ∷ us) = us
+-- the command of a word and of the uids that it names
+abbrev command_by : List ℕ → List EntityUID → Command
+command_by w us =
+    if bytes_eq w (codes "ent") then with_first Ent us
+    else if bytes_eq w (codes "build") then Build
+    else if bytes_eq w (codes "add") then Add
+    else if bytes_eq w (codes "upsert") then Upsert
+    else if bytes_eq w (codes "remove") then Remove us
+    else if bytes_eq w (codes "anc") then with_first (λ u _. Anc u) us
+    else Nothing
 
-ent_of : EntityUID → List EntityUID → Command
-ent_of d us = Ent (head_of d us) (tail_of us)
+-- it is read back from them
+read_back : (c : Command) → command_by (word_of c) (named_by c) ≡ c
+read_back Nothing = refl
+read_back (Ent u ps) = refl
+read_back Build = refl
+read_back Add = refl
+read_back Upsert = refl
+read_back (Remove us) = refl
+read_back (Anc u) = refl
 
-anc_of : EntityUID → List EntityUID → Command
-anc_of d us = Anc (head_of d us)
+same_words : (a b : List ℕ) (us vs : List EntityUID) (fs : List (List ℕ)) → AreFields a us fs → AreFields b vs fs → a ≡ b
+same_words a b us vs [] h k = absurd h
+same_words a b us vs (f ∷ fs) h k = sym h.0 ∙ k.0
 
+same_named : (a b : List ℕ) (us vs : List EntityUID) (fs : List (List ℕ)) → AreFields a us fs → AreFields b vs fs → us ≡ vs
+same_named a b us vs [] h k = absurd h
+same_named a b us vs (f ∷ fs) h k = one_list us vs fs h.1 k.1
+
+-- fields are those of one command
 pub one_command : (c d : Command) (fs : List (List ℕ)) → IsCommand c fs → IsCommand d fs → c ≡ d
-unfolding head_of tail_of ent_of anc_of
-one_command Nothing Nothing fs h k = refl
-one_command Nothing (Ent v qs) fs h k = absurd (empty_field (codes "ent") (v ∷ qs) fs (differs [] (codes "ent") refl refl) h k)
-one_command Nothing Build fs h k = absurd (empty_field (codes "build") [] fs (differs [] (codes "build") refl refl) h k)
-one_command Nothing Add fs h k = absurd (empty_field (codes "add") [] fs (differs [] (codes "add") refl refl) h k)
-one_command Nothing Upsert fs h k = absurd (empty_field (codes "upsert") [] fs (differs [] (codes "upsert") refl refl) h k)
-one_command Nothing (Remove vs) fs h k = absurd (empty_field (codes "remove") vs fs (differs [] (codes "remove") refl refl) h k.0)
-one_command Nothing (Anc v) fs h k = absurd (empty_field (codes "anc") (v ∷ []) fs (differs [] (codes "anc") refl refl) h k)
-one_command (Ent u ps) Nothing fs h k = absurd (empty_field (codes "ent") (u ∷ ps) fs (differs [] (codes "ent") refl refl) k h)
-one_command (Ent u ps) (Ent v qs) fs h k = ap (ent_of u) (fields_list (codes "ent") (u ∷ ps) (v ∷ qs) fs h k)
-one_command (Ent u ps) Build fs h k = absurd (words (codes "ent") (codes "build") (u ∷ ps) [] fs (differs _ _ refl refl) h k)
-one_command (Ent u ps) Add fs h k = absurd (words (codes "ent") (codes "add") (u ∷ ps) [] fs (differs _ _ refl refl) h k)
-one_command (Ent u ps) Upsert fs h k = absurd (words (codes "ent") (codes "upsert") (u ∷ ps) [] fs (differs _ _ refl refl) h k)
-one_command (Ent u ps) (Remove vs) fs h k = absurd (words (codes "ent") (codes "remove") (u ∷ ps) vs fs (differs _ _ refl refl) h k.0)
-one_command (Ent u ps) (Anc v) fs h k = absurd (words (codes "ent") (codes "anc") (u ∷ ps) (v ∷ []) fs (differs _ _ refl refl) h k)
-one_command Build Nothing fs h k = absurd (empty_field (codes "build") [] fs (differs [] (codes "build") refl refl) k h)
-one_command Build (Ent v qs) fs h k = absurd (words (codes "build") (codes "ent") [] (v ∷ qs) fs (differs _ _ refl refl) h k)
-one_command Build Build fs h k = refl
-one_command Build Add fs h k = absurd (words (codes "build") (codes "add") [] [] fs (differs _ _ refl refl) h k)
-one_command Build Upsert fs h k = absurd (words (codes "build") (codes "upsert") [] [] fs (differs _ _ refl refl) h k)
-one_command Build (Remove vs) fs h k = absurd (words (codes "build") (codes "remove") [] vs fs (differs _ _ refl refl) h k.0)
-one_command Build (Anc v) fs h k = absurd (words (codes "build") (codes "anc") [] (v ∷ []) fs (differs _ _ refl refl) h k)
-one_command Add Nothing fs h k = absurd (empty_field (codes "add") [] fs (differs [] (codes "add") refl refl) k h)
-one_command Add (Ent v qs) fs h k = absurd (words (codes "add") (codes "ent") [] (v ∷ qs) fs (differs _ _ refl refl) h k)
-one_command Add Build fs h k = absurd (words (codes "add") (codes "build") [] [] fs (differs _ _ refl refl) h k)
-one_command Add Add fs h k = refl
-one_command Add Upsert fs h k = absurd (words (codes "add") (codes "upsert") [] [] fs (differs _ _ refl refl) h k)
-one_command Add (Remove vs) fs h k = absurd (words (codes "add") (codes "remove") [] vs fs (differs _ _ refl refl) h k.0)
-one_command Add (Anc v) fs h k = absurd (words (codes "add") (codes "anc") [] (v ∷ []) fs (differs _ _ refl refl) h k)
-one_command Upsert Nothing fs h k = absurd (empty_field (codes "upsert") [] fs (differs [] (codes "upsert") refl refl) k h)
-one_command Upsert (Ent v qs) fs h k = absurd (words (codes "upsert") (codes "ent") [] (v ∷ qs) fs (differs _ _ refl refl) h k)
-one_command Upsert Build fs h k = absurd (words (codes "upsert") (codes "build") [] [] fs (differs _ _ refl refl) h k)
-one_command Upsert Add fs h k = absurd (words (codes "upsert") (codes "add") [] [] fs (differs _ _ refl refl) h k)
-one_command Upsert Upsert fs h k = refl
-one_command Upsert (Remove vs) fs h k = absurd (words (codes "upsert") (codes "remove") [] vs fs (differs _ _ refl refl) h k.0)
-one_command Upsert (Anc v) fs h k = absurd (words (codes "upsert") (codes "anc") [] (v ∷ []) fs (differs _ _ refl refl) h k)
-one_command (Remove us) Nothing fs h k = absurd (empty_field (codes "remove") us fs (differs [] (codes "remove") refl refl) k h.0)
-one_command (Remove us) (Ent v qs) fs h k = absurd (words (codes "remove") (codes "ent") us (v ∷ qs) fs (differs _ _ refl refl) h.0 k)
-one_command (Remove us) Build fs h k = absurd (words (codes "remove") (codes "build") us [] fs (differs _ _ refl refl) h.0 k)
-one_command (Remove us) Add fs h k = absurd (words (codes "remove") (codes "add") us [] fs (differs _ _ refl refl) h.0 k)
-one_command (Remove us) Upsert fs h k = absurd (words (codes "remove") (codes "upsert") us [] fs (differs _ _ refl refl) h.0 k)
-one_command (Remove us) (Remove vs) fs h k = ap Remove (fields_list (codes "remove") us vs fs h.0 k.0)
-one_command (Remove us) (Anc v) fs h k = absurd (words (codes "remove") (codes "anc") us (v ∷ []) fs (differs _ _ refl refl) h.0 k)
-one_command (Anc u) Nothing fs h k = absurd (empty_field (codes "anc") (u ∷ []) fs (differs [] (codes "anc") refl refl) k h)
-one_command (Anc u) (Ent v qs) fs h k = absurd (words (codes "anc") (codes "ent") (u ∷ []) (v ∷ qs) fs (differs _ _ refl refl) h k)
-one_command (Anc u) Build fs h k = absurd (words (codes "anc") (codes "build") (u ∷ []) [] fs (differs _ _ refl refl) h k)
-one_command (Anc u) Add fs h k = absurd (words (codes "anc") (codes "add") (u ∷ []) [] fs (differs _ _ refl refl) h k)
-one_command (Anc u) Upsert fs h k = absurd (words (codes "anc") (codes "upsert") (u ∷ []) [] fs (differs _ _ refl refl) h k)
-one_command (Anc u) (Remove vs) fs h k = absurd (words (codes "anc") (codes "remove") (u ∷ []) vs fs (differs _ _ refl refl) h k.0)
-one_command (Anc u) (Anc v) fs h k = ap (anc_of u) (fields_list (codes "anc") (u ∷ []) (v ∷ []) fs h k)
+one_command c d fs h k =
+    let p = fields_are c fs h in
+    let q = fields_are d fs k in
+    let words = same_words (word_of c) (word_of d) (named_by c) (named_by d) fs p q in
+    let named = same_named (word_of c) (word_of d) (named_by c) (named_by d) fs p q in
+    sym (read_back c) ∙ (λ i. command_by (words i) (named i)) ∙ read_back d
 
 -- the first place that differs is one place
 split_agrees : {X : Type 0} (P : X → Type 0) (before before' : List X) (at at' : X) (after after' : List X) → before ++ at ∷ after ≡ before' ++ at' ∷ after'
@@ -142,15 +137,15 @@ agree_apart W L u f h = f.differs (all_at (Agrees W L) f.before f.at f.after (su
 one_adds : (base : World) (L : List Given) (V W : World) (out out' : List ℕ) → Adds base L V out → Adds base L W out' → (V ≡ W) × (out ≡ out')
 one_adds base L V W out out' (inl a) (inl b) = (a.2 ∙ sym b.2, a.3 ∙ ap (λ u. written_line (codes "refused: duplicate " ++ uid_text u)) (one_differs base L a.0 b.0 a.1 b.1) ∙ sym b.3)
 one_adds base L V W out out' (inl a) (inr (inl b)) = absurd (agree_apart base L a.0 a.1 b.0)
-one_adds base L V W out out' (inl a) (inr (inr b)) = absurd (agree_apart base L a.0 a.1 b.0)
+one_adds base L V W out out' (inl a) (inr (inr b)) = absurd (agree_apart base L a.0 a.1 b.0.0)
 one_adds base L V W out out' (inr (inl a)) (inl b) = absurd (agree_apart base L b.0 b.1 a.0)
 one_adds base L V W out out' (inr (inl a)) (inr (inl b)) = (a.2 ∙ sym b.2, a.3 ∙ sym b.3)
-one_adds base L V W out out' (inr (inl a)) (inr (inr b)) = absurd (b.1 a.1)
-one_adds base L V W out out' (inr (inr a)) (inl b) = absurd (agree_apart base L b.0 b.1 a.0)
-one_adds base L V W out out' (inr (inr a)) (inr (inl b)) = absurd (a.1 b.1)
+one_adds base L V W out out' (inr (inl a)) (inr (inr b)) = absurd (b.0.1 a.1)
+one_adds base L V W out out' (inr (inr a)) (inl b) = absurd (agree_apart base L b.0 b.1 a.0.0)
+one_adds base L V W out out' (inr (inr a)) (inr (inl b)) = absurd (a.0.1 b.1)
 one_adds base L V W out out' (inr (inr a)) (inr (inr b)) =
-    let same : V ≡ W = a.2 ∙ sym b.2 in
-    (same, a.3 ∙ ap (λ X. written_line (codes "ok " ++ decimal (finmap.len X.entities))) same ∙ sym b.3)
+    let same : V ≡ W = a.1 ∙ sym b.1 in
+    (same, a.2 ∙ ap (λ X. written_line (codes "ok " ++ decimal (finmap.len X.entities))) same ∙ sym b.2)
 
 one_overwrites : (base : World) (L : List Given) (V W : World) (out out' : List ℕ) → Overwrites base L V out → Overwrites base L W out' → (V ≡ W) × (out ≡ out')
 one_overwrites base L V W out out' (inl a) (inl b) = (a.1 ∙ sym b.1, a.2 ∙ sym b.2)
@@ -248,5 +243,5 @@ one_from (l ∷ ls) n s v w (inl h) (inr k) = absurd (k.0 h.0 h.4)
 one_from (l ∷ ls) n s v w (inr h) (inl k) = absurd (h.0 k.0 k.4)
 one_from (l ∷ ls) n s v w (inr h) (inr k) = h.1 ∙ sym k.1
 
-pub one_output : OutputIsOne
+pub one_output : (input : List ℕ) (v w : Written) → IsOutput input v → IsOutput input w → v ≡ w
 one_output input v w h k = one_from _ 1 _ v w h k

@@ -2,11 +2,11 @@
 use Rattle.std.specs.Prelude.{◌≡◌, ℕ, suc, ◌+◌, List, [], ◌∷◌, ◌++◌, length, map, Result, Ok, Err, OnOk, IfOk, IfErr}
 use Rattle.std.proofs.Common.{ap, sym, subst, refl, ◌∙◌, arith}
 use Rattle.cedar_entities.specs.Plain.{StoreView, IsPlainStore, AreBare, given_of}
-use Rattle.cedar_entities.specs.View.{EntityView}
+use Rattle.cedar_entity.specs.View.{EntityView}
 use Rattle.cedar_entities.specs.World.{World, empty_world, added, overwritten, AllAgree, HasCycle}
-use Rattle.cedar_entities.specs.declared.err.EntitiesError.{EntitiesError}
-use Rattle.cedar_entities.proofs.Versions.{map_at}
+use Rattle.cedar_entity.specs.declared.err.EntitiesError.{EntitiesError}
 use Rattle.cedar_store.specs.Calls.{Call, made, all_made, Passes, AllPass, IsRefusedAs, StopsAt}
+use Rattle.std.proofs.lemmas.List.{map-append}
 
 pub made_push : (W : World) (cs : List Call) (c : Call) → all_made W (cs ++ c ∷ []) ≡ made (all_made W cs) c
 made_push W [] c = refl
@@ -31,7 +31,7 @@ stops f all done c rest n e place count passed refused = record {
   before = map f done;
   at = f c;
   after = map f rest;
-  place = ap (map f) place ∙ map_at f done c rest;
+  place = ap (map f) place ∙ map-append f done (c ∷ rest);
   count = length_same f done ∙ count;
   passed = passed;
   refused = refused;

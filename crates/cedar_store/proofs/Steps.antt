@@ -18,19 +18,17 @@ use Rattle.cedar_graph.specs.Graph.{Reach, Path}
 use Rattle.cedar_graph.specs.declared.err.TcError.TheVariants as tc
 use Rattle.cedar_ids.specs.UidOf.{uid_order, same_uid, same_uid_equiv, same_uid_decides}
 use Rattle.cedar_ids.specs.declared.entity.EntityUID.{EntityUID}
-use Rattle.cedar_entities.specs.Fields.{Fields, AreFieldsOf, field_at}
-use Rattle.cedar_entities.specs.UidSets.{contains_listed}
+use Rattle.cedar_entity.specs.Fields.{Fields, AreFieldsOf, field_at}
+use Rattle.cedar_entity.specs.UidSets.{contains_listed}
 use Rattle.cedar_entities.specs.Plain.{StoreView, IsPlainStore, parts_of, given_of, IsBare, AreBare}
-use Rattle.cedar_entities.specs.View.{EntityView, has_ancestor}
+use Rattle.cedar_entity.specs.View.{EntityView, has_ancestor}
 use Rattle.cedar_entities.specs.Refusals.{IsAddingRefused, IsOverwritingRefused}
 use Rattle.cedar_entities.specs.World.{World, Parts, Given, given, graph, is_parent_in, entry_of, reversed, goes, without, added, overwritten, deleted, empty_world, first, AllAgree}
-use Rattle.cedar_entities.specs.declared.err.EntitiesError.{EntitiesError}
-use Rattle.cedar_entities.specs.declared.err.EntitiesError.TheVariants as errors
-use Rattle.cedar_entities.proofs.Editing.{kept_in}
-use Rattle.cedar_entities.proofs.Versions.{all_push, map_append_one}
-use Rattle.cedar_entities.proofs.Worlds.{get_added, get_overwritten, get_deleted}
+use Rattle.cedar_entity.specs.declared.err.EntitiesError.{EntitiesError}
+use Rattle.cedar_entity.specs.declared.err.EntitiesError.TheVariants as errors
+use Rattle.cedar_entities.specs.laws.Worlds.{get_added, get_overwritten, get_deleted}
 use Rattle.cedar_store.specs.Output.{State, Adds, Overwrites, AreAncestors, ShowsAncestors, count_line, written_line, uid_text, field_of}
-use Rattle.cedar_store.specs.Machines.{IsAsciiUid, IsAsciiGiven, IsAsciiWorld, AreAsciiUids, Refused, Holds, Takes, HasAsciiUids, Settles, waits}
+use Rattle.cedar_store.specs.laws.Machines.{IsAsciiUid, IsAsciiGiven, IsAsciiWorld, AreAsciiUids, Refused, Holds, Takes, HasAsciiUids, Settles, waits}
 use Rattle.cedar_store.specs.Command.{Command, Nothing, Ent, Build, Add, Upsert, Remove, Anc, AreTexts, IsCommand}
 use Rattle.cedar_store.specs.declared.machine.Machine.{Machine}
 use Rattle.std.specs.Borrow.{Bor}
@@ -41,6 +39,9 @@ use Rattle.std.proofs.lemmas.Grind.{flat_map-append}
 use Rattle.std.proofs.Common.{append_assoc}
 use Rattle.cedar_store.proofs.Lists.{all_at, all_front, all_last}
 use Rattle.cedar_store.proofs.OneOutput.{or_right}
+use Rattle.cedar_entity.specs.laws.UidSets.{kept_in}
+use Rattle.cedar_entities.specs.laws.Lists.{all_push}
+use Rattle.std.proofs.lemmas.List.{map-append}
 
 -- why adding was refused, as it is written
 pub refused_adds : (base : World) (L : List Given) (e : EntitiesError) (old new : List ℕ) → AllByRecursion IsAsciiGiven L → IsAddingRefused base L e → Refused e old new
@@ -197,7 +198,7 @@ ent_takes m n s u ps e out h items store is bare ascii = (
   [],
   (refl, refl),
   record {
-    waiting = ap (map given_of) items ∙ map_append_one given_of (waits m) e ∙ (λ i. h.waiting i ++ is i ∷ []);
+    waiting = ap (map given_of) items ∙ map-append given_of (waits m) (e ∷ []) ∙ (λ i. h.waiting i ++ is i ∷ []);
     bare = subst AreBare (sym items) (all_push IsBare (waits m) e h.bare bare);
     plain = subst (IsPlainStore s.world) (sym store) h.plain;
     ascii_waiting = all_push IsAsciiGiven s.waiting (given u ps) h.ascii_waiting (given_ascii u ps ascii);
@@ -230,7 +231,7 @@ add_takes m n s list store (Ok S) old new h same at none agrees ok err settles =
     let k = settles (added s.world s.waiting) plain in (
       record { waiting = []; world = added s.world s.waiting },
       count_line (added s.world s.waiting),
-      (refl, inr (inr (subst (AllAgree s.world) L (agrees s.world before bare), (λ c. plain.acyclic c.0 c.1), refl, refl))),
+      (refl, inr (inr ((subst (AllAgree s.world) L (agrees s.world before bare), (λ c. plain.acyclic c.0 c.1)), refl, refl))),
       settled n (added s.world s.waiting) none k.0 (added_ascii s.world s.waiting h.ascii_world h.ascii_waiting),
       k.1,
     )

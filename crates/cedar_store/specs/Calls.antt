@@ -3,8 +3,8 @@ use Rattle.std.specs.Prelude.{◌≡◌, ℕ, List, [], ◌∷◌, ◌++◌, len
 use Rattle.cedar_ids.specs.declared.entity.EntityUID.{EntityUID}
 use Rattle.cedar_entities.specs.Refusals.{IsAddingRefused, IsOverwritingRefused}
 use Rattle.cedar_entities.specs.World.{World, Given, empty_world, added, overwritten, deleted, AllAgree, HasCycle}
-use Rattle.cedar_entities.specs.declared.err.EntitiesError.{EntitiesError}
-use Rattle.cedar_entities.specs.declared.err.EntitiesError.TheVariants.{Memory}
+use Rattle.cedar_entity.specs.declared.err.EntitiesError.{EntitiesError}
+use Rattle.cedar_entity.specs.declared.err.EntitiesError.TheVariants.{Memory}
 
 -- a store of a list; a list added; a list put over what is there; uids taken out; the flag raised
 pub data Call : Type 0 where

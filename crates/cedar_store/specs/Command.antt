@@ -1,7 +1,7 @@
 -- The commands of the program, and which line is which command.
 use Rattle.std.specs.Prelude.{◌≡◌, ℕ, List, [], ◌∷◌, Bool, ◌||◌, ◌&&◌, ◌==◌, nat_le, codes, IsTrue}
 use Rattle.std.specs.List.{slice_split, list_all}
-use Rattle.cedar_ids.specs.Laws.{IsPrinted}
+use Rattle.cedar_ids.specs.TextOf.{IsPrinted}
 use Rattle.cedar_ids.specs.UidOf.{uid_parts}
 use Rattle.cedar_ids.specs.declared.entity.EntityUID.{EntityUID}
 

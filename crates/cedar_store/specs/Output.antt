@@ -10,7 +10,9 @@ use Rattle.cedar_graph.specs.Graph.{Reach}
 use Rattle.cedar_ids.specs.Printed.{printed_uid}
 use Rattle.cedar_ids.specs.UidOf.{uid_parts, uid_order, same_uid}
 use Rattle.cedar_ids.specs.declared.entity.EntityUID.{EntityUID}
-use Rattle.cedar_entities.specs.World.{World, Given, given, graph, added, overwritten, deleted, empty_world, AllAgree, FirstDiffers, HasCycle}
+use Rattle.cedar_entities.specs.World.{World, Given, given, graph, empty_world, AllAgree, FirstDiffers, HasCycle}
+use Rattle.cedar_store.specs.Calls.{made, Passes}
+use Rattle.cedar_store.specs.Calls as calls
 use Rattle.cedar_store.specs.Command.{Command, Nothing, Ent, Build, Add, Upsert, Remove, Anc, IsLine}
 
 -- what waits for a call on the store, and the world that the store holds
@@ -39,18 +41,18 @@ count_line W = written_line (codes "ok " ++ decimal (finmap.len W.entities))
 abbrev pub Adds : World → List Given → World → List ℕ → Type 0
 Adds base L W out =
     ((u : EntityUID) × FirstDiffers base L u × (W ≡ empty_world) × (out ≡ written_line (codes "refused: duplicate " ++ uid_text u)))
-    ⊎ ((AllAgree base L × HasCycle (added base L) × (W ≡ empty_world) × (out ≡ written_line (codes "refused: cycle")))
-    ⊎ (AllAgree base L × (HasCycle (added base L) → ⊥) × (W ≡ added base L) × (out ≡ count_line W)))
+    ⊎ ((AllAgree base L × HasCycle (made base (calls.Add L)) × (W ≡ empty_world) × (out ≡ written_line (codes "refused: cycle")))
+    ⊎ (Passes base (calls.Add L) × (W ≡ made base (calls.Add L)) × (out ≡ count_line W)))
 
 -- the list was put over the world `base`. A cycle is refused, and leaves the empty world
 abbrev pub Overwrites : World → List Given → World → List ℕ → Type 0
 Overwrites base L W out =
-    (HasCycle (overwritten base L) × (W ≡ empty_world) × (out ≡ written_line (codes "refused: cycle")))
-    ⊎ ((HasCycle (overwritten base L) → ⊥) × (W ≡ overwritten base L) × (out ≡ count_line W))
+    (HasCycle (made base (calls.Upsert L)) × (W ≡ empty_world) × (out ≡ written_line (codes "refused: cycle")))
+    ⊎ (Passes base (calls.Upsert L) × (W ≡ made base (calls.Upsert L)) × (out ≡ count_line W))
 
 -- the uids were taken out of the world `base`, which nothing refuses
 abbrev pub Deletes : World → List EntityUID → World → List ℕ → Type 0
-Deletes base U W out = (W ≡ deleted base U) × (out ≡ count_line W)
+Deletes base U W out = (W ≡ made base (calls.Remove U)) × (out ≡ count_line W)
 
 -- a tab and the text of a uid
 abbrev pub field_of : EntityUID → List ℕ
@@ -105,6 +107,6 @@ IsOutputFrom n s (l ∷ ls) w =
 abbrev pub IsOutput : List ℕ → Written → Type 0
 IsOutput input w = IsOutputFrom 1 start (slice_split (λ b. b == 10) input) w
 
--- no input has two outputs
-abbrev pub OutputIsOne : Type 0
-OutputIsOne = (input : List ℕ) (v w : Written) → IsOutput input v → IsOutput input w → v ≡ w
+-- every input has one output, and no other
+abbrev pub HasOneOutput : Type 0
+HasOneOutput = (input : List ℕ) → (w : Written) × IsOutput input w × ((v : Written) → IsOutput input v → v ≡ w)

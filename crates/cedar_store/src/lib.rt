@@ -12,8 +12,6 @@ mod line;
 mod machine;
 mod program;
 mod replay;
-#[cfg(test)]
-mod tests;
 
 pub use cedar_entities::{
     Ancestors, Dereference, Entities, EntitiesError, Entity, Keys, Pairs, SharedEntity,

@@ -1,11 +1,12 @@
+//! Which line of the program is which command.
 ghost use Rattle.std.specs.Prelude.{◌≡◌, ◌∷◌, [], List, ℕ, IfOk, MatchOption, map, codes, ◌==◌};
 ghost use Rattle.std.specs.List.{list_all, slice_split};
 ghost use Rattle.cedar_ids.specs.Escape.{is_ascii};
-ghost use Rattle.cedar_ids.specs.Laws.{IsPrinted};
+ghost use Rattle.cedar_ids.specs.TextOf.{IsPrinted};
 ghost use Rattle.cedar_ids.specs.UidOf.{uid_parts};
 ghost use Rattle.cedar_ids.specs.declared.entity.EntityUID.{EntityUID};
 ghost use Rattle.cedar_store.specs.Command.{Command, AreTexts, IsCommand, IsLine, is_plain};
-ghost use Rattle.cedar_store.specs.Lines.{command_of};
+ghost use Rattle.cedar_store.specs.laws.Lines.{command_of};
 
 use cedar_ids::entity::EntityUID;
 use cedar_ids::err::ParseErrors;

@@ -1,3 +1,4 @@
+//! The state of a run, and one function for each command.
 ghost use Rattle.std.specs.Prelude.{◌≡◌, ◌++◌, [], ◌∷◌, List, ℕ, IfOk, IfErr, OnOk, map, length, codes};
 ghost use Rattle.std.specs.List.{AllByRecursion, flat_map};
 ghost use Rattle.std.specs.List.Sorted.{IsStrictlySortedBy};
@@ -8,11 +9,11 @@ ghost use Rattle.std.specs.Fmt.{decimal};
 ghost use Rattle.cedar_ids.specs.UidOf.{same_uid, uid_order};
 ghost use Rattle.cedar_ids.specs.declared.entity.EntityUID.{EntityUID};
 ghost use Rattle.cedar_entities.specs.Plain.{IsPlainStore, IsBare, given_of};
-ghost use Rattle.cedar_entities.specs.View.{EntityView, has_ancestor};
+ghost use Rattle.cedar_entity.specs.View.{EntityView, has_ancestor};
 ghost use Rattle.cedar_entities.specs.World.{World, empty_world, given};
 ghost use Rattle.cedar_store.specs.Command.{Command, Ent, Build, Add, Upsert, Remove, Anc};
-ghost use Rattle.cedar_store.specs.Lines.{command_of};
-ghost use Rattle.cedar_store.specs.Machines.{Holds, Takes, LineTakes, IsAsciiUid, AreAsciiUids, HasAsciiUids, Refused, Settles};
+ghost use Rattle.cedar_store.specs.laws.Lines.{command_of};
+ghost use Rattle.cedar_store.specs.laws.Machines.{Holds, Takes, LineTakes, IsAsciiUid, AreAsciiUids, HasAsciiUids, IsTold, Refused, Settles};
 ghost use Rattle.cedar_store.specs.Output.{State, start, Gives, ShowsAncestors, count_line, written_line, uid_text, field_of, not_command};
 
 use crate::line::{Line, read_line};
@@ -68,6 +69,7 @@ pub(crate) fn push_fault(alloc: Global, out: &mut Vec<u8>, number: usize) -> Res
 
 // Adds why a call on the store was refused.
 fn push_refusal(alloc: Global, out: &mut Vec<u8>, error: &EntitiesError) -> Result<(), AllocError>
+    requires { IsTold error.now }
     ensures { OnOk result (Refused error.now out.old.items out.new.items) }
 {
     match error {
@@ -76,7 +78,13 @@ fn push_refusal(alloc: Global, out: &mut Vec<u8>, error: &EntitiesError) -> Resu
             out,
             "refused: cycle",
         ),
-        _ => Err(AllocError),
+        EntitiesError::Memory => Err(AllocError),
+        EntitiesError::TransitiveClosureError(TcError::MissingTcEdge(_)) => unreachable!(),
+        EntitiesError::TransitiveClosureError(TcError::Memory) => unreachable!(),
+        EntitiesError::SelfAncestor { .. } => unreachable!(),
+        EntitiesError::DuplicateAncestor { .. } => unreachable!(),
+        EntitiesError::ActionParentIsNotAction { .. } => unreachable!(),
+        EntitiesError::ReservedKey(_) => unreachable!(),
     }
 }
 
@@ -195,6 +203,7 @@ impl Machine {
         given: Result<Entities, EntitiesError>,
         out: &mut Vec<u8>,
     ) -> Result<(), AllocError>
+        requires { IfErr given IsTold }
         ensures waiting { self.new.waiting ≡ self.old.waiting }
         ensures settles { OnOk result (Settles given self.new out.old.items out.new.items) }
     {

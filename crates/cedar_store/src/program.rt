@@ -2,7 +2,7 @@
 ghost use Rattle.std.specs.Prelude.{◌≡◌, ◌==◌, List, ℕ, IfOk, OnOk, IfSome, IfErr, map};
 ghost use Rattle.std.specs.List.{slice_split};
 ghost use Rattle.std.specs.Io.KnownBytes.{IsAtEnd, Appends};
-ghost use Rattle.cedar_store.specs.Output.{IsOutput, OutputIsOne};
+ghost use Rattle.cedar_store.specs.Output.{IsOutput, HasOneOutput};
 ghost use Rattle.cedar_store.specs.Faults.{Leaves};
 
 use crate::machine::{Machine, push_fault};
@@ -70,8 +70,11 @@ fn answer(alloc: Global, input: &[u8]) -> Result<(Vec<u8>, u8), AllocError>
 /// first line that is none. The status is 0, or 2 after a line that is no command.
 ///
 /// `Read` comes where a read failed and `Memory` where a growth was refused, and then nothing was written;
-/// `Write` comes where the write or the flush failed. Takes memory and, but for ancestors and their sorting,
-/// time linear in the input and the output. The program is this project's own.
+/// `Write` comes where the write or the flush failed.
+///
+/// Takes memory. Reading and writing take time linear in the input and the output; each line that changes the
+/// store takes that of the closure of the whole store besides, and `anc` the sorting of the ancestors that it
+/// writes. The program is this project's own.
 pub fn run<R: Read, W: Write>(alloc: Global, reader: &mut R, writer: &mut W) -> Result<u8, RunError>
     // Where the reader and the writer tell their bytes, what was written is the output of what was read,
     // and so is the status.
@@ -79,8 +82,8 @@ pub fn run<R: Read, W: Write>(alloc: Global, reader: &mut R, writer: &mut W) -> 
         (bytes : List ℕ) × IsOutput input (record { bytes = bytes; status = status })
         × Appends (W.contents writer.old) (W.contents writer.new) bytes)) }
 
-    // No input has two outputs.
-    ensures one { OutputIsOne }
+    // Every input has exactly one output.
+    ensures one { HasOneOutput }
 
     // The input was read to its end.
     ensures end { OnOk result (IsAtEnd (R.remaining reader.new)) }

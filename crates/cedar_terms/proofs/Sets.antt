@@ -8,7 +8,7 @@ use Rattle.std.proofs.lemmas.List.Kept.{IsStrictlySortedBy-dedup, Contains-dedup
 use Rattle.std.proofs.lemmas.List.Sorted.{Contains-permutation, IsPermutation-sym}
 use Rattle.std.proofs.Common.{refl, subst}
 use Rattle.cedar_terms.specs.ValueTree.{ValueTree, set_value, value_trees, value_cmp, same_value}
-use Rattle.cedar_terms.specs.ValueLaws.{value_cmp_total, same_value_equiv, same_value_decides}
+use Rattle.cedar_terms.specs.laws.ValueLaws.{value_cmp_total, same_value_equiv, same_value_decides}
 use Rattle.cedar_terms.specs.Fields.{IsSetOf}
 
 set_of_dedup : (given sorted : List ValueTree) (v : ValueTree) → IsPermutation given sorted → IsSorted value_cmp sorted → v ≡ set_value (value_trees (dedup same_value sorted)) → IsSetOf given v

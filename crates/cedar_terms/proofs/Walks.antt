@@ -5,7 +5,7 @@ use Rattle.std.proofs.Common.{◌≡◌, ℕ, ◌+◌, ◌<◌, length, List, []
 use mathlib.Core.List.{append-nil}
 use Rattle.cedar_terms.specs.ExprTree.{ExprTree, val_node, var_node, slot_node, unknown_node, set_node, call_node, not_node, binary_node, is_node, ExprTrees, no_exprs, expr_then, expr_trees, expr_size, exprs_size}
 use Rattle.cedar_terms.specs.Walk.{walk, walk_back}
-use Rattle.cedar_terms.specs.Children.{children, expr_list}
+use Rattle.cedar_terms.specs.laws.Children.{children, expr_list}
 
 -- the walks of a stack, its top first
 unfoldable pub walks : List ExprTree → List ExprTree

@@ -1,3 +1,4 @@
+//! Why an expression is not valid.
 ghost use Rattle.std.specs.Prelude.{◌≡◌};
 ghost use Rattle.cedar_terms.specs.declared.err.ExprValidationError.TheVariants.{Memory};
 

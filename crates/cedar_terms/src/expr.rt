@@ -1,3 +1,4 @@
+//! Expressions: their eleven kinds of node, and how each is made.
 ghost use Rattle.std.specs.Prelude.{◌≡◌, IfOk, IsTrue};
 ghost use Rattle.std.specs.Cmp.{partial_equiv_from_equiv};
 
@@ -73,7 +74,7 @@ impl BinaryOp {
 
 impl Model for Expr {
     ghost use Rattle.cedar_terms.specs.ExprTree.{ExprTree, expr_size};
-    ghost use Rattle.cedar_terms.specs.ExprKeys.{expr_code};
+    ghost use Rattle.cedar_terms.specs.laws.ExprKeys.{expr_code};
 
     ghost Value = { ExprTree };
 
@@ -85,7 +86,7 @@ impl Model for Expr {
 
     ghost size = { expr_size };
 
-    ghost use Rattle.cedar_terms.specs.ExprSizes.{deep_le_size};
+    ghost use Rattle.cedar_terms.specs.laws.ExprSizes.{deep_le_size};
 
     ghost size_decreases = { λ a h. deep_le_size a.kind };
 }
@@ -97,22 +98,26 @@ impl Expr {
     ghost use Rattle.cedar_terms.specs.ExprTree.{val_node, var_node, slot_node, unknown_node, set_node, call_node, not_node, binary_node, and_node, eq_node, in_node, is_node, expr_trees};
     ghost use Rattle.cedar_terms.specs.ExprViews.{node_tree, operator_of};
 
-    /// The expression of a literal. It takes memory, and is refused only where that is, as each
-    /// constructor. A new node has no location.
+    /// The expression of a literal. A new node has no location.
+    ///
+    /// This body takes no memory; it has the allocator and the `Result` that every constructor has, so
+    /// that a node may come to be kept behind a pointer without a change for callers. The other
+    /// constructors take memory, but for those of a variable and a slot, and are refused only where
+    /// that is.
     pub fn val(_alloc: Global, literal: Literal) -> Result<Expr, AllocError>
         ensures { IfOk result (λ e. e ≡ val_node (literal_tree literal)) }
     {
         Ok(Expr::of(ExprKind::Lit(literal)))
     }
 
-    /// The expression of a variable.
+    /// The expression of a variable. Takes no memory, as that of a literal.
     pub fn var(_alloc: Global, var: Var) -> Result<Expr, AllocError>
         ensures { IfOk result (λ e. e ≡ var_node var) }
     {
         Ok(Expr::of(ExprKind::Var(var)))
     }
 
-    /// The expression of a slot.
+    /// The expression of a slot. Takes no memory, as that of a literal.
     pub fn slot(_alloc: Global, id: SlotId) -> Result<Expr, AllocError>
         ensures { IfOk result (λ e. e ≡ slot_node id) }
     {
@@ -242,7 +247,7 @@ impl Clone for Expr {
 }
 
 impl PartialEq for Expr {
-    ghost use Rattle.cedar_terms.specs.ExprLaws.{same_expr, same_expr_equiv};
+    ghost use Rattle.cedar_terms.specs.laws.ExprLaws.{same_expr, same_expr_equiv};
 
     ghost eq = { same_expr };
 
@@ -254,13 +259,13 @@ impl PartialEq for Expr {
 }
 
 impl Eq for Expr {
-    ghost use Rattle.cedar_terms.specs.ExprLaws.{same_expr_equiv};
+    ghost use Rattle.cedar_terms.specs.laws.ExprLaws.{same_expr_equiv};
 
     ghost laws = { same_expr_equiv };
 }
 
 impl Hash for Expr {
-    ghost use Rattle.cedar_terms.specs.ExprLaws.{expr_hash, expr_hash_respects};
+    ghost use Rattle.cedar_terms.specs.laws.ExprLaws.{expr_hash, expr_hash_respects};
 
     ghost hash_input = { expr_hash };
 

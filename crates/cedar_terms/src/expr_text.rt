@@ -1,4 +1,4 @@
-// How expressions are written.
+//! How expressions are written.
 ghost use Rattle.std.specs.Prelude.{◌≡◌, true};
 ghost use Rattle.std.specs.Fmt.{WritesOnOk};
 ghost use Rattle.cedar_terms.specs.ExprTree.{expr_trees};

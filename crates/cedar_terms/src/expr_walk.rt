@@ -1,8 +1,8 @@
-// The walk through an expression: a node stands before all that lies below it, and what lies below a
-// later child before what lies below an earlier one. It goes by a stack of its own.
+//! The walk through an expression: a node stands before all that lies below it, and what lies below a
+//! later child before what lies below an earlier one. It goes by a stack of its own.
 ghost use Rattle.std.specs.Prelude.{◌≡◌, ◌++◌, map, IfOk, OnOk};
 ghost use Rattle.cedar_terms.specs.Walk.{walk, slots_of, unknowns_of, first_unknown_function, is_known_function};
-ghost use Rattle.cedar_terms.specs.Children.{children};
+ghost use Rattle.cedar_terms.specs.laws.Children.{children};
 ghost use Rattle.cedar_terms.specs.Validated.{Validates};
 
 use crate::err::ExprValidationError;

@@ -17,8 +17,6 @@ pub mod partial_value;
 pub mod reserved;
 pub mod slot;
 pub mod static_type;
-#[cfg(test)]
-mod tests;
 pub mod unknown;
 pub mod value;
 mod value_hash;

@@ -1,8 +1,9 @@
+//! Literals: truth values, integers, texts and uids.
 ghost use Rattle.std.specs.Prelude.{◌≡◌, IsTrue};
 ghost use Rattle.std.specs.Ordering.{on};
 ghost use Rattle.std.specs.Cmp.{partial_equiv_from_equiv, on_equiv};
 ghost use Rattle.cedar_terms.specs.LiteralTree.{literal_cmp, same_literal};
-ghost use Rattle.cedar_terms.specs.LiteralLaws.{same_literal_equiv};
+ghost use Rattle.cedar_terms.specs.laws.LiteralLaws.{same_literal_equiv};
 ghost use Rattle.cedar_terms.specs.ValueHash.{literal_hash};
 ghost use Rattle.cedar_terms.specs.ValueTexts.{literal_output};
 ghost use Rattle.cedar_terms.specs.Views.{literal_tree, literal_hash_respects};

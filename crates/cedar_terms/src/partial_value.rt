@@ -1,3 +1,4 @@
+//! Partial values: a value, or an expression that is left to be evaluated.
 ghost use Rattle.std.specs.Prelude.{◌≡◌, IsTrue};
 ghost use Rattle.std.specs.Cmp.{partial_equiv_from_equiv};
 ghost use Rattle.cedar_terms.specs.PartialTexts.{partial_output};

@@ -1,3 +1,4 @@
+//! The keys that no record may have.
 ghost use Rattle.std.specs.Prelude.{◌≡◌};
 ghost use Rattle.cedar_terms.specs.Reserved.{is_reserved};
 

@@ -1,3 +1,4 @@
+//! The static type of a uid and of an entity.
 ghost use Rattle.std.specs.Prelude.{◌≡◌, IfOk};
 ghost use Rattle.cedar_ids.specs.Name.{NameParts};
 ghost use Rattle.cedar_ids.specs.UidOf.{uid_parts};

@@ -1,3 +1,4 @@
+//! Unknowns: what stands for a value that is not known yet.
 ghost use Rattle.std.specs.Prelude.{◌≡◌, IsTrue, Some, None, string_bytes};
 ghost use Rattle.std.specs.Cmp.{partial_equiv_from_equiv};
 ghost use Rattle.cedar_terms.specs.UnknownParts.{UnknownParts, same_unknown, same_unknown_equiv, unknown_hash, unknown_hash_respects};

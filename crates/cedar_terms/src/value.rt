@@ -1,3 +1,4 @@
+//! Values: literals, sets, records and extension values.
 ghost use Rattle.std.specs.Prelude.{◌≡◌, IsTrue, []};
 ghost use Rattle.std.proofs.Common.{refl};
 ghost use Rattle.std.specs.Ordering.{as_partial_cmp};
@@ -44,6 +45,9 @@ pub enum ValueKind {
     /// A literal.
     Lit(Literal),
     /// A set: its elements in ascending order, each once, as `Value::set` makes them.
+    ///
+    /// Who fills it by hand sees to that; nothing checks it. Contracts then see the list as it stands:
+    /// two sets of the same elements in other orders differ.
     Set(Rc<Vec<Value>>),
     /// A record, its keys in byte order.
     Record(Rc<BTreeMap<String, Value>>),
@@ -53,7 +57,7 @@ pub enum ValueKind {
 
 impl Model for Value {
     ghost use Rattle.cedar_terms.specs.ValueTree.{ValueTree, value_size};
-    ghost use Rattle.cedar_terms.specs.ValueLaws.{value_code};
+    ghost use Rattle.cedar_terms.specs.laws.ValueLaws.{value_code};
 
     ghost Value = { ValueTree };
 
@@ -65,7 +69,7 @@ impl Model for Value {
 
     ghost size = { value_size };
 
-    ghost use Rattle.cedar_terms.specs.ValueSizes.{deep_le_size};
+    ghost use Rattle.cedar_terms.specs.laws.ValueSizes.{deep_le_size};
 
     ghost size_decreases = { λ a h. deep_le_size a.value };
 }
@@ -137,7 +141,7 @@ impl Clone for Value {
 }
 
 impl PartialEq for Value {
-    ghost use Rattle.cedar_terms.specs.ValueLaws.{same_value_equiv};
+    ghost use Rattle.cedar_terms.specs.laws.ValueLaws.{same_value_equiv};
 
     ghost eq = { same_value };
 
@@ -149,14 +153,14 @@ impl PartialEq for Value {
 }
 
 impl Eq for Value {
-    ghost use Rattle.cedar_terms.specs.ValueLaws.{same_value_equiv};
+    ghost use Rattle.cedar_terms.specs.laws.ValueLaws.{same_value_equiv};
 
     ghost laws = { same_value_equiv };
 }
 
 impl PartialOrd for Value {
     ghost use Rattle.cedar_terms.specs.ValueTree.{value_cmp};
-    ghost use Rattle.cedar_terms.specs.ValueLaws.{value_po};
+    ghost use Rattle.cedar_terms.specs.laws.ValueLaws.{value_po};
 
     ghost partial_cmp = { as_partial_cmp value_cmp };
 
@@ -169,7 +173,7 @@ impl PartialOrd for Value {
 
 impl Ord for Value {
     ghost use Rattle.cedar_terms.specs.ValueTree.{value_cmp};
-    ghost use Rattle.cedar_terms.specs.ValueLaws.{value_cmp_total};
+    ghost use Rattle.cedar_terms.specs.laws.ValueLaws.{value_cmp_total};
 
     ghost cmp = { value_cmp };
 

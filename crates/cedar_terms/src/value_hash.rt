@@ -1,4 +1,4 @@
-// What values feed to a hasher: the place of the kind, then what the value holds.
+//! What values feed to a hasher: the place of the kind, then what the value holds.
 ghost use Rattle.std.specs.Prelude.{◌≡◌, fold};
 ghost use Rattle.cedar_terms.specs.ValueTree.{value_trees};
 ghost use Rattle.cedar_terms.specs.ValueHash.{value_hash, values_hash, fields_hash};

@@ -1,4 +1,4 @@
-// How values stand in their order: by kind, then by what they hold.
+//! How values stand in their order: by kind, then by what they hold.
 ghost use Rattle.std.specs.Prelude.{◌≡◌};
 ghost use Rattle.cedar_terms.specs.ValueTree.{value_cmp, values_cmp, fields_cmp, value_trees};
 ghost use Rattle.cedar_terms.specs.ValueViews.{kind_tree, field_trees};

@@ -1,4 +1,4 @@
-// How values are written.
+//! How values are written.
 ghost use Rattle.std.specs.Prelude.{◌≡◌, ◌++◌, true, codes};
 ghost use Rattle.std.specs.Fmt.{WritesOnOk};
 ghost use Rattle.cedar_ids.specs.Escape.{is_ascii};

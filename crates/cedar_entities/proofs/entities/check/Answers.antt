@@ -1,9 +1,11 @@
 use Rattle.std.proofs.Common.{refl}
-use Rattle.cedar_entities.proofs.Closures.{closed_told, closed_seen}
+use Rattle.cedar_entities.proofs.Closures.{closed_seen, closed_told, refused_as}
 use Rattle.cedar_entities.proofs.entities.check.Goals as goal
 
-pub returns-in-Err-clause-err : goal.returns-in-Err-clause-err
-returns-in-Err-clause-err c = closed_told c.args.entities.now c.refusal_of.result c.in-Err.fault c.refusal_of.ensures.told c.in-Err.ensures.err
+pub returns-in_err-enforce_tc_and_dag-clause-err : goal.returns-in_err-enforce_tc_and_dag-clause-err
+returns-in_err-enforce_tc_and_dag-clause-err c =
+    refused_as _ c.from_residual.result c.in_err-enforce_tc_and_dag.field-0.0 c.from_residual.ensures.1
+    (closed_told c.args.entities.now c.in_err-enforce_tc_and_dag.field-0.0 c.in_err-enforce_tc_and_dag.ensures.err)
 
-pub returns-in-Ok-clause-ok : goal.returns-in-Ok-clause-ok
-returns-in-Ok-clause-ok c = (refl, closed_seen c.args.entities.now c.in-Ok.ensures.ok)
+pub returns-clause-ok : goal.returns-clause-ok
+returns-clause-ok c = (refl, closed_seen c.args.entities.now c.in_ok-enforce_tc_and_dag.ensures.ok)

@@ -4,10 +4,11 @@ use Rattle.std.specs.Option.{option_or}
 use Rattle.std.proofs.lemmas.Result.{err_from_is_err_and}
 use Rattle.std.proofs.lemmas.Iterator.Consumers.{YieldsList-end}
 use Rattle.std.proofs.lemmas.Iterator.Adapters.{YieldsList-from_vec}
-use Rattle.cedar_entities.specs.Held.{held}
+use Rattle.cedar_entities.specs.laws.Held.{held}
 use Rattle.cedar_entities.specs.Present.{first_entity, MatchesPresent}
-use Rattle.cedar_entities.proofs.Versions.{or_none, agrees_now, all_push, held_push, append_one, map_same, map_append_one, map_at, weaker_refusal}
+use Rattle.cedar_entities.proofs.Versions.{or_none, agrees_now, held_push, append_one, map_same, map_append_one, map_at, weaker_refusal}
 use Rattle.cedar_entities.proofs.entities.put_all.Goals as goal
+use Rattle.cedar_entities.specs.laws.Lists.{all_push}
 
 pub loop-entity-init : goal.loop-entity-init
 loop-entity-init c = record {

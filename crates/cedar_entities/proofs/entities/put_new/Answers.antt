@@ -1,8 +1,8 @@
 use Rattle.std.proofs.Common.{ap, sym, subst, ◌∙◌}
 use Rattle.std.specs.Option.{option_map, option_copied}
 use Rattle.std.proofs.lemmas.Bool.{false≢true}
-use Rattle.cedar_entities.specs.Held.{held, shared}
-use Rattle.cedar_entities.specs.View.{EntityView, IsDeepEqual}
+use Rattle.cedar_entities.specs.laws.Held.{held, shared}
+use Rattle.cedar_entity.specs.View.{EntityView, IsDeepEqual}
 use Rattle.cedar_entities.proofs.Versions.{stays_held, put_keys}
 use Rattle.cedar_entities.proofs.entities.put_new.Goals as goal
 

@@ -1,5 +1,5 @@
 use Rattle.std.proofs.Common.{ap, refl, ◌∙◌}
-use Rattle.cedar_entities.specs.View.{EntityView}
+use Rattle.cedar_entity.specs.View.{EntityView}
 use Rattle.cedar_entities.proofs.Versions.{put_over, put_keys}
 use Rattle.cedar_entities.proofs.entities.put_over.Goals as goal
 

@@ -1,6 +1,6 @@
 use Rattle.std.proofs.Common.{ap, ◌∙◌, ◌<◌, length, arith}
 use Rattle.std.specs.FinSet as set
-use Rattle.cedar_entities.specs.View.{EntityView}
+use Rattle.cedar_entity.specs.View.{EntityView}
 use Rattle.cedar_entities.proofs.Editing.{stripped_none, stripped_more}
 use Rattle.cedar_entities.proofs.entities.strip.Goals as goal
 

@@ -5,7 +5,7 @@ use Rattle.std.proofs.lemmas.Iterator.Consumers.{YieldsList-end}
 use Rattle.std.proofs.lemmas.Iterator.Adapters.{YieldsList-from_vec}
 use Rattle.cedar_ids.specs.UidOf.{same_uid}
 use Rattle.cedar_entities.specs.Edits.{stripped}
-use Rattle.cedar_entities.specs.Held.{held}
+use Rattle.cedar_entities.specs.laws.Held.{held}
 use Rattle.cedar_entities.proofs.Versions.{map_same}
 use Rattle.cedar_entities.proofs.Editing.{strip_push, strip_end, mapped_match}
 use Rattle.cedar_entities.proofs.entities.strip_all.Goals as goal

@@ -4,7 +4,7 @@ use Rattle.std.specs.Set.{is_member}
 use Rattle.cedar_ids.specs.UidOf.{same_uid}
 use Rattle.cedar_ids.specs.declared.entity.EntityUID.{EntityUID}
 use Rattle.cedar_entities.specs.Edits.{stripped}
-use Rattle.cedar_entities.specs.Held.{held}
+use Rattle.cedar_entities.specs.laws.Held.{held}
 use Rattle.cedar_entities.proofs.entities.strip_all.Given as goal
 
 abbrev pub invariant-loop-key : goal.invariant-loop-key

@@ -4,7 +4,7 @@ use Rattle.std.specs.Set.{is_member}
 use Rattle.std.proofs.lemmas.Iterator.Consumers.{YieldsList-end}
 use Rattle.std.proofs.lemmas.Iterator.Adapters.{YieldsList-from_vec}
 use Rattle.cedar_ids.specs.UidOf.{same_uid}
-use Rattle.cedar_entities.specs.Held.{held}
+use Rattle.cedar_entities.specs.laws.Held.{held}
 use Rattle.std.specs.Prelude.{◌&&◌}
 use Rattle.cedar_entities.proofs.Versions.{map_same}
 use Rattle.cedar_entities.proofs.Editing.{out_push, gone_more, gone_same, left_match}

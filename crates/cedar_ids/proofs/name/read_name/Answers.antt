@@ -1,8 +1,8 @@
 use Rattle.std.proofs.Common.{rules, refl}
 use Rattle.std.proofs.lemmas.Result.{err_from_is_err_and}
-use Rattle.cedar_ids.specs.NameReading.{name_of}
-use Rattle.cedar_ids.specs.Laws.{IsIdText, IsNameText}
-use Rattle.cedar_ids.proofs.NameTexts.{name_found, name_some, name_none}
+use Rattle.cedar_ids.specs.laws.NameReading.{name_of}
+use Rattle.cedar_ids.specs.TextOf.{IsIdText, IsNameText}
+use Rattle.cedar_ids.specs.laws.NameTexts.{name_found, name_some, name_none}
 use Rattle.cedar_ids.proofs.Names.{one_more, not_more, at_last, not_last, same_error}
 use Rattle.cedar_ids.proofs.name.read_name.Goals as goal
 

@@ -1,7 +1,7 @@
 use Rattle.std.proofs.Common.{◌≡◌, length}
 use denote.Text.{Utf8}
 use denote.Shadow.{shadow}
-use Rattle.cedar_ids.specs.NameReading.{components, name_of_components, name_of}
+use Rattle.cedar_ids.specs.laws.NameReading.{components, name_of_components, name_of}
 use Rattle.cedar_ids.proofs.name.read_name.Given as goal
 
 abbrev pub invariant-loop-front : goal.invariant-loop-front

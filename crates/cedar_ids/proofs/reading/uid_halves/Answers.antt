@@ -1,8 +1,8 @@
 use Rattle.std.proofs.Common.{◌∙◌, lit<}
 use Rattle.std.proofs.lemmas.Str.Pattern.{strip_suffix_char}
 use Rattle.std.specs.Prelude.{None, Some}
-use Rattle.cedar_ids.specs.PrintedLaws.{halves_quote}
-use Rattle.cedar_ids.proofs.Halves.{split_found, halves_no_quote}
+use Rattle.cedar_ids.specs.laws.PrintedLaws.{halves_quote}
+use Rattle.cedar_ids.specs.laws.Halves.{split_found, halves_no_quote}
 use Rattle.cedar_ids.proofs.reading.uid_halves.Goals as goal
 
 pub returns-in_err-strip_suffix : goal.returns-in_err-strip_suffix

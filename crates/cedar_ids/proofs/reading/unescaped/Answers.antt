@@ -1,7 +1,7 @@
 use Rattle.std.proofs.Common.{◌∙◌, sym, ap}
 use Rattle.std.proofs.lemmas.Bool.{false≢true}
 use Rattle.std.specs.String.{string_bytes}
-use Rattle.cedar_ids.specs.Decode.{decode}
+use Rattle.cedar_ids.specs.laws.Decode.{decode}
 use Rattle.cedar_ids.proofs.EidTexts.{eid_no_text, eid_then, eid_else}
 use Rattle.cedar_ids.proofs.reading.unescaped.Goals as goal
 

@@ -1,6 +1,6 @@
 use Rattle.std.specs.Prelude.{◌≡◌, ◌++◌, map}
 use Rattle.std.specs.List.{flat_map}
-use Rattle.cedar_store.specs.Machines.{AreAsciiUids}
+use Rattle.cedar_store.specs.laws.Machines.{AreAsciiUids}
 use Rattle.cedar_store.specs.Output.{field_of}
 use Rattle.cedar_store.proofs.machine.push_fields.Given as goal
 

@@ -1,12 +1,12 @@
-use Rattle.std.proofs.Common.{◌≡◌, ◌+◌, ap, sym, subst, ◌∙◌, ◌++◌, map, length}
+use Rattle.std.proofs.Common.{[], ◌∷◌, ◌≡◌, ◌+◌, ap, sym, subst, ◌∙◌, ◌++◌, map, length}
 use Rattle.std.specs.List.{AllByRecursion}
 use Rattle.cedar_entities.specs.Plain.{IsPlainStore}
 use Rattle.cedar_entities.specs.World.{World, empty_world}
-use Rattle.cedar_entities.proofs.Versions.{append_one, map_append_one}
 use Rattle.cedar_store.specs.Calls.{all_made, AllPass}
 use Rattle.cedar_store.specs.CallsOf.{call_of}
 use Rattle.cedar_store.proofs.Replays.{made_push, pass_push, longer, stops}
 use Rattle.cedar_store.proofs.replay.replay_entities.Goals as goal
+use Rattle.std.proofs.lemmas.List.{append_assoc, map-append}
 
 pub returns-in-Err-clause-err : goal.returns-in-Err-clause-err
 returns-in-Err-clause-err c =
@@ -21,10 +21,10 @@ loop-call-preserved c =
     let done = c.loop-call.yielded in
     let call = c.in-Some.call in
     let place = i.place ∙ ap (λ l. done ++ l) c.in-Some.ensures.steps.0 in
-    let more = map_append_one call_of done call in
+    let more = map-append call_of done (call ∷ []) in
     record {
       plain = subst (λ (W : World). IsPlainStore W c.in-Ok.next) (sym (ap (all_made empty_world) more ∙ made_push empty_world (map call_of done) (call_of call))) (c.in-Ok.ensures.ok _ i.plain);
       passed = subst (AllPass empty_world) (sym more) (pass_push empty_world (map call_of done) (call_of call) i.passed (c.in-Ok.ensures.passes _ i.plain));
       count = longer done call ∙ ap (λ n. n + 1) i.count;
-      place = place ∙ append_one done call _;
+      place = place ∙ sym (append_assoc done (call ∷ []) _);
     }

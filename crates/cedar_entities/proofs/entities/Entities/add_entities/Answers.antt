@@ -1,7 +1,7 @@
 use Rattle.std.proofs.Common.{ap, subst, map}
 use Rattle.std.specs.FinMap as finmap
 use Rattle.std.proofs.lemmas.Result.{err_from_is_err_and}
-use Rattle.cedar_entities.specs.Held.{held, seen}
+use Rattle.cedar_entities.specs.laws.Held.{held, held_map}
 use Rattle.cedar_entities.specs.Modes.{IsFinished}
 use Rattle.cedar_entities.specs.Plain.{StoreView}
 use Rattle.cedar_entities.specs.Present.{AllMatch, with_first}
@@ -43,7 +43,7 @@ pub returns-clause-agree : goal.returns-clause-agree
 returns-clause-agree c = subst (λ f. AllMatch f (map (λ r. r.value) c.args.list.items)) (stored c.self.inside.entities c.args.self.held (ap (λ (s : StoreView). s.held) c.self.view_is)) c.in_ok-put_all.ensures.agree
 
 pub returns-clause-ok : goal.returns-clause-ok
-returns-clause-ok c = subst (λ D. IsFinished c.args.tc_computation D (seen c.finish.new.entities))
+returns-clause-ok c = subst (λ D. IsFinished c.args.tc_computation D (held_map c.finish.new.entities))
     (put_in c.self.inside.entities c.put_all.new.entities c.args.self.held (map (λ r. r.value) c.args.list.items) (ap (λ (s : StoreView). s.held) c.self.view_is) c.in_ok-put_all.ensures.ok) c.in_ok-finish.ensures.ok
 
 pub returns-clause-plain_agree : goal.returns-clause-plain_agree
@@ -51,4 +51,4 @@ returns-clause-plain_agree c W plain bare = all_agree W c.args.self (map (λ r. 
 
 pub returns-clause-plain : goal.returns-clause-plain
 returns-clause-plain c W plain bare = finished_plain W c.args.self (map (λ r. r.value) c.args.list.items) plain bare c.args.tc_computation
-    (record { held = seen c.finish.new.entities; partial = c.self.inside.partial }) (ap (λ (s : StoreView). s.partial) c.self.view_is) (returns-clause-ok c)
+    (record { held = held_map c.finish.new.entities; partial = c.self.inside.partial }) (ap (λ (s : StoreView). s.partial) c.self.view_is) (returns-clause-ok c)

@@ -2,7 +2,7 @@ use Rattle.std.proofs.Common.{ap, sym, ◌∙◌}
 use Rattle.std.specs.FinMap as finmap
 use Rattle.std.specs.Option.{option_map, option_copied}
 use Rattle.std.specs.Prelude.{Some}
-use Rattle.cedar_entities.specs.Held.{shared}
+use Rattle.cedar_entities.specs.laws.Held.{shared}
 use Rattle.cedar_entities.specs.Plain.{StoreView}
 use Rattle.cedar_entities.proofs.StoreMaps.{get_seen, on_err_anyway}
 use Rattle.cedar_entities.proofs.entities.Entities.entity.Goals as goal

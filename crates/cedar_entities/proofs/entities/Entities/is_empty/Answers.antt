@@ -2,7 +2,7 @@ use Rattle.std.proofs.Common.{ap, sym, ◌∙◌}
 use Rattle.std.proofs.lemmas.Bool.{eq-eqb, eqb-true}
 use Rattle.std.specs.FinMap as finmap
 use Rattle.cedar_ids.specs.UidOf.{uid_order}
-use Rattle.cedar_entities.specs.View.{EntityView}
+use Rattle.cedar_entity.specs.View.{EntityView}
 use Rattle.cedar_entities.proofs.entities.Entities.is_empty.Goals as goal
 
 pub returns : goal.returns

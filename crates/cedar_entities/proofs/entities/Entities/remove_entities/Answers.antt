@@ -1,6 +1,6 @@
 use Rattle.std.proofs.Common.{ap, subst}
 use Rattle.std.proofs.lemmas.Result.{err_from_is_err_and}
-use Rattle.cedar_entities.specs.Held.{seen}
+use Rattle.cedar_entities.specs.laws.Held.{held_map}
 use Rattle.cedar_entities.specs.Modes.{IsClosureOf, IsClosureRefused}
 use Rattle.cedar_entities.specs.Plain.{StoreView}
 use Rattle.cedar_entities.specs.Refusals.{MatchRefusal}
@@ -24,10 +24,10 @@ returns-in_err-compute-clause-plain_err c =
     c.in_err-compute.ensures.err))
 
 pub returns-clause-ok : goal.returns-clause-ok
-returns-clause-ok c = subst (λ D. IsClosureOf D (seen c.compute.new.entities))
+returns-clause-ok c = subst (λ D. IsClosureOf D (held_map c.compute.new.entities))
     (taken_from c.self.inside.entities c.take_out.new.entities c.strip_all.new.entities c.args.self.held c.args.list.items c.in_ok-gone.gone.items (ap (λ (s : StoreView). s.held) c.self.view_is) c.in_ok-gone.ensures.gone c.in_ok-gone.ensures.ok (rw (← c.deref.ensures.value) c.in_ok-strip_all.ensures.ok))
     c.in_ok-compute.ensures.ok
 
 pub returns-clause-plain : goal.returns-clause-plain
 returns-clause-plain c W plain = left_plain W c.args.self c.args.list.items plain
-    (record { held = seen c.compute.new.entities; partial = c.self.inside.partial }) (ap (λ (s : StoreView). s.partial) c.self.view_is) (returns-clause-ok c)
+    (record { held = held_map c.compute.new.entities; partial = c.self.inside.partial }) (ap (λ (s : StoreView). s.partial) c.self.view_is) (returns-clause-ok c)

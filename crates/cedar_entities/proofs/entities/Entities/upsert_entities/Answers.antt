@@ -1,6 +1,6 @@
 use Rattle.std.proofs.Common.{ap, subst, map}
 use Rattle.std.proofs.lemmas.Result.{err_from_is_err_and}
-use Rattle.cedar_entities.specs.Held.{seen}
+use Rattle.cedar_entities.specs.laws.Held.{held_map}
 use Rattle.cedar_entities.specs.Modes.{IsClosureOf, IsClosureRefused}
 use Rattle.cedar_entities.specs.Plain.{StoreView}
 use Rattle.cedar_entities.specs.Refusals.{MatchRefusal}
@@ -26,10 +26,10 @@ returns-in_err-compute-clause-plain_err c =
     c.in_err-compute.ensures.err))
 
 pub returns-clause-ok : goal.returns-clause-ok
-returns-clause-ok c = subst (λ D. IsClosureOf D (seen c.compute.new.entities))
+returns-clause-ok c = subst (λ D. IsClosureOf D (held_map c.compute.new.entities))
     (laid_over c.self.inside.entities c.strip_all.new.entities c.overwrite_all.new.entities c.args.self.held (map (λ r. r.value) c.args.list.items) (ap (λ (s : StoreView). s.held) c.self.view_is) c.in_ok-strip_all.ensures.ok c.in_ok-overwrite_all.ensures.ok)
     c.in_ok-compute.ensures.ok
 
 pub returns-clause-plain : goal.returns-clause-plain
 returns-clause-plain c W plain bare = over_plain W c.args.self (map (λ r. r.value) c.args.list.items) plain bare
-    (record { held = seen c.compute.new.entities; partial = c.self.inside.partial }) (ap (λ (s : StoreView). s.partial) c.self.view_is) (returns-clause-ok c)
+    (record { held = held_map c.compute.new.entities; partial = c.self.inside.partial }) (ap (λ (s : StoreView). s.partial) c.self.view_is) (returns-clause-ok c)

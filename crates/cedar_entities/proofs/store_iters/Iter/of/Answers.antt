@@ -1,8 +1,8 @@
 use Rattle.std.proofs.Common.{sym, subst, map}
 use Rattle.cedar_entities.specs.Answers.{ListsHeld}
-use Rattle.cedar_entities.specs.Held.{seen, shared}
+use Rattle.cedar_entities.specs.laws.Held.{held_map, shared}
 use Rattle.cedar_entities.proofs.Listed.{lists_held}
 use Rattle.cedar_entities.proofs.store_iters.Iter.of.Goals as goal
 
 pub returns : goal.returns
-returns c = subst (λ es. ListsHeld (seen c.args.entities.now) (map (λ e. shared e.1) es)) (sym c.iter.ensures.rest) (lists_held c.args.entities.now c.requires c.iter.ensures.found c.iter.ensures.unique)
+returns c = subst (λ es. ListsHeld (held_map c.args.entities.now) (map (λ e. shared e.1) es)) (sym c.iter.ensures.rest) (lists_held c.args.entities.now c.requires c.iter.ensures.found c.iter.ensures.unique)

@@ -1,6 +1,6 @@
 use Rattle.std.proofs.lemmas.Result.{err_from_is_err_and}
 use Rattle.std.specs.String.{string_bytes}
-use Rattle.cedar_ids.specs.PrintedLaws.{printed_uid_injective}
+use Rattle.cedar_ids.specs.laws.PrintedLaws.{printed_uid_injective}
 use Rattle.cedar_ids.proofs.UidSteps.{at_no_halves, at_no_name, at_no_eid, at_eid}
 use Rattle.cedar_ids.proofs.entity.EntityUID.from_normalized_str.Goals as goal
 

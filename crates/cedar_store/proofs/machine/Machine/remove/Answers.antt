@@ -1,7 +1,7 @@
 use Rattle.std.proofs.Common.{ap, map, Vec, Global}
 use Rattle.std.specs.declared.rc.Rc.{Rc}
 use Rattle.std.proofs.lemmas.Result.{on_ok_weaker}
-use Rattle.cedar_entities.specs.View.{EntityView}
+use Rattle.cedar_entity.specs.View.{EntityView}
 use Rattle.cedar_store.proofs.Steps.{remove_takes}
 use Rattle.cedar_store.proofs.machine.Machine.remove.Goals as goal
 

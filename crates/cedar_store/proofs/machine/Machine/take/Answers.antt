@@ -1,8 +1,8 @@
 use Rattle.std.proofs.Common.{sym, subst}
 use Rattle.std.proofs.lemmas.Result.{on_ok_weaker}
 use Rattle.cedar_store.specs.declared.line.Line.{Line}
-use Rattle.cedar_store.specs.Lines.{command_of}
-use Rattle.cedar_store.specs.Machines.{HasAsciiUids, Takes}
+use Rattle.cedar_store.specs.laws.Lines.{command_of}
+use Rattle.cedar_store.specs.laws.Machines.{HasAsciiUids, Takes}
 use Rattle.cedar_store.proofs.Steps.{nothing_takes, anc_takes}
 use Rattle.cedar_store.proofs.machine.Machine.take.Goals as goal
 

@@ -1,0 +1,5 @@
+// What is done to things of so many levels.
+mod entities;
+mod terms;
+
+const LEVELS: usize = 10000;

@@ -1,0 +1,4 @@
+pub mod Held
+pub mod Lists
+pub mod Settled
+pub mod Worlds

@@ -1,0 +1,203 @@
+// Calls on a store beside the same calls on the world that it stands for.
+use super::store_script::Outcome;
+use super::store_world::{
+    Call, Refused, Row, Rows, World, after, ancestors, bit, count, empty, entry,
+};
+use super::{known, numbers};
+use cedar_entities::dereference::Dereference;
+use cedar_entities::entities::{Entities, TCComputation};
+use cedar_entity::entity::Entity;
+use cedar_entity::err::EntitiesError;
+use cedar_entity::iters::Uids;
+use cedar_graph::TcError;
+use cedar_ids::entity::EntityUID;
+use std::alloc::Global;
+use std::collections::HashSet;
+use std::rc::Rc;
+use std::test::Fail;
+
+// The uid with a number.
+fn numbered(alloc: Global, uid: u8) -> Result<EntityUID, Fail> {
+    let eid = match uid {
+        0 => "a",
+        1 => "b",
+        2 => "c",
+        _ => "d",
+    };
+    Ok(EntityUID::with_eid_and_type(alloc, "A", eid)?)
+}
+
+// The set with a uid; of any but the three it is one that no world has.
+fn bit_of(uid: &EntityUID) -> u8 {
+    match uid.eid().as_ref() {
+        "a" => 1,
+        "b" => 2,
+        "c" => 4,
+        _ => 8,
+    }
+}
+
+fn set_of(alloc: Global, bits: u8) -> Result<HashSet<EntityUID>, Fail> {
+    let mut set = HashSet::new(alloc);
+    for uid in 0..3_u8 {
+        if bits & bit(uid) != 0 {
+            set.insert(numbered(alloc, uid)?)?;
+        }
+    }
+    Ok(set)
+}
+
+fn entity_of(alloc: Global, row: &Row) -> Result<Entity, Fail> {
+    let uid = numbered(alloc, row.uid)?;
+    let parents = set_of(alloc, row.parents)?;
+    let attrs = numbers(alloc, &[("k", i64::from(row.attr))])?;
+    let none = HashSet::new(alloc);
+    let tags = Vec::new(alloc);
+    Ok(Entity::new_with_attr_partial_value(alloc, uid, attrs, none, parents, tags)?)
+}
+
+fn entities_of(alloc: Global, rows: &Rows) -> Result<Vec<Entity>, Fail> {
+    let mut list = Vec::new(alloc);
+    for row in rows.iter().flatten() {
+        list.push(entity_of(alloc, row)?)?;
+    }
+    Ok(list)
+}
+
+fn shared_of(alloc: Global, rows: &Rows) -> Result<Vec<Rc<Entity>>, Fail> {
+    let mut list = Vec::new(alloc);
+    for row in rows.iter().flatten() {
+        list.push(Rc::new(alloc, entity_of(alloc, row)?)?)?;
+    }
+    Ok(list)
+}
+
+fn uids_of(alloc: Global, list: &[u8; 2]) -> Result<Vec<EntityUID>, Fail> {
+    let mut uids = Vec::new(alloc);
+    for uid in list {
+        uids.push(numbered(alloc, *uid)?)?;
+    }
+    Ok(uids)
+}
+
+// What a call makes of a store.
+fn done(alloc: Global, store: Entities, call: &Call) -> Result<Outcome, Fail> {
+    let mode = TCComputation::ComputeNow;
+    match call {
+        Call::From(rows) => Ok(Entities::from_entities(alloc, entities_of(alloc, rows)?, mode)),
+        Call::Add(rows) => Ok(store.add_entities(alloc, shared_of(alloc, rows)?, mode)),
+        Call::Upsert(rows) => Ok(store.upsert_entities(alloc, shared_of(alloc, rows)?)),
+        Call::Remove(list) => Ok(store.remove_entities(alloc, uids_of(alloc, list)?)),
+        Call::Partial => Ok(Ok(store.partial())),
+    }
+}
+
+// Some uids as a set.
+fn bits_of(uids: Uids<'_>) -> u8 {
+    let mut bits = 0;
+    for uid in uids {
+        bits |= bit_of(uid);
+    }
+    bits
+}
+
+// Whether an entity is this one, with just these ancestors.
+fn is_row(entity: &Entity, row: &Row, ancestors: u8) -> bool {
+    bit_of(entity.uid()) == bit(row.uid)
+        && bits_of(entity.parents()) == row.parents
+        && bits_of(entity.indirect_ancestors()) == ancestors & !row.parents
+        && entity.get("k") == Some(&known(i64::from(row.attr)))
+}
+
+// Whether a store has with a uid what the world has.
+fn is_held(alloc: Global, store: &Entities, world: &World, uid: u8) -> Result<bool, Fail> {
+    let name = numbered(alloc, uid)?;
+    match (store.entity(alloc, &name)?, entry(world, uid)) {
+        (Dereference::Data(entity), Some(row)) => {
+            Ok(is_row(entity, &row, ancestors(world, uid)))
+        }
+        (Dereference::Residual(_), None) => Ok(world.partial),
+        (Dereference::NoSuchEntity, None) => Ok(!world.partial),
+        _ => Ok(false),
+    }
+}
+
+// Whether a store is the plain one of a world.
+fn is_plain(alloc: Global, store: &Entities, world: &World) -> Result<bool, Fail> {
+    if store.len() != count(world) || store.is_partial() != world.partial {
+        return Ok(false);
+    }
+    Ok(
+        is_held(alloc, store, world, 0)?
+            && is_held(alloc, store, world, 1)?
+            && is_held(alloc, store, world, 2)?,
+    )
+}
+
+// Whether a refusal is this one; of a cycle it names one of the uids that lie on it.
+fn is_refusal(error: &EntitiesError, refused: Refused) -> bool {
+    match (error, refused) {
+        (EntitiesError::Duplicate(uid), Refused::Duplicate(other)) => bit_of(uid) == bit(other),
+        (EntitiesError::TransitiveClosureError(TcError::HasCycle(cycle)), Refused::Cycle(set)) => {
+            bit_of(cycle.vertex_with_loop()) & set != 0
+        }
+        _ => false,
+    }
+}
+
+// How a list of calls ends.
+#[derive(Clone, Copy, Drop, PartialEq, Eq)]
+pub(super) enum End {
+    // The store or its refusal is another than the world's.
+    Differs,
+    Held,
+    Refused(Refused),
+}
+
+// How a list ends with a call that was refused.
+fn end_of(error: &EntitiesError, then: Result<World, Refused>) -> End {
+    match then {
+        Ok(_world) => End::Differs,
+        Err(refused) => {
+            if is_refusal(error, refused) {
+                return End::Refused(refused);
+            }
+            End::Differs
+        }
+    }
+}
+
+// The world that a store stands for, if it is this one.
+fn stood_for(
+    alloc: Global,
+    store: &Entities,
+    then: Result<World, Refused>,
+) -> Result<Option<World>, Fail> {
+    let Ok(world) = then else {
+        return Ok(None);
+    };
+    if !is_plain(alloc, store, &world)? {
+        return Ok(None);
+    }
+    Ok(Some(world))
+}
+
+// How a list of calls ends. After each call the store has to be the plain one of the world.
+pub(super) fn compared(alloc: Global, calls: &[Call]) -> Result<End, Fail> {
+    let mut store = Entities::new(alloc);
+    let mut world = empty();
+    for call in calls {
+        let then = after(&world, call);
+        match done(alloc, store, call)? {
+            Ok(next) => {
+                let Some(held) = stood_for(alloc, &next, then)? else {
+                    return Ok(End::Differs);
+                };
+                store = next;
+                world = held;
+            }
+            Err(error) => return Ok(end_of(&error, then)),
+        }
+    }
+    Ok(End::Held)
+}

@@ -1,0 +1,4 @@
+pub mod AncestorSets
+pub mod FieldLists
+pub mod LeastUids
+pub mod UidSteps

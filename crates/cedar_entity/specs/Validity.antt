@@ -1,0 +1,96 @@
+-- What is wrong with an entity, in the order in which it is looked for.
+use Rattle.std.specs.Prelude.{◌≡◌, ◌⊎◌, ℕ, List, [], ◌∷◌, Bool, true, false, not, ◌&&◌, Option, Some, None, if◌then◌else◌, string_bytes, codes, IsTrue}
+use Rattle.std.specs.Str.{bytes_eq}
+use Rattle.cedar_entity.specs.declared.err.EntitiesError.{EntitiesError}
+use Rattle.cedar_entity.specs.declared.err.EntitiesError.TheVariants as errors
+use Rattle.std.specs.Option.{option_or}
+use Rattle.std.specs.FinSet as set
+use Rattle.cedar_ids.specs.UidOf.{uid_parts}
+use Rattle.cedar_ids.specs.declared.entity.EntityUID.{EntityUID}
+use Rattle.cedar_terms.specs.Reserved.{is_reserved}
+use Rattle.cedar_terms.specs.ValueTree.{ValueTree, literal_value, set_value, record_value, extension_value, ValueTrees, no_values, value_then, FieldTrees, no_fields, field_then}
+use Rattle.cedar_terms.specs.declared.partial_value.PartialValue.{PartialValue}
+use Rattle.cedar_terms.specs.declared.partial_value.PartialValue.TheVariants as partials
+use Rattle.cedar_entity.specs.Fields.{Fields}
+use Rattle.cedar_entity.specs.Least.{IsLeast, NonePasses}
+use Rattle.cedar_entity.specs.View.{EntityView, has_ancestor}
+
+-- the first reserved key that a walk of a value meets: a record is walked key by key, each key tested before
+-- its value is walked, and a set element by element
+abbrev mutual
+  pub reserved_in : ValueTree → Option (List ℕ)
+  reserved_in (literal_value l) = None
+  reserved_in (set_value vs) = reserved_in_all vs
+  reserved_in (record_value fs) = reserved_in_record fs
+  reserved_in (extension_value f a) = None
+
+  pub reserved_in_all : ValueTrees → Option (List ℕ)
+  reserved_in_all no_values = None
+  reserved_in_all (value_then v vs) = option_or (reserved_in v) (reserved_in_all vs)
+
+  pub reserved_in_record : FieldTrees → Option (List ℕ)
+  reserved_in_record no_fields = None
+  reserved_in_record (field_then k v fs) = if is_reserved k then Some k else option_or (reserved_in v) (reserved_in_record fs)
+
+-- the same of a value or a residual; a residual is skipped
+abbrev pub reserved_in_partial : PartialValue → Option (List ℕ)
+reserved_in_partial (partials.Value v) = reserved_in v
+reserved_in_partial (partials.Residual e) = None
+
+-- the same of attributes or tags, key by key; their own keys are not tested
+abbrev pub reserved_in_fields : Fields → Option (List ℕ)
+reserved_in_fields [] = None
+reserved_in_fields (f ∷ fs) = option_or (reserved_in_partial f.1) (reserved_in_fields fs)
+
+-- the first reserved key of an entity: in its attributes, then in its tags
+abbrev pub reserved_key : EntityView → Option (List ℕ)
+reserved_key e = option_or (reserved_in_fields e.attrs) (reserved_in_fields e.tags)
+
+-- the last component of its type's name is Action
+abbrev pub is_action : EntityUID → Bool
+is_action u = bytes_eq (uid_parts u).name.basename (codes "Action")
+
+-- a parent and an indirect ancestor at once
+abbrev pub is_in_both : EntityView → EntityUID → Bool
+is_in_both e q = set.contains e.parents q && set.contains e.indirect q
+
+-- a parent that is no action
+abbrev pub is_non_action_parent : EntityView → EntityUID → Bool
+is_non_action_parent e q = set.contains e.parents q && not (is_action q)
+
+-- an indirect ancestor that is no action
+abbrev pub is_non_action_ancestor : EntityView → EntityUID → Bool
+is_non_action_ancestor e q = set.contains e.indirect q && not (is_action q)
+
+-- it is not its own ancestor
+abbrev pub PassesSelf : EntityView → Type 0
+PassesSelf e = has_ancestor e e.uid ≡ false
+
+-- and no uid is a parent and an indirect ancestor at once
+abbrev pub PassesDuplicates : EntityView → Type 0
+PassesDuplicates e = PassesSelf e × NonePasses (is_in_both e)
+
+-- no parent and no indirect ancestor is other than an action
+abbrev pub HasOnlyActionAncestors : EntityView → Type 0
+HasOnlyActionAncestors e = NonePasses (is_non_action_parent e) × NonePasses (is_non_action_ancestor e)
+
+-- and where it is an action, all its ancestors are
+abbrev pub PassesActions : EntityView → Type 0
+PassesActions e = PassesDuplicates e × (IsTrue (is_action e.uid) → HasOnlyActionAncestors e)
+
+-- p is the least strange parent or, where there is none, the least strange indirect ancestor
+abbrev pub IsLeastNonAction : EntityView → EntityUID → Type 0
+IsLeastNonAction e p = IsLeast (is_non_action_parent e) p ⊎ (NonePasses (is_non_action_parent e) × IsLeast (is_non_action_ancestor e) p)
+
+-- none of the four is wrong
+abbrev pub IsValid : EntityView → Type 0
+IsValid e = PassesActions e × (reserved_key e ≡ None)
+
+-- the error tells what is wrong, and what is looked for before it is right; want of memory tells nothing
+abbrev pub IsFault : EntityView → EntitiesError → Type 0
+IsFault e (errors.SelfAncestor u) = (u ≡ e.uid) × (has_ancestor e e.uid ≡ true)
+IsFault e (errors.DuplicateAncestor u a) = (u ≡ e.uid) × PassesSelf e × IsLeast (is_in_both e) a
+IsFault e (errors.ActionParentIsNotAction u p) = (u ≡ e.uid) × PassesDuplicates e × IsTrue (is_action e.uid) × IsLeastNonAction e p
+IsFault e (errors.ReservedKey k) = PassesActions e × (reserved_key e ≡ Some (string_bytes k))
+IsFault e errors.Memory = Unit {0}
+IsFault e other = ⊥

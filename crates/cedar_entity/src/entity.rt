@@ -1,0 +1,577 @@
+//! An entity: making, reading, changing, comparing and checking it.
+ghost use Rattle.std.specs.Prelude.{◌≡◌, Bool, true, All, IfOk, OnOk, IfErr, OnErr, MatchOption, None, IsTrue, ◌↔◌, [], length};
+ghost use Rattle.std.specs.Option.{option_map, option_copied};
+ghost use Rattle.std.specs.FinSet as set;
+ghost use Rattle.std.specs.Set.{is_member};
+ghost use Rattle.cedar_ids.specs.UidOf.{same_uid, uid_order};
+ghost use Rattle.cedar_ids.specs.declared.entity.EntityUID.{EntityUID};
+ghost use Rattle.cedar_entity.specs.Fields.{Fields, AreFieldsOf, Ascend, fields_of, field_at, field_keys};
+ghost use Rattle.cedar_entity.specs.Least.{NonePasses};
+ghost use Rattle.cedar_entity.specs.Listing.{Lists, ListsAncestors};
+ghost use Rattle.cedar_entity.specs.Validity.{PassesSelf, PassesDuplicates, PassesActions, HasOnlyActionAncestors, IsLeastNonAction, IsValid, IsFault, is_in_both, is_action, reserved_key};
+ghost use Rattle.cedar_entity.specs.View.{EntityView, has_ancestor, with_indirect_ancestor, IsDeepEqual, IsEquivalenceRelation};
+
+use crate::err::EntitiesError;
+use crate::iters::{Ancestors, Keys, Pairs, Uids};
+use crate::least::{least_common, least_non_action};
+use crate::reserved::in_fields;
+use cedar_ids::entity::EntityUID;
+use cedar_terms::{PartialValue, StaticType, StaticallyTyped};
+use std::alloc::{AllocError, Global};
+use std::collections::{BTreeMap, HashSet};
+use std::hash::{Hash, Hasher};
+use std::marker::Model;
+
+/// An entity: its uid, its attributes and tags, its parents, and the indirect ancestors that it has.
+///
+/// `==` and the hash look at the uid alone; [`Entity::deep_eq`] looks at the rest too.
+///
+/// A key is looked up in the logarithm of the number of keys, and a uid by its hash. The iterators
+/// give references and copy nothing.
+#[derive(Debug, Drop)]
+pub struct Entity {
+    uid: EntityUID,
+    attrs: BTreeMap<String, PartialValue>,
+    indirect_ancestors: HashSet<EntityUID>,
+    parents: HashSet<EntityUID>,
+    tags: BTreeMap<String, PartialValue>,
+}
+
+impl Model for Entity {
+    ghost use Rattle.std.specs.FinSet as set;
+    ghost use Rattle.cedar_entity.specs.Fields.{fields_of};
+    ghost use Rattle.cedar_entity.specs.View.{EntityView, view_code};
+
+    ghost Value = { EntityView };
+
+    ghost coded = { view_code };
+
+    ghost view = { λ e. record {
+      uid = e.uid;
+      attrs = fields_of e.attrs.entries;
+      tags = fields_of e.tags.entries;
+      parents = set.from_list e.parents.keys;
+      indirect = set.from_list e.indirect_ancestors.keys;
+    } };
+}
+
+impl Clone for Entity {
+    ghost is_clone = { λ x y. y ≡ x };
+
+    /// A copy. It is refused only where memory is.
+    fn clone(&self) -> Result<Entity, AllocError> {
+        Ok(Entity {
+            uid: self.uid.clone()?,
+            attrs: copy_of_fields(&self.attrs)?,
+            indirect_ancestors: self.indirect_ancestors.clone()?,
+            parents: self.parents.clone()?,
+            tags: copy_of_fields(&self.tags)?,
+        })
+    }
+}
+
+impl PartialEq for Entity {
+    ghost use Rattle.std.specs.Cmp.{on_per, partial_equiv_from_equiv};
+    ghost use Rattle.cedar_ids.specs.UidOf.{same_uid, same_uid_equiv};
+
+    ghost eq = { λ x y. same_uid x.uid y.uid };
+
+    ghost laws = { on_per (λ (e : EntityView). e.uid) (partial_equiv_from_equiv same_uid_equiv) };
+
+    /// Whether both have the same uid. The rest is not looked at.
+    fn eq(&self, other: &Entity) -> bool {
+        self.uid == other.uid
+    }
+}
+
+impl Eq for Entity {
+    ghost use Rattle.std.specs.Cmp.{on_equiv};
+    ghost use Rattle.cedar_ids.specs.UidOf.{same_uid_equiv};
+
+    ghost laws = { on_equiv (λ (e : EntityView). e.uid) same_uid_equiv };
+}
+
+impl Hash for Entity {
+    ghost use Rattle.cedar_ids.specs.UidOf.{uid_hash, uid_hash_respects};
+
+    ghost hash_input = { λ e. uid_hash e.uid };
+
+    ghost respects_eq = { λ x y. uid_hash_respects x.uid y.uid };
+
+    fn hash<H: Hasher>(&self, state: &mut H) {
+        self.uid.hash(state);
+    }
+}
+
+impl StaticallyTyped for Entity {
+    ghost use Rattle.cedar_ids.specs.UidOf.{uid_parts};
+
+    ghost static_name = { λ e. (uid_parts e.uid).name };
+
+    /// The type of the uid. It takes memory as that does, and is refused only where that is.
+    fn type_of(&self, alloc: Global) -> Result<StaticType, AllocError> {
+        self.uid.type_of(alloc)
+    }
+}
+
+// A copy of a uid.
+fn copy_of(uid: &EntityUID) -> Result<EntityUID, AllocError>
+    ensures { IfOk result (λ copy. copy ≡ uid.now) }
+{
+    uid.clone()
+}
+
+// A copy of attributes or tags.
+fn copy_of_fields(
+    fields: &BTreeMap<String, PartialValue>,
+) -> Result<BTreeMap<String, PartialValue>, AllocError>
+    ensures { IfOk result (λ copy. fields_of copy.entries ≡ fields_of fields.now.entries) }
+{
+    fields.clone()
+}
+
+// Whether attributes or tags are the same: the same keys with the same values.
+fn same_fields(one: &BTreeMap<String, PartialValue>, other: &BTreeMap<String, PartialValue>) -> bool
+    ensures { IsTrue result ↔ (fields_of one.now.entries ≡ fields_of other.now.entries) }
+{
+    one == other
+}
+
+// Whether each of these is an ancestor of the entity.
+fn are_ancestors(uids: &HashSet<EntityUID>, entity: &Entity) -> bool
+    ensures { IsTrue result ↔ All (λ q. IsTrue (has_ancestor entity.now q)) uids.now.keys }
+{
+    uids.iter().all(|uid| entity.is_descendant_of(uid))
+}
+
+// The fields of some pairs, of which the last with a key counts.
+fn fields(
+    alloc: Global,
+    pairs: Vec<(String, PartialValue)>,
+) -> Result<BTreeMap<String, PartialValue>, AllocError>
+    ensures { IfOk result (λ m. AreFieldsOf (fields_of pairs.items) (fields_of m.entries)) }
+{
+    let mut fields = BTreeMap::new(alloc);
+    for (key, value) in pairs {
+        drop(fields.insert(key, value)?);
+    }
+    Ok(fields)
+}
+
+impl Entity {
+    /// An entity with these attributes and tags, indirect ancestors and parents. Of several pairs with one
+    /// key the last counts. Whether parents and indirect ancestors are apart is not looked at.
+    ///
+    /// It takes memory, and is refused only where that is; it looks a key up for each pair.
+    pub fn new_with_attr_partial_value(
+        alloc: Global,
+        uid: EntityUID,
+        attrs: Vec<(String, PartialValue)>,
+        indirect_ancestors: HashSet<EntityUID>,
+        parents: HashSet<EntityUID>,
+        tags: Vec<(String, PartialValue)>,
+    ) -> Result<Entity, AllocError>
+        ensures uid { IfOk result (λ e. e.uid ≡ uid) }
+        ensures attrs { IfOk result (λ e. AreFieldsOf (fields_of attrs.items) e.attrs) }
+        ensures tags { IfOk result (λ e. AreFieldsOf (fields_of tags.items) e.tags) }
+        ensures parents { IfOk result (λ e. e.parents ≡ set.from_list parents.keys) }
+        ensures indirect { IfOk result (λ e. e.indirect ≡ set.from_list indirect_ancestors.keys) }
+    {
+        let attrs = fields(alloc, attrs)?;
+        let tags = fields(alloc, tags)?;
+        Ok(Entity {
+            uid,
+            attrs,
+            indirect_ancestors,
+            parents,
+            tags,
+        })
+    }
+
+    /// An entity with a uid and nothing else. It takes no memory.
+    pub fn with_uid(alloc: Global, uid: EntityUID) -> Entity
+        ensures { result ≡ record {
+          uid = uid;
+          attrs = [];
+          tags = [];
+          parents = set.empty;
+          indirect = set.empty;
+        } }
+    {
+        let parents = HashSet::new(alloc);
+        Entity {
+            uid,
+            attrs: BTreeMap::new(alloc),
+            indirect_ancestors: HashSet::new(alloc),
+            parents,
+            tags: BTreeMap::new(alloc),
+        }
+    }
+
+    /// The uid. It takes no memory.
+    pub fn uid(&self) -> &EntityUID
+        ensures { result.now ≡ self.now.uid }
+    {
+        let Entity { uid, .. } = self;
+        uid
+    }
+
+    /// The attribute at a key. It takes no memory.
+    pub fn get(&self, key: &str) -> Option<&PartialValue>
+        ensures { option_map (λ v. v.now) result ≡ field_at key.now self.now.attrs }
+    {
+        self.attrs.get(key)
+    }
+
+    /// The tag at a key. It takes no memory.
+    pub fn get_tag(&self, key: &str) -> Option<&PartialValue>
+        ensures { option_map (λ v. v.now) result ≡ field_at key.now self.now.tags }
+    {
+        self.tags.get(key)
+    }
+
+    /// How many attributes there are. It takes no memory.
+    pub fn attrs_len(&self) -> usize
+        ensures { result ≡ length self.now.attrs }
+    {
+        self.attrs.len()
+    }
+
+    /// How many tags there are. It takes no memory.
+    pub fn tags_len(&self) -> usize
+        ensures { result ≡ length self.now.tags }
+    {
+        self.tags.len()
+    }
+
+    /// Whether a uid is a parent. It takes no memory.
+    pub fn is_child_of(&self, other: &EntityUID) -> bool
+        ensures { result ≡ set.contains self.now.parents other.now }
+    {
+        self.parents.contains(other)
+    }
+
+    /// Whether a uid is an indirect ancestor. It takes no memory.
+    pub fn is_indirect_descendant_of(&self, other: &EntityUID) -> bool
+        ensures { result ≡ set.contains self.now.indirect other.now }
+    {
+        self.indirect_ancestors.contains(other)
+    }
+
+    /// Whether a uid is an ancestor: a parent or an indirect one. It takes no memory.
+    pub fn is_descendant_of(&self, other: &EntityUID) -> bool
+        ensures { result ≡ has_ancestor self.now other.now }
+    {
+        self.is_child_of(other) || self.is_indirect_descendant_of(other)
+    }
+
+    /// The keys of the attributes, in byte order. It takes no memory.
+    pub fn keys(&self) -> Keys<'_>
+        ensures keys { result ≡ field_keys self.now.attrs }
+        ensures ascending { Ascend self.now.attrs }
+    {
+        Keys::of(&self.attrs)
+    }
+
+    /// The keys of the tags, in byte order. It takes no memory.
+    pub fn tag_keys(&self) -> Keys<'_>
+        ensures keys { result ≡ field_keys self.now.tags }
+        ensures ascending { Ascend self.now.tags }
+    {
+        Keys::of(&self.tags)
+    }
+
+    /// The attributes with their keys, in byte order of the keys. It takes no memory.
+    pub fn attrs(&self) -> Pairs<'_>
+        ensures pairs { result ≡ self.now.attrs }
+        ensures ascending { Ascend self.now.attrs }
+    {
+        Pairs::of(&self.attrs)
+    }
+
+    /// The tags with their keys, in byte order of the keys. It takes no memory.
+    pub fn tags(&self) -> Pairs<'_>
+        ensures pairs { result ≡ self.now.tags }
+        ensures ascending { Ascend self.now.tags }
+    {
+        Pairs::of(&self.tags)
+    }
+
+    /// The parents, each once, in an order of their own. It takes no memory.
+    pub fn parents(&self) -> Uids<'_>
+        ensures { Lists self.now.parents result }
+    {
+        Uids::of(&self.parents)
+    }
+
+    /// The indirect ancestors, each once, in an order of their own. It takes no memory.
+    pub fn indirect_ancestors(&self) -> Uids<'_>
+        ensures { Lists self.now.indirect result }
+    {
+        Uids::of(&self.indirect_ancestors)
+    }
+
+    /// The parents, then the indirect ancestors, in orders of their own; what is both comes twice. It takes
+    /// no memory.
+    pub fn ancestors(&self) -> Ancestors<'_>
+        ensures { ListsAncestors self.now result }
+    {
+        Ancestors::of(&self.parents, &self.indirect_ancestors)
+    }
+
+    // Whether each ancestor of the other is one of this.
+    fn has_all_of(&self, other: &Entity) -> bool
+        ensures { IsTrue result ↔
+            ((q : EntityUID) → has_ancestor other.now q ≡ true → has_ancestor self.now q ≡ true) }
+    {
+        if !are_ancestors(&other.parents, self) {
+            return false;
+        }
+        are_ancestors(&other.indirect_ancestors, self)
+    }
+
+    /// Whether both have the same uid, attributes, tags and ancestors. Which ancestors are parents is not
+    /// looked at. It takes no memory; it looks each ancestor of the one up in the other.
+    pub fn deep_eq(&self, other: &Entity) -> bool
+        ensures equal { IsTrue result ↔ IsDeepEqual self.now other.now }
+        ensures equivalence { IsEquivalenceRelation IsDeepEqual }
+    {
+        let same = self.uid == other.uid;
+        if !same {
+            return false;
+        }
+        if !same_fields(&self.attrs, &other.attrs) {
+            return false;
+        }
+        if !same_fields(&self.tags, &other.tags) {
+            return false;
+        }
+        if !self.has_all_of(other) {
+            return false;
+        }
+        other.has_all_of(self)
+    }
+
+    /// The uid, the attributes, the indirect ancestors, the parents and the tags. It takes no memory.
+    pub fn into_inner(
+        self,
+    ) -> (
+        EntityUID,
+        BTreeMap<String, PartialValue>,
+        HashSet<EntityUID>,
+        HashSet<EntityUID>,
+        BTreeMap<String, PartialValue>,
+    )
+        ensures uid { result.0 ≡ self.uid }
+        ensures attrs { fields_of result.1.entries ≡ self.attrs }
+        ensures indirect { set.from_list result.2.keys ≡ self.indirect }
+        ensures parents { set.from_list result.3.keys ≡ self.parents }
+        ensures tags { fields_of result.4.entries ≡ self.tags }
+    {
+        let Entity {
+            uid,
+            attrs,
+            indirect_ancestors,
+            parents,
+            tags,
+        } = self;
+        (uid, attrs, indirect_ancestors, parents, tags)
+    }
+
+    // Refuses an entity that is its own ancestor.
+    fn check_self(&self) -> Result<(), EntitiesError>
+        ensures ok { OnOk result (PassesSelf self.now) }
+        ensures err { IfErr result (IsFault self.now) }
+    {
+        if self.is_descendant_of(&self.uid) {
+            let uid = copy_of(&self.uid)?;
+            return Err(EntitiesError::SelfAncestor { uid });
+        }
+        Ok(())
+    }
+
+    // Refuses an entity of which a parent is an indirect ancestor too.
+    fn check_duplicates(&self) -> Result<(), EntitiesError>
+        ensures ok { OnOk result (NonePasses (is_in_both self.now)) }
+        ensures err { IfErr result (λ e. PassesSelf self.now → IsFault self.now e) }
+    {
+        match least_common(&self.parents, &self.indirect_ancestors) {
+            None => Ok(()),
+            Some(ancestor) => {
+                let ancestor = copy_of(ancestor)?;
+                let uid = copy_of(&self.uid)?;
+                Err(EntitiesError::DuplicateAncestor { uid, ancestor })
+            }
+        }
+    }
+
+    // The least parent that is no action or, where there is none, the least such indirect ancestor.
+    fn least_non_action_ancestor(&self) -> Option<&EntityUID>
+        ensures { MatchOption (option_copied result) (HasOnlyActionAncestors self.now) (IsLeastNonAction self.now) }
+    {
+        match least_non_action(&self.parents) {
+            Some(parent) => Some(parent),
+            None => least_non_action(&self.indirect_ancestors),
+        }
+    }
+
+    // Refuses an action that has an ancestor which is none.
+    fn check_action(&self) -> Result<(), EntitiesError>
+        ensures ok { OnOk result (IsTrue (is_action self.now.uid) → HasOnlyActionAncestors self.now) }
+        ensures err { IfErr result (λ e. PassesDuplicates self.now → IsFault self.now e) }
+    {
+        if !self.uid.is_action() {
+            return Ok(());
+        }
+        let Some(parent) = self.least_non_action_ancestor() else {
+            return Ok(());
+        };
+        let parent = copy_of(parent)?;
+        let uid = copy_of(&self.uid)?;
+        Err(EntitiesError::ActionParentIsNotAction { uid, parent })
+    }
+
+    // The first reserved key in an attribute or, where there is none, in a tag.
+    fn reserved_key(&self) -> Option<&str>
+        ensures { option_copied result ≡ reserved_key self.now }
+    {
+        if let Some(key) = in_fields(&self.attrs) {
+            return Some(key);
+        }
+        in_fields(&self.tags)
+    }
+
+    // Refuses an entity with a reserved key in a record.
+    fn check_keys(&self, alloc: Global) -> Result<(), EntitiesError>
+        ensures ok { OnOk result (reserved_key self.now ≡ None) }
+        ensures err { IfErr result (λ e. PassesActions self.now → IsFault self.now e) }
+    {
+        let Some(key) = self.reserved_key() else {
+            return Ok(());
+        };
+        let key = String::from_str(alloc, key)?;
+        Err(EntitiesError::ReservedKey(key))
+    }
+
+    /// Looks for what an entity may not have, and answers the first that it finds, in this order:
+    ///
+    /// - `SelfAncestor`: the entity is among its parents or its indirect ancestors;
+    /// - `DuplicateAncestor`: a parent is an indirect ancestor too; the least is named;
+    /// - `ActionParentIsNotAction`: the entity is an action, and an ancestor is none; the least such
+    ///   parent is named or, where there is none, the least such indirect ancestor;
+    /// - `ReservedKey`: a record in a value has a reserved key. The attributes are walked key by key, then
+    ///   the tags: a record key by key, each key tested before its value is walked, and a set element by
+    ///   element. The keys of attributes and tags themselves are not tested, and residuals are skipped;
+    /// - `Memory`: the copy of a uid or a key was refused.
+    ///
+    /// It takes memory for those copies alone; it walks the values by recursion, a small frame a level, and
+    /// carries 10,000 levels.
+    /// Where several uids would do, the original names any of them.
+    pub fn validate(&self, alloc: Global) -> Result<(), EntitiesError>
+        ensures ok { OnOk result (IsValid self.now) }
+        ensures err { IfErr result (IsFault self.now) }
+    {
+        self.check_self()?;
+        self.check_duplicates()?;
+        self.check_action()?;
+        self.check_keys(alloc)
+    }
+
+    // Whether no parent is an indirect ancestor too.
+    fn has_no_duplicate(&self) -> bool
+        ensures { IsTrue result ↔ NonePasses (is_in_both self.now) }
+    {
+        match least_common(&self.parents, &self.indirect_ancestors) {
+            None => true,
+            Some(_ancestor) => false,
+        }
+    }
+
+    // Whether the entity, if it is an action, has no ancestor that is none.
+    fn has_fit_ancestors(&self) -> bool
+        ensures { IsTrue result ↔ (IsTrue (is_action self.now.uid) → HasOnlyActionAncestors self.now) }
+    {
+        if !self.uid.is_action() {
+            return true;
+        }
+        self.least_non_action_ancestor().is_none()
+    }
+
+    /// Whether [`Entity::validate`] finds nothing. It takes no memory, and walks the values as that does.
+    ///
+    /// The original has no such call.
+    pub fn is_valid(&self) -> bool
+        ensures { IsTrue result ↔ IsValid self.now }
+    {
+        if self.is_descendant_of(&self.uid) {
+            return false;
+        }
+        if !self.has_no_duplicate() {
+            return false;
+        }
+        if !self.has_fit_ancestors() {
+            return false;
+        }
+        self.reserved_key().is_none()
+    }
+
+    /// The entity as it is, where [`Entity::validate`] finds nothing, and else its error.
+    pub fn try_validate(self, alloc: Global) -> Result<Entity, EntitiesError>
+        ensures ok { IfOk result (λ e. (e ≡ self) × IsValid self) }
+        ensures err { IfErr result (IsFault self) }
+    {
+        self.validate(alloc)?;
+        Ok(self)
+    }
+
+    /// Takes in an indirect ancestor; a uid that is a parent or one already changes nothing.
+    ///
+    /// It takes memory, and where that is refused the entity stays as it was.
+    pub fn add_indirect_ancestor(&mut self, uid: EntityUID) -> Result<(), AllocError>
+        ensures ok { OnOk result (self.new ≡ with_indirect_ancestor self.old uid) }
+        ensures err { OnErr result (self.new ≡ self.old) }
+    {
+        if self.is_child_of(&uid) {
+            return Ok(());
+        }
+        self.indirect_ancestors.insert(uid)?;
+        Ok(())
+    }
+
+    /// Takes in a parent, which is then no indirect ancestor; a parent already changes nothing but that.
+    ///
+    /// It takes memory, and where that is refused the entity stays as it was.
+    pub fn add_parent(&mut self, uid: EntityUID) -> Result<(), AllocError>
+        ensures ok { OnOk result (self.new ≡ record self.old {
+          parents = set.insert self.old.parents uid;
+          indirect = set.remove self.old.indirect uid;
+        }) }
+        ensures err { OnErr result (self.new ≡ self.old) }
+    {
+        let copy = copy_of(&uid)?;
+        self.parents.insert(uid)?;
+        self.indirect_ancestors.remove(&copy);
+        Ok(())
+    }
+
+    /// Takes a uid out of the indirect ancestors; the parents stay. It takes no memory.
+    pub fn remove_indirect_ancestor(&mut self, uid: &EntityUID)
+        ensures { self.new ≡ record self.old { indirect = set.remove self.old.indirect uid.now } }
+    {
+        self.indirect_ancestors.remove(uid);
+    }
+
+    /// Takes a uid out of the parents; the indirect ancestors stay. It takes no memory.
+    pub fn remove_parent(&mut self, uid: &EntityUID)
+        ensures { self.new ≡ record self.old { parents = set.remove self.old.parents uid.now } }
+    {
+        self.parents.remove(uid);
+    }
+
+    /// Takes all uids out of the indirect ancestors; the parents stay. It takes no memory.
+    pub fn remove_all_indirect_ancestors(&mut self)
+        ensures { self.new ≡ record self.old { indirect = set.empty } }
+    {
+        self.indirect_ancestors.clear();
+    }
+}

@@ -1,0 +1,19 @@
+//! One entity: what it holds, how it compares, when it is valid, how it is written, and how it is a node of a graph.
+//!
+//! Proved: each reader and mutator of [`Entity`] as a step on a uid, two lists of fields with ascending keys and two
+//! sets of uids; that `validate` names the first fault in a stated order; that [`Entity`] and [`SharedEntity`] are
+//! lawful nodes, whose edges are the ancestors. The store of entities stands above, in `cedar_entities`.
+#![tactic(auto, using(cedar_ids::specs::UidOf::same_uid_decides))]
+
+pub mod entity;
+mod entity_text;
+pub mod err;
+pub mod iters;
+mod least;
+pub mod node;
+mod reserved;
+
+pub use entity::Entity;
+pub use err::EntitiesError;
+pub use iters::{Ancestors, Keys, Pairs, Uids};
+pub use node::SharedEntity;

@@ -1,0 +1,163 @@
+//! Entities as nodes of a graph: their edges are their ancestors, and their parents are the direct ones.
+ghost use Rattle.std.specs.Prelude.{◌≡◌, IfOk, OnOk, OnErr, map};
+ghost use Rattle.std.specs.FinSet as set;
+ghost use Rattle.std.specs.Set.{is_member};
+ghost use Rattle.cedar_ids.specs.UidOf.{same_uid};
+
+use crate::entity::Entity;
+use crate::iters::Ancestors;
+use cedar_graph::TCNode;
+use cedar_ids::entity::EntityUID;
+use std::alloc::{AllocError, Global};
+use std::rc::Rc;
+
+// What an iterator has left, as a list.
+fn listed<'a>(alloc: Global, uids: Ancestors<'a>) -> Result<Vec<&'a EntityUID>, AllocError>
+    ensures { IfOk result (λ v. map (λ x. x.now) v.items ≡ uids.entry) }
+{
+    uids.collect(alloc)
+}
+
+impl TCNode<EntityUID> for Entity {
+    ghost use Rattle.cedar_ids.specs.declared.entity.EntityUID.{EntityUID};
+    ghost use Rattle.std.specs.FinSet as set;
+    ghost use Rattle.cedar_entity.specs.UidSets.{UidSet};
+    ghost use Rattle.cedar_entity.specs.View.{EntityView, has_ancestor, Rest, rest, Kept, kept, ancestors_respect, parents_are_ancestors};
+
+    ghost Rest = { Rest };
+
+    ghost Kept = { Kept };
+
+    ghost key = { λ e. e.uid };
+
+    ghost edges = { has_ancestor };
+
+    ghost direct = { λ e. set.contains e.parents };
+
+    ghost rest = { rest };
+
+    ghost kept = { kept };
+
+    /// A copy of the uid. It takes memory, and is refused only where that is.
+    fn get_key(&self, _alloc: Global) -> Result<EntityUID, AllocError> {
+        self.uid().clone()
+    }
+
+    /// As [`Entity::add_indirect_ancestor`].
+    fn add_edge_to(&mut self, _alloc: Global, k: EntityUID) -> Result<(), AllocError> {
+        self.add_indirect_ancestor(k)
+    }
+
+    /// The ancestors. It takes memory for the list, and is refused only where that is.
+    fn out_edges(&self, alloc: Global) -> Result<Vec<&EntityUID>, AllocError> {
+        listed(alloc, self.ancestors())
+    }
+
+    /// As [`Entity::is_descendant_of`].
+    fn has_edge_to(&self, k: &EntityUID) -> bool {
+        self.is_descendant_of(k)
+    }
+
+    /// As [`Entity::remove_all_indirect_ancestors`]. It takes no memory and is never refused.
+    fn reset_edges(&mut self, _alloc: Global) -> Result<(), AllocError>
+        ensures exact { self.new ≡ record self.old { indirect = set.empty } }
+        ensures ok { OnOk result ((q : _) →
+            has_ancestor self.new q ≡ set.contains self.old.parents q) }
+        ensures err { OnErr result ((q : _) → has_ancestor self.new q ≡ has_ancestor self.old q) }
+        ensures err_kept { OnErr result (kept self.new ≡ kept self.old) }
+        ensures direct { (q : _) →
+            set.contains self.new.parents q ≡ set.contains self.old.parents q }
+        ensures key { self.new.uid ≡ self.old.uid }
+        ensures rest { rest self.new ≡ rest self.old }
+    {
+        self.remove_all_indirect_ancestors();
+        Ok(())
+    }
+
+    /// The parents alone. It takes memory for the list, and is refused only where that is.
+    fn direct_edges(&self, alloc: Global) -> Result<Vec<&EntityUID>, AllocError>
+        ensures exact { IfOk result (λ v. (q : _) →
+            is_member same_uid (map (λ x. x.now) v.items) q ≡ set.contains self.now.parents q) }
+    {
+        self.parents().collect(alloc)
+    }
+
+    ghost respects_eq = { ancestors_respect };
+
+    ghost direct_are_edges = { parents_are_ancestors };
+}
+
+/// An entity that stores share. A copy shares it too; a change first makes an entity of one's own where it
+/// is shared.
+#[derive(Clone, Debug, Drop)]
+pub struct SharedEntity(pub Rc<Entity>);
+
+impl TCNode<EntityUID> for SharedEntity {
+    ghost use Rattle.cedar_ids.specs.declared.entity.EntityUID.{EntityUID};
+    ghost use Rattle.std.specs.FinSet as set;
+    ghost use Rattle.cedar_entity.specs.UidSets.{UidSet};
+    ghost use Rattle.cedar_entity.specs.View.{EntityView, has_ancestor, Rest, rest, Kept, kept, ancestors_respect, parents_are_ancestors};
+
+    ghost Rest = { Rest };
+
+    ghost Kept = { Kept };
+
+    ghost key = { λ n. n.0.value.uid };
+
+    ghost edges = { λ n. has_ancestor n.0.value };
+
+    ghost direct = { λ n. set.contains n.0.value.parents };
+
+    ghost rest = { λ n. rest n.0.value };
+
+    ghost kept = { λ n. kept n.0.value };
+
+    /// A copy of the uid. It takes memory, and is refused only where that is.
+    fn get_key(&self, alloc: Global) -> Result<EntityUID, AllocError> {
+        self.0.get_key(alloc)
+    }
+
+    /// As that of the entity, where it is shared on a copy of its own.
+    fn add_edge_to(&mut self, alloc: Global, k: EntityUID) -> Result<(), AllocError> {
+        Rc::make_mut(&mut self.0)?.add_edge_to(alloc, k)
+    }
+
+    /// The ancestors. It takes memory for the list, and is refused only where that is.
+    fn out_edges(&self, alloc: Global) -> Result<Vec<&EntityUID>, AllocError> {
+        self.0.out_edges(alloc)
+    }
+
+    /// As that of the entity. It takes no memory.
+    fn has_edge_to(&self, k: &EntityUID) -> bool {
+        self.0.has_edge_to(k)
+    }
+
+    /// As that of the entity, where it is shared on a copy of its own: that takes memory.
+    fn reset_edges(&mut self, alloc: Global) -> Result<(), AllocError>
+        ensures exact { OnOk result
+            (self.new.0.value ≡ record self.old.0.value { indirect = set.empty }) }
+        ensures ok { OnOk result ((q : _) →
+            has_ancestor self.new.0.value q ≡ set.contains self.old.0.value.parents q) }
+        ensures err { OnErr result ((q : _) →
+            has_ancestor self.new.0.value q ≡ has_ancestor self.old.0.value q) }
+        ensures err_kept { OnErr result (kept self.new.0.value ≡ kept self.old.0.value) }
+        ensures direct { (q : _) →
+            set.contains self.new.0.value.parents q ≡ set.contains self.old.0.value.parents q }
+        ensures key { self.new.0.value.uid ≡ self.old.0.value.uid }
+        ensures rest { rest self.new.0.value ≡ rest self.old.0.value }
+    {
+        Rc::make_mut(&mut self.0)?.reset_edges(alloc)
+    }
+
+    /// The parents alone. It takes memory for the list, and is refused only where that is.
+    fn direct_edges(&self, alloc: Global) -> Result<Vec<&EntityUID>, AllocError>
+        ensures exact { IfOk result (λ v. (q : _) → is_member same_uid (map (λ x. x.now) v.items) q
+            ≡ set.contains self.now.0.value.parents q) }
+    {
+        self.0.direct_edges(alloc)
+    }
+
+    ghost respects_eq = { λ n. ancestors_respect n.0.value };
+
+    ghost direct_are_edges = { λ n. parents_are_ancestors n.0.value };
+}

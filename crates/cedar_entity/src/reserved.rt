@@ -1,0 +1,75 @@
+//! The first reserved key that a walk of a value meets. It takes no memory, and recurses once a level.
+ghost use Rattle.std.specs.Prelude.{◌≡◌};
+ghost use Rattle.std.specs.Option.{option_copied};
+ghost use Rattle.cedar_terms.specs.ValueTree.{value_trees};
+ghost use Rattle.cedar_terms.specs.ValueViews.{field_trees};
+ghost use Rattle.cedar_entity.specs.Fields.{fields_of};
+ghost use Rattle.cedar_entity.specs.Validity.{reserved_in, reserved_in_all, reserved_in_record, reserved_in_partial, reserved_in_fields};
+
+use cedar_terms::{PartialValue, Value, ValueKind, is_reserved_key};
+use std::collections::BTreeMap;
+
+// The first in a value.
+#[cycle(find)]
+fn in_value<'a>(value: &'a Value) -> Option<&'a str>
+    ensures { option_copied result ≡ reserved_in value.now }
+{
+    match &value.value {
+        ValueKind::Lit(_) => None,
+        ValueKind::Set(elements) => in_elements(elements),
+        ValueKind::Record(fields) => in_record(fields),
+        ValueKind::ExtensionValue(_) => None,
+    }
+}
+
+// The first in the elements of a set.
+#[cycle(find)]
+fn in_elements<'a>(elements: &'a Vec<Value>) -> Option<&'a str>
+    ensures { option_copied result ≡ reserved_in_all (value_trees elements.now.items) }
+{
+    for element in elements {
+        if let Some(found) = in_value(element) {
+            return Some(found);
+        }
+    }
+    None
+}
+
+// The first in a record: among its keys and, after each key, in its value.
+#[cycle(find)]
+fn in_record<'a>(fields: &'a BTreeMap<String, Value>) -> Option<&'a str>
+    ensures { option_copied result ≡ reserved_in_record (field_trees fields.now.entries) }
+{
+    for (key, value) in fields.iter() {
+        let key = key.as_str();
+        if is_reserved_key(key) {
+            return Some(key);
+        }
+        if let Some(found) = in_value(value) {
+            return Some(found);
+        }
+    }
+    None
+}
+
+// The first in a value; none in a residual.
+fn in_partial<'a>(value: &'a PartialValue) -> Option<&'a str>
+    ensures { option_copied result ≡ reserved_in_partial value.now }
+{
+    match value {
+        PartialValue::Value(value) => in_value(value),
+        PartialValue::Residual(_) => None,
+    }
+}
+
+// The first in attributes or tags, key by key.
+pub(crate) fn in_fields<'a>(fields: &'a BTreeMap<String, PartialValue>) -> Option<&'a str>
+    ensures { option_copied result ≡ reserved_in_fields (fields_of fields.now.entries) }
+{
+    for pair in fields.iter() {
+        if let Some(found) = in_partial(pair.1) {
+            return Some(found);
+        }
+    }
+    None
+}

@@ -1,0 +1,391 @@
+mod edits;
+mod replays;
+mod streams;
+
+use cedar_store::{RunError, run};
+use std::alloc::Global;
+use std::io;
+use std::io::{ErrorKind, Read, Write};
+use std::process::Abort;
+use std::test::Fail;
+
+// What a run writes, and its status.
+fn answer(alloc: Global, input: &[u8]) -> Result<(Vec<u8>, u8), RunError> {
+    let mut reader = input;
+    let mut out = Vec::new(alloc);
+    let status = run(alloc, &mut reader, &mut out)?;
+    Ok((out, status))
+}
+
+// Each input, with what is written and the status that are due.
+fn shows(rt: &impl Abort, alloc: Global, cases: &[(&[u8], &[u8], u8)]) -> Result<(), Fail> {
+    for (input, output, status) in cases {
+        let (out, found) = answer(alloc, input)?;
+        assert!(rt; out.as_slice() == *output, "{input:?} writes {out:?}");
+        assert!(rt; found == *status, "{input:?} ends with {found}");
+    }
+    Ok(())
+}
+
+#[test]
+fn ancestors_are_found_over_parents(rt: HostRuntime) -> Result<(), Fail> {
+    shows(
+        &rt,
+        rt.alloc(),
+        &[
+            (
+                b"ent\tA::\"a\"\tA::\"b\"\nent\tA::\"b\"\tA::\"c\"\nbuild\nanc\tA::\"a\"\nanc\tA::\"c\"\n",
+                b"ok 2\nanc\tA::\"b\"\tA::\"c\"\nno entity\n",
+                0,
+            ),
+            // A chain given from its end, and one that forks and joins.
+            (
+                b"ent\tA::\"d\"\nent\tA::\"c\"\tA::\"d\"\nent\tA::\"b\"\tA::\"c\"\nent\tA::\"a\"\tA::\"b\"\nbuild\nanc\tA::\"a\"\n",
+                b"ok 4\nanc\tA::\"b\"\tA::\"c\"\tA::\"d\"\n",
+                0,
+            ),
+            (
+                b"ent\tA::\"a\"\tA::\"d\"\tA::\"b\"\nent\tA::\"b\"\tA::\"c\"\nent\tA::\"d\"\tA::\"c\"\nent\tA::\"c\"\nbuild\nanc\tA::\"a\"\nanc\tA::\"c\"\n",
+                b"ok 4\nanc\tA::\"b\"\tA::\"c\"\tA::\"d\"\nanc\n",
+                0,
+            ),
+        ],
+    )
+}
+
+#[test]
+fn ancestors_come_in_the_order_of_uids(rt: HostRuntime) -> Result<(), Fail> {
+    shows(
+        &rt,
+        rt.alloc(),
+        &[(
+            b"ent\tA::\"a\"\tB::A::\"x\"\tA::B::\"x\"\tB::\"z\"\tB::\"a\"\tA::\"zz\"\tA::\"z\"\tAA::\"a\"\nbuild\nanc\tA::\"a\"",
+            b"ok 1\nanc\tA::\"z\"\tA::\"zz\"\tB::A::\"x\"\tAA::\"a\"\tB::\"a\"\tB::\"z\"\tA::B::\"x\"\n",
+            0,
+        )],
+    )
+}
+
+#[test]
+fn a_parent_that_is_given_twice_counts_once(rt: HostRuntime) -> Result<(), Fail> {
+    shows(
+        &rt,
+        rt.alloc(),
+        &[(
+            b"ent\tA::\"a\"\tA::\"b\"\tA::\"b\"\nent\tA::\"a\"\tA::\"b\"\nbuild\nanc\tA::\"a\"\n",
+            b"ok 1\nanc\tA::\"b\"\n",
+            0,
+        )],
+    )
+}
+
+#[test]
+fn a_differing_duplicate_is_refused_and_an_equal_one_is_not(rt: HostRuntime) -> Result<(), Fail> {
+    shows(
+        &rt,
+        rt.alloc(),
+        &[
+            (
+                b"ent\tA::\"a\"\tA::\"b\"\nent\tA::\"a\"\tA::\"c\"\nbuild\nanc\tA::\"a\"\n",
+                b"refused: duplicate A::\"a\"\nno entity\n",
+                0,
+            ),
+            (
+                b"ent\tA::\"a\"\tA::\"b\"\nent\tA::\"a\"\tA::\"b\"\nbuild\nanc\tA::\"a\"\n",
+                b"ok 1\nanc\tA::\"b\"\n",
+                0,
+            ),
+            // Fewer and more parents differ; the first place that differs is named.
+            (
+                b"ent\tA::\"a\"\tA::\"b\"\nent\tA::\"c\"\nent\tA::\"c\"\tA::\"d\"\nent\tA::\"a\"\nbuild\n",
+                b"refused: duplicate A::\"c\"\n",
+                0,
+            ),
+            // Before a cycle, wherever that stands in the list.
+            (
+                b"ent\tA::\"x\"\tA::\"x\"\nent\tA::\"a\"\nent\tA::\"a\"\tA::\"b\"\nbuild\n",
+                b"refused: duplicate A::\"a\"\n",
+                0,
+            ),
+        ],
+    )
+}
+
+#[test]
+fn a_cycle_is_refused(rt: HostRuntime) -> Result<(), Fail> {
+    shows(
+        &rt,
+        rt.alloc(),
+        &[
+            (b"ent\tA::\"a\"\tA::\"a\"\nbuild\n", b"refused: cycle\n", 0),
+            (
+                b"ent\tA::\"a\"\tA::\"b\"\nent\tA::\"b\"\tA::\"c\"\nent\tA::\"c\"\tA::\"a\"\nbuild\nanc\tA::\"a\"\n",
+                b"refused: cycle\nno entity\n",
+                0,
+            ),
+            // A cycle that the first entity only leads to.
+            (
+                b"ent\tA::\"z\"\tA::\"a\"\nent\tA::\"a\"\tA::\"b\"\nent\tA::\"b\"\tA::\"a\"\nbuild\n",
+                b"refused: cycle\n",
+                0,
+            ),
+        ],
+    )
+}
+
+#[test]
+fn each_build_starts_anew_and_empties_what_waits(rt: HostRuntime) -> Result<(), Fail> {
+    shows(
+        &rt,
+        rt.alloc(),
+        &[
+            (
+                b"build\nent\tA::\"a\"\nbuild\nanc\tA::\"a\"\n",
+                b"ok 0\nok 1\nanc\n",
+                0,
+            ),
+            (
+                b"ent\tA::\"a\"\nbuild\nent\tA::\"b\"\nbuild\nanc\tA::\"a\"\nanc\tA::\"b\"\n",
+                b"ok 1\nok 1\nno entity\nanc\n",
+                0,
+            ),
+            // A refused build leaves an empty store and nothing that waits.
+            (
+                b"ent\tA::\"a\"\nbuild\nent\tA::\"b\"\tA::\"b\"\nbuild\nanc\tA::\"a\"\nbuild\n",
+                b"ok 1\nrefused: cycle\nno entity\nok 0\n",
+                0,
+            ),
+            // An entity that waits is not in the store yet.
+            (
+                b"ent\tA::\"a\"\nanc\tA::\"a\"\nbuild\nanc\tA::\"a\"\n",
+                b"no entity\nok 1\nanc\n",
+                0,
+            ),
+        ],
+    )
+}
+
+#[test]
+fn empty_input_and_empty_lines_write_nothing(rt: HostRuntime) -> Result<(), Fail> {
+    shows(
+        &rt,
+        rt.alloc(),
+        &[
+            (b"", b"", 0),
+            (b"\n", b"", 0),
+            (b"\n\nbuild\n\n", b"ok 0\n", 0),
+            (b"build", b"ok 0\n", 0),
+        ],
+    )
+}
+
+#[test]
+fn the_first_line_that_is_no_command_ends_the_run(rt: HostRuntime) -> Result<(), Fail> {
+    shows(
+        &rt,
+        rt.alloc(),
+        &[
+            (b"frob", b"line 1: not a command\n", 2),
+            (b"\nfrob\n", b"line 2: not a command\n", 2),
+            (b"build\nfrob\nbuild\n", b"ok 0\nline 2: not a command\n", 2),
+            (
+                b"ent\tA::\"a\"\nbuild\n\nanc\tA::\"a\"\nent\tA::a\nbuild\n",
+                b"ok 1\nanc\nline 5: not a command\n",
+                2,
+            ),
+        ],
+    )
+}
+
+#[test]
+fn lines_of_another_form_are_no_commands(rt: HostRuntime) -> Result<(), Fail> {
+    let lines: [&[u8]; 32] = [
+        b"build\r",
+        b"build\t",
+        b"build ",
+        b" build",
+        b"build\tA::\"a\"",
+        b"Build",
+        b"\t",
+        b"\tbuild",
+        b"ent",
+        b"ent\t",
+        b"ent\tA::\"a\"\t",
+        b"ent\t\tA::\"a\"",
+        b"ent\tA::a",
+        b"ent A::\"a\"",
+        b"ent\tA::\"a\"\tA::b",
+        b"ent\tA::\"it's\"",
+        b"ent\tA::\"\\u{0041}\"",
+        b"ent\tif::\"a\"",
+        b"ent\tA::\"\\u{80}\"",
+        b"ent\tA::\"\xc3\xa9\"",
+        b"ent\tA::\"a\"\tA::\"\\u{80}\"",
+        b"anc",
+        b"anc\t",
+        b"anc\tA::\"a\"\tA::\"b\"",
+        b"anc\tA::\"a\"\t",
+        b"anc\tA::\"\\u{80}\"",
+        b"anc\tA::\"a\"\x80",
+        b"anc\tA::\"a\x7f\"",
+        b"anc\tA::\"a\0\"",
+        b"\x80",
+        b"b\xc3\xa9",
+        b"\x0c",
+    ];
+    for line in lines {
+        let (out, status) = answer(rt.alloc(), line)?;
+        assert!(rt;
+            out.as_slice() == b"line 1: not a command\n".as_slice(),
+            "{line:?} writes {out:?}"
+        );
+        assert!(rt; status == 2, "{line:?} ends with {status}");
+    }
+    Ok(())
+}
+
+#[test]
+fn words_without_a_meaning_yet_are_no_commands(rt: HostRuntime) -> Result<(), Fail> {
+    let lines: [&[u8]; 8] = [
+        b"static\tp\tpermit",
+        b"template\tt\tnone",
+        b"link\tt\tl",
+        b"unlink\tl",
+        b"other",
+        b"merge\tkeep",
+        b"ids",
+        b"slice\tA::\"a\"",
+    ];
+    for line in lines {
+        let (out, status) = answer(rt.alloc(), line)?;
+        assert!(rt;
+            out.as_slice() == b"line 1: not a command\n".as_slice(),
+            "{line:?} writes {out:?}"
+        );
+        assert!(rt; status == 2, "{line:?} ends with {status}");
+    }
+    Ok(())
+}
+
+#[test]
+fn escaped_eids_are_read_and_written_alike(rt: HostRuntime) -> Result<(), Fail> {
+    shows(
+        &rt,
+        rt.alloc(),
+        &[(
+            b"ent\tA::\"it\\'s\\t\"\tA::\"\\u{1}\\0\"\nbuild\nanc\tA::\"it\\'s\\t\"\n",
+            b"ok 1\nanc\tA::\"\\u{1}\\0\"\n",
+            0,
+        )],
+    )
+}
+
+// A reader that gives a few bytes at a time, and fails at one of its reads.
+#[derive(Drop)]
+struct Failing<'a> {
+    left: &'a [u8],
+    good: usize,
+}
+
+impl Read for Failing<'_> {
+    fn read(&mut self, buf: &mut [u8]) -> io::Result<usize> {
+        if self.good == 0 {
+            return Err(io::Error::from(ErrorKind::Other));
+        }
+        self.good -= 1;
+        let count = self.left.len().min(buf.len()).min(5);
+        buf[..count].copy_from_slice(&self.left[..count]);
+        self.left = &self.left[count..];
+        Ok(count)
+    }
+}
+
+#[test]
+fn a_failed_read_writes_nothing(rt: HostRuntime) -> Result<(), Fail> {
+    let alloc = rt.alloc();
+    let input = b"ent\tA::\"a\"\nbuild\nanc\tA::\"a\"\n".as_slice();
+    for good in 0..20 {
+        let mut out = Vec::new(alloc);
+        match run(alloc, &mut Failing { left: input, good }, &mut out) {
+            Ok(status) => {
+                assert_eq!(rt; status, 0);
+                assert_eq!(rt; out.as_slice(), b"ok 1\nanc\n".as_slice());
+                // The input takes six reads, and one more tells that it is at its end.
+                assert!(rt; good >= 7);
+            }
+            Err(error) => {
+                assert!(rt;
+                    matches!(error, RunError::Read),
+                    "after {good} reads: {error:?}"
+                );
+                assert!(rt; out.is_empty());
+                assert!(rt; good < 7);
+            }
+        }
+    }
+    Ok(())
+}
+
+// A writer that takes a few bytes at a time, and fails at one of its writes or at the flush.
+#[derive(Drop)]
+struct Full {
+    taken: usize,
+    good: usize,
+    flushes: bool,
+}
+
+impl Write for Full {
+    fn write(&mut self, buf: &[u8]) -> io::Result<usize> {
+        if self.good == 0 {
+            return Err(io::Error::from(ErrorKind::Other));
+        }
+        self.good -= 1;
+        let count = buf.len().min(3);
+        self.taken = self.taken.saturating_add(count);
+        Ok(count)
+    }
+
+    fn flush(&mut self) -> io::Result<()> {
+        if self.flushes {
+            Ok(())
+        } else {
+            Err(io::Error::from(ErrorKind::Other))
+        }
+    }
+}
+
+#[test]
+fn a_failed_write_or_flush_is_a_write_fault(rt: HostRuntime) -> Result<(), Fail> {
+    let alloc = rt.alloc();
+    for good in 0..6 {
+        for flushes in [true, false] {
+            let mut reader = b"ent\tA::\"a\"\nbuild\nanc\tA::\"a\"\n".as_slice();
+            let mut writer = Full {
+                taken: 0,
+                good,
+                flushes,
+            };
+            let answer = run(alloc, &mut reader, &mut writer);
+            // Nine bytes are three writes.
+            if good >= 3 && flushes {
+                assert!(rt; matches!(answer, Ok(0)), "{answer:?}");
+                assert_eq!(rt; writer.taken, 9);
+            } else {
+                assert!(rt; matches!(answer, Err(RunError::Write)), "{answer:?}");
+            }
+        }
+    }
+    Ok(())
+}
+
+#[test]
+fn faults_have_their_texts(rt: HostRuntime) -> Result<(), Fail> {
+    let alloc = rt.alloc();
+    assert_eq!(rt; RunError::Read.to_string(alloc)?.as_str(), "read fault");
+    assert_eq!(rt; RunError::Write.to_string(alloc)?.as_str(), "write fault");
+    assert_eq!(rt;
+        RunError::Memory.to_string(alloc)?.as_str(),
+        "out of memory"
+    );
+    Ok(())
+}
