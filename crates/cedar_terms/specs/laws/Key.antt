@@ -120,11 +120,35 @@ left a b c d e = cc
 pub right : (a b c d : Key) → fork a b ≡ fork c d → b ≡ d
 right a b c d e = cc
 
+-- the first part of a pair
+abbrev pub left_at : Key → Key
+left_at (tip n) = tip n
+left_at (fork a b) = a
+
+-- the second part of a pair
+abbrev pub right_at : Key → Key
+right_at (tip n) = tip n
+right_at (fork a b) = b
+
+-- what is read back from its key is told apart by its key
+pub read_back : {A : Type 0} (f : A → Key) (g : Key → A) → ((x : A) → g (f x) ≡ x) → (x y : A) → f x ≡ f y → x ≡ y
+read_back f g h x y e = sym (h x) ∙ ap g e ∙ h y
+
 -- ---- keys of numbers and lists
 
 -- the key of a number
 abbrev pub nat_key : ℕ → Key
 nat_key n = tip (pos n)
+
+-- the integer of a key
+abbrev pub int_at : Key → ℤ
+int_at (tip n) = n
+int_at (fork a b) = pos 0
+
+-- the number of a key
+abbrev pub nat_at : Key → ℕ
+nat_at (tip (pos n)) = n
+nat_at k = 0
 
 -- numbers of one key are the same
 pub nat_key-inj : (a b : ℕ) → nat_key a ≡ nat_key b → a ≡ b
@@ -138,6 +162,16 @@ nat_key-cmp a b = grind (arith, nat_tests)
 abbrev pub list_key : {A : Type 0} → (A → Key) → List A → Key
 list_key f [] = nat_key 0
 list_key f (x ∷ xs) = fork (f x) (list_key f xs)
+
+-- the list of a key
+abbrev pub list_at : {A : Type 0} → (Key → A) → Key → List A
+list_at g (tip n) = []
+list_at g (fork k l) = g k ∷ list_at g l
+
+-- where elements are read back from their keys, so are lists
+pub list_at-list_key : {A : Type 0} (f : A → Key) (g : Key → A) → ((x : A) → g (f x) ≡ x) → (xs : List A) → list_at g (list_key f xs) ≡ xs
+list_at-list_key f g h [] = refl
+list_at-list_key f g h (x ∷ xs) = λ i. h x i ∷ list_at-list_key f g h xs i
 
 -- where elements of one key are the same, so are lists
 pub list_key-inj : {A : Type 0} (f : A → Key) → ((x y : A) → f x ≡ f y → x ≡ y) → (xs ys : List A) → list_key f xs ≡ list_key f ys → xs ≡ ys
@@ -160,9 +194,17 @@ list_key-cmp f R h (x ∷ xs) (y ∷ ys) = λ i. ordering_then (h x y i) (list_k
 abbrev pub text_key : List ℕ → Key
 text_key s = list_key nat_key s
 
+-- the text of a key
+abbrev pub text_at : Key → List ℕ
+text_at k = list_at nat_at k
+
+-- a text is read back from its key
+pub text_at-text_key : (s : List ℕ) → text_at (text_key s) ≡ s
+text_at-text_key s = list_at-list_key nat_key nat_at (λ n. refl) s
+
 -- texts of one key are the same
 pub text_key-inj : (s t : List ℕ) → text_key s ≡ text_key t → s ≡ t
-text_key-inj s t e = list_key-inj nat_key nat_key-inj s t e
+text_key-inj s t e = read_back text_key text_at text_at-text_key s t e
 
 -- texts are ordered as their keys are
 pub text_key-cmp : (s t : List ℕ) → key_cmp (text_key s) (text_key t) ≡ slice_cmp nat_cmp s t

@@ -1,11 +1,11 @@
 -- The laws of a literal's equality and order.
-use Rattle.std.specs.Prelude.{◌≡◌, ℤ, Bool, true, false, refl}
+use Rattle.std.specs.Prelude.{◌≡◌, ℕ, zero, suc, ℤ, pos, Bool, true, false, refl}
 use Rattle.std.proofs.Common.{ap, sym, ◌∙◌, subst}
 use Rattle.std.specs.Bool.{Decides}
 use Rattle.std.specs.Ordering.{bool_cmp, is_eq}
 use Rattle.std.specs.Cmp.{IsTotalOrder, IsEquivalence, on_total, eq_by_cmp_equiv, Equal-is, tied_itself}
-use Rattle.cedar_terms.specs.laws.Key.{Key, tip, fork, key_cmp, key_cmp-Equal, key_cmp_total, nat_key, right, text_key, text_key-inj, text_key-cmp}
-use Rattle.cedar_terms.specs.laws.NameKeys.{uid_key, uid_key-inj, uid_key-cmp}
+use Rattle.cedar_terms.specs.laws.Key.{Key, tip, fork, key_cmp, key_cmp-Equal, key_cmp_total, left_at, right_at, read_back, nat_key, int_at, nat_at, text_key, text_at, text_at-text_key, text_key-cmp}
+use Rattle.cedar_terms.specs.laws.NameKeys.{uid_key, uid_at, uid_at-uid_key, uid_key-cmp}
 use Rattle.cedar_terms.specs.LiteralTree.{LiteralTree, bool_literal, long_literal, string_literal, uid_literal, literal_cmp, same_literal}
 
 -- the key of a truth value
@@ -13,11 +13,14 @@ abbrev pub bool_key : Bool → Key
 bool_key false = nat_key 0
 bool_key true = nat_key 1
 
-bool_key-inj : (a b : Bool) → bool_key a ≡ bool_key b → a ≡ b
-bool_key-inj false false e = refl
-bool_key-inj false true e = absurd (cc)
-bool_key-inj true false e = absurd (cc)
-bool_key-inj true true e = refl
+-- the truth value of a key
+abbrev pub bool_at : Key → Bool
+bool_at (tip (pos zero)) = false
+bool_at k = true
+
+bool_at-bool_key : (b : Bool) → bool_at (bool_key b) ≡ b
+bool_at-bool_key false = refl
+bool_at-bool_key true = refl
 
 bool_key-cmp : (a b : Bool) → key_cmp (bool_key a) (bool_key b) ≡ bool_cmp a b
 bool_key-cmp false false = refl
@@ -32,27 +35,27 @@ literal_key (long_literal n) = fork (nat_key 1) (tip n)
 literal_key (string_literal s) = fork (nat_key 2) (text_key s)
 literal_key (uid_literal u) = fork (nat_key 3) (uid_key u)
 
-in_tip : (a b : ℤ) → tip a ≡ tip b → a ≡ b
-in_tip a b e = cc
+-- the literal of a kind and of the key of its content
+abbrev pub literal_of : ℕ → Key → LiteralTree
+literal_of zero k = bool_literal (bool_at k)
+literal_of (suc zero) k = long_literal (int_at k)
+literal_of (suc (suc zero)) k = string_literal (text_at k)
+literal_of n k = uid_literal (uid_at k)
+
+-- the literal of a key
+abbrev pub literal_at : Key → LiteralTree
+literal_at k = literal_of (nat_at (left_at k)) (right_at k)
+
+-- a literal is read back from its key
+pub literal_at-literal_key : (x : LiteralTree) → literal_at (literal_key x) ≡ x
+literal_at-literal_key (bool_literal b) = ap bool_literal (bool_at-bool_key b)
+literal_at-literal_key (long_literal n) = refl
+literal_at-literal_key (string_literal s) = ap string_literal (text_at-text_key s)
+literal_at-literal_key (uid_literal u) = ap uid_literal (uid_at-uid_key u)
 
 -- literals of one key are the same
 pub literal_key-inj : (x y : LiteralTree) → literal_key x ≡ literal_key y → x ≡ y
-literal_key-inj (bool_literal a) (bool_literal b) e = ap bool_literal (bool_key-inj a b (right _ _ _ _ e))
-literal_key-inj (bool_literal a) (long_literal b) e = absurd (cc)
-literal_key-inj (bool_literal a) (string_literal b) e = absurd (cc)
-literal_key-inj (bool_literal a) (uid_literal b) e = absurd (cc)
-literal_key-inj (long_literal a) (bool_literal b) e = absurd (cc)
-literal_key-inj (long_literal a) (long_literal b) e = ap long_literal (in_tip a b (right _ _ _ _ e))
-literal_key-inj (long_literal a) (string_literal b) e = absurd (cc)
-literal_key-inj (long_literal a) (uid_literal b) e = absurd (cc)
-literal_key-inj (string_literal a) (bool_literal b) e = absurd (cc)
-literal_key-inj (string_literal a) (long_literal b) e = absurd (cc)
-literal_key-inj (string_literal a) (string_literal b) e = ap string_literal (text_key-inj a b (right _ _ _ _ e))
-literal_key-inj (string_literal a) (uid_literal b) e = absurd (cc)
-literal_key-inj (uid_literal a) (bool_literal b) e = absurd (cc)
-literal_key-inj (uid_literal a) (long_literal b) e = absurd (cc)
-literal_key-inj (uid_literal a) (string_literal b) e = absurd (cc)
-literal_key-inj (uid_literal a) (uid_literal b) e = ap uid_literal (uid_key-inj a b (right _ _ _ _ e))
+literal_key-inj x y e = read_back literal_key literal_at literal_at-literal_key x y e
 
 -- literals are ordered as their keys are
 pub literal_key-cmp : (x y : LiteralTree) → key_cmp (literal_key x) (literal_key y) ≡ literal_cmp x y

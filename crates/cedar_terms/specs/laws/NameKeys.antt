@@ -4,7 +4,7 @@ use Rattle.std.specs.Ordering.{nat_cmp, ordering_then}
 use Rattle.std.specs.Cmp.Lexicographic.{slice_cmp}
 use Rattle.cedar_ids.specs.Name.{NameParts, name_cmp}
 use Rattle.cedar_ids.specs.Uid.{UidParts, uid_cmp}
-use Rattle.cedar_terms.specs.laws.Key.{Key, fork, key_cmp, left, right, list_key, list_key-inj, list_key-cmp, text_key, text_key-inj, text_key-cmp}
+use Rattle.cedar_terms.specs.laws.Key.{Key, fork, key_cmp, left_at, right_at, read_back, list_key, list_at, list_at-list_key, list_key-cmp, text_key, text_at, text_at-text_key, text_key-cmp}
 
 -- the key of a path
 abbrev pub path_key : List (List ℕ) → Key
@@ -14,12 +14,17 @@ path_key p = list_key text_key p
 abbrev pub name_key : NameParts → Key
 name_key n = fork (text_key n.basename) (path_key n.path)
 
+-- the name of a key
+abbrev pub name_at : Key → NameParts
+name_at k = record { path = list_at text_at (right_at k); basename = text_at (left_at k) }
+
+-- a name is read back from its key
+pub name_at-name_key : (n : NameParts) → name_at (name_key n) ≡ n
+name_at-name_key n = λ i. record { path = list_at-list_key text_key text_at text_at-text_key n.path i; basename = text_at-text_key n.basename i }
+
 -- names of one key are the same
 pub name_key-inj : (n m : NameParts) → name_key n ≡ name_key m → n ≡ m
-name_key-inj n m e =
-    let b : n.basename ≡ m.basename = text_key-inj _ _ (left _ _ _ _ e) in
-    let p : n.path ≡ m.path = list_key-inj text_key text_key-inj _ _ (right _ _ _ _ e) in
-    λ i. record { path = p i; basename = b i }
+name_key-inj n m e = read_back name_key name_at name_at-name_key n m e
 
 -- names are ordered as their keys are
 pub name_key-cmp : (n m : NameParts) → key_cmp (name_key n) (name_key m) ≡ name_cmp n m
@@ -30,12 +35,17 @@ name_key-cmp n m =
 abbrev pub uid_key : UidParts → Key
 uid_key u = fork (name_key u.name) (text_key u.eid)
 
+-- the uid of a key
+abbrev pub uid_at : Key → UidParts
+uid_at k = record { name = name_at (left_at k); eid = text_at (right_at k) }
+
+-- a uid is read back from its key
+pub uid_at-uid_key : (u : UidParts) → uid_at (uid_key u) ≡ u
+uid_at-uid_key u = λ i. record { name = name_at-name_key u.name i; eid = text_at-text_key u.eid i }
+
 -- uids of one key are the same
 pub uid_key-inj : (u v : UidParts) → uid_key u ≡ uid_key v → u ≡ v
-uid_key-inj u v e =
-    let n : u.name ≡ v.name = name_key-inj _ _ (left _ _ _ _ e) in
-    let d : u.eid ≡ v.eid = text_key-inj _ _ (right _ _ _ _ e) in
-    λ i. record { name = n i; eid = d i }
+uid_key-inj u v e = read_back uid_key uid_at uid_at-uid_key u v e
 
 -- uids are ordered as their keys are
 pub uid_key-cmp : (u v : UidParts) → key_cmp (uid_key u) (uid_key v) ≡ uid_cmp u v

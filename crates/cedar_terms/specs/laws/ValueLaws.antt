@@ -1,14 +1,14 @@
 -- The laws of a value's equality and order, and how a proof tells values apart.
-use Rattle.std.specs.Prelude.{◌≡◌, refl}
+use Rattle.std.specs.Prelude.{◌≡◌, zero, suc, pos, refl}
 use Rattle.std.proofs.Common.{ap, sym, ◌∙◌, subst}
 use Rattle.std.specs.Bool.{Decides}
 use Rattle.std.specs.Coded.{Coded}
 use Rattle.std.specs.Ordering.{is_eq, ordering_then, as_partial_cmp}
 use Rattle.std.specs.Cmp.{IsTotalOrder, IsEquivalence, IsPartialOrder, on_total, eq_by_cmp_equiv, Equal-is, tied_itself, po}
 use base.Stored.{coded_via}
-use Rattle.cedar_terms.specs.laws.Key.{Key, fork, key_cmp, key_cmp-Equal, key_cmp_total, key_code, nat_key, left, right, text_key, text_key-inj, text_key-cmp}
-use Rattle.cedar_terms.specs.laws.NameKeys.{name_key, name_key-inj, name_key-cmp}
-use Rattle.cedar_terms.specs.laws.LiteralLaws.{literal_key, literal_key-inj, literal_key-cmp}
+use Rattle.cedar_terms.specs.laws.Key.{Key, tip, fork, key_cmp, key_cmp-Equal, key_cmp_total, key_code, left_at, right_at, read_back, nat_key, text_key, text_at, text_at-text_key, text_key-cmp}
+use Rattle.cedar_terms.specs.laws.NameKeys.{name_key, name_at, name_at-name_key, name_key-cmp}
+use Rattle.cedar_terms.specs.laws.LiteralLaws.{literal_key, literal_at, literal_at-literal_key, literal_key-cmp}
 use Rattle.cedar_terms.specs.ValueTree.{ValueTree, literal_value, set_value, record_value, extension_value, ValueTrees, no_values, value_then, FieldTrees, no_fields, field_then, value_cmp, values_cmp, fields_cmp, same_value}
 
 -- the key of a value: the place of its kind, and the keys of what it holds
@@ -27,49 +27,41 @@ abbrev mutual
   fields_key no_fields = nat_key 0
   fields_key (field_then k v fs) = fork (fork (text_key k) (value_key v)) (fields_key fs)
 
--- values of one key are the same
+-- the value of a key
+abbrev mutual
+  pub value_at : Key → ValueTree
+  value_at (fork (tip (pos zero)) k) = literal_value (literal_at k)
+  value_at (fork (tip (pos (suc zero))) k) = set_value (values_at k)
+  value_at (fork (tip (pos (suc (suc zero)))) k) = record_value (fields_at k)
+  value_at k = extension_value (name_at (left_at (right_at k))) (text_at (right_at (right_at k)))
+
+  pub values_at : Key → ValueTrees
+  values_at (fork k l) = value_then (value_at k) (values_at l)
+  values_at k = no_values
+
+  pub fields_at : Key → FieldTrees
+  fields_at (fork (fork k l) m) = field_then (text_at k) (value_at l) (fields_at m)
+  fields_at k = no_fields
+
+-- a value is read back from its key
 mutual
-  pub value_key-inj : (x y : ValueTree) → value_key x ≡ value_key y → x ≡ y
-  value_key-inj (literal_value a) (literal_value b) e = ap literal_value (literal_key-inj a b (right _ _ _ _ e))
-  value_key-inj (literal_value a) (set_value b) e = absurd (cc)
-  value_key-inj (literal_value a) (record_value b) e = absurd (cc)
-  value_key-inj (literal_value a) (extension_value g b) e = absurd (cc)
-  value_key-inj (set_value a) (literal_value b) e = absurd (cc)
-  value_key-inj (set_value a) (set_value b) e = ap set_value (values_key-inj a b (right _ _ _ _ e))
-  value_key-inj (set_value a) (record_value b) e = absurd (cc)
-  value_key-inj (set_value a) (extension_value g b) e = absurd (cc)
-  value_key-inj (record_value a) (literal_value b) e = absurd (cc)
-  value_key-inj (record_value a) (set_value b) e = absurd (cc)
-  value_key-inj (record_value a) (record_value b) e = ap record_value (fields_key-inj a b (right _ _ _ _ e))
-  value_key-inj (record_value a) (extension_value g b) e = absurd (cc)
-  value_key-inj (extension_value f a) (literal_value b) e = absurd (cc)
-  value_key-inj (extension_value f a) (set_value b) e = absurd (cc)
-  value_key-inj (extension_value f a) (record_value b) e = absurd (cc)
-  value_key-inj (extension_value f a) (extension_value g b) e =
-      let p : fork (name_key f) (text_key a) ≡ fork (name_key g) (text_key b) = right _ _ _ _ e in
-      let q : f ≡ g = name_key-inj f g (left _ _ _ _ p) in
-      let r : a ≡ b = text_key-inj a b (right _ _ _ _ p) in
-      λ i. extension_value (q i) (r i)
+  pub value_at-value_key : (x : ValueTree) → value_at (value_key x) ≡ x
+  value_at-value_key (literal_value l) = ap literal_value (literal_at-literal_key l)
+  value_at-value_key (set_value vs) = ap set_value (values_at-values_key vs)
+  value_at-value_key (record_value fs) = ap record_value (fields_at-fields_key fs)
+  value_at-value_key (extension_value f a) = λ i. extension_value (name_at-name_key f i) (text_at-text_key a i)
 
-  pub values_key-inj : (x y : ValueTrees) → values_key x ≡ values_key y → x ≡ y
-  values_key-inj no_values no_values e = refl
-  values_key-inj no_values (value_then w ws) e = absurd (cc)
-  values_key-inj (value_then v vs) no_values e = absurd (cc)
-  values_key-inj (value_then v vs) (value_then w ws) e =
-      let p : v ≡ w = value_key-inj v w (left _ _ _ _ e) in
-      let q : vs ≡ ws = values_key-inj vs ws (right _ _ _ _ e) in
-      λ i. value_then (p i) (q i)
+  pub values_at-values_key : (x : ValueTrees) → values_at (values_key x) ≡ x
+  values_at-values_key no_values = refl
+  values_at-values_key (value_then v vs) = λ i. value_then (value_at-value_key v i) (values_at-values_key vs i)
 
-  pub fields_key-inj : (x y : FieldTrees) → fields_key x ≡ fields_key y → x ≡ y
-  fields_key-inj no_fields no_fields e = refl
-  fields_key-inj no_fields (field_then l w ws) e = absurd (cc)
-  fields_key-inj (field_then k v vs) no_fields e = absurd (cc)
-  fields_key-inj (field_then k v vs) (field_then l w ws) e =
-      let s : fork (text_key k) (value_key v) ≡ fork (text_key l) (value_key w) = left _ _ _ _ e in
-      let r : k ≡ l = text_key-inj k l (left _ _ _ _ s) in
-      let p : v ≡ w = value_key-inj v w (right _ _ _ _ s) in
-      let q : vs ≡ ws = fields_key-inj vs ws (right _ _ _ _ e) in
-      λ i. field_then (r i) (p i) (q i)
+  pub fields_at-fields_key : (x : FieldTrees) → fields_at (fields_key x) ≡ x
+  fields_at-fields_key no_fields = refl
+  fields_at-fields_key (field_then k v fs) = λ i. field_then (text_at-text_key k i) (value_at-value_key v i) (fields_at-fields_key fs i)
+
+-- values of one key are the same
+pub value_key-inj : (x y : ValueTree) → value_key x ≡ value_key y → x ≡ y
+value_key-inj x y e = read_back value_key value_at value_at-value_key x y e
 
 -- how a proof tells values apart
 abbrev pub value_code : Coded ValueTree
