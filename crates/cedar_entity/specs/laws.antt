@@ -1,4 +1,5 @@
 pub mod Codes
+pub mod Faults
 pub mod Fields
 pub mod UidOrder
 pub mod UidSets

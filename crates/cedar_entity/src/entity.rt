@@ -6,12 +6,14 @@ ghost use Rattle.std.specs.Set.{is_member};
 ghost use Rattle.cedar_ids.specs.UidOf.{same_uid, uid_order};
 ghost use Rattle.cedar_ids.specs.declared.entity.EntityUID.{EntityUID};
 ghost use Rattle.cedar_entity.specs.Fields.{Fields, AreFieldsOf, Ascend, fields_of, field_at, field_keys};
-ghost use Rattle.cedar_entity.specs.Least.{NonePasses};
+ghost use Rattle.cedar_entity.specs.Least.{LeastOf};
 ghost use Rattle.cedar_entity.specs.Listing.{Lists, ListsAncestors};
-ghost use Rattle.cedar_entity.specs.Validity.{PassesSelf, PassesDuplicates, PassesActions, HasOnlyActionAncestors, IsLeastNonAction, IsValid, IsFault, is_in_both, is_action, reserved_key};
+ghost use Rattle.cedar_entity.specs.Validity.{HasOnlyActionAncestors, IsLeastNonAction, IsValid, IsFault, is_in_both, is_action, reserved_key};
+ghost use Rattle.cedar_entity.specs.laws.Faults.{IsFound};
 ghost use Rattle.cedar_entity.specs.View.{EntityView, has_ancestor, with_indirect_ancestor, IsDeepEqual, IsEquivalenceRelation};
 
 use crate::err::EntitiesError;
+use crate::fault::Fault;
 use crate::iters::{Ancestors, Keys, Pairs, Uids};
 use crate::least::{least_common, least_non_action};
 use crate::reserved::in_fields;
@@ -378,31 +380,11 @@ impl Entity {
         (uid, attrs, indirect_ancestors, parents, tags)
     }
 
-    // Refuses an entity that is its own ancestor.
-    fn check_self(&self) -> Result<(), EntitiesError>
-        ensures ok { OnOk result (PassesSelf self.now) }
-        ensures err { IfErr result (IsFault self.now) }
+    // The least uid that is a parent and an indirect ancestor at once.
+    fn least_duplicate(&self) -> Option<&EntityUID>
+        ensures { LeastOf (is_in_both self.now) (option_copied result) }
     {
-        if self.is_descendant_of(&self.uid) {
-            let uid = copy_of(&self.uid)?;
-            return Err(EntitiesError::SelfAncestor { uid });
-        }
-        Ok(())
-    }
-
-    // Refuses an entity of which a parent is an indirect ancestor too.
-    fn check_duplicates(&self) -> Result<(), EntitiesError>
-        ensures ok { OnOk result (NonePasses (is_in_both self.now)) }
-        ensures err { IfErr result (λ e. PassesSelf self.now → IsFault self.now e) }
-    {
-        match least_common(&self.parents, &self.indirect_ancestors) {
-            None => Ok(()),
-            Some(ancestor) => {
-                let ancestor = copy_of(ancestor)?;
-                let uid = copy_of(&self.uid)?;
-                Err(EntitiesError::DuplicateAncestor { uid, ancestor })
-            }
-        }
+        least_common(&self.parents, &self.indirect_ancestors)
     }
 
     // The least parent that is no action or, where there is none, the least such indirect ancestor.
@@ -415,20 +397,16 @@ impl Entity {
         }
     }
 
-    // Refuses an action that has an ancestor which is none.
-    fn check_action(&self) -> Result<(), EntitiesError>
-        ensures ok { OnOk result (IsTrue (is_action self.now.uid) → HasOnlyActionAncestors self.now) }
-        ensures err { IfErr result (λ e. PassesDuplicates self.now → IsFault self.now e) }
+    // Of an action, the ancestor that is none and that a refusal names.
+    fn misfit(&self) -> Option<&EntityUID>
+        ensures { MatchOption (option_copied result)
+            (IsTrue (is_action self.now.uid) → HasOnlyActionAncestors self.now)
+            (λ p. IsTrue (is_action self.now.uid) × IsLeastNonAction self.now p) }
     {
         if !self.uid.is_action() {
-            return Ok(());
+            return None;
         }
-        let Some(parent) = self.least_non_action_ancestor() else {
-            return Ok(());
-        };
-        let parent = copy_of(parent)?;
-        let uid = copy_of(&self.uid)?;
-        Err(EntitiesError::ActionParentIsNotAction { uid, parent })
+        self.least_non_action_ancestor()
     }
 
     // The first reserved key in an attribute or, where there is none, in a tag.
@@ -441,16 +419,50 @@ impl Entity {
         in_fields(&self.tags)
     }
 
-    // Refuses an entity with a reserved key in a record.
-    fn check_keys(&self, alloc: Global) -> Result<(), EntitiesError>
-        ensures ok { OnOk result (reserved_key self.now ≡ None) }
-        ensures err { IfErr result (λ e. PassesActions self.now → IsFault self.now e) }
+    // What is wrong with the entity: the first that is found, in the order that `validate` states.
+    fn fault(&self) -> Option<Fault<'_>>
+        ensures { MatchOption result (IsValid self.now) (IsFound self.now) }
     {
-        let Some(key) = self.reserved_key() else {
-            return Ok(());
-        };
-        let key = String::from_str(alloc, key)?;
-        Err(EntitiesError::ReservedKey(key))
+        if self.is_descendant_of(&self.uid) {
+            return Some(Fault::SelfAncestor);
+        }
+        if let Some(ancestor) = self.least_duplicate() {
+            return Some(Fault::DuplicateAncestor(ancestor));
+        }
+        if let Some(parent) = self.misfit() {
+            return Some(Fault::ActionParentIsNotAction(parent));
+        }
+        match self.reserved_key() {
+            Some(key) => Some(Fault::ReservedKey(key)),
+            None => None,
+        }
+    }
+
+    // Refuses the entity for this fault.
+    fn refuse(&self, alloc: Global, fault: Fault<'_>) -> Result<(), EntitiesError>
+        ensures ok { OnOk result ⊥ }
+        ensures err { IfErr result (λ e. IsFound self.now fault.entry → IsFault self.now e) }
+    {
+        match fault {
+            Fault::SelfAncestor => {
+                let uid = copy_of(&self.uid)?;
+                Err(EntitiesError::SelfAncestor { uid })
+            }
+            Fault::DuplicateAncestor(ancestor) => {
+                let ancestor = copy_of(ancestor)?;
+                let uid = copy_of(&self.uid)?;
+                Err(EntitiesError::DuplicateAncestor { uid, ancestor })
+            }
+            Fault::ActionParentIsNotAction(parent) => {
+                let parent = copy_of(parent)?;
+                let uid = copy_of(&self.uid)?;
+                Err(EntitiesError::ActionParentIsNotAction { uid, parent })
+            }
+            Fault::ReservedKey(key) => {
+                let key = String::from_str(alloc, key)?;
+                Err(EntitiesError::ReservedKey(key))
+            }
+        }
     }
 
     /// Looks for what an entity may not have, and answers the first that it finds, in this order:
@@ -471,30 +483,10 @@ impl Entity {
         ensures ok { OnOk result (IsValid self.now) }
         ensures err { IfErr result (IsFault self.now) }
     {
-        self.check_self()?;
-        self.check_duplicates()?;
-        self.check_action()?;
-        self.check_keys(alloc)
-    }
-
-    // Whether no parent is an indirect ancestor too.
-    fn has_no_duplicate(&self) -> bool
-        ensures { IsTrue result ↔ NonePasses (is_in_both self.now) }
-    {
-        match least_common(&self.parents, &self.indirect_ancestors) {
-            None => true,
-            Some(_ancestor) => false,
+        match self.fault() {
+            None => Ok(()),
+            Some(fault) => self.refuse(alloc, fault),
         }
-    }
-
-    // Whether the entity, if it is an action, has no ancestor that is none.
-    fn has_fit_ancestors(&self) -> bool
-        ensures { IsTrue result ↔ (IsTrue (is_action self.now.uid) → HasOnlyActionAncestors self.now) }
-    {
-        if !self.uid.is_action() {
-            return true;
-        }
-        self.least_non_action_ancestor().is_none()
     }
 
     /// Whether [`Entity::validate`] finds nothing. It takes no memory, and walks the values as that does.
@@ -503,16 +495,7 @@ impl Entity {
     pub fn is_valid(&self) -> bool
         ensures { IsTrue result ↔ IsValid self.now }
     {
-        if self.is_descendant_of(&self.uid) {
-            return false;
-        }
-        if !self.has_no_duplicate() {
-            return false;
-        }
-        if !self.has_fit_ancestors() {
-            return false;
-        }
-        self.reserved_key().is_none()
+        self.fault().is_none()
     }
 
     /// The entity as it is, where [`Entity::validate`] finds nothing, and else its error.

@@ -8,6 +8,7 @@
 pub mod entity;
 mod entity_text;
 pub mod err;
+mod fault;
 pub mod iters;
 mod least;
 pub mod node;
