@@ -112,5 +112,5 @@ pub record FirstDiffers (W : World) (L : List Given) (u : EntityUID) : Type 0 wh
   pub uid : at.uid ≡ u
 
 -- a uid reaches itself over the parents
-abbrev pub HasCycle : World → Type 0
-HasCycle W = (v : EntityUID) × Reach (graph W) v v
+abbrev pub IsCyclic : World → Type 0
+IsCyclic W = (v : EntityUID) × Reach (graph W) v v

@@ -29,7 +29,8 @@ impl<'a, T> Dereference<'a, T> {
         }
     }
 
-    /// The same; the text is for the reader of the call alone, as nothing stops.
+    /// What was found, as [`Dereference::unwrap`] gives it; the text is for the reader of the call alone, as
+    /// nothing stops.
     pub fn expect(self, _msg: &str) -> &'a T
         requires { HasData self }
         ensures { WithData self.entry (λ x. result.now ≡ x) }
@@ -41,8 +42,8 @@ impl<'a, T> Dereference<'a, T> {
 impl<'a, T> Clone for Dereference<'a, T> {
     ghost is_clone = { λ x y. y ≡ x };
 
-    /// The same answer: what was found is not copied, the expression of a residual is. It is refused only
-    /// there, where memory is.
+    /// A copy of the answer: what was found is not copied, the expression of a residual is. It is refused
+    /// only there, where memory is.
     fn clone(&self) -> Result<Dereference<'a, T>, AllocError> {
         match self {
             Dereference::NoSuchEntity => Ok(Dereference::NoSuchEntity),

@@ -174,7 +174,7 @@ fn strip(entity: &mut Entity, gone: &[EntityUID])
     }
 }
 
-// The same of the entity at a uid.
+// Takes these uids out of the parents of the entity at a uid, and all of its indirect ancestors.
 fn strip_at(
     entities: &mut HashMap<EntityUID, SharedEntity>,
     uid: &EntityUID,
@@ -206,7 +206,7 @@ fn keys_of(
     Ok(copies)
 }
 
-// The same of each entity.
+// Takes these uids out of the parents of each entity, and all indirect ancestors.
 fn strip_all(
     alloc: Global,
     entities: &mut HashMap<EntityUID, SharedEntity>,

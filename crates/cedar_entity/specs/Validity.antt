@@ -7,7 +7,7 @@ use Rattle.std.specs.Option.{option_or}
 use Rattle.std.specs.FinSet as set
 use Rattle.cedar_ids.specs.UidOf.{uid_parts}
 use Rattle.cedar_ids.specs.declared.entity.EntityUID.{EntityUID}
-use Rattle.cedar_terms.specs.Reserved.{is_reserved}
+use Rattle.cedar_terms.specs.Reserved.{is_reserved_key}
 use Rattle.cedar_terms.specs.ValueTree.{ValueTree, literal_value, set_value, record_value, extension_value, ValueTrees, no_values, value_then, FieldTrees, no_fields, field_then}
 use Rattle.cedar_terms.specs.declared.partial_value.PartialValue.{PartialValue}
 use Rattle.cedar_terms.specs.declared.partial_value.PartialValue.TheVariants as partials
@@ -30,7 +30,7 @@ abbrev mutual
 
   pub reserved_in_record : FieldTrees → Option (List ℕ)
   reserved_in_record no_fields = None
-  reserved_in_record (field_then k v fs) = if is_reserved k then Some k else option_or (reserved_in v) (reserved_in_record fs)
+  reserved_in_record (field_then k v fs) = if is_reserved_key k then Some k else option_or (reserved_in v) (reserved_in_record fs)
 
 -- the same of a value or a residual; a residual is skipped
 abbrev pub reserved_in_partial : PartialValue → Option (List ℕ)

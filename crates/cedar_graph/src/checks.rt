@@ -42,7 +42,7 @@ fn check_grandparents<K: Clone + Eq + Hash + Debug + Display, V: TCNode<K>>(
     Ok(())
 }
 
-// The same, where the map may lack the node.
+// Refuses a child that lacks an edge of a parent, where the map may lack the parent.
 fn check_parent<K: Clone + Eq + Hash + Debug + Display, V: TCNode<K>>(
     alloc: Global,
     nodes: &HashMap<K, V>,

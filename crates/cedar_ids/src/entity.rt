@@ -71,7 +71,7 @@ impl EntityType {
         name.loc()
     }
 
-    /// The same type with a copy of this location, or with none. It copies no letter, and is refused only
+    /// The type with a copy of this location, or with none. It copies no letter, and is refused only
     /// where a shared part can't be shared once more.
     pub fn with_loc(&self, loc: Option<&Loc>) -> Result<EntityType, AllocError>
         ensures { IfOk result (λ t. type_name t ≡ type_name self.now) }

@@ -119,7 +119,7 @@ impl Name {
         self.loc.as_ref()
     }
 
-    // The same name with this location.
+    // The name with this location.
     pub(crate) fn with_loc(&self, loc: Option<Loc>) -> Result<Name, AllocError>
         ensures { IfOk result (λ n. n ≡ self.now) }
     {

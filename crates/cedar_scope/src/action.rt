@@ -1,3 +1,4 @@
+//! What a policy asks of the action: anything, one uid, or one of a list.
 ghost use Rattle.std.specs.Prelude.{◌≡◌, ◌&&◌, ◌++◌, IfOk, List, map, true};
 ghost use Rattle.std.specs.Fmt.{WritesOnOk};
 ghost use Rattle.std.specs.List.{list_all, flat_map, filter};

@@ -1,3 +1,4 @@
+//! Annotations of a policy: keys and texts that no decision depends on.
 ghost use Rattle.std.specs.Prelude.{◌≡◌, IfOk, List, ℕ, IsTrue, ◌↔◌, []};
 ghost use Rattle.std.specs.Option.{option_map};
 ghost use Rattle.std.specs.Iterator.{YieldsFirst, YieldsFirstBy, item_count};

@@ -1,3 +1,4 @@
+//! What a policy asks of the principal or of the resource: one type for both, which each wraps.
 ghost use Rattle.std.specs.Prelude.{◌≡◌, IfOk, IsTrue, true, string_bytes};
 ghost use Rattle.std.specs.Option.{option_map};
 ghost use Rattle.std.specs.Fmt.{WritesOnOk};
@@ -205,7 +206,7 @@ impl PrincipalOrResourceConstraint {
         }
     }
 
-    // The same with the uid in place of the slot.
+    // The constraint with the uid in place of the slot.
     pub(crate) fn with_filled_slot(self, euid: Rc<EntityUID>) -> PrincipalOrResourceConstraint
         ensures { constraint_of result ≡ filled (uid_parts euid.value) (constraint_of self) }
     {

@@ -1,3 +1,4 @@
+//! What a constraint refers to: a uid, or the slot of its variable.
 ghost use Rattle.std.specs.Prelude.{◌≡◌, IfOk, true};
 ghost use Rattle.std.specs.Fmt.{WritesOnOk};
 ghost use Rattle.std.specs.Ordering.{on, as_partial_cmp};

@@ -144,8 +144,8 @@ impl ResourceConstraint {
         ResourceConstraint::new(PrincipalOrResourceConstraint::is_entity_type_in_slot(entity_type))
     }
 
-    /// The same with this uid in place of the slot, if it refers to the slot; else it stays as it is. What
-    /// comes holds no slot, so filling it once more changes nothing. Takes no memory.
+    /// The constraint with this uid in place of the slot, if it refers to the slot; else it stays as it is.
+    /// What comes holds no slot, so filling it once more changes nothing. Takes no memory.
     #[tactic(auto, using(crate::proofs::Filled::holds_no_slot, crate::proofs::Filled::stays_filled))]
     pub fn with_filled_slot(self, euid: Rc<EntityUID>) -> ResourceConstraint
         ensures fills { result ≡ filled (uid_parts euid.value) self }

@@ -56,22 +56,22 @@ one_field : (w : List ℕ) (ts : List (List ℕ)) → w ∷ ts ≡ [] ∷ [] →
 one_field w ts h = cc
 
 -- the first field tells which command there may be
-pub not_ent : (w : List ℕ) (ts : List (List ℕ)) → w ≡ codes "ent" → ((u : EntityUID) (ps : List EntityUID) → AreTexts (u ∷ ps) ts → ⊥) → (c : Command) → IsCommand c (w ∷ ts) → ⊥
+pub not_ent : (w : List ℕ) (ts : List (List ℕ)) → w ≡ codes "ent" → ((p : EntityUID × List EntityUID) → AreTexts (p.0 ∷ p.1) ts → ⊥) → (c : Command) → IsCommand c (w ∷ ts) → ⊥
 not_ent w ts e none Nothing h = differs (codes "ent") [] refl refl (sym e ∙ one_field w ts h)
-not_ent w ts e none (Ent u ps) h = none u ps h.1
+not_ent w ts e none (Ent u ps) h = none (u, ps) h.1
 not_ent w ts e none Build h = differs (codes "ent") (codes "build") refl refl (sym e ∙ h.0)
 not_ent w ts e none Add h = differs (codes "ent") (codes "add") refl refl (sym e ∙ h.0)
 not_ent w ts e none Upsert h = differs (codes "ent") (codes "upsert") refl refl (sym e ∙ h.0)
 not_ent w ts e none (Remove us) h = differs (codes "ent") (codes "remove") refl refl (sym e ∙ h.0.0)
 not_ent w ts e none (Anc u) h = differs (codes "ent") (codes "anc") refl refl (sym e ∙ h.0)
 
-pub not_remove : (w : List ℕ) (ts : List (List ℕ)) → w ≡ codes "remove" → ((us : List EntityUID) → (us ≡ [] → ⊥) → AreTexts us ts → ⊥) → (c : Command) → IsCommand c (w ∷ ts) → ⊥
+pub not_remove : (w : List ℕ) (ts : List (List ℕ)) → w ≡ codes "remove" → ((us : List EntityUID) → (us ≡ [] → ⊥) × AreTexts us ts → ⊥) → (c : Command) → IsCommand c (w ∷ ts) → ⊥
 not_remove w ts e none Nothing h = differs (codes "remove") [] refl refl (sym e ∙ one_field w ts h)
 not_remove w ts e none (Ent u ps) h = differs (codes "remove") (codes "ent") refl refl (sym e ∙ h.0)
 not_remove w ts e none Build h = differs (codes "remove") (codes "build") refl refl (sym e ∙ h.0)
 not_remove w ts e none Add h = differs (codes "remove") (codes "add") refl refl (sym e ∙ h.0)
 not_remove w ts e none Upsert h = differs (codes "remove") (codes "upsert") refl refl (sym e ∙ h.0)
-not_remove w ts e none (Remove us) h = none us h.1 h.0.1
+not_remove w ts e none (Remove us) h = none us (h.1, h.0.1)
 not_remove w ts e none (Anc u) h = differs (codes "remove") (codes "anc") refl refl (sym e ∙ h.0)
 
 pub not_anc : (w : List ℕ) (ts : List (List ℕ)) → w ≡ codes "anc" → ((u : EntityUID) → AreTexts (u ∷ []) ts → ⊥) → (c : Command) → IsCommand c (w ∷ ts) → ⊥
@@ -95,7 +95,7 @@ not_word w build add upsert empty (Remove (u ∷ us)) h = h.0.1
 not_word w build add upsert empty (Anc u) h = h.1
 
 -- no field is the text of no uid, and of no others
-pub no_uids : (fs : List (Bor (List ℕ))) (b : Bool) → b ≡ (length fs == 0) → b ≡ true → (us : List EntityUID) → (us ≡ [] → ⊥) → AreTexts us (map (λ f. f.now) fs) → ⊥
-no_uids [] b e t [] n h = n refl
-no_uids [] b e t (u ∷ us) n h = h
-no_uids (f ∷ fs) b e t us n h = let z : length (f ∷ fs) ≡ 0 = eqb-true (length (f ∷ fs)) 0 (sym e ∙ t) in absurd (omega arith)
+pub no_uids : (fs : List (Bor (List ℕ))) (b : Bool) → b ≡ (length fs == 0) → b ≡ true → (us : List EntityUID) → (us ≡ [] → ⊥) × AreTexts us (map (λ f. f.now) fs) → ⊥
+no_uids [] b e t [] h = h.0 refl
+no_uids [] b e t (u ∷ us) h = h.1
+no_uids (f ∷ fs) b e t us h = let z : length (f ∷ fs) ≡ 0 = eqb-true (length (f ∷ fs)) 0 (sym e ∙ t) in absurd (omega arith)

@@ -15,7 +15,7 @@ use Rattle.cedar_ids.specs.laws.UidTexts.{uid_found}
 use Rattle.cedar_ids.specs.declared.err.ParseErrors.{ParseErrors}
 use Rattle.cedar_ids.specs.declared.entity.EntityUID.{EntityUID}
 use Rattle.cedar_ids.specs.declared.entity.EntityUID.TheVariants as uids
-use Rattle.cedar_entities.specs.World.{World, Given, given, graph, HasCycle, added, overwritten, deleted, empty_world}
+use Rattle.cedar_entities.specs.World.{World, Given, given, graph, IsCyclic, added, overwritten, deleted, empty_world}
 use Rattle.cedar_entities.specs.laws.Settled.{Settled, settled_by, world_keys, decides_world_cycle, reached_list, reached_ascend, reached_members, agree_or_differs}
 use Rattle.cedar_store.specs.Command.{Command, Nothing, Ent, Build, Add, Upsert, Remove, Anc, AreTexts, IsCommand, IsLine, is_plain}
 use Rattle.cedar_store.specs.Output.{State, Written, Adds, Overwrites, AreAncestors, ShowsAncestors, Gives, IsOutput, IsOutputFrom, HasOneOutput, start, after, written_line, count_line, uid_text, field_of, not_command}
@@ -134,7 +134,7 @@ line_found l = plain_line (list_all is_plain l) (slice_split (λ b. b == 9) l) (
 
 -- ---- what a command gives
 
-cycle_settled : (W : World) → Settled (HasCycle W)
+cycle_settled : (W : World) → Settled (IsCyclic W)
 cycle_settled W = settled_by (has_cycle (graph W) (world_keys W)) (decides_world_cycle W)
 
 adds : (base : World) (L : List Given) → (W : World) × (out : List ℕ) × Adds base L W out

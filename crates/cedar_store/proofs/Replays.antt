@@ -3,7 +3,7 @@ use Rattle.std.specs.Prelude.{◌≡◌, ℕ, suc, ◌+◌, List, [], ◌∷◌,
 use Rattle.std.proofs.Common.{ap, sym, subst, refl, ◌∙◌, arith}
 use Rattle.cedar_entities.specs.Plain.{StoreView, IsPlainStore, AreBare, given_of}
 use Rattle.cedar_entity.specs.View.{EntityView}
-use Rattle.cedar_entities.specs.World.{World, empty_world, added, overwritten, AllAgree, HasCycle}
+use Rattle.cedar_entities.specs.World.{World, empty_world, added, overwritten, AllAgree, IsCyclic}
 use Rattle.cedar_entity.specs.declared.err.EntitiesError.{EntitiesError}
 use Rattle.cedar_store.specs.Calls.{Call, made, all_made, Passes, AllPass, IsRefusedAs, StopsAt}
 use Rattle.std.proofs.lemmas.List.{map-append}
@@ -39,7 +39,7 @@ stops f all done c rest n e place count passed refused = record {
 
 -- a plain store has no cycle
 abbrev pub HasNone : World → Type 0
-HasNone W = HasCycle W → ⊥
+HasNone W = IsCyclic W → ⊥
 
 -- what is built or added passes
 pub from_passes : (r : Result StoreView EntitiesError) (L : List EntityView) → AreBare L → OnOk r (AreBare L → AllAgree empty_world (map given_of L))

@@ -2,7 +2,7 @@
 use Rattle.std.specs.Prelude.{◌≡◌, ℕ, List, [], ◌∷◌, ◌++◌, length, true}
 use Rattle.cedar_ids.specs.declared.entity.EntityUID.{EntityUID}
 use Rattle.cedar_entities.specs.Refusals.{IsAddingRefused, IsOverwritingRefused}
-use Rattle.cedar_entities.specs.World.{World, Given, empty_world, added, overwritten, deleted, AllAgree, HasCycle}
+use Rattle.cedar_entities.specs.World.{World, Given, empty_world, added, overwritten, deleted, AllAgree, IsCyclic}
 use Rattle.cedar_entity.specs.declared.err.EntitiesError.{EntitiesError}
 use Rattle.cedar_entity.specs.declared.err.EntitiesError.TheVariants.{Memory}
 
@@ -30,9 +30,9 @@ all_made W (c ∷ cs) = all_made (made W c) cs
 -- nothing refuses the call: what is added agrees, and what is made has no cycle. A removal, which makes none,
 -- and the flag are never refused
 abbrev pub Passes : World → Call → Type 0
-Passes W (From L) = AllAgree empty_world L × (HasCycle (added empty_world L) → ⊥)
-Passes W (Add L) = AllAgree W L × (HasCycle (added W L) → ⊥)
-Passes W (Upsert L) = HasCycle (overwritten W L) → ⊥
+Passes W (From L) = AllAgree empty_world L × (IsCyclic (added empty_world L) → ⊥)
+Passes W (Add L) = AllAgree W L × (IsCyclic (added W L) → ⊥)
+Passes W (Upsert L) = IsCyclic (overwritten W L) → ⊥
 Passes W (Remove U) = Unit {0}
 Passes W Partial = Unit {0}
 

@@ -10,7 +10,7 @@ use Rattle.cedar_graph.specs.Graph.{Reach}
 use Rattle.cedar_ids.specs.Printed.{printed_uid}
 use Rattle.cedar_ids.specs.UidOf.{uid_parts, uid_order, same_uid}
 use Rattle.cedar_ids.specs.declared.entity.EntityUID.{EntityUID}
-use Rattle.cedar_entities.specs.World.{World, Given, given, graph, empty_world, AllAgree, FirstDiffers, HasCycle}
+use Rattle.cedar_entities.specs.World.{World, Given, given, graph, empty_world, AllAgree, FirstDiffers, IsCyclic}
 use Rattle.cedar_store.specs.Calls.{made, Passes}
 use Rattle.cedar_store.specs.Calls as calls
 use Rattle.cedar_store.specs.Command.{Command, Nothing, Ent, Build, Add, Upsert, Remove, Anc, IsLine}
@@ -41,13 +41,13 @@ count_line W = written_line (codes "ok " ++ decimal (finmap.len W.entities))
 abbrev pub Adds : World → List Given → World → List ℕ → Type 0
 Adds base L W out =
     ((u : EntityUID) × FirstDiffers base L u × (W ≡ empty_world) × (out ≡ written_line (codes "refused: duplicate " ++ uid_text u)))
-    ⊎ ((AllAgree base L × HasCycle (made base (calls.Add L)) × (W ≡ empty_world) × (out ≡ written_line (codes "refused: cycle")))
+    ⊎ ((AllAgree base L × IsCyclic (made base (calls.Add L)) × (W ≡ empty_world) × (out ≡ written_line (codes "refused: cycle")))
     ⊎ (Passes base (calls.Add L) × (W ≡ made base (calls.Add L)) × (out ≡ count_line W)))
 
 -- the list was put over the world `base`. A cycle is refused, and leaves the empty world
 abbrev pub Overwrites : World → List Given → World → List ℕ → Type 0
 Overwrites base L W out =
-    (HasCycle (made base (calls.Upsert L)) × (W ≡ empty_world) × (out ≡ written_line (codes "refused: cycle")))
+    (IsCyclic (made base (calls.Upsert L)) × (W ≡ empty_world) × (out ≡ written_line (codes "refused: cycle")))
     ⊎ (Passes base (calls.Upsert L) × (W ≡ made base (calls.Upsert L)) × (out ≡ count_line W))
 
 -- the uids were taken out of the world `base`, which nothing refuses

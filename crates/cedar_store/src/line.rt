@@ -1,12 +1,12 @@
 //! Which line of the program is which command.
-ghost use Rattle.std.specs.Prelude.{◌≡◌, ◌∷◌, [], List, ℕ, IfOk, MatchOption, map, codes, ◌==◌};
+ghost use Rattle.std.specs.Prelude.{◌≡◌, ◌∷◌, [], List, ℕ, IfOk, map, codes, ◌==◌};
 ghost use Rattle.std.specs.List.{list_all, slice_split};
 ghost use Rattle.cedar_ids.specs.Escape.{is_ascii};
 ghost use Rattle.cedar_ids.specs.TextOf.{IsPrinted};
 ghost use Rattle.cedar_ids.specs.UidOf.{uid_parts};
 ghost use Rattle.cedar_ids.specs.declared.entity.EntityUID.{EntityUID};
-ghost use Rattle.cedar_store.specs.Command.{Command, AreTexts, IsCommand, IsLine, is_plain};
-ghost use Rattle.cedar_store.specs.laws.Lines.{command_of};
+ghost use Rattle.cedar_store.specs.Command.{AreTexts, IsCommand, IsLine, is_plain};
+ghost use Rattle.cedar_store.specs.laws.Lines.{command_of, ReadsAs};
 
 use cedar_ids::entity::EntityUID;
 use cedar_ids::err::ParseErrors;
@@ -40,9 +40,7 @@ fn has_ascii_eid(uid: &EntityUID) -> bool
 
 // The uid with an ASCII eid whose text a field is, if there is one.
 fn uid_field(alloc: Global, text: &str) -> Result<Option<EntityUID>, AllocError>
-    ensures { IfOk result (λ o. MatchOption o
-        ((u : EntityUID) → IsPrinted (uid_parts u) text.now → ⊥)
-        (λ u. IsPrinted (uid_parts u) text.now)) }
+    ensures { IfOk result (ReadsAs (λ (u : EntityUID). IsPrinted (uid_parts u) text.now) (λ u. u)) }
 {
     match EntityUID::from_normalized_str(alloc, text) {
         Ok(uid) => {
@@ -60,9 +58,9 @@ fn uid_field(alloc: Global, text: &str) -> Result<Option<EntityUID>, AllocError>
 
 // The uids whose texts the fields are, if each is one.
 fn uid_fields(alloc: Global, fields: &[&str]) -> Result<Option<Vec<EntityUID>>, AllocError>
-    ensures { IfOk result (λ o. MatchOption o
-        ((us : List EntityUID) → AreTexts us (map (λ f. f.now) fields.now) → ⊥)
-        (λ us. AreTexts us.items (map (λ f. f.now) fields.now))) }
+    ensures { IfOk result (ReadsAs
+        (λ (us : List EntityUID). AreTexts us (map (λ f. f.now) fields.now))
+        (λ us. us.items)) }
 {
     let mut uids = Vec::with_capacity(alloc, fields.len())?;
     for field in fields {
@@ -79,10 +77,9 @@ fn ent_fields(
     alloc: Global,
     fields: &[&str],
 ) -> Result<Option<(EntityUID, Vec<EntityUID>)>, AllocError>
-    ensures { IfOk result (λ o. MatchOption o
-        ((u : EntityUID) (ps : List EntityUID) →
-        AreTexts (u ∷ ps) (map (λ f. f.now) fields.now) → ⊥)
-        (λ p. AreTexts (p.0 ∷ p.1.items) (map (λ f. f.now) fields.now))) }
+    ensures { IfOk result (ReadsAs
+        (λ (p : EntityUID × List EntityUID). AreTexts (p.0 ∷ p.1) (map (λ f. f.now) fields.now))
+        (λ p. (p.0, p.1.items))) }
 {
     let Some((first, rest)) = fields.split_first() else {
         return Ok(None);
@@ -98,9 +95,9 @@ fn ent_fields(
 
 // The uids whose texts the fields are, if there is a field and each is one.
 fn remove_fields(alloc: Global, fields: &[&str]) -> Result<Option<Vec<EntityUID>>, AllocError>
-    ensures { IfOk result (λ o. MatchOption o
-        ((us : List EntityUID) → (us ≡ [] → ⊥) → AreTexts us (map (λ f. f.now) fields.now) → ⊥)
-        (λ us. (us.items ≡ [] → ⊥) × AreTexts us.items (map (λ f. f.now) fields.now))) }
+    ensures { IfOk result (ReadsAs
+        (λ (us : List EntityUID). (us ≡ [] → ⊥) × AreTexts us (map (λ f. f.now) fields.now))
+        (λ us. us.items)) }
 {
     if fields.is_empty() {
         return Ok(None);
@@ -110,9 +107,9 @@ fn remove_fields(alloc: Global, fields: &[&str]) -> Result<Option<Vec<EntityUID>
 
 // The uid of the one field, if it is the text of one.
 fn anc_fields(alloc: Global, fields: &[&str]) -> Result<Option<EntityUID>, AllocError>
-    ensures { IfOk result (λ o. MatchOption o
-        ((u : EntityUID) → AreTexts (u ∷ []) (map (λ f. f.now) fields.now) → ⊥)
-        (λ u. AreTexts (u ∷ []) (map (λ f. f.now) fields.now))) }
+    ensures { IfOk result (ReadsAs
+        (λ (u : EntityUID). AreTexts (u ∷ []) (map (λ f. f.now) fields.now))
+        (λ u. u)) }
 {
     let Some((first, rest)) = fields.split_first() else {
         return Ok(None);
@@ -132,9 +129,7 @@ fn fields_of(alloc: Global, line: &str) -> Result<Vec<&str>, AllocError>
 
 // The command that a word is by itself, if there is one.
 fn command_of_word(word: &str) -> Option<Line>
-    ensures { MatchOption result
-        ((c : Command) → IsCommand c (word.now ∷ []) → ⊥)
-        (λ l. IsCommand (command_of l) (word.now ∷ [])) }
+    ensures { ReadsAs (λ c. IsCommand c (word.now ∷ [])) command_of result }
 {
     if word == "build" {
         return Some(Line::Build);
@@ -153,9 +148,7 @@ fn command_of_word(word: &str) -> Option<Line>
 
 // The command whose fields these are, if there is one.
 fn command_of_fields(alloc: Global, fields: &[&str]) -> Result<Option<Line>, AllocError>
-    ensures { IfOk result (λ o. MatchOption o
-        ((c : Command) → IsCommand c (map (λ f. f.now) fields.now) → ⊥)
-        (λ l. IsCommand (command_of l) (map (λ f. f.now) fields.now))) }
+    ensures { IfOk result (ReadsAs (λ c. IsCommand c (map (λ f. f.now) fields.now)) command_of) }
 {
     let Some((word, rest)) = fields.split_first() else {
         return Ok(None);
@@ -193,9 +186,7 @@ fn is_plain(line: &[u8]) -> bool
 
 // The command that a line is, if it is one.
 pub(crate) fn read_line(alloc: Global, line: &[u8]) -> Result<Option<Line>, AllocError>
-    ensures { IfOk result (λ o. MatchOption o
-        ((c : Command) → IsLine c line.now → ⊥)
-        (λ l. IsLine (command_of l) line.now)) }
+    ensures { IfOk result (ReadsAs (λ c. IsLine c line.now) command_of) }
 {
     if !is_plain(line) {
         return Ok(None);

@@ -202,7 +202,7 @@ impl Expr {
         Expr { kind, loc: None }
     }
 
-    /// The same expression, its own node at this location. It takes no memory.
+    /// The expression with its own node at this location. It takes no memory.
     pub fn with_maybe_source_loc(self, loc: Option<Loc>) -> Expr
         ensures { result ≡ self }
     {

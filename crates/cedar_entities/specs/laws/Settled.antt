@@ -24,7 +24,7 @@ use Rattle.cedar_ids.specs.UidOf.{uid_order, uid_order_ties, uid_order_total, sa
 use Rattle.cedar_ids.specs.declared.entity.EntityUID.{EntityUID}
 use Rattle.cedar_entity.specs.Fields.{Fields}
 use Rattle.cedar_entity.specs.UidSets.{UidSet, same_tests, one_equal, contains_listed, is_member-append}
-use Rattle.cedar_entities.specs.World.{World, Parts, Given, graph, is_parent_in, HasCycle, Agrees, AgreesWith, AgreesWithFirst, AllAgree, FirstDiffers, first}
+use Rattle.cedar_entities.specs.World.{World, Parts, Given, graph, is_parent_in, IsCyclic, Agrees, AgreesWith, AgreesWithFirst, AllAgree, FirstDiffers, first}
 use Rattle.cedar_entity.specs.laws.Fields.{field_eq, field_decides}
 
 abbrev Entry : Type 0
@@ -122,7 +122,7 @@ leaves : (W : World) → LeaveOnly same_uid (world_keys W) (graph W)
 leaves W a b h = key_held (finmap.entries W.entities) a b (ap (λ o. is_parent_in o b) (sym (finmap.get-entries W.entities a)) ∙ h)
 
 -- whether a uid reaches itself
-pub decides_world_cycle : (W : World) → Decides (has_cycle (graph W) (world_keys W)) (HasCycle W)
+pub decides_world_cycle : (W : World) → Decides (has_cycle (graph W) (world_keys W)) (IsCyclic W)
 decides_world_cycle W = decides_cycle same_uid (graph W) (respects (graph W)) (world_keys W) (leaves W)
 
 -- what a uid reaches, in order

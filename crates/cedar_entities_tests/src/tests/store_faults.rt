@@ -16,7 +16,7 @@ fn judged(alloc: Global, store: Entities) -> Result<String, Fail> {
     }
 }
 
-// The same of the store that these calls leave.
+// What `try_validate` gives of the store that these calls leave, as a text.
 fn verdict(alloc: Global, calls: &str) -> Result<String, Fail> {
     judged(alloc, store_of(alloc, calls)?)
 }

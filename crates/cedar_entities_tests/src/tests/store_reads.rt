@@ -26,7 +26,7 @@ fn found(alloc: Global, calls: &str, name: &str) -> Result<String, Fail> {
     looked_up(alloc, &answer)
 }
 
-// The same of a copy of what is found.
+// What a copy of the answer has, of a store that these calls leave and a name.
 fn found_again(alloc: Global, calls: &str, name: &str) -> Result<String, Fail> {
     let store = store_of(alloc, calls)?;
     let uid = named(alloc, name)?;

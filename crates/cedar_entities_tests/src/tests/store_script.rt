@@ -38,7 +38,7 @@ fn set_of(alloc: Global, names: &str) -> Result<HashSet<EntityUID>, Fail> {
     Ok(set)
 }
 
-// The same as a list, with repeats.
+// The uids with these names as a list, with repeats.
 pub(super) fn uids_of(alloc: Global, names: &str) -> Result<Vec<EntityUID>, Fail> {
     let mut list = Vec::new(alloc);
     for name in names.split_whitespace() {
@@ -90,7 +90,7 @@ pub(super) fn entities_of(alloc: Global, texts: &str) -> Result<Vec<Entity>, Fai
     Ok(list)
 }
 
-// The same, to be shared.
+// The entities with these texts, to be shared.
 pub(super) fn shared_of(alloc: Global, texts: &str) -> Result<Vec<Rc<Entity>>, Fail> {
     let mut list = Vec::new(alloc);
     for entity in entities_of(alloc, texts)? {

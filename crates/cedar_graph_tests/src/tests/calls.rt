@@ -138,7 +138,7 @@ const ACYCLIC: [Case<'static>; 9] = [
     ),
 ];
 
-// The same, and the keys on cycles.
+// A name, the keys, the edges, the edges afterwards, and the keys on cycles.
 type Cyclic<'a> = (&'a str, &'a [u64], Edges<'a>, Edges<'a>, &'a [u64]);
 
 const CYCLIC: [Cyclic<'static>; 7] = [

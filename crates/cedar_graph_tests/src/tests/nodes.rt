@@ -156,7 +156,7 @@ pub fn graph(
     Ok(nodes)
 }
 
-/// The same graph in nodes that keep their own edges apart.
+/// A graph of these keys and edges in nodes that keep their own edges apart.
 pub fn graph_apart(
     alloc: Global,
     keys: &[u64],

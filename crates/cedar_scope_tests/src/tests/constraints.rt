@@ -29,7 +29,7 @@ const ON_PRINCIPAL: [(&str, &str); 8] = [
     ),
 ];
 
-// The same on the resource.
+// The text of each constraint on the resource, and of its expression.
 const ON_RESOURCE: [(&str, &str); 8] = [
     ("resource", "true"),
     ("resource in A::\"g\"", "resource in A::\"g\""),
@@ -225,7 +225,7 @@ fn nth_principal(alloc: Global, place: usize) -> Result<PrincipalConstraint, Fai
     }
 }
 
-// The same for the resource.
+// The constraint on the resource at a place of the eight.
 fn nth_resource(alloc: Global, place: usize) -> Result<ResourceConstraint, Fail> {
     match place {
         0 => Ok(ResourceConstraint::any()),

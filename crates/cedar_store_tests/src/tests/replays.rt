@@ -53,7 +53,7 @@ fn entities_of(alloc: Global, texts: &str) -> Result<Vec<Entity>, Fail>
     Ok(list)
 }
 
-// The same, to be shared.
+// The entities with these texts, to be shared.
 fn shared_of(alloc: Global, texts: &str) -> Result<Vec<Rc<Entity>>, Fail>
     ensures { IfOk result (λ v. AreBare (map (λ r. r.value) v.items)) }
 {

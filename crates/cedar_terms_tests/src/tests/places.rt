@@ -103,7 +103,7 @@ fn plain(alloc: Global) -> Result<Expr, Fail> {
     Ok(Expr::is_eq(alloc, slot, number(alloc, 1)?)?)
 }
 
-// The same, each node at a place of its own.
+// `?principal == 1`, each node at a place of its own.
 fn placed(alloc: Global) -> Result<Expr, Fail> {
     let slot = Expr::slot(alloc, SlotId::principal())?.with_maybe_source_loc(place(alloc, 1)?);
     let one = number(alloc, 1)?.with_maybe_source_loc(place(alloc, 2)?);
