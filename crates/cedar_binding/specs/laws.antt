@@ -1,0 +1,3 @@
+pub mod EnvLaws
+pub mod Fits
+pub mod NoBindings

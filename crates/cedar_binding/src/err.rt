@@ -1,0 +1,157 @@
+//! Why a policy was not linked.
+ghost use Rattle.std.specs.Prelude.{◌≡◌, Some, ◌∷◌};
+ghost use Rattle.std.specs.Fmt.{WritesOnOk};
+ghost use Rattle.std.specs.List.{flat_map};
+ghost use Rattle.cedar_binding.specs.BindingTexts.{slots_text, slot_after_comma, unbound_text, arity_text};
+ghost use Rattle.cedar_binding.specs.declared.err.LinkingError.TheVariants.{Memory};
+
+use cedar_ids::policy_id::PolicyID;
+use cedar_terms::slot::SlotId;
+use std::alloc::{AllocError, AllocFailed};
+use std::fmt;
+use thiserror::Error;
+
+/// Why a policy was not linked.
+///
+/// Two refusals are equal where they are of one kind with equal ids or lists. `clone` takes memory for the
+/// lists and for the text of an id. The original has no refusal for memory.
+#[derive(Clone, Debug, Drop, PartialEq, Eq, Error)]
+pub enum LinkingError {
+    /// The bound ids are not the ids of the template's slots.
+    #[error("{}", ArityText {unbound: .unbound_values, extra: .extra_values})]
+    ArityError {
+        /// The slots of the template that are not bound, in their order, as often as they stand there.
+        unbound_values: Vec<SlotId>,
+        /// The bound ids that are no slots of the template, the principal's first.
+        extra_values: Vec<SlotId>,
+    },
+    /// There is no template of this id.
+    #[error("failed to find a template with id `{id}`")]
+    NoSuchTemplate {
+        /// The id that was looked for.
+        id: PolicyID,
+    },
+    /// The id that the policy was to have is taken.
+    #[error("template-linked policy id `{id}` conflicts with an existing policy id")]
+    PolicyIdConflict {
+        /// The id that is taken.
+        id: PolicyID,
+    },
+    /// Memory was refused.
+    #[error("out of memory")]
+    Memory,
+}
+
+impl From<AllocError> for LinkingError {
+    ghost from_gives = { λ _ e. e ≡ Memory };
+
+    fn from(_error: AllocError) -> LinkingError {
+        LinkingError::Memory
+    }
+}
+
+impl<T: Drop> From<AllocFailed<T>> for LinkingError {
+    ghost from_gives = { λ _ e. e ≡ Memory };
+
+    fn from(_error: AllocFailed<T>) -> LinkingError {
+        LinkingError::Memory
+    }
+}
+
+/// The two lists of a refusal as it writes them: a list that is empty is not named, but where both are the
+/// text is that of slots that were not bound. The original ends the program there. Writing takes no memory.
+#[derive(Debug, Drop)]
+pub struct ArityText<'a> {
+    /// The slots that were not bound.
+    pub unbound: &'a Vec<SlotId>,
+    /// The ids that were bound and are no slots.
+    pub extra: &'a Vec<SlotId>,
+}
+
+impl fmt::Display for ArityText<'_> {
+    ghost output = { λ a. Some (arity_text a.unbound.now.items a.extra.now.items) };
+
+    fn fmt<W: fmt::Write>(&self, f: &mut fmt::Formatter<W>) -> fmt::Result {
+        write_arity(self.unbound.as_slice(), self.extra.as_slice(), f)
+    }
+}
+
+// Writes the two lists, each with what it is.
+fn write_arity<W: fmt::Write>(
+    unbound: &[SlotId],
+    extra: &[SlotId],
+    f: &mut fmt::Formatter<W>,
+) -> fmt::Result
+    ensures { WritesOnOk W.write_str_gives f.old result (arity_text unbound.now extra.now) f.new }
+{
+    match extra.split_first() {
+        None => write_unbound(unbound, f),
+        Some((first, rest)) => write_extra(unbound, *first, rest, f),
+    }
+}
+
+// Writes the slots that were not bound.
+fn write_unbound<W: fmt::Write>(unbound: &[SlotId], f: &mut fmt::Formatter<W>) -> fmt::Result
+    ensures { WritesOnOk W.write_str_gives f.old result (unbound_text unbound.now) f.new }
+{
+    f.write_str("the following slots were not provided as arguments: ")?;
+    write_slots(unbound, f)
+}
+
+// Writes some ids that are no slots, and before them the slots that were not bound, if there are any.
+fn write_extra<W: fmt::Write>(
+    unbound: &[SlotId],
+    first: SlotId,
+    rest: &[SlotId],
+    f: &mut fmt::Formatter<W>,
+) -> fmt::Result
+    ensures { WritesOnOk W.write_str_gives f.old result (arity_text unbound.now (first ∷ rest.now)) f.new }
+{
+    match unbound.split_first() {
+        None => {
+            f.write_str(
+                "the following slots were provided as arguments, but did not exist in the template: ",
+            )?;
+            write_listed(first, rest, f)
+        }
+        Some(_) => {
+            write_unbound(unbound, f)?;
+            f.write_str(
+                ". The following slots were provided as arguments, but did not exist in the template: ",
+            )?;
+            write_listed(first, rest, f)
+        }
+    }
+}
+
+// Writes some slots, joined by commas.
+fn write_slots<W: fmt::Write>(slots: &[SlotId], f: &mut fmt::Formatter<W>) -> fmt::Result
+    ensures { WritesOnOk W.write_str_gives f.old result (slots_text slots.now) f.new }
+{
+    match slots.split_first() {
+        None => Ok(()),
+        Some((first, rest)) => write_listed(*first, rest, f),
+    }
+}
+
+// Writes a slot, and others after it.
+fn write_listed<W: fmt::Write>(
+    first: SlotId,
+    rest: &[SlotId],
+    f: &mut fmt::Formatter<W>,
+) -> fmt::Result
+    ensures { WritesOnOk W.write_str_gives f.old result (slots_text (first ∷ rest.now)) f.new }
+{
+    write!(f, "{first}")?;
+    write_more(rest, f)
+}
+
+// Writes a comma before each.
+fn write_more<W: fmt::Write>(slots: &[SlotId], f: &mut fmt::Formatter<W>) -> fmt::Result
+    ensures { WritesOnOk W.write_str_gives f.old result (flat_map slot_after_comma slots.now) f.new }
+{
+    for slot in slots {
+        write!(f, ",{slot}")?;
+    }
+    Ok(())
+}

@@ -1,0 +1,55 @@
+-- A body as callers see it, its condition, and the slots in that. No location is in it.
+use Rattle.std.specs.Prelude.{ℕ, List, [], true, Option, Some, None}
+use Rattle.cedar_terms.specs.LiteralTree.{bool_literal}
+use Rattle.cedar_terms.specs.ExprTree.{ExprTree, val_node, and_node}
+use Rattle.cedar_terms.specs.Walk.{slots_of}
+use Rattle.cedar_terms.specs.declared.slot.SlotId.{SlotId}
+use Rattle.cedar_scope.specs.Annotations.{AnnotationsView}
+use Rattle.cedar_scope.specs.Scope.{Constraint, ActionRule}
+use Rattle.cedar_scope.specs.ScopeTrees.{constraint_expr, rule_expr}
+use Rattle.cedar_scope.specs.declared.variable.PrincipalOrResource.TheVariants as variables
+use Rattle.cedar_body.specs.declared.effect.Effect.{Effect}
+
+-- its id, its annotations, its effect, what principal, action and resource have to be, and the clause if
+-- it has one
+pub record BodyParts : Type 0 where
+  pub id : List ℕ
+  pub annotations : AnnotationsView
+  pub effect : Effect
+  pub principal : Constraint
+  pub action : ActionRule
+  pub resource : Constraint
+  pub clause : Option ExprTree
+
+-- the expressions of the three constraints
+abbrev pub principal_expr : BodyParts → ExprTree
+principal_expr b = constraint_expr variables.Principal b.principal
+
+abbrev pub action_expr : BodyParts → ExprTree
+action_expr b = rule_expr b.action
+
+abbrev pub resource_expr : BodyParts → ExprTree
+resource_expr b = constraint_expr variables.Resource b.resource
+
+-- the clause, `true` where there is none
+abbrev pub clause_expr : Option ExprTree → ExprTree
+clause_expr None = val_node (bool_literal true)
+clause_expr (Some e) = e
+
+-- the principal's constraint and (the action's and (the resource's and the clause))
+abbrev pub condition : BodyParts → ExprTree
+condition b = and_node (principal_expr b) (and_node (action_expr b) (and_node (resource_expr b) (clause_expr b.clause)))
+
+-- the slots that the walk through the condition meets, as often as it meets them
+abbrev pub body_slots : BodyParts → List SlotId
+body_slots b = slots_of (condition b)
+
+-- the slots in a clause
+abbrev pub clause_slots : Option ExprTree → List SlotId
+clause_slots None = []
+clause_slots (Some e) = slots_of e
+
+-- the same body under another id
+abbrev pub with_id : List ℕ → BodyParts → BodyParts
+with_id i b =
+    record { id = i; annotations = b.annotations; effect = b.effect; principal = b.principal; action = b.action; resource = b.resource; clause = b.clause }

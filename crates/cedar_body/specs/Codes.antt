@@ -1,0 +1,47 @@
+-- How a proof tells effects and bodies apart.
+use Rattle.std.specs.Prelude.{◌≡◌, ℕ, List, Bool, true, false, Option, refl}
+use Rattle.std.specs.Coded.{Coded, code_by, coded×, coded_bool, coded_option}
+use Rattle.cedar_ids.specs.Codes.{text_code}
+use Rattle.cedar_terms.specs.ExprTree.{ExprTree}
+use Rattle.cedar_terms.specs.laws.ExprKeys.{expr_code}
+use Rattle.cedar_scope.specs.Annotations.{AnnotationsView}
+use Rattle.cedar_scope.specs.Scope.{Constraint, ActionRule}
+use Rattle.cedar_scope.specs.Codes.{annotations_code, constraint_code, rule_code}
+use Rattle.cedar_body.specs.Bodies.{BodyParts}
+use Rattle.cedar_body.specs.declared.effect.Effect.{Effect}
+use Rattle.cedar_body.specs.declared.effect.Effect.TheVariants.{Permit, Forbid}
+
+-- whether an effect is `Permit`
+abbrev pub is_permit : Effect → Bool
+is_permit Permit = true
+is_permit Forbid = false
+
+-- the effect of which that is said
+abbrev pub effect_where : Bool → Effect
+effect_where true = Permit
+effect_where false = Forbid
+
+pub effect_where-is_permit : (e : Effect) → effect_where (is_permit e) ≡ e
+effect_where-is_permit Permit = refl
+effect_where-is_permit Forbid = refl
+
+abbrev pub effect_code : Coded Effect
+effect_code = code_by Bool coded_bool is_permit effect_where effect_where-is_permit
+
+-- the parts of a body in a row
+abbrev pub BodyRow : Type 0
+BodyRow = List ℕ × (AnnotationsView × (Effect × (Constraint × (ActionRule × (Constraint × Option ExprTree)))))
+
+abbrev pub body_row : BodyParts → BodyRow
+body_row b = (b.id, (b.annotations, (b.effect, (b.principal, (b.action, (b.resource, b.clause))))))
+
+-- the body of a row
+abbrev pub body_with : BodyRow → BodyParts
+body_with p =
+    record { id = p.0; annotations = p.1.0; effect = p.1.1.0; principal = p.1.1.1.0; action = p.1.1.1.1.0; resource = p.1.1.1.1.1.0; clause = p.1.1.1.1.1.1 }
+
+abbrev pub body_code : Coded BodyParts
+body_code =
+    code_by BodyRow
+    (coded× text_code (coded× annotations_code (coded× effect_code (coded× constraint_code (coded× rule_code (coded× constraint_code (coded_option expr_code)))))))
+    body_row body_with (λ _. refl)

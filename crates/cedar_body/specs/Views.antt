@@ -1,0 +1,8 @@
+-- What callers see of a body.
+use Rattle.cedar_body.specs.Bodies.{BodyParts}
+use Rattle.cedar_body.specs.declared.body.TemplateBody.{TemplateBody}
+use Rattle.cedar_body.specs.declared.body.TemplateBody.TheVariants as bodies
+
+-- the parts of a body
+abbrev pub body_of : TemplateBody → BodyParts
+body_of (bodies.TemplateBody b) = b

@@ -1,0 +1,483 @@
+ghost use Rattle.std.specs.Prelude.{◌≡◌, IfOk, fold, true};
+ghost use Rattle.std.specs.Option.{option_copied, option_map};
+ghost use Rattle.std.specs.Ordering.{on};
+ghost use Rattle.std.specs.Fmt.{WritesOnOk};
+ghost use Rattle.std.specs.Cmp.{partial_equiv_from_equiv, on_equiv};
+ghost use Rattle.cedar_terms.specs.ExprTree.{and_node};
+ghost use Rattle.cedar_scope.specs.Annotations.{value_at, KeysAscend};
+ghost use Rattle.cedar_scope.specs.Views.{rule_of};
+ghost use Rattle.cedar_body.specs.Bodies.{principal_expr, action_expr, resource_expr, clause_expr, condition, with_id};
+ghost use Rattle.cedar_body.specs.BodyEquality.{same_clause, same_body, clause_hash, body_hash};
+ghost use Rattle.cedar_body.specs.BodyTexts.{head_text, clause_text, is_ascii_head, is_ascii_clause, body_output};
+ghost use Rattle.cedar_body.specs.Views.{body_of};
+ghost use Rattle.cedar_body.specs.laws.BodyLaws.{same_body_equiv, body_hash_respects};
+
+use crate::effect::Effect;
+use cedar_ids::id::AnyId;
+use cedar_ids::loc::Loc;
+use cedar_ids::policy_id::PolicyID;
+use cedar_scope::annotation::Iter;
+use cedar_scope::{
+    ActionConstraint, Annotation, Annotations, PrincipalConstraint, ResourceConstraint,
+};
+use cedar_terms::expr::Expr;
+use cedar_terms::literal::Literal;
+use std::alloc::{AllocError, Global};
+use std::fmt;
+use std::hash::{Hash, Hasher};
+use std::marker::Model;
+use std::rc::Rc;
+
+/// What the body of a policy or a template holds: its id, its annotations, its effect, its three scope
+/// constraints, its clause if it has one, and a location if it has one.
+///
+/// Contracts see all of this but locations. Equality and hash are those of the parts, look at no location and
+/// take no memory. `clone` takes memory for the id and for a list of actions, and shares the rest.
+#[derive(Debug, Drop)]
+pub struct TemplateBodyImpl {
+    id: PolicyID,
+    loc: Option<Loc>,
+    annotations: Rc<Annotations>,
+    effect: Effect,
+    principal_constraint: PrincipalConstraint,
+    action_constraint: ActionConstraint,
+    resource_constraint: ResourceConstraint,
+    non_scope_constraints: Option<Rc<Expr>>,
+}
+
+impl Model for TemplateBodyImpl {
+    ghost use Rattle.cedar_body.specs.Bodies.{BodyParts};
+    ghost use Rattle.cedar_body.specs.Codes.{body_code};
+
+    ghost Value = { BodyParts };
+
+    ghost coded = { body_code };
+
+    ghost use Rattle.std.specs.Option.{option_map};
+    ghost use Rattle.cedar_scope.specs.Views.{rule_of};
+
+    ghost view = { λ b. record {
+      id = b.id;
+      annotations = b.annotations.value;
+      effect = b.effect;
+      principal = b.principal_constraint;
+      action = rule_of b.action_constraint;
+      resource = b.resource_constraint;
+      clause = option_map (λ e. e.value) b.non_scope_constraints;
+    } };
+}
+
+impl TemplateBodyImpl {
+    // A copy under another id.
+    fn with_id(&self, id: PolicyID) -> Result<TemplateBodyImpl, AllocError>
+        ensures { IfOk result (λ b. b ≡ with_id id self.now) }
+    {
+        Ok(TemplateBodyImpl {
+            id,
+            loc: self.loc.clone()?,
+            annotations: self.annotations.clone()?,
+            effect: self.effect,
+            principal_constraint: self.principal_constraint.clone()?,
+            action_constraint: self.action_constraint.clone()?,
+            resource_constraint: self.resource_constraint.clone()?,
+            non_scope_constraints: copied_clause(&self.non_scope_constraints)?,
+        })
+    }
+}
+
+// A further share of the clause, if there is one.
+fn copied_clause(clause: &Option<Rc<Expr>>) -> Result<Option<Rc<Expr>>, AllocError>
+    ensures { IfOk result (λ c. option_map (λ e. e.value) c ≡ option_map (λ e. e.value) clause.now) }
+{
+    match clause {
+        Some(clause) => Ok(Some(clause.clone()?)),
+        None => Ok(None),
+    }
+}
+
+impl Clone for TemplateBodyImpl {
+    ghost is_clone = { λ x y. y ≡ x };
+
+    fn clone(&self) -> Result<TemplateBodyImpl, AllocError> {
+        self.with_id(self.id.clone()?)
+    }
+}
+
+/// The body of a policy or a template: a static policy's body has no slots.
+///
+/// Contracts see its parts without locations. Equality and hash are those of the parts: the id, the
+/// annotations, the effect, the three constraints and the clause; they look at no location and take no memory.
+/// `clone` takes memory for the id and for a list of actions, and shares the rest.
+///
+/// `Display` takes no memory. It writes the annotations, a line each; then the effect and `(`, the three
+/// constraints on a line each, with commas between, and `)` on the next line; then `;`, or ` when {`, the
+/// clause on a line of its own, and `};`. Exactly so where all texts in it are ASCII, else with those past
+/// ASCII as `str::escape_debug` writes them.
+#[derive(Debug, Drop)]
+pub enum TemplateBody {
+    /// The body that holds this.
+    TemplateBody(TemplateBodyImpl),
+}
+
+impl TemplateBody {
+    /// The body of these parts. Takes memory to share the annotations and the clause, and is refused only
+    /// where that is.
+    pub fn new(
+        alloc: Global,
+        id: PolicyID,
+        loc: Option<Loc>,
+        annotations: Annotations,
+        effect: Effect,
+        principal_constraint: PrincipalConstraint,
+        action_constraint: ActionConstraint,
+        resource_constraint: ResourceConstraint,
+        non_scope_constraints: Option<Expr>,
+    ) -> Result<TemplateBody, AllocError>
+        ensures { IfOk result (λ b. body_of b ≡ record {
+          id = id;
+          annotations = annotations;
+          effect = effect;
+          principal = principal_constraint;
+          action = rule_of action_constraint;
+          resource = resource_constraint;
+          clause = non_scope_constraints;
+        }) }
+    {
+        let annotations = Rc::new(alloc, annotations)?;
+        let non_scope_constraints = shared_clause(alloc, non_scope_constraints)?;
+        Ok(TemplateBody::new_shared(
+            id,
+            loc,
+            annotations,
+            effect,
+            principal_constraint,
+            action_constraint,
+            resource_constraint,
+            non_scope_constraints,
+        ))
+    }
+
+    /// The body of these parts, of which annotations and clause are shared already. Takes no memory.
+    pub fn new_shared(
+        id: PolicyID,
+        loc: Option<Loc>,
+        annotations: Rc<Annotations>,
+        effect: Effect,
+        principal_constraint: PrincipalConstraint,
+        action_constraint: ActionConstraint,
+        resource_constraint: ResourceConstraint,
+        non_scope_constraints: Option<Rc<Expr>>,
+    ) -> TemplateBody
+        ensures { body_of result ≡ record {
+          id = id;
+          annotations = annotations.value;
+          effect = effect;
+          principal = principal_constraint;
+          action = rule_of action_constraint;
+          resource = resource_constraint;
+          clause = option_map (λ e. e.value) non_scope_constraints;
+        } }
+    {
+        TemplateBody::TemplateBody(TemplateBodyImpl {
+            id,
+            loc,
+            annotations,
+            effect,
+            principal_constraint,
+            action_constraint,
+            resource_constraint,
+            non_scope_constraints,
+        })
+    }
+
+    /// The id. Takes no memory, as no reader here does.
+    pub fn id(&self) -> &PolicyID
+        ensures { result.now ≡ (body_of self.now).id }
+    {
+        let TemplateBody::TemplateBody(body) = self;
+        &body.id
+    }
+
+    /// The location of the whole policy, if it is known.
+    pub fn loc(&self) -> Option<&Loc> {
+        let TemplateBody::TemplateBody(body) = self;
+        body.loc.as_ref()
+    }
+
+    /// A copy under another id, its location kept. Takes memory as `clone` does, but for the id; is refused
+    /// only where that is, and then this body is as it was.
+    pub fn new_id(&self, id: PolicyID) -> Result<TemplateBody, AllocError>
+        ensures { IfOk result (λ b. body_of b ≡ with_id id (body_of self.now)) }
+    {
+        let TemplateBody::TemplateBody(body) = self;
+        Ok(TemplateBody::TemplateBody(body.with_id(id)?))
+    }
+
+    /// The effect.
+    pub fn effect(&self) -> Effect
+        ensures { result ≡ (body_of self.now).effect }
+    {
+        let TemplateBody::TemplateBody(body) = self;
+        body.effect
+    }
+
+    /// The annotation at a key, if there is one; the cost is logarithmic in their number.
+    pub fn annotation(&self, key: &AnyId) -> Option<&Annotation>
+        ensures { option_map (λ a. a.now) result ≡ value_at key.now (body_of self.now).annotations }
+    {
+        let TemplateBody::TemplateBody(body) = self;
+        body.annotations.get(key)
+    }
+
+    /// All annotations with their keys, by key.
+    pub fn annotations(&self) -> Iter<'_>
+        ensures pairs { result ≡ (body_of self.now).annotations }
+        ensures ascending { KeysAscend (body_of self.now).annotations }
+    {
+        let TemplateBody::TemplateBody(body) = self;
+        body.annotations.iter()
+    }
+
+    /// The annotations as they are shared.
+    pub fn annotations_arc(&self) -> &Rc<Annotations>
+        ensures { result.now.value ≡ (body_of self.now).annotations }
+    {
+        let TemplateBody::TemplateBody(body) = self;
+        &body.annotations
+    }
+
+    /// What the principal has to be.
+    pub fn principal_constraint(&self) -> &PrincipalConstraint
+        ensures { result.now ≡ (body_of self.now).principal }
+    {
+        let TemplateBody::TemplateBody(body) = self;
+        &body.principal_constraint
+    }
+
+    /// The expression of that, as `PrincipalConstraint::as_expr` makes it. Takes memory as that does.
+    pub fn principal_constraint_expr(&self, alloc: Global) -> Result<Expr, AllocError>
+        ensures { IfOk result (λ e. e ≡ principal_expr (body_of self.now)) }
+    {
+        self.principal_constraint().as_expr(alloc)
+    }
+
+    /// What the action has to be.
+    pub fn action_constraint(&self) -> &ActionConstraint
+        ensures { rule_of result.now ≡ (body_of self.now).action }
+    {
+        let TemplateBody::TemplateBody(body) = self;
+        &body.action_constraint
+    }
+
+    /// The expression of that, as `ActionConstraint::as_expr` makes it. Takes memory as that does.
+    pub fn action_constraint_expr(&self, alloc: Global) -> Result<Expr, AllocError>
+        ensures { IfOk result (λ e. e ≡ action_expr (body_of self.now)) }
+    {
+        self.action_constraint().as_expr(alloc)
+    }
+
+    /// What the resource has to be.
+    pub fn resource_constraint(&self) -> &ResourceConstraint
+        ensures { result.now ≡ (body_of self.now).resource }
+    {
+        let TemplateBody::TemplateBody(body) = self;
+        &body.resource_constraint
+    }
+
+    /// The expression of that, as `ResourceConstraint::as_expr` makes it. Takes memory as that does.
+    pub fn resource_constraint_expr(&self, alloc: Global) -> Result<Expr, AllocError>
+        ensures { IfOk result (λ e. e ≡ resource_expr (body_of self.now)) }
+    {
+        self.resource_constraint().as_expr(alloc)
+    }
+
+    /// The clause, if there is one.
+    pub fn non_scope_constraints(&self) -> Option<&Expr>
+        ensures { option_copied result ≡ (body_of self.now).clause }
+    {
+        match self.non_scope_constraints_arc() {
+            Some(clause) => Some(&**clause),
+            None => None,
+        }
+    }
+
+    /// The clause as it is shared, if there is one.
+    pub fn non_scope_constraints_arc(&self) -> Option<&Rc<Expr>>
+        ensures { option_map (λ e. e.now.value) result ≡ (body_of self.now).clause }
+    {
+        let TemplateBody::TemplateBody(body) = self;
+        body.non_scope_constraints.as_ref()
+    }
+
+    /// The condition: that the principal's constraint holds and (the action's and (the resource's and the
+    /// clause)), where a clause that is not there counts as `true`.
+    ///
+    /// It always makes three nodes for this, and they have the body's location; a slot's node has that of its
+    /// reference. Takes memory for these and for the expressions of the constraints, linear in the list of the
+    /// action; the clause is shared. It is refused only where memory is.
+    pub fn condition(&self, alloc: Global) -> Result<Expr, AllocError>
+        ensures { IfOk result (λ e. e ≡ condition (body_of self.now)) }
+    {
+        let principal = self.principal_constraint_expr(alloc)?;
+        let action = self.action_constraint_expr(alloc)?;
+        let resource = self.resource_constraint_expr(alloc)?;
+        let clause = self.clause_expr(alloc)?;
+        let rest = self.both(alloc, resource, clause)?;
+        let rest = self.both(alloc, action, rest)?;
+        self.both(alloc, principal, rest)
+    }
+
+    // The clause, `true` where there is none.
+    fn clause_expr(&self, alloc: Global) -> Result<Expr, AllocError>
+        ensures { IfOk result (λ e. e ≡ clause_expr (body_of self.now).clause) }
+    {
+        match self.non_scope_constraints() {
+            Some(clause) => clause.clone(),
+            None => Expr::val(alloc, Literal::Bool(true)),
+        }
+    }
+
+    // That both hold, at the body's location.
+    fn both(&self, alloc: Global, left: Expr, right: Expr) -> Result<Expr, AllocError>
+        ensures { IfOk result (λ e. e ≡ and_node left right) }
+    {
+        let both = Expr::and(alloc, left, right)?;
+        let TemplateBody::TemplateBody(body) = self;
+        Ok(both.with_maybe_source_loc(body.loc.clone()?))
+    }
+}
+
+// The clause, to be shared.
+fn shared_clause(alloc: Global, clause: Option<Expr>) -> Result<Option<Rc<Expr>>, AllocError>
+    ensures { IfOk result (λ c. option_map (λ e. e.value) c ≡ clause) }
+{
+    match clause {
+        Some(clause) => Ok(Some(Rc::new(alloc, clause)?)),
+        None => Ok(None),
+    }
+}
+
+impl Clone for TemplateBody {
+    ghost is_clone = { λ x y. body_of y ≡ body_of x };
+
+    fn clone(&self) -> Result<TemplateBody, AllocError> {
+        let TemplateBody::TemplateBody(body) = self;
+        Ok(TemplateBody::TemplateBody(body.clone()?))
+    }
+}
+
+impl PartialEq for TemplateBodyImpl {
+    ghost eq = { same_body };
+
+    ghost laws = { partial_equiv_from_equiv same_body_equiv };
+
+    fn eq(&self, other: &TemplateBodyImpl) -> bool {
+        self.id == other.id
+            && self.annotations == other.annotations
+            && self.effect == other.effect
+            && self.principal_constraint == other.principal_constraint
+            && self.action_constraint == other.action_constraint
+            && self.resource_constraint == other.resource_constraint
+            && same_clause(&self.non_scope_constraints, &other.non_scope_constraints)
+    }
+}
+
+// Whether both are not there, or are equal.
+#[tactic(auto, using(crate::proofs::Clauses::clauses_told))]
+fn same_clause(clause: &Option<Rc<Expr>>, other: &Option<Rc<Expr>>) -> bool
+    ensures { result ≡ same_clause (option_map (λ e. e.value) clause.now) (option_map (λ e. e.value) other.now) }
+{
+    clause == other
+}
+
+impl Eq for TemplateBodyImpl {
+    ghost laws = { same_body_equiv };
+}
+
+impl Hash for TemplateBodyImpl {
+    ghost hash_input = { body_hash };
+
+    ghost respects_eq = { body_hash_respects };
+
+    fn hash<H: Hasher>(&self, state: &mut H) {
+        self.id.hash(state);
+        self.annotations.hash(state);
+        self.effect.hash(state);
+        self.principal_constraint.hash(state);
+        self.action_constraint.hash(state);
+        self.resource_constraint.hash(state);
+        feed_clause(&self.non_scope_constraints, state);
+    }
+}
+
+// Feeds whether there is a clause, and the clause.
+#[tactic(auto, using(crate::proofs::Clauses::clause_fed))]
+fn feed_clause<H: Hasher>(clause: &Option<Rc<Expr>>, state: &mut H)
+    ensures { state.new ≡ fold H.write state.old (clause_hash (option_map (λ e. e.value) clause.now)) }
+{
+    clause.hash(state);
+}
+
+impl PartialEq for TemplateBody {
+    ghost eq = { on body_of same_body };
+
+    ghost laws = { partial_equiv_from_equiv (on_equiv body_of same_body_equiv) };
+
+    fn eq(&self, other: &TemplateBody) -> bool {
+        let TemplateBody::TemplateBody(a) = self;
+        let TemplateBody::TemplateBody(b) = other;
+        a == b
+    }
+}
+
+impl Eq for TemplateBody {
+    ghost laws = { on_equiv body_of same_body_equiv };
+}
+
+impl Hash for TemplateBody {
+    ghost hash_input = { λ b. body_hash (body_of b) };
+
+    ghost respects_eq = { λ x y e. body_hash_respects (body_of x) (body_of y) e };
+
+    fn hash<H: Hasher>(&self, state: &mut H) {
+        let TemplateBody::TemplateBody(body) = self;
+        body.hash(state);
+    }
+}
+
+impl fmt::Display for TemplateBody {
+    ghost output = { λ b. body_output (body_of b) };
+
+    fn fmt<W: fmt::Write>(&self, f: &mut fmt::Formatter<W>) -> fmt::Result {
+        let TemplateBody::TemplateBody(body) = self;
+        let annotations: &Annotations = &body.annotations;
+        write!(f, "{annotations}")?;
+        body.write_head(f)?;
+        write_clause(&body.non_scope_constraints, f)
+    }
+}
+
+impl TemplateBodyImpl {
+    // Writes the effect and the constraints.
+    fn write_head<W: fmt::Write>(&self, f: &mut fmt::Formatter<W>) -> fmt::Result
+        ensures { is_ascii_head self.now ≡ true
+            → WritesOnOk W.write_str_gives f.old result (head_text self.now) f.new }
+    {
+        let effect = self.effect;
+        let principal = &self.principal_constraint;
+        let action = &self.action_constraint;
+        let resource = &self.resource_constraint;
+        write!(f, "{effect}(\n  {principal},\n  {action},\n  {resource}\n)")
+    }
+}
+
+// Writes what follows the constraints: the clause, if there is one.
+fn write_clause<W: fmt::Write>(clause: &Option<Rc<Expr>>, f: &mut fmt::Formatter<W>) -> fmt::Result
+    ensures { is_ascii_clause (option_map (λ e. e.value) clause.now) ≡ true
+        → WritesOnOk W.write_str_gives f.old result (clause_text (option_map (λ e. e.value) clause.now)) f.new }
+{
+    match clause {
+        None => f.write_str(";"),
+        Some(clause) => write!(f, " when {{\n  {clause}\n}};"),
+    }
+}

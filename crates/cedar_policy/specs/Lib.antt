@@ -1,0 +1,10 @@
+pub mod Codes
+pub mod Faults
+pub mod Links
+pub mod Policies
+pub mod PolicyEquality
+pub mod PolicyTexts
+pub mod Statics
+pub mod Unknowns
+pub mod Validation
+pub mod laws

@@ -1,0 +1,48 @@
+-- What validating a template answers.
+use Rattle.std.specs.Prelude.{◌≡◌, [], map, Option, Some, None, Result, Ok, Err}
+use Rattle.cedar_ids.specs.Name.{NameParts}
+use Rattle.cedar_ids.specs.NonEmpties.{all_of}
+use Rattle.cedar_ids.specs.UidOf.{uid_parts}
+use Rattle.cedar_terms.specs.ExprTree.{ExprTree}
+use Rattle.cedar_terms.specs.Walk.{first_unknown_function}
+use Rattle.cedar_terms.specs.declared.err.ExprValidationError.TheVariants as exprs
+use Rattle.cedar_scope.specs.Scope.{ActionRule}
+use Rattle.cedar_scope.specs.ScopeReads.{non_actions}
+use Rattle.cedar_body.specs.Bodies.{BodyParts, clause_slots}
+use Rattle.cedar_policy.specs.Statics.{IsFirst}
+use Rattle.cedar_policy.specs.declared.err.TemplateValidationError.{TemplateValidationError}
+use Rattle.cedar_policy.specs.declared.err.TemplateValidationError.TheVariants.{SlotsInConditionClause, InvalidActionType, SlotCacheMismatch, InvalidExpression, Memory}
+
+-- the first function that a clause calls and that may not be called
+abbrev pub clause_fault : Option ExprTree → Option NameParts
+clause_fault None = None
+clause_fault (Some e) = first_unknown_function e
+
+-- no slot stands in a clause
+abbrev pub HasPlainClause : Option ExprTree → Type 0
+HasPlainClause c = clause_slots c ≡ []
+
+-- and the uids of an action's constraint are those of actions
+abbrev pub HasActions : Option ExprTree → ActionRule → Type 0
+HasActions c a = HasPlainClause c × (non_actions a ≡ [])
+
+-- the first fault of a clause and an action's constraint: a slot in the clause, the first one; else uids that
+-- are no actions, all of them; else a function that is not known, the first one. Want of memory says nothing
+-- of them
+abbrev pub IsFault : TemplateValidationError → Option ExprTree → ActionRule → Type 0
+IsFault (SlotsInConditionClause s) c a = IsFirst s (clause_slots c)
+IsFault (InvalidActionType us) c a = HasPlainClause c × (map (λ u. uid_parts u.value) (all_of us) ≡ non_actions a)
+IsFault SlotCacheMismatch c a = ⊥
+IsFault (InvalidExpression (exprs.UnknownFunction f)) c a = HasActions c a × (clause_fault c ≡ Some f)
+IsFault (InvalidExpression exprs.Memory) c a = ⊥
+IsFault Memory c a = Unit {0}
+
+-- `Ok` where there is no fault, else the first one
+abbrev pub Passes : {A : Type 0} → Result A TemplateValidationError → Option ExprTree → ActionRule → Type 0
+Passes (Ok x) c a = HasActions c a × (clause_fault c ≡ None)
+Passes (Err e) c a = IsFault e c a
+
+-- the template itself where there is no fault, else the first one
+abbrev pub Validated : Result BodyParts TemplateValidationError → BodyParts → Type 0
+Validated (Ok t) b = HasActions b.clause b.action × (clause_fault b.clause ≡ None) × (t ≡ b)
+Validated (Err e) b = IsFault e b.clause b.action

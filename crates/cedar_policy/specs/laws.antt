@@ -1,0 +1,4 @@
+pub mod PolicyLaws
+pub mod PolicySlots
+pub mod UnknownSteps
+pub mod ValidationSteps

@@ -1,0 +1,93 @@
+-- The slots of a policy's template, and what filling them leaves.
+use Rattle.std.specs.Prelude.{◌≡◌, List, [], ◌∷◌, ◌++◌, Bool, true, false, ◌||◌, Option, Some, None, if◌then◌else◌, is_some, refl}
+use Rattle.std.proofs.Common.{ap, subst, sym, ◌∙◌}
+use Rattle.std.specs.List.{list_any}
+use Rattle.std.proofs.lemmas.Bool.{false≢true}
+use Rattle.std.proofs.lemmas.List.{append-nil}
+use Rattle.cedar_terms.specs.ExprTree.{ExprTree}
+use Rattle.cedar_terms.specs.SlotTree.{same_slot, same_slot_decides}
+use Rattle.cedar_terms.specs.Walk.{slots_of}
+use Rattle.cedar_terms.specs.declared.slot.SlotId.{SlotId}
+use Rattle.cedar_terms.specs.declared.slot.SlotId.TheVariants.{Principal, Resource}
+use Rattle.cedar_scope.specs.Scope.{Constraint, any}
+use Rattle.cedar_scope.specs.ScopeReads.{has_slot}
+use Rattle.cedar_scope.specs.laws.Filling.{has_slot-filled}
+use Rattle.cedar_scope.specs.laws.ScopeSlots.{constraint_slots}
+use Rattle.cedar_scope.specs.declared.variable.PrincipalOrResource.TheVariants as variables
+use Rattle.cedar_body.specs.Bodies.{BodyParts, body_slots, clause_slots}
+use Rattle.cedar_body.specs.laws.BodySlots.{body_slots-parts}
+use Rattle.cedar_binding.specs.Bindings as bindings
+use Rattle.cedar_binding.specs.Bindings.{BindsExactly}
+use Rattle.cedar_binding.specs.laws.NoBindings.{nothing_bound}
+use Rattle.cedar_ids.specs.Uid.{UidParts}
+use Rattle.cedar_policy.specs.Policies.{PolicyParts, IsPolicy, static_policy, filled_by, principal_of, resource_of}
+
+neither_left : (a b : Bool) → (a || b) ≡ false → a ≡ false
+neither_left true b h = h
+neither_left false b h = refl
+
+neither_right : (a b : Bool) → (a || b) ≡ false → b ≡ false
+neither_right true b h = absurd (cc)
+neither_right false b h = h
+
+not_before : (p : SlotId → Bool) (xs ys : List SlotId) → list_any p (xs ++ ys) ≡ false → list_any p xs ≡ false
+not_before p [] ys h = refl
+not_before p (x ∷ xs) ys h =
+    let first = neither_left (p x) (list_any p (xs ++ ys)) h in
+    let rest = not_before p xs ys (neither_right (p x) (list_any p (xs ++ ys)) h) in
+    λ i. first i || rest i
+
+not_after : (p : SlotId → Bool) (xs ys : List SlotId) → list_any p (xs ++ ys) ≡ false → list_any p ys ≡ false
+not_after p [] ys h = h
+not_after p (x ∷ xs) ys h = not_after p xs ys (neither_right (p x) (list_any p (xs ++ ys)) h)
+
+not_there : (s : SlotId) (h : Bool) → list_any (same_slot s) (if h then s ∷ [] else []) ≡ false → h ≡ false
+not_there s true e = absurd (false≢true (sym (neither_left (same_slot s s) false e) ∙ (same_slot_decides s s).1 refl))
+not_there s false e = refl
+
+-- where the principal's slot is none of a body's slots its constraint does not refer to it
+principal_without_slot : (b : BodyParts) → bindings.has_slot (body_slots b) Principal ≡ false → has_slot b.principal ≡ false
+principal_without_slot b h =
+    let parts = ap (λ xs. bindings.has_slot xs Principal) (sym (body_slots-parts b)) ∙ h in
+    not_there Principal (has_slot b.principal)
+    (not_after (same_slot Principal) (constraint_slots variables.Resource b.resource) _ (not_after (same_slot Principal) (clause_slots b.clause) _ parts))
+
+-- and so with the resource's
+resource_without_slot : (b : BodyParts) → bindings.has_slot (body_slots b) Resource ≡ false → has_slot b.resource ≡ false
+resource_without_slot b h =
+    let parts = ap (λ xs. bindings.has_slot xs Resource) (sym (body_slots-parts b)) ∙ h in
+    not_there Resource (has_slot b.resource)
+    (not_before (same_slot Resource) (constraint_slots variables.Resource b.resource) _ (not_after (same_slot Resource) (clause_slots b.clause) _ parts))
+
+filled_where : (o : Option UidParts) (c : Constraint) → (o ≡ None → has_slot c ≡ false) → has_slot (filled_by o c) ≡ false
+filled_where None c f = f refl
+filled_where (Some u) c f = has_slot-filled u c
+
+-- where a policy binds no uid to the principal's slot its template does not refer to that
+pub principal_unbound : (p : PolicyParts) → BindsExactly (body_slots p.template) p.env → p.env.principal ≡ None → has_slot p.template.principal ≡ false
+principal_unbound p f e = principal_without_slot p.template (sym (f Principal) ∙ ap is_some e)
+
+-- so what the principal of a policy has to be holds no slot
+pub principal_holds_no_slot : (p : PolicyParts) → BindsExactly (body_slots p.template) p.env → has_slot (principal_of p) ≡ false
+principal_holds_no_slot p f = filled_where p.env.principal p.template.principal (principal_unbound p f)
+
+-- and so with the resource
+pub resource_unbound : (p : PolicyParts) → BindsExactly (body_slots p.template) p.env → p.env.resource ≡ None → has_slot p.template.resource ≡ false
+resource_unbound p f e = resource_without_slot p.template (sym (f Resource) ∙ ap is_some e)
+
+pub resource_holds_no_slot : (p : PolicyParts) → BindsExactly (body_slots p.template) p.env → has_slot (resource_of p) ≡ false
+resource_holds_no_slot p f = filled_where p.env.resource p.template.resource (resource_unbound p f)
+
+-- a body that constrains nothing has the slots of its clause
+pub unconstrained_slots : (b : BodyParts) (e : ExprTree) → b.principal ≡ any → b.resource ≡ any → b.clause ≡ Some e → slots_of e ≡ [] → body_slots b ≡ []
+unconstrained_slots b e p r c h =
+    body_slots-parts b
+    ∙ (λ i. clause_slots (c i) ++ (constraint_slots variables.Resource (r i) ++ constraint_slots variables.Principal (p i)))
+    ∙ append-nil (slots_of e)
+    ∙ h
+
+-- what is no link is the static policy of its template
+pub unlinked_is_static : (p : PolicyParts) → IsPolicy p → p.link ≡ None → p ≡ static_policy p.template
+unlinked_is_static p h e =
+    let nothing = nothing_bound p.env (subst (λ slots. BindsExactly slots p.env) (h.unlinked e) h.total) in
+    λ i. record { template = p.template; link = e i; env = nothing i }

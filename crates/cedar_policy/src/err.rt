@@ -1,0 +1,124 @@
+//! Why a body is no static policy, and why a template is not valid.
+ghost use Rattle.std.specs.Prelude.{◌≡◌, IfOk, map};
+ghost use Rattle.cedar_ids.specs.NonEmpties.{all_of};
+ghost use Rattle.cedar_ids.specs.UidOf.{uid_parts};
+ghost use Rattle.cedar_policy.specs.Faults.{fault_of};
+
+use cedar_ids::entity::EntityUID;
+use cedar_ids::non_empty::NonEmpty;
+use cedar_scope::action::JoinedUids;
+use cedar_terms::err::ExprValidationError;
+use cedar_terms::slot::Slot;
+use std::alloc::{AllocError, AllocFailed};
+use std::rc::Rc;
+use thiserror::Error;
+
+/// Why a body is no static policy. Two refusals are equal where they name the same slot, wherever it stands;
+/// the original has no refusal for memory.
+#[derive(Clone, Debug, Drop, PartialEq, Eq, Error)]
+pub enum UnexpectedSlotError {
+    /// It has this slot: the first one of its condition.
+    #[error("found slot `{}` where slots are not allowed", .0.id)]
+    FoundSlot(Slot),
+    /// Memory was refused.
+    #[error("out of memory")]
+    Memory,
+}
+
+impl From<AllocError> for UnexpectedSlotError {
+    ghost use Rattle.cedar_policy.specs.declared.err.UnexpectedSlotError.TheVariants.{Memory};
+
+    ghost from_gives = { λ _ e. e ≡ Memory };
+
+    fn from(_error: AllocError) -> UnexpectedSlotError {
+        UnexpectedSlotError::Memory
+    }
+}
+
+impl<T: Drop> From<AllocFailed<T>> for UnexpectedSlotError {
+    ghost use Rattle.cedar_policy.specs.declared.err.UnexpectedSlotError.TheVariants.{Memory};
+
+    ghost from_gives = { λ _ e. e ≡ Memory };
+
+    fn from(_error: AllocFailed<T>) -> UnexpectedSlotError {
+        UnexpectedSlotError::Memory
+    }
+}
+
+/// Why a template is not valid. `clone` takes memory for a list of uids, which are shared, and for a name. The
+/// original has no refusal for memory, and its refusals of slots and actions hold structs of its parser.
+#[derive(Debug, Drop, Error)]
+pub enum TemplateValidationError {
+    /// This slot stands in the clause: it is the first one there.
+    #[error("found slot `{}` in a condition clause", .0.id)]
+    SlotsInConditionClause(Slot),
+    /// These uids of the action's constraint, in the order of its list, are not actions.
+    #[error("the action constraint holds uids that are not actions: {}", JoinedUids(.0))]
+    InvalidActionType(NonEmpty<Rc<EntityUID>>),
+    /// The slots that a template keeps are not those of its condition. It is never answered, since no such
+    /// template can be made.
+    #[error("template slot cache is inconsistent with condition expression")]
+    SlotCacheMismatch,
+    /// The clause is not valid: it calls a function that is not known.
+    #[error("{0}")]
+    InvalidExpression(ExprValidationError),
+    /// Memory was refused.
+    #[error("out of memory")]
+    Memory,
+}
+
+impl From<AllocError> for TemplateValidationError {
+    ghost use Rattle.cedar_policy.specs.declared.err.TemplateValidationError.TheVariants.{Memory};
+
+    ghost from_gives = { λ _ e. e ≡ Memory };
+
+    fn from(_error: AllocError) -> TemplateValidationError {
+        TemplateValidationError::Memory
+    }
+}
+
+impl<T: Drop> From<AllocFailed<T>> for TemplateValidationError {
+    ghost use Rattle.cedar_policy.specs.declared.err.TemplateValidationError.TheVariants.{Memory};
+
+    ghost from_gives = { λ _ e. e ≡ Memory };
+
+    fn from(_error: AllocFailed<T>) -> TemplateValidationError {
+        TemplateValidationError::Memory
+    }
+}
+
+impl Clone for TemplateValidationError {
+    ghost is_clone = { λ x y. fault_of y ≡ fault_of x };
+
+    fn clone(&self) -> Result<TemplateValidationError, AllocError> {
+        match self {
+            TemplateValidationError::SlotsInConditionClause(slot) => {
+                let slot = slot.clone()?;
+                Ok(TemplateValidationError::SlotsInConditionClause(slot))
+            }
+            TemplateValidationError::InvalidActionType(euids) => {
+                let euids = copy_of_uids(euids)?;
+                Ok(TemplateValidationError::InvalidActionType(euids))
+            }
+            TemplateValidationError::SlotCacheMismatch => {
+                Ok(TemplateValidationError::SlotCacheMismatch)
+            }
+            TemplateValidationError::InvalidExpression(error) => {
+                let error = error.clone()?;
+                Ok(TemplateValidationError::InvalidExpression(error))
+            }
+            TemplateValidationError::Memory => Ok(TemplateValidationError::Memory),
+        }
+    }
+}
+
+// A list of the same uids, which are shared.
+fn copy_of_uids(euids: &NonEmpty<Rc<EntityUID>>) -> Result<NonEmpty<Rc<EntityUID>>, AllocError>
+    ensures { IfOk result (λ copy. map (λ u. uid_parts u.value) (all_of copy)
+        ≡ map (λ u. uid_parts u.value) (all_of euids.now)) }
+{
+    Ok(NonEmpty {
+        head: euids.head.clone()?,
+        tail: euids.tail.clone()?,
+    })
+}

@@ -1,0 +1,63 @@
+//! The entities that unknowns name.
+ghost use Rattle.std.specs.Prelude.{◌≡◌, ◌||◌, map, IfOk, OnOk};
+ghost use Rattle.std.specs.HashSet.{contains};
+ghost use Rattle.cedar_ids.specs.UidOf.{same_uid};
+ghost use Rattle.cedar_ids.specs.declared.entity.EntityUID.{EntityUID};
+ghost use Rattle.cedar_policy.specs.Unknowns.{AreUnknownEntities};
+ghost use Rattle.cedar_policy.specs.laws.UnknownSteps.{is_this, NamesOnly, ReadsOnly};
+
+use cedar_ids::entity::EntityUID;
+use cedar_ids::err::ParseErrors;
+use cedar_terms::unknown::Unknown;
+use std::alloc::{AllocError, Global};
+use std::collections::HashSet;
+
+// The uids that some unknowns name.
+pub(crate) fn entities_named(
+    alloc: Global,
+    unknowns: &[&Unknown],
+) -> Result<HashSet<EntityUID>, AllocError>
+    ensures { IfOk result (λ uids. AreUnknownEntities uids (map (λ u. u.now) unknowns.now)) }
+{
+    let mut uids = HashSet::new(alloc);
+    for unknown in unknowns {
+        let uid = entity_named(alloc, unknown)?;
+        put(&mut uids, uid)?;
+    }
+    Ok(uids)
+}
+
+// Puts a uid into a set, if there is one.
+fn put(uids: &mut HashSet<EntityUID>, uid: Option<EntityUID>) -> Result<(), AllocError>
+    ensures { OnOk result ((u : EntityUID) →
+        contains same_uid uids.new u ≡ (contains same_uid uids.old u || is_this uid u)) }
+{
+    match uid {
+        None => Ok(()),
+        Some(uid) => {
+            uids.insert(uid)?;
+            Ok(())
+        }
+    }
+}
+
+// The uid that an unknown names, if it names one.
+fn entity_named(alloc: Global, unknown: &Unknown) -> Result<Option<EntityUID>, AllocError>
+    ensures { IfOk result (λ uid. NamesOnly uid unknown.now) }
+{
+    if unknown.type_annotation.is_none() {
+        return Ok(None);
+    }
+    uid_read(alloc, unknown.name.as_str())
+}
+
+// The uid whose printed form a text is, if it is one.
+fn uid_read(alloc: Global, text: &str) -> Result<Option<EntityUID>, AllocError>
+    ensures { IfOk result (λ uid. ReadsOnly uid text.now) }
+{
+    match EntityUID::from_normalized_str(alloc, text) {
+        Ok(uid) => Ok(Some(uid)),
+        Err(ParseErrors::Memory) => Err(AllocError),
+        Err(_) => Ok(None),
+    }
+}
