@@ -3,7 +3,7 @@ use super::{Scope, free, number, one_is, permits, shared_type, shows, slotted};
 use cedar_body::TemplateBody;
 use cedar_scope::{ActionConstraint, PrincipalConstraint, ResourceConstraint};
 use cedar_terms::expr::Expr;
-use cedar_terms::slot::SlotId;
+use cedar_terms::slot::{Slot, SlotId};
 use std::alloc::Global;
 use std::test::Fail;
 
@@ -13,8 +13,10 @@ fn has_condition(
     made: Result<TemplateBody, Fail>,
     want: &str,
 ) -> Result<bool, Fail> {
-    let condition = made?.condition(alloc)?;
-    shows(alloc, Ok(condition), want)
+    let body = made?;
+    let condition = body.condition(alloc);
+    drop(body);
+    shows(alloc, Ok(condition?), want)
 }
 
 // `principal is A`, `resource is B`
@@ -65,16 +67,22 @@ fn slots_are_equal(alloc: Global) -> Result<Expr, Fail> {
     Ok(Expr::is_eq(alloc, left, right)?)
 }
 
-// Whether an expression has these slots, in this order.
-fn has_slots(alloc: Global, expr: Expr, want: &[SlotId]) -> Result<bool, Fail> {
-    let slots = expr.slots(alloc)?;
-    Ok(
-        slots.len() == want.len()
-            && slots
-                .iter()
-                .zip(want.iter())
-                .all(|(slot, id)| slot.id == *id),
-    )
+// The slots of the condition of a body of the slots' constraints and this clause.
+fn slots_of(alloc: Global, clause: Option<Expr>) -> Result<Vec<Slot>, Fail> {
+    let scope = slotted(alloc)?;
+    let body = permits(alloc, scope, clause)?;
+    let condition = body.condition(alloc);
+    drop(body);
+    Ok(condition?.slots(alloc)?)
+}
+
+// Whether slots have these ids, in this order.
+fn are(slots: Vec<Slot>, want: &[SlotId]) -> bool {
+    slots.len() == want.len()
+        && slots
+            .iter()
+            .zip(want.iter())
+            .all(|(slot, id)| slot.id == *id)
 }
 
 #[test]
@@ -84,9 +92,9 @@ fn slots_come_from_the_clause_then_the_resource_then_the_principal(
     let alloc = rt.alloc();
     let (p, r) = (SlotId::Principal, SlotId::Resource);
     let clause = slots_are_equal(alloc)?;
-    let made = permits(alloc, slotted(alloc)?, Some(clause))?;
-    assert!(rt; has_slots(alloc, made.condition(alloc)?, &[r, p, r, p])?);
-    let made = permits(alloc, slotted(alloc)?, None)?;
-    assert!(rt; has_slots(alloc, made.condition(alloc)?, &[r, p])?);
+    let slots = slots_of(alloc, Some(clause))?;
+    assert!(rt; are(slots, &[r, p, r, p]));
+    let slots = slots_of(alloc, None)?;
+    assert!(rt; are(slots, &[r, p]));
     Ok(())
 }

@@ -3,7 +3,7 @@ use super::{
     Scope, agree, annotated, annotated_body, free, hash_of, id, number, one_is, permits, place,
     slotted,
 };
-use cedar_body::{Effect, TemplateBody};
+use cedar_body::{Effect, TemplateBody, TemplateBodyImpl};
 use cedar_scope::{ActionConstraint, Annotations, PrincipalConstraint, ResourceConstraint};
 use std::alloc::Global;
 use std::test::Fail;
@@ -83,21 +83,40 @@ fn each_part_counts(rt: HostRuntime) -> Result<(), Fail> {
     Ok(())
 }
 
+// What the body at a place holds.
+fn held(alloc: Global, place: usize) -> Result<TemplateBodyImpl, Fail> {
+    let TemplateBody::TemplateBody(body) = nth(alloc, place)?;
+    Ok(body)
+}
+
 #[test]
 fn what_bodies_hold_compares_as_they_do(rt: HostRuntime) -> Result<(), Fail> {
     let alloc = rt.alloc();
-    let TemplateBody::TemplateBody(x) = nth(alloc, 2)?;
-    let TemplateBody::TemplateBody(y) = nth(alloc, 2)?;
-    assert!(rt; x.clone()? == x);
-    assert!(rt; agree(x, y));
+    assert!(rt; agree(held(alloc, 2)?, held(alloc, 2)?));
+    assert!(rt; held(alloc, 2)? != held(alloc, 3)?);
     Ok(())
+}
+
+// Whether a copy of what a body holds is equal to it.
+fn held_copies(alloc: Global) -> Result<bool, Fail> {
+    let held = held(alloc, 8)?;
+    let copy = held.clone()?;
+    Ok(agree(copy, held))
+}
+
+// Whether a copy of a body is equal to it.
+fn copies(alloc: Global) -> Result<bool, Fail> {
+    let clause = one_is(alloc, 2)?;
+    let scope = slotted(alloc)?;
+    let body = permits(alloc, scope, Some(clause))?;
+    let copy = body.clone()?;
+    Ok(agree(copy, body))
 }
 
 #[test]
 fn a_copy_is_equal(rt: HostRuntime) -> Result<(), Fail> {
     let alloc = rt.alloc();
-    let body = permits(alloc, slotted(alloc)?, Some(one_is(alloc, 2)?))?;
-    let copy = body.clone()?;
-    assert!(rt; agree(copy, body));
+    assert!(rt; copies(alloc)?);
+    assert!(rt; held_copies(alloc)?);
     Ok(())
 }

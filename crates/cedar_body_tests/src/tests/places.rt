@@ -1,11 +1,12 @@
 // Locations: kept where they are given, and given to what a condition makes.
-use super::{Scope, annotated_body, number, permits, place, start_of};
+use super::{Scope, annotated_body, id, number, permits, place, start_of};
 use cedar_body::{Effect, TemplateBody};
 use cedar_scope::{
     ActionConstraint, Annotations, EntityReference, PrincipalConstraint,
     PrincipalOrResourceConstraint, ResourceConstraint,
 };
 use cedar_terms::expr::Expr;
+use cedar_terms::slot::Slot;
 use std::alloc::Global;
 use std::test::Fail;
 
@@ -27,16 +28,40 @@ fn a_body_keeps_its_location(rt: HostRuntime) -> Result<(), Fail> {
     let alloc = rt.alloc();
     let body = placed(alloc)?;
     assert!(rt; start_of(body.loc()) == Some(7));
-    assert!(rt; start_of(body.clone()?.loc()) == Some(7));
+    Ok(())
+}
+
+#[test]
+fn a_body_without_a_location_gives_none(rt: HostRuntime) -> Result<(), Fail> {
+    let alloc = rt.alloc();
     let none = annotated_body(alloc, Annotations::new(alloc), Effect::Permit, None, None)?;
     assert!(rt; none.loc().is_none());
     Ok(())
 }
 
+fn copied(alloc: Global) -> Result<TemplateBody, Fail> {
+    let body = placed(alloc)?;
+    Ok(body.clone()?)
+}
+
+#[test]
+fn a_copy_keeps_its_location(rt: HostRuntime) -> Result<(), Fail> {
+    let alloc = rt.alloc();
+    let body = copied(alloc)?;
+    assert!(rt; start_of(body.loc()) == Some(7));
+    Ok(())
+}
+
+fn renamed(alloc: Global) -> Result<TemplateBody, Fail> {
+    let name = id(alloc, "q")?;
+    let body = placed(alloc)?;
+    Ok(body.new_id(name)?)
+}
+
 #[test]
 fn a_body_under_another_id_keeps_its_location(rt: HostRuntime) -> Result<(), Fail> {
     let alloc = rt.alloc();
-    let body = placed(alloc)?.new_id(super::id(alloc, "q")?)?;
+    let body = renamed(alloc)?;
     assert!(rt; start_of(body.loc()) == Some(7));
     Ok(())
 }
@@ -53,14 +78,21 @@ fn lie(alloc: Global, expr: &Expr, want: &[Option<usize>]) -> Result<bool, Fail>
     )
 }
 
+fn placed_condition(alloc: Global) -> Result<Expr, Fail> {
+    let body = placed(alloc)?;
+    Ok(body.condition(alloc)?)
+}
+
 #[test]
 fn the_nodes_that_a_condition_makes_lie_where_the_body_lies(rt: HostRuntime) -> Result<(), Fail> {
     let alloc = rt.alloc();
-    let condition = placed(alloc)?.condition(alloc)?;
+    let condition = placed_condition(alloc)?;
     let seven = Some(7);
     // three nodes that join, the clause, and what the constraints stand for
     let want = [seven, seven, seven, Some(9), None, None, None];
-    assert!(rt; lie(alloc, &condition, &want)?);
+    let told = lie(alloc, &condition, &want);
+    drop(condition);
+    assert!(rt; told?);
     Ok(())
 }
 
@@ -75,13 +107,20 @@ fn slots_at(alloc: Global, p: usize, r: usize) -> Result<Scope, Fail> {
     })
 }
 
+// The slots of the condition of a body of these constraints.
+fn slots_of(alloc: Global, scope: Scope) -> Result<Vec<Slot>, Fail> {
+    let body = permits(alloc, scope, None)?;
+    let condition = body.condition(alloc)?;
+    drop(body);
+    Ok(condition.slots(alloc)?)
+}
+
 #[test]
 fn the_slots_of_a_condition_lie_where_the_constraints_have_them(
     rt: HostRuntime,
 ) -> Result<(), Fail> {
     let alloc = rt.alloc();
-    let body = permits(alloc, slots_at(alloc, 3, 5)?, None)?;
-    let slots = body.condition(alloc)?.slots(alloc)?;
+    let slots = slots_of(alloc, slots_at(alloc, 3, 5)?)?;
     assert!(rt; slots.len() == 2);
     assert!(rt; slots.first().map(|slot| start_of(slot.loc.as_ref())) == Some(Some(5)));
     assert!(rt; slots.last().map(|slot| start_of(slot.loc.as_ref())) == Some(Some(3)));
