@@ -521,6 +521,21 @@ impl Entity {
         Ok(())
     }
 
+    // Makes room for so many further indirect ancestors.
+    pub(crate) fn reserve_indirect_ancestors(&mut self, additional: usize) -> Result<(), AllocError>
+        ensures { self.new ≡ self.old }
+    {
+        self.indirect_ancestors.reserve(additional)
+    }
+
+    // Gives back what room the ancestors do not need.
+    pub(crate) fn shrink_ancestors(&mut self)
+        ensures { self.new ≡ self.old }
+    {
+        self.indirect_ancestors.shrink_to_fit();
+        self.parents.shrink_to_fit();
+    }
+
     /// Takes in a parent, which is then no indirect ancestor; a parent already changes nothing but that.
     ///
     /// It takes memory, and where that is refused the entity stays as it was.

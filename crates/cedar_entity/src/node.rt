@@ -82,6 +82,16 @@ impl TCNode<EntityUID> for Entity {
         self.parents().collect(alloc)
     }
 
+    /// Makes room among the indirect ancestors. It takes memory, and is refused only where that is.
+    fn reserve_edges(&mut self, _alloc: Global, additional: usize) -> Result<(), AllocError> {
+        self.reserve_indirect_ancestors(additional)
+    }
+
+    /// Gives back what room neither the indirect ancestors nor the parents need.
+    fn shrink_edges(&mut self) {
+        self.shrink_ancestors();
+    }
+
     ghost respects_eq = { ancestors_respect };
 
     ghost direct_are_edges = { parents_are_ancestors };
@@ -155,6 +165,18 @@ impl TCNode<EntityUID> for SharedEntity {
             ≡ set.contains self.now.0.value.parents q) }
     {
         self.0.direct_edges(alloc)
+    }
+
+    /// As that of the entity, where it is shared on a copy of its own.
+    fn reserve_edges(&mut self, alloc: Global, additional: usize) -> Result<(), AllocError> {
+        Rc::make_mut(&mut self.0)?.reserve_edges(alloc, additional)
+    }
+
+    /// As that of the entity, where it is not shared; else nothing.
+    fn shrink_edges(&mut self) {
+        if let Some(entity) = Rc::get_mut(&mut self.0) {
+            entity.shrink_edges();
+        }
     }
 
     ghost respects_eq = { λ n. ancestors_respect n.0.value };

@@ -1,18 +1,17 @@
 -- Numbers of keys and their arcs.
 use Rattle.std.specs.Cmp.{IsEquivalence}
-use Rattle.std.specs.HashMap.{HashMap}
-use Rattle.std.specs.List.{slice_get, list_any}
+use Rattle.std.specs.List.{slice_get, list_any, IsDistinct}
 use Rattle.std.specs.Set.{is_member}
 use Rattle.std.specs.Option.{IsSomeAnd}
-use Rattle.std.proofs.lemmas.Option.{slice_get_within}
+use Rattle.std.proofs.lemmas.Option.{slice_get_within, get_or_from_slice_get}
+use Rattle.std.proofs.lemmas.Map.Keys.{apart_from_distinct}
 use Rattle.std.proofs.lemmas.List.{get_or_append_left, get_or_default}
 use Rattle.std.proofs.lemmas.Bool.{cases_lt, cases_eq}
 use Rattle.std.proofs.Math.Seq.{get_or-append_seam, take-append_seam}
-use Rattle.std.proofs.Common.{◌≡◌, Bool, true, false, ℕ, ◌<◌, ◌≤◌, ◌+◌, ◌||◌, ◌⊎◌, inl, inr, length, take, get_or, List, [], ◌∷◌, ◌++◌, Option, Some, None, zero, suc, refl, subst, sym, ap, ◌∙◌, arith, append_assoc, length-append}
+use Rattle.std.proofs.Common.{◌≡◌, Bool, true, false, ℕ, ◌<◌, ◌≤◌, ◌+◌, ◌||◌, ◌⊎◌, inl, inr, length, take, get_or, List, [], ◌∷◌, ◌++◌, Option, Some, None, zero, suc, refl, subst, sym, ap, true≢false, ◌∙◌, arith, append_assoc, length-append}
 use Rattle.cedar_graph.specs.Graph.{Path, Reach, IsTrusted}
-use Rattle.cedar_graph.specs.laws.Arcs.{IsNumbering}
 use Rattle.cedar_graph.specs.laws.Arcs.{IsPrefix, HasNumber, HasArcTo, AreArcsOf, AreArcsIn, AreSameEdges, ReachesKey, IsRowEdge, near_graph}
-use Rattle.cedar_graph.proofs.Reaches.{lookup_alike, or_cases, and_parts, and_from, both}
+use Rattle.cedar_graph.proofs.Reaches.{or_cases, and_parts, and_from, both}
 use Rattle.cedar_components.specs.Reach.{Walk, Leads, Goes}
 
 pub got_more : {K : Type 0} (ks xs : List K) (i : ℕ) (x : K) → slice_get ks i ≡ Some x → slice_get (ks ++ xs) i ≡ Some x
@@ -175,13 +174,20 @@ member_alike laws (k ∷ ks) x y h = rw (laws.congr x y k h, member_alike laws k
 pub prefix_take : {K : Type 0} (ks ms : List K) → IsPrefix ks ms → take (length ks) ms ≡ ks
 prefix_take ks ms p = ap (take (length ks)) p.1 ∙ take-append_seam ks p.0
 
--- two numbers of equal keys are one
-pub number_same : {K S : Type 0} {eq : K → K → Bool} (laws : IsEquivalence eq) (m : HashMap K ℕ S) (keys : List K) → IsNumbering eq m keys → (a i : ℕ) (x k : K) → slice_get keys a ≡ Some x → slice_get keys i ≡ Some k → eq x k ≡ true → a ≡ i
-number_same laws m keys s a i x k h g e =
-    let p = s.placed a x h in
-    let q = s.placed i k g in
-    let f = lookup_alike laws x k e m.entries in
-    cc
+-- of keys of which no two are equal, two numbers of equal keys are one
+pub number_same : {K : Type 0} {eq : K → K → Bool} (laws : IsEquivalence eq) (keys : List K) → IsDistinct eq keys → (a i : ℕ) (x k : K) → slice_get keys a ≡ Some x → slice_get keys i ≡ Some k → eq x k ≡ true → a ≡ i
+number_same {K} {eq} laws keys s a i x k h g e =
+    let at_a : get_or keys a x ≡ x = get_or_from_slice_get keys a x x h in
+    let at_i : get_or keys i x ≡ k = get_or_from_slice_get keys i k x g in
+    let a_in = slice_get_within keys a x h in
+    let i_in = slice_get_within keys i k g in
+    elim (cases_lt a i) [
+      | inl lt ↦ absurd (true≢false (sym e ∙ sym (ap (λ v. eq v k) at_a) ∙ sym (ap (eq (get_or keys a x)) at_i) ∙ apart_from_distinct eq keys a i x s lt i_in))
+      | inr ge ↦ elim (cases_eq a i) [
+        | inl same ↦ same
+        | inr ne ↦ absurd (true≢false (sym (laws.symm k x ∙ e) ∙ sym (ap (λ v. eq v x) at_i) ∙ sym (ap (eq (get_or keys i x)) at_a) ∙ apart_from_distinct eq keys i a x s (omega arith) a_in))
+      ]
+    ]
 
 module _ {K : Type 0} (eq : K → K → Bool) (G : K → K → Bool) (keys : List K) (E : ℕ → ℕ → Type 0) (s : AreSameEdges eq G keys E) where
   path_from_walk : (a b z : ℕ) (x y : K) (xs : List ℕ) → slice_get keys a ≡ Some x → slice_get keys b ≡ Some y → E a z → Walk E z xs b → Reach G x y

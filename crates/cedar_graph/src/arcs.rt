@@ -4,13 +4,14 @@ ghost use Rattle.std.specs.Set.{is_member, ClonesAreEqual};
 ghost use Rattle.std.specs.HashMap.{get, hash_map_len};
 ghost use Rattle.std.specs.HashSet.{contains, hash_set_len};
 ghost use Rattle.cedar_graph.specs.Graph.{graph_of};
-ghost use Rattle.cedar_graph.specs.laws.Arcs.{IsNumbering};
 ghost use Rattle.cedar_graph.specs.laws.Arcs.{AreArcsOf, IsPrefix, HasNumber, HasNumberBelow, AreSameEdges, near_graph};
 ghost use Rattle.cedar_components.specs.Reach.{HasArc, AreArcs};
+ghost use Rattle.indexmap.specs.IndexSet.{IsUnique};
 
 use crate::copies::{keys_of, members_of};
-use crate::numbering::{Numbering, no_numbers, number_of};
+use crate::numbering::{number_of, put_key};
 use crate::transitive_closure::TCNode;
+use indexmap::IndexSet;
 use std::alloc::{AllocError, Global};
 use std::collections::{HashMap, HashSet};
 use std::hash::Hash;
@@ -19,23 +20,23 @@ use std::hash::Hash;
 fn number_keys<K: Clone + Eq + Hash, V>(
     alloc: Global,
     nodes: &HashMap<K, V>,
-) -> Result<Numbering<K>, AllocError>
+) -> Result<IndexSet<K>, AllocError>
     requires { ClonesAreEqual K.eq K.is_clone }
-    ensures numbering { IfOk result (λ s. IsNumbering K.eq s.number s.keys.items) }
-    ensures all { IfOk result (λ s. (q : K) → is_some (get K.eq nodes.now q) ≡ true → HasNumber K.eq s.keys.items q) }
-    ensures len { IfOk result (λ s. length s.keys.items ≤ hash_map_len nodes.now) }
+    ensures unique { IfOk result (IsUnique K.eq) }
+    ensures all { IfOk result (λ s. (q : K) → is_some (get K.eq nodes.now q) ≡ true → HasNumber K.eq s.keys q) }
+    ensures len { IfOk result (λ s. length s.keys ≤ hash_map_len nodes.now) }
 {
     let all = keys_of(alloc, nodes)?;
-    let mut numbering = no_numbers(alloc);
+    let mut keys = IndexSet::with_capacity(alloc, all.len())?;
     for key in &all {
-        number_of(&mut numbering, key)?;
+        put_key(&mut keys, *key)?;
     }
-    Ok(numbering)
+    Ok(keys)
 }
 
 #[derive(Drop)]
 pub(crate) struct Reading<K: Eq + Hash> {
-    pub(crate) numbering: Numbering<K>,
+    pub(crate) keys: IndexSet<K>,
     pub(crate) from: Vec<usize>,
     pub(crate) to: Vec<usize>,
     pub(crate) reads: usize,
@@ -44,15 +45,15 @@ pub(crate) struct Reading<K: Eq + Hash> {
 // One more arc.
 fn add_arc<K: Clone + Eq + Hash>(s: &mut Reading<K>, a: usize, key: &K) -> Result<usize, AllocError>
     requires copies { ClonesAreEqual K.eq K.is_clone }
-    requires numbering { IsNumbering K.eq s.old.numbering.number s.old.numbering.keys.items }
-    ensures numbering { OnOk result (IsNumbering K.eq s.new.numbering.number s.new.numbering.keys.items) }
-    ensures keys { OnOk result (IsPrefix s.old.numbering.keys.items s.new.numbering.keys.items) }
+    requires unique { IsUnique K.eq s.old.keys }
+    ensures unique { OnOk result (IsUnique K.eq s.new.keys) }
+    ensures keys { OnOk result (IsPrefix s.old.keys.keys s.new.keys.keys) }
     ensures from { OnOk result (s.new.from.items ≡ s.old.from.items ++ a ∷ []) }
     ensures to { IfOk result (λ b. s.new.to.items ≡ s.old.to.items ++ b ∷ []) }
     ensures reads { s.new.reads ≡ s.old.reads }
-    ensures found { IfOk result (λ b. (k : K) × (slice_get s.new.numbering.keys.items b ≡ Some k) × (K.eq key.now k ≡ true)) }
+    ensures found { IfOk result (λ b. (k : K) × (slice_get s.new.keys.keys b ≡ Some k) × (K.eq key.now k ≡ true)) }
 {
-    let b = number_of(&mut s.numbering, key)?;
+    let b = number_of(&mut s.keys, key)?;
     s.from.push(a)?;
     s.to.push(b)?;
     Ok(b)
@@ -66,15 +67,15 @@ fn read_row<K: Clone + Eq + Hash, V: TCNode<K>>(
     a: usize,
 ) -> Result<(), AllocError>
     requires copies { ClonesAreEqual K.eq K.is_clone }
-    requires numbering { IsNumbering K.eq s.old.numbering.number s.old.numbering.keys.items }
-    requires within { a < length s.old.numbering.keys.items }
-    requires arcs { AreArcsOf K.eq (graph_of K.eq V.edges nodes.now) a s.old.numbering.keys.items s.old.from.items s.old.to.items }
-    ensures numbering { OnOk result (IsNumbering K.eq s.new.numbering.number s.new.numbering.keys.items) }
-    ensures keys { OnOk result (IsPrefix s.old.numbering.keys.items s.new.numbering.keys.items) }
-    ensures arcs { OnOk result (AreArcsOf K.eq (graph_of K.eq V.edges nodes.now) (a + 1) s.new.numbering.keys.items s.new.from.items s.new.to.items) }
+    requires unique { IsUnique K.eq s.old.keys }
+    requires within { a < length s.old.keys.keys }
+    requires arcs { AreArcsOf K.eq (graph_of K.eq V.edges nodes.now) a s.old.keys.keys s.old.from.items s.old.to.items }
+    ensures unique { OnOk result (IsUnique K.eq s.new.keys) }
+    ensures keys { OnOk result (IsPrefix s.old.keys.keys s.new.keys.keys) }
+    ensures arcs { OnOk result (AreArcsOf K.eq (graph_of K.eq V.edges nodes.now) (a + 1) s.new.keys.keys s.new.from.items s.new.to.items) }
     ensures reads { OnOk result (s.new.reads ≤ s.old.reads + 1) }
 {
-    let edges = match nodes.get(&s.numbering.keys[a]) {
+    let edges = match nodes.get(&s.keys[a]) {
         Some(node) => {
             s.reads = s.reads.saturating_add(1);
             node.out_edges(alloc)?
@@ -101,17 +102,17 @@ pub(crate) fn read_arcs<K: Clone + Eq + Hash, V: TCNode<K>>(
     nodes: &HashMap<K, V>,
 ) -> Result<FixReading<K>, AllocError>
     requires copies { ClonesAreEqual K.eq K.is_clone }
-    ensures arcs { IfOk result (λ s. AreArcs s.reading.from.items s.reading.to.items (length s.reading.numbering.keys.items)) }
-    ensures same { IfOk result (λ s. AreSameEdges K.eq (graph_of K.eq V.edges nodes.now) s.reading.numbering.keys.items (HasArc s.reading.from.items s.reading.to.items)) }
-    ensures fixed { IfOk result (λ s. s.fixed ≤ length s.reading.numbering.keys.items) }
-    ensures all { IfOk result (λ s. (q : K) → is_some (get K.eq nodes.now q) ≡ true → HasNumberBelow K.eq s.fixed s.reading.numbering.keys.items q) }
+    ensures arcs { IfOk result (λ s. AreArcs s.reading.from.items s.reading.to.items (length s.reading.keys.keys)) }
+    ensures same { IfOk result (λ s. AreSameEdges K.eq (graph_of K.eq V.edges nodes.now) s.reading.keys.keys (HasArc s.reading.from.items s.reading.to.items)) }
+    ensures fixed { IfOk result (λ s. s.fixed ≤ length s.reading.keys.keys) }
+    ensures all { IfOk result (λ s. (q : K) → is_some (get K.eq nodes.now q) ≡ true → HasNumberBelow K.eq s.fixed s.reading.keys.keys q) }
     ensures nodes { IfOk result (λ s. s.fixed ≤ hash_map_len nodes.now) }
     ensures reads { IfOk result (λ s. s.reading.reads ≤ s.fixed) }
 {
-    let numbering = number_keys(alloc, nodes)?;
-    let count = numbering.keys.len();
+    let keys = number_keys(alloc, nodes)?;
+    let count = keys.len();
     let mut s = Reading {
-        numbering,
+        keys,
         from: Vec::new(alloc),
         to: Vec::new(alloc),
         reads: 0,
@@ -130,20 +131,20 @@ pub(crate) fn read_arcs<K: Clone + Eq + Hash, V: TCNode<K>>(
 fn number_set<K: Clone + Eq + Hash>(
     alloc: Global,
     fix: &HashSet<K>,
-) -> Result<Numbering<K>, AllocError>
+) -> Result<IndexSet<K>, AllocError>
     requires { ClonesAreEqual K.eq K.is_clone }
-    ensures numbering { IfOk result (λ s. IsNumbering K.eq s.number s.keys.items) }
-    ensures all { IfOk result (λ s. (q : K) → contains K.eq fix.now q ≡ true → HasNumber K.eq s.keys.items q) }
-    ensures only { IfOk result (λ s. (i : ℕ) (k : K) → slice_get s.keys.items i ≡ Some k → contains K.eq fix.now k ≡ true) }
-    ensures len { IfOk result (λ s. length s.keys.items ≤ hash_set_len fix.now) }
-    ensures least { IfOk result (λ s. hash_set_len fix.now ≤ length s.keys.items) }
+    ensures unique { IfOk result (IsUnique K.eq) }
+    ensures all { IfOk result (λ s. (q : K) → contains K.eq fix.now q ≡ true → HasNumber K.eq s.keys q) }
+    ensures only { IfOk result (λ s. (i : ℕ) (k : K) → slice_get s.keys i ≡ Some k → contains K.eq fix.now k ≡ true) }
+    ensures len { IfOk result (λ s. length s.keys ≤ hash_set_len fix.now) }
+    ensures least { IfOk result (λ s. hash_set_len fix.now ≤ length s.keys) }
 {
     let all = members_of(alloc, fix)?;
-    let mut numbering = no_numbers(alloc);
+    let mut keys = IndexSet::with_capacity(alloc, all.len())?;
     for key in &all {
-        number_of(&mut numbering, key)?;
+        put_key(&mut keys, *key)?;
     }
-    Ok(numbering)
+    Ok(keys)
 }
 
 // The arcs of the keys to fix, and of the keys that they have an edge to.
@@ -153,20 +154,20 @@ pub(crate) fn read_fix<K: Clone + Eq + Hash, V: TCNode<K>>(
     nodes: &HashMap<K, V>,
 ) -> Result<FixReading<K>, AllocError>
     requires copies { ClonesAreEqual K.eq K.is_clone }
-    ensures arcs { IfOk result (λ s. AreArcs s.reading.from.items s.reading.to.items (length s.reading.numbering.keys.items)) }
-    ensures fixed { IfOk result (λ s. s.fixed ≤ length s.reading.numbering.keys.items) }
-    ensures same { IfOk result (λ s. AreSameEdges K.eq (near_graph K.eq (graph_of K.eq V.edges nodes.now) (take s.near s.reading.numbering.keys.items)) s.reading.numbering.keys.items (HasArc s.reading.from.items s.reading.to.items)) }
+    ensures arcs { IfOk result (λ s. AreArcs s.reading.from.items s.reading.to.items (length s.reading.keys.keys)) }
+    ensures fixed { IfOk result (λ s. s.fixed ≤ length s.reading.keys.keys) }
+    ensures same { IfOk result (λ s. AreSameEdges K.eq (near_graph K.eq (graph_of K.eq V.edges nodes.now) (take s.near s.reading.keys.keys)) s.reading.keys.keys (HasArc s.reading.from.items s.reading.to.items)) }
     ensures len { IfOk result (λ s. s.fixed ≤ hash_set_len fix.now) }
     ensures least { IfOk result (λ s. hash_set_len fix.now ≤ s.fixed) }
-    ensures all { IfOk result (λ s. (q : K) → contains K.eq fix.now q ≡ true → HasNumberBelow K.eq s.fixed s.reading.numbering.keys.items q) }
-    ensures only { IfOk result (λ s. (i : ℕ) (k : K) → i < s.fixed → slice_get s.reading.numbering.keys.items i ≡ Some k → contains K.eq fix.now k ≡ true) }
-    ensures near { IfOk result (λ s. (x u : K) → contains K.eq fix.now x ≡ true → graph_of K.eq V.edges nodes.now x u ≡ true → is_member K.eq (take s.near s.reading.numbering.keys.items) u ≡ true) }
-    ensures near_fixed { IfOk result (λ s. (x : K) → contains K.eq fix.now x ≡ true → is_member K.eq (take s.near s.reading.numbering.keys.items) x ≡ true) }
+    ensures all { IfOk result (λ s. (q : K) → contains K.eq fix.now q ≡ true → HasNumberBelow K.eq s.fixed s.reading.keys.keys q) }
+    ensures only { IfOk result (λ s. (i : ℕ) (k : K) → i < s.fixed → slice_get s.reading.keys.keys i ≡ Some k → contains K.eq fix.now k ≡ true) }
+    ensures near { IfOk result (λ s. (x u : K) → contains K.eq fix.now x ≡ true → graph_of K.eq V.edges nodes.now x u ≡ true → is_member K.eq (take s.near s.reading.keys.keys) u ≡ true) }
+    ensures near_fixed { IfOk result (λ s. (x : K) → contains K.eq fix.now x ≡ true → is_member K.eq (take s.near s.reading.keys.keys) x ≡ true) }
 {
-    let numbering = number_set(alloc, fix)?;
-    let fixed = numbering.keys.len();
+    let keys = number_set(alloc, fix)?;
+    let fixed = keys.len();
     let mut s = Reading {
-        numbering,
+        keys,
         from: Vec::new(alloc),
         to: Vec::new(alloc),
         reads: 0,
@@ -174,7 +175,7 @@ pub(crate) fn read_fix<K: Clone + Eq + Hash, V: TCNode<K>>(
     for a in 0..fixed {
         read_row(alloc, nodes, &mut s, a)?;
     }
-    let near = s.numbering.keys.len();
+    let near = s.keys.len();
     for b in fixed..near {
         read_row(alloc, nodes, &mut s, b)?;
     }

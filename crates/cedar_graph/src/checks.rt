@@ -141,7 +141,7 @@ pub(crate) fn enforce_no_loop_for<K: Clone + Eq + Hash + Debug + Display, V: TCN
 {
     let rows = members_of(alloc, fix)?;
     for key in &rows {
-        check_loop(nodes, key)?;
+        check_loop(nodes, *key)?;
     }
     Ok(())
 }

@@ -104,8 +104,42 @@ fn add_numbers<K: Clone + Eq + Hash, V: TCNode<K>>(
     Ok(())
 }
 
+// Does so with room made once for all of them, of which the node has so many already.
+fn fill_node<K: Clone + Eq + Hash, V: TCNode<K>>(
+    alloc: Global,
+    node: &mut V,
+    keys: &[K],
+    lists: &[usize],
+    i: usize,
+    j: usize,
+    marks: &[usize],
+    mark: usize,
+    has: usize,
+) -> Result<(), AllocError>
+    requires copies { ClonesAreEqual K.eq K.is_clone }
+    requires lists { (k : ℕ) → k < length lists.now → slice_index lists.now k < length keys.now }
+    requires ordered { i ≤ j }
+    requires within { j ≤ length lists.now }
+    requires marks { length marks.now ≡ length keys.now }
+    requires known { (y : ℕ) (k : K) → slice_get keys.now y ≡ Some k
+        → slice_index marks.now y ≡ mark → V.edges node.old k ≡ true }
+    ensures stays { (q : K) → V.edges node.old q ≡ true → V.edges node.new q ≡ true }
+    ensures only { (q : K) → V.edges node.new q ≡ true →
+        (V.edges node.old q ≡ true) ⊎ IsPicked K.eq keys.now lists.now i j q }
+    ensures ok { OnOk result ((q : K) →
+        IsPicked K.eq keys.now lists.now i j q → V.edges node.new q ≡ true) }
+    ensures key { V.key node.new ≡ V.key node.old }
+    ensures rest { V.rest node.new ≡ V.rest node.old }
+    ensures kept { V.kept node.new ≡ V.kept node.old }
+{
+    node.reserve_edges(alloc, (j - i).saturating_sub(has))?;
+    add_numbers(alloc, node, keys, lists, i, j, marks, mark)?;
+    node.shrink_edges();
+    Ok(())
+}
+
 // Adds to the node at a key an edge to the key of each number from place i up to j, and says how
-// many nodes it found. It has those to numbers with this mark already.
+// many nodes it found. It has those to numbers with this mark already, which so many arcs lead to.
 fn write_row<K: Clone + Eq + Hash, V: TCNode<K>>(
     alloc: Global,
     nodes: &mut HashMap<K, V>,
@@ -116,6 +150,7 @@ fn write_row<K: Clone + Eq + Hash, V: TCNode<K>>(
     j: usize,
     marks: &[usize],
     mark: usize,
+    has: usize,
 ) -> Result<usize, AllocError>
     requires copies { ClonesAreEqual K.eq K.is_clone }
     requires lists { (k : ℕ) → k < length lists.now → slice_index lists.now k < length keys.now }
@@ -143,12 +178,12 @@ fn write_row<K: Clone + Eq + Hash, V: TCNode<K>>(
         Some(node) => node,
         None => return Ok(0),
     };
-    add_numbers(alloc, node, keys, lists, i, j, marks, mark)?;
+    fill_node(alloc, node, keys, lists, i, j, marks, mark, has)?;
     Ok(1)
 }
 
 // Adds to the node of number x an edge to the key of each number that it reaches, and says how
-// many nodes it found. It has those to numbers with this mark already.
+// many nodes it found. It has those to numbers with this mark already, which so many arcs lead to.
 fn write_number<K: Clone + Eq + Hash, V: TCNode<K>>(
     alloc: Global,
     nodes: &mut HashMap<K, V>,
@@ -159,6 +194,7 @@ fn write_number<K: Clone + Eq + Hash, V: TCNode<K>>(
     x: usize,
     marks: &[usize],
     mark: usize,
+    has: usize,
 ) -> Result<usize, AllocError>
     requires copies { ClonesAreEqual K.eq K.is_clone }
     requires reach { IsReach (HasArc from.now to.now) (length keys.now)
@@ -195,6 +231,7 @@ fn write_number<K: Clone + Eq + Hash, V: TCNode<K>>(
         reached.start[p + 1],
         marks,
         mark,
+        has,
     )
 }
 
@@ -262,8 +299,10 @@ fn write_rows<K: Clone + Eq + Hash, V: TCNode<K>>(
     let mut place = 0;
     let mut closings = 0;
     for x in 0..fixed {
-        place = mark_targets(from, to, &mut marks, x, place);
-        closings += write_number(alloc, nodes, keys, from, to, reached, x, &marks, x + 1)?;
+        let first = place;
+        place = mark_targets(from, to, &mut marks, x, first);
+        let has = place.saturating_sub(first);
+        closings += write_number(alloc, nodes, keys, from, to, reached, x, &marks, x + 1, has)?;
     }
     Ok(Work { reads, closings })
 }
@@ -276,37 +315,37 @@ fn close_read<K: Clone + Eq + Hash, V: TCNode<K>>(
 ) -> Result<Work, AllocError>
     requires copies { ClonesAreEqual K.eq K.is_clone }
     requires arcs { AreArcs read.now.reading.from.items read.now.reading.to.items
-        (length read.now.reading.numbering.keys.items) }
-    requires fixed { read.now.fixed ≤ length read.now.reading.numbering.keys.items }
+        (length read.now.reading.keys.keys) }
+    requires fixed { read.now.fixed ≤ length read.now.reading.keys.keys }
     requires edges { AreEdges (graph_of K.eq V.edges nodes.old)
-        read.now.reading.numbering.keys.items
+        read.now.reading.keys.keys
         (HasArc read.now.reading.from.items read.now.reading.to.items) }
     ensures keeps { KeepsNodes K.eq V.key V.rest nodes.old nodes.new }
     ensures kept { KeepsNodes K.eq V.key V.kept nodes.old nodes.new }
     ensures stays { KeepsEdges (graph_of K.eq V.edges nodes.old) (graph_of K.eq V.edges nodes.new) }
     ensures alone { (q : K) →
         ((i : ℕ) (k : K) → i < read.now.fixed
-        → slice_get read.now.reading.numbering.keys.items i ≡ Some k → K.eq k q ≡ false)
+        → slice_get read.now.reading.keys.keys i ≡ Some k → K.eq k q ≡ false)
         → get K.eq nodes.new q ≡ get K.eq nodes.old q }
     ensures only { (a b : K) → graph_of K.eq V.edges nodes.new a b ≡ true →
         (graph_of K.eq V.edges nodes.old a b ≡ true)
-        ⊎ IsRowEdgeBelow K.eq read.now.fixed read.now.reading.numbering.keys.items
+        ⊎ IsRowEdgeBelow K.eq read.now.fixed read.now.reading.keys.keys
         (HasArc read.now.reading.from.items read.now.reading.to.items) a b }
     ensures ok { OnOk result ((i : ℕ) (k b : K) → i < read.now.fixed
-        → slice_get read.now.reading.numbering.keys.items i ≡ Some k
+        → slice_get read.now.reading.keys.keys i ≡ Some k
         → is_some (get K.eq nodes.old k) ≡ true
-        → ReachesKey K.eq read.now.reading.numbering.keys.items
+        → ReachesKey K.eq read.now.reading.keys.keys
         (HasArc read.now.reading.from.items read.now.reading.to.items) i b
         → graph_of K.eq V.edges nodes.new k b ≡ true) }
     ensures reads { IfOk result (λ w. w.reads ≡ read.now.reading.reads) }
     ensures closings { IfOk result (λ w. w.closings ≤ read.now.fixed) }
     ensures visits { IfOk result (λ w.
         ((i : ℕ) (k : K) → i < read.now.fixed
-        → slice_get read.now.reading.numbering.keys.items i ≡ Some k
+        → slice_get read.now.reading.keys.keys i ≡ Some k
         → is_some (get K.eq nodes.old k) ≡ true)
         → w.closings ≡ read.now.fixed) }
 {
-    let keys = &read.reading.numbering.keys;
+    let keys = read.reading.keys.as_slice();
     let from = &read.reading.from;
     let to = &read.reading.to;
     let reached = reach(alloc, from, to, keys.len())?;

@@ -1,47 +1,43 @@
-// Numbers for keys.
-ghost use Rattle.std.specs.Prelude.{◌≡◌, ◌≤◌, ◌+◌, ◌⊎◌, ℕ, length, [], ◌++◌, List, true, Some, IfOk, OnErr, OnOk, slice_get, IsSomeAnd};
+// Numbers for keys: their places in a set that keeps them in the order in which they came.
+ghost use Rattle.std.specs.Prelude.{◌≡◌, ◌≤◌, ◌+◌, ◌⊎◌, ℕ, length, ◌++◌, List, true, Some, IfOk, OnOk, slice_get, IsSomeAnd};
 ghost use Rattle.std.specs.Set.{ClonesAreEqual};
-ghost use Rattle.cedar_graph.specs.laws.Arcs.{IsNumbering};
+ghost use Rattle.indexmap.specs.IndexSet.{IsUnique};
 
-use std::alloc::{AllocError, Global};
-use std::collections::HashMap;
+use indexmap::IndexSet;
+use std::alloc::AllocError;
 use std::hash::Hash;
 
-#[derive(Drop)]
-pub(crate) struct Numbering<K: Eq + Hash> {
-    pub(crate) number: HashMap<K, usize>,
-    pub(crate) keys: Vec<K>,
-}
-
-// No numbers yet.
-pub(crate) fn no_numbers<K: Clone + Eq + Hash>(alloc: Global) -> Numbering<K>
-    ensures numbering { IsNumbering K.eq result.number result.keys.items }
-    ensures none { result.keys.items ≡ [] }
+// The number of a key of which a copy is put in, if there is no equal one.
+pub(crate) fn put_key<K: Clone + Eq + Hash>(
+    keys: &mut IndexSet<K>,
+    key: &K,
+) -> Result<usize, AllocError>
+    requires { ClonesAreEqual K.eq K.is_clone }
+    ensures unique { OnOk result (IsUnique K.eq keys.new) }
+    ensures found { IfOk result (λ i. IsSomeAnd (slice_get keys.new.keys i) (λ k. K.eq key.now k ≡ true)) }
+    ensures one { OnOk result (length keys.new.keys ≤ length keys.old.keys + 1) }
+    ensures fresh { OnOk result ((i : ℕ) (k : K) → slice_get keys.new.keys i ≡ Some k → (slice_get keys.old.keys i ≡ Some k) ⊎ (K.eq key.now k ≡ true)) }
+    ensures more { OnOk result ((xs : List K) × (keys.new.keys ≡ keys.old.keys ++ xs)) }
 {
-    Numbering {
-        number: HashMap::new(alloc),
-        keys: Vec::new(alloc),
-    }
+    let (number, _) = keys.insert_full(key.clone()?)?;
+    Ok(number)
 }
 
 // The number of a key, which is a new one if the key has none.
 pub(crate) fn number_of<K: Clone + Eq + Hash>(
-    numbering: &mut Numbering<K>,
+    keys: &mut IndexSet<K>,
     key: &K,
 ) -> Result<usize, AllocError>
     requires copies { ClonesAreEqual K.eq K.is_clone }
-    requires numbering { IsNumbering K.eq numbering.old.number numbering.old.keys.items }
-    ensures numbering { OnOk result (IsNumbering K.eq numbering.new.number numbering.new.keys.items) }
-    ensures found { IfOk result (λ i. IsSomeAnd (slice_get numbering.new.keys.items i) (λ k. K.eq key.now k ≡ true)) }
-    ensures one { OnOk result (length numbering.new.keys.items ≤ length numbering.old.keys.items + 1) }
-    ensures fresh { OnOk result ((i : ℕ) (k : K) → slice_get numbering.new.keys.items i ≡ Some k → (slice_get numbering.old.keys.items i ≡ Some k) ⊎ (K.eq key.now k ≡ true)) }
-    ensures more { OnOk result ((xs : List K) × (numbering.new.keys.items ≡ numbering.old.keys.items ++ xs)) }
+    requires unique { IsUnique K.eq keys.old }
+    ensures unique { OnOk result (IsUnique K.eq keys.new) }
+    ensures found { IfOk result (λ i. IsSomeAnd (slice_get keys.new.keys i) (λ k. K.eq key.now k ≡ true)) }
+    ensures one { OnOk result (length keys.new.keys ≤ length keys.old.keys + 1) }
+    ensures fresh { OnOk result ((i : ℕ) (k : K) → slice_get keys.new.keys i ≡ Some k → (slice_get keys.old.keys i ≡ Some k) ⊎ (K.eq key.now k ≡ true)) }
+    ensures more { OnOk result ((xs : List K) × (keys.new.keys ≡ keys.old.keys ++ xs)) }
 {
-    if let Some(number) = numbering.number.get(key) {
-        return Ok(*number);
+    if let Some(number) = keys.get_index_of(key) {
+        return Ok(number);
     }
-    let number = numbering.keys.len();
-    numbering.keys.push(key.clone()?)?;
-    numbering.number.insert(key.clone()?, number)?;
-    Ok(number)
+    put_key(keys, key)
 }

@@ -100,6 +100,37 @@ pub trait TCNode<K: Eq> {
         self.out_edges(alloc)
     }
 
+    /// Makes room for so many further edges, where the node type has a use for that; the default
+    /// does nothing. Edges, direct edges, key, rest and what adding keeps stay, whatever the
+    /// answer. May take memory and be refused it.
+    ///
+    /// The original has no such call.
+    fn reserve_edges(
+        &mut self,
+        _alloc: Global,
+        _additional: usize,
+    ) -> std::result::Result<(), AllocError>
+        ensures edges { (q : K) → edges self.new q ≡ edges self.old q }
+        ensures direct { (q : K) → direct self.new q ≡ direct self.old q }
+        ensures key { key self.new ≡ key self.old }
+        ensures rest { rest self.new ≡ rest self.old }
+        ensures kept { kept self.new ≡ kept self.old }
+    {
+        Ok(())
+    }
+
+    /// Gives back room that the edges do not need, where the node type has a use for that; the
+    /// default does nothing. Edges, direct edges, key, rest and what adding keeps stay.
+    ///
+    /// The original has no such call.
+    fn shrink_edges(&mut self)
+        ensures edges { (q : K) → edges self.new q ≡ edges self.old q }
+        ensures direct { (q : K) → direct self.new q ≡ direct self.old q }
+        ensures key { key self.new ≡ key self.old }
+        ensures rest { rest self.new ≡ rest self.old }
+        ensures kept { kept self.new ≡ kept self.old }
+    {}
+
     // a node has an edge to both of two equal keys, or to none
     ghost respects_eq: { (n : Self) (x y : K) → K.eq x y ≡ true → edges n x ≡ edges n y };
 

@@ -1,13 +1,7 @@
 -- Numbers for keys, and arcs between them.
 use Rattle.std.specs.Prelude.{◌≡◌, ℕ, ◌<◌, ◌+◌, slice_get, slice_index, Bool, true, ◌&&◌, List, ◌++◌, Some, length}
 use Rattle.std.specs.Set.{is_member}
-use Rattle.std.specs.HashMap.{HashMap, get}
 use Rattle.cedar_components.specs.Reach.{IsWithin, Goes}
-
--- each key's number is its place in the list, and each number that the map has is of an equal key of the list
-pub record IsNumbering {K S : Type 0} (eq : K → K → Bool) (number : HashMap K ℕ S) (keys : List K) : Type 0 where
-  pub placed : (i : ℕ) (k : K) → slice_get keys i ≡ Some k → get eq number k ≡ Some i
-  pub found : (q : K) (i : ℕ) → get eq number q ≡ Some i → (k : K) × (slice_get keys i ≡ Some k) × (eq q k ≡ true)
 
 -- there is an arc from number a to the number of q
 abbrev pub HasArcTo : {K : Type 0} → (K → K → Bool) → List K → List ℕ → List ℕ → ℕ → K → Type 0

@@ -1,27 +1,27 @@
-use Rattle.std.proofs.Common.{◌≡◌, true, ◌≤◌, inl, inr, arith, ap, ◌∙◌, length, take, take_all, slice_get}
+use Rattle.std.proofs.Common.{◌≡◌, true, ◌≤◌, inl, inr, arith, ap, ◌∙◌, length, map, take, take_all, slice_get}
 use Rattle.std.specs.Set.{is_member}
 use Rattle.cedar_graph.specs.laws.Arcs.{IsPrefix}
-use Rattle.cedar_graph.proofs.Reaches.{member_more}
+use Rattle.cedar_graph.proofs.Members.{refs_more}
 use Rattle.cedar_graph.proofs.Keyed.{some_and, prefix_number}
 use Rattle.cedar_graph.proofs.arcs.number_keys.Goals as goal
 
 pub loop-key-preserved : goal.loop-key-preserved
 loop-key-preserved g c =
     let eq = g.K.PartialEq.eq in
-    let e = c.in_ok-number_of.ensures in
+    let e = c.in_ok-put_key.ensures in
     let i = c.loop-key.invariant in
-    let keys = c.deref-key-items.result.now in
+    let refs = c.deref-key-items.result.now in
     let key = c.key-item.result in
     let laws = g.met.K.Eq.laws in
-    let now = c.loop-key.numbering.keys.items in
-    let after = c.number_of.new.numbering.keys.items in
+    let now = c.loop-key.keys.keys in
+    let after = c.put_key.new.keys.keys in
     let more : IsPrefix now after = e.more in
-    let f = some_and (slice_get after c.in_ok-number_of.field-0) (λ k. eq key k ≡ true) e.found in
+    let f = some_and (slice_get after c.in_ok-put_key.field-0) (λ k. eq key.now k ≡ true) e.found in
     record {
-      numbering = e.numbering;
-      done = λ q m. elim (member_more (eq q) keys c.loop-key.key-index key (omega arith) c.key-item.is m) [
+      unique = e.unique;
+      done = λ q m. elim (refs_more eq refs c.loop-key.key-index key q (omega arith) c.key-item.is m) [
         | inl p ↦ prefix_number now after more eq q (i.done q p)
-        | inr h ↦ (c.in_ok-number_of.field-0, f.0, f.1, laws.congr q key f.0 h ∙ f.2)
+        | inr h ↦ (c.in_ok-put_key.field-0, f.0, f.1, laws.congr q key.now f.0 h ∙ f.2)
       ];
       all = i.all;
       len = omega (arith, i.len, e.one);
@@ -32,7 +32,7 @@ pub returns-clause-all : goal.returns-clause-all
 returns-clause-all g c =
     let eq = g.K.PartialEq.eq in
     let i = c.loop-key.invariant in
-    let keys = c.deref-key-items.result.now in
-    let over : length keys ≤ c.loop-key.key-index = omega arith in
-    let whole : take c.loop-key.key-index keys ≡ keys = take_all c.loop-key.key-index keys over in
-    λ q h. i.done q (ap (λ ks. is_member eq ks q) whole ∙ i.all q ∙ h)
+    let refs = c.deref-key-items.result.now in
+    let over : length refs ≤ c.loop-key.key-index = omega arith in
+    let whole : take c.loop-key.key-index refs ≡ refs = take_all c.loop-key.key-index refs over in
+    λ q h. i.done q (ap (λ rs. is_member eq (map (λ x. x.now) rs) q) whole ∙ i.all q ∙ h)

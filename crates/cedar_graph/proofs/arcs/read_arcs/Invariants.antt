@@ -1,6 +1,6 @@
 use Rattle.std.proofs.Common.{◌≤◌}
 use Rattle.cedar_graph.specs.Graph.{graph_of}
-use Rattle.cedar_graph.specs.laws.Arcs.{IsNumbering}
+use Rattle.indexmap.specs.IndexSet.{IsUnique}
 use Rattle.cedar_graph.specs.laws.Arcs.{AreArcsOf, IsPrefix}
 use Rattle.cedar_graph.proofs.arcs.read_arcs.Given as goal
 
@@ -8,8 +8,8 @@ abbrev pub invariant-loop-a : goal.invariant-loop-a
 invariant-loop-a g l =
     let eq = g.K.PartialEq.eq in
     record {
-      numbering : IsNumbering eq l.s.numbering.number l.s.numbering.keys.items;
-      keys : IsPrefix l.initial.s.numbering.keys.items l.s.numbering.keys.items;
+      unique : IsUnique eq l.s.keys;
+      keys : IsPrefix l.initial.s.keys.keys l.s.keys.keys;
       reads : l.s.reads ≤ l.a;
-      arcs : AreArcsOf eq (graph_of eq g.V.TCNode.edges l.nodes) l.a l.s.numbering.keys.items l.s.from.items l.s.to.items;
+      arcs : AreArcsOf eq (graph_of eq g.V.TCNode.edges l.nodes) l.a l.s.keys.keys l.s.from.items l.s.to.items;
     }

@@ -16,9 +16,9 @@ loop-b-init g c =
     let s = c.loop-a.s in
     let done : c.loop-a.a ≡ c.len-fixed.result = grind (arith, common_steps) in
     record {
-      numbering = i.numbering;
-      keys = prefix_refl s.numbering.keys.items;
-      arcs = subst (λ n. AreArcsOf eq G n s.numbering.keys.items s.from.items s.to.items) done i.arcs;
+      unique = i.unique;
+      keys = prefix_refl s.keys.keys;
+      arcs = subst (λ n. AreArcsOf eq G n s.keys.keys s.from.items s.to.items) done i.arcs;
     }
 
 pub returns-clause-same : goal.returns-clause-same
@@ -31,8 +31,8 @@ returns-clause-same g c =
     let G = graph_of eq edges nodes in
     let i = c.loop-b.invariant in
     let s = c.loop-b.s in
-    let keys1 = c.loop-a.s.numbering.keys.items in
-    let keys = s.numbering.keys.items in
+    let keys1 = c.loop-a.s.keys.keys in
+    let keys = s.keys.keys in
     let near_len : c.len-near.result ≡ length keys1 = search rules in
     let near_is : take (length keys1) keys ≡ keys1 = prefix_take keys1 keys i.keys in
     let below : c.loop-b.b ≤ length keys1 = grind (arith, common_steps) in
@@ -46,7 +46,7 @@ returns-clause-same g c =
       complete = λ a x q f e.
           let p = and_parts (is_member eq keys1 x) (G x q) e in
           let n = got_of_member eq keys1 x p.0 in
-          let same : a ≡ n.0 = number_same laws s.numbering.number keys i.numbering a n.0 x n.1 f (prefix_got keys1 keys i.keys n.0 n.1 n.2) n.3 in
+          let same : a ≡ n.0 = number_same laws keys i.unique a n.0 x n.1 f (prefix_got keys1 keys i.keys n.0 n.1 n.2) n.3 in
           let n_in : n.0 < length keys1 = slice_get_within keys1 n.0 n.1 n.2 in
           let h = i.arcs.complete a x q (omega arith) f p.1 in
           (get_or s.to.items h.0 0, h.1, (h.0, h.2, h.3, refl), h.4, h.5);
@@ -54,23 +54,23 @@ returns-clause-same g c =
 
 pub returns-clause-all : goal.returns-clause-all
 returns-clause-all g c =
-    let keys0 = c.in_ok-numbering.numbering.keys.items in
-    let keys1 = c.loop-a.s.numbering.keys.items in
-    let keys = c.loop-b.s.numbering.keys.items in
+    let keys0 = c.in_ok-keys.keys.keys in
+    let keys1 = c.loop-a.s.keys.keys in
+    let keys = c.loop-b.s.keys.keys in
     let len : c.len-fixed.result ≡ length keys0 = search rules in
     let whole = prefix_trans keys0 keys1 keys c.loop-a.invariant.keys c.loop-b.invariant.keys in
     λ q h.
-    let n = c.in_ok-numbering.ensures.all q h in
+    let n = c.in_ok-keys.ensures.all q h in
     (n.0, n.1, omega (arith, len, slice_get_within keys0 n.0 n.1 n.2), prefix_got keys0 keys whole n.0 n.1 n.2, n.3)
 
 pub returns-clause-only : goal.returns-clause-only
 returns-clause-only g c =
-    let keys0 = c.in_ok-numbering.numbering.keys.items in
-    let keys1 = c.loop-a.s.numbering.keys.items in
-    let keys = c.loop-b.s.numbering.keys.items in
+    let keys0 = c.in_ok-keys.keys.keys in
+    let keys1 = c.loop-a.s.keys.keys in
+    let keys = c.loop-b.s.keys.keys in
     let len : c.len-fixed.result ≡ length keys0 = search rules in
     let whole = prefix_trans keys0 keys1 keys c.loop-a.invariant.keys c.loop-b.invariant.keys in
-    λ i k lt got. c.in_ok-numbering.ensures.only i k (prefix_back keys0 keys whole i k (omega (arith, len)) got)
+    λ i k lt got. c.in_ok-keys.ensures.only i k (prefix_back keys0 keys whole i k (omega (arith, len)) got)
 
 pub returns-clause-near : goal.returns-clause-near
 returns-clause-near g c =
@@ -81,14 +81,14 @@ returns-clause-near g c =
     let nodes = c.args.nodes.now in
     let i = c.loop-a.invariant in
     let s = c.loop-a.s in
-    let keys0 = c.in_ok-numbering.numbering.keys.items in
-    let keys1 = s.numbering.keys.items in
-    let keys = c.loop-b.s.numbering.keys.items in
+    let keys0 = c.in_ok-keys.keys.keys in
+    let keys1 = s.keys.keys in
+    let keys = c.loop-b.s.keys.keys in
     let near_len : c.len-near.result ≡ length keys1 = search rules in
     let near_is : take (length keys1) keys ≡ keys1 = prefix_take keys1 keys c.loop-b.invariant.keys in
     let over : length keys0 ≤ c.loop-a.a = grind (arith, common_steps) in
     rw (near_len, near_is) (λ x u h e.
-    let n = c.in_ok-numbering.ensures.all x h in
+    let n = c.in_ok-keys.ensures.all x h in
     let n_in : n.0 < length keys0 = slice_get_within keys0 n.0 n.1 n.2 in
     let a = i.arcs.complete n.0 n.1 u (omega arith) (prefix_got keys0 keys1 i.keys n.0 n.1 n.2) (sym (graph_from laws edges alike nodes x n.1 u n.3) ∙ e) in
     member_of_got eq keys1 (get_or s.to.items a.0 0) a.1 u a.4 a.5)
@@ -97,20 +97,20 @@ pub returns-clause-near_fixed : goal.returns-clause-near_fixed
 returns-clause-near_fixed g c =
     let eq = g.K.PartialEq.eq in
     let i = c.loop-a.invariant in
-    let keys0 = c.in_ok-numbering.numbering.keys.items in
-    let keys1 = c.loop-a.s.numbering.keys.items in
-    let keys = c.loop-b.s.numbering.keys.items in
+    let keys0 = c.in_ok-keys.keys.keys in
+    let keys1 = c.loop-a.s.keys.keys in
+    let keys = c.loop-b.s.keys.keys in
     let near_len : c.len-near.result ≡ length keys1 = search rules in
     let near_is : take (length keys1) keys ≡ keys1 = prefix_take keys1 keys c.loop-b.invariant.keys in
     rw (near_len, near_is) (λ x h.
-    let n = c.in_ok-numbering.ensures.all x h in
+    let n = c.in_ok-keys.ensures.all x h in
     member_of_got eq keys1 n.0 n.1 x (prefix_got keys0 keys1 i.keys n.0 n.1 n.2) n.3)
 
 pub returns-clause-arcs : goal.returns-clause-arcs
 returns-clause-arcs g c =
     let i = c.loop-b.invariant in
-    let keys1 = c.loop-a.s.numbering.keys.items in
-    let keys = c.loop-b.s.numbering.keys.items in
+    let keys1 = c.loop-a.s.keys.keys in
+    let keys = c.loop-b.s.keys.keys in
     let near_len : c.len-near.result ≡ length keys1 = search rules in
     let below : c.loop-b.b ≤ length keys1 = grind (arith, common_steps) in
     record {

@@ -1,7 +1,6 @@
-use Rattle.std.proofs.Common.{◌≡◌, ◌+◌, ◌<◌, ◌≤◌, arith, sym, refl, ap, ◌∙◌, length, take, take_all, [], ◌∷◌, ◌++◌, map}
+use Rattle.std.proofs.Common.{◌≡◌, ◌+◌, ◌<◌, ◌≤◌, arith, sym, refl, ap, ◌∙◌, length, take, take_all, [], ◌∷◌, ◌++◌, map, slice_get, Some}
 use Rattle.std.specs.Set.{is_member}
 use Rattle.std.proofs.lemmas.Grind.{common_steps}
-use Rattle.std.proofs.lemmas.Option.{get_or_from_slice_get}
 use Rattle.cedar_graph.specs.Graph.{graph_of, edge_at}
 use Rattle.cedar_graph.specs.laws.Arcs.{AreArcsIn}
 use Rattle.cedar_graph.proofs.Reaches.{graph_to}
@@ -17,15 +16,16 @@ loop-edge-init g c =
     let nodes = c.args.nodes.now in
     let G = graph_of eq edges nodes in
     let r = c.requires in
-    let keys = c.args.s.now.numbering.keys.items in
+    let keys = c.args.s.now.keys.keys in
     record {
-      numbering = r.numbering;
+      unique = r.unique;
       keys = prefix_refl keys;
       arcs = row_start eq G c.args.a keys c.args.s.now.from.items c.args.s.now.to.items (is_member eq []) (λ q. refl) r.arcs;
       reads = grind (arith, common_steps);
       edges = λ x q h.
           let key = c.index.result.now in
-          let same : key ≡ x = c.index.ensures ∙ get_or_from_slice_get keys c.args.a x key h in
+          let at_a : slice_get keys c.args.a ≡ Some key = c.index.ensures in
+          let same : key ≡ x = cc in
           ap (λ rs. is_member eq (map (λ x. x.now) rs) q) c.deref-edge-items.ensures.value ∙ c.in_ok-edges-in-Some.ensures q ∙ ap (λ o. edge_at edges o q) c.in-Some.ensures.value ∙ ap (λ k. G k q) same;
     }
 
@@ -41,9 +41,9 @@ loop-edge-preserved g c =
     let i = c.loop-edge.invariant in
     let e = c.in_ok-add_arc.ensures in
     let s = c.loop-edge.s in
-    let keys0 = c.args.s.now.numbering.keys.items in
-    let keys = s.numbering.keys.items in
-    let after = c.add_arc.new.s.numbering.keys.items in
+    let keys0 = c.args.s.now.keys.keys in
+    let keys = s.keys.keys in
+    let after = c.add_arc.new.s.keys.keys in
     let refs = c.deref-edge-items.result.now in
     let j = c.loop-edge.edge-index in
     let edge = c.edge-item.result in
@@ -56,7 +56,7 @@ loop-edge-preserved g c =
     (λ x h. sym (graph_to laws edges alike nodes x key f.0 f.2) ∙ sym (i.edges x key (prefix_back keys0 keys i.keys c.args.a x r.within h)) ∙ member_at eq refs j edge key j_in c.edge-item.is (laws.refl key))
     (λ q h. refs_more eq refs j edge q j_in c.edge-item.is h) in
     record {
-      numbering = e.numbering;
+      unique = e.unique;
       keys = prefix_trans keys0 keys after i.keys e.keys;
       arcs = rw (e.from, e.to) arcs;
       reads = omega (arith, i.reads, e.reads);
@@ -69,8 +69,8 @@ returns-clause-arcs g c =
     let G = graph_of eq g.V.TCNode.edges c.args.nodes.now in
     let i = c.loop-edge.invariant in
     let s = c.loop-edge.s in
-    let keys0 = c.args.s.now.numbering.keys.items in
-    let keys = s.numbering.keys.items in
+    let keys0 = c.args.s.now.keys.keys in
+    let keys = s.keys.keys in
     let refs = c.deref-edge-items.result.now in
     let j = c.loop-edge.edge-index in
     let over : length refs ≤ j = omega arith in

@@ -1,7 +1,7 @@
 use Rattle.std.proofs.Common.{◌≡◌, ◌≤◌, ◌+◌, map, take, slice_get, Some}
 use Rattle.std.specs.Set.{is_member}
 use Rattle.cedar_graph.specs.Graph.{graph_of}
-use Rattle.cedar_graph.specs.laws.Arcs.{IsNumbering}
+use Rattle.indexmap.specs.IndexSet.{IsUnique}
 use Rattle.cedar_graph.specs.laws.Arcs.{AreArcsIn, IsPrefix}
 use Rattle.cedar_graph.proofs.arcs.read_row.Given as goal
 
@@ -10,9 +10,9 @@ invariant-loop-edge g l =
     let eq = g.K.PartialEq.eq in
     let G = graph_of eq g.V.TCNode.edges l.nodes in
     record {
-      numbering : IsNumbering eq l.s.numbering.number l.s.numbering.keys.items;
-      keys : IsPrefix l.fn.s.numbering.keys.items l.s.numbering.keys.items;
-      arcs : AreArcsIn eq G l.a l.s.numbering.keys.items l.s.from.items l.s.to.items (is_member eq (map (λ x. x.now) (take l.edge-index l.edge-items)));
+      unique : IsUnique eq l.s.keys;
+      keys : IsPrefix l.fn.s.keys.keys l.s.keys.keys;
+      arcs : AreArcsIn eq G l.a l.s.keys.keys l.s.from.items l.s.to.items (is_member eq (map (λ x. x.now) (take l.edge-index l.edge-items)));
       reads : l.s.reads ≤ l.fn.s.reads + 1;
-      edges : (x q : g.row.K.Denot) → slice_get l.fn.s.numbering.keys.items l.a ≡ Some x → is_member eq (map (λ x. x.now) l.edge-items) q ≡ G x q;
+      edges : (x q : g.row.K.Denot) → slice_get l.fn.s.keys.keys l.a ≡ Some x → is_member eq (map (λ x. x.now) l.edge-items) q ≡ G x q;
     }

@@ -10,7 +10,7 @@ pub returns-clause-only : goal.returns-clause-only
 returns-clause-only g c =
     let s = c.in_ok-read.read in
     let E : ℕ → ℕ → Type 0 = HasArc s.reading.from.items s.reading.to.items in
-    closed_only g.met.K.Eq.laws g.V.TCNode.edges g.met.V.TCNode.respects_eq c.args.nodes.now c.close_read.new.nodes s.reading.numbering.keys.items E s.fixed c.close_read.ensures.only c.in_ok-read.ensures.same
+    closed_only g.met.K.Eq.laws g.V.TCNode.edges g.met.V.TCNode.respects_eq c.args.nodes.now c.close_read.new.nodes s.reading.keys.keys E s.fixed c.close_read.ensures.only c.in_ok-read.ensures.same
 
 pub returns-clause-same : goal.returns-clause-same
 returns-clause-same g c = reach_between _ _ c.close_read.ensures.stays (returns-clause-only g c)
@@ -20,7 +20,7 @@ returns-clause-ok g c =
     let s = c.in_ok-read.read in
     let E : ℕ → ℕ → Type 0 = HasArc s.reading.from.items s.reading.to.items in
     on_ok_weaker c.close_read.result
-    (λ done. closed_has g.met.K.Eq.laws g.V.TCNode.edges g.met.V.TCNode.respects_eq c.args.nodes.now c.close_read.new.nodes s.reading.numbering.keys.items E s.fixed done c.in_ok-read.ensures.same c.in_ok-read.ensures.all)
+    (λ done. closed_has g.met.K.Eq.laws g.V.TCNode.edges g.met.V.TCNode.respects_eq c.args.nodes.now c.close_read.new.nodes s.reading.keys.keys E s.fixed done c.in_ok-read.ensures.same c.in_ok-read.ensures.all)
     c.close_read.ensures.ok
 
 pub returns-clause-once : goal.returns-clause-once

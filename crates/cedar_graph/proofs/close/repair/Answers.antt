@@ -22,7 +22,7 @@ returns-clause-alone g c =
 pub returns-clause-only : goal.returns-clause-only
 returns-clause-only g c =
     let s = c.in_ok-read.read in
-    let keys = s.reading.numbering.keys.items in
+    let keys = s.reading.keys.keys in
     let E : ℕ → ℕ → Type 0 = HasArc s.reading.from.items s.reading.to.items in
     repaired_only g.met.K.Eq.laws g.V.TCNode.edges g.met.V.TCNode.respects_eq c.args.nodes.now c.close_read.new.nodes keys E s.fixed c.close_read.ensures.only (take s.near keys) c.in_ok-read.ensures.same
 
@@ -31,7 +31,7 @@ returns-clause-ok g c =
     let eq = g.K.PartialEq.eq in
     let s = c.in_ok-read.read in
     let f = c.in_ok-read.ensures in
-    let keys = s.reading.numbering.keys.items in
+    let keys = s.reading.keys.keys in
     let E : ℕ → ℕ → Type 0 = HasArc s.reading.from.items s.reading.to.items in
     on_ok_weaker c.close_read.result
     (λ done. repaired_has g.met.K.Eq.laws g.V.TCNode.edges g.met.V.TCNode.respects_eq c.args.nodes.now c.close_read.new.nodes keys E s.fixed done (take s.near keys) f.same (contains eq c.args.fix.now) f.all f.near f.near_fixed c.close_read.ensures.stays)
@@ -48,5 +48,5 @@ pub close_read-requires-clause-edges : goal.close_read-requires-clause-edges
 close_read-requires-clause-edges g c =
     let eq = g.K.PartialEq.eq in
     let s = c.in_ok-read.read in
-    let ks = take s.near s.reading.numbering.keys.items in
+    let ks = take s.near s.reading.keys.keys in
     λ a b x y e f t. (and_parts (is_member eq ks x) (graph_of eq g.V.TCNode.edges c.args.nodes.now x y) (c.in_ok-read.ensures.same.sound a b x y e f t)).1
