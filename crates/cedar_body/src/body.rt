@@ -1,3 +1,4 @@
+//! The body of a policy or a template: its parts, condition, equality and text.
 ghost use Rattle.std.specs.Prelude.{◌≡◌, IfOk, fold, true};
 ghost use Rattle.std.specs.Option.{option_copied, option_map};
 ghost use Rattle.std.specs.Ordering.{on};

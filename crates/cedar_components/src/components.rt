@@ -1,4 +1,4 @@
-// The components of a graph: searches against its edges, from each number that is not in a component, in the order that a first search left, from its end.
+//! The components of a graph: searches against its edges, from each number that is not in a component, in the order that a first search left, from its end.
 ghost use Rattle.std.specs.Prelude.{◌≡◌, ℕ, ◌+◌, ◌-◌, ◌*◌, ◌<◌, ◌≤◌, List, [], ◌∷◌, ◌++◌, length, slice_index, slice_set, OnOk, IfOk, sum_by};
 ghost use Rattle.cedar_components.specs.Reach.{AreArcs, HasArc};
 ghost use Rattle.cedar_components.specs.laws.Search.{AreLinks, IsFinishOrder, AreComponentsFrom, AreComponents, is_zero};

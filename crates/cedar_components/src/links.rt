@@ -1,4 +1,4 @@
-// The places of each value of a list.
+//! The places of each value of a list.
 ghost use Rattle.std.specs.Prelude.{◌≡◌, ℕ, ◌<◌, length, slice_index, IfOk};
 ghost use Rattle.cedar_components.specs.laws.Search.{AreLinks};
 

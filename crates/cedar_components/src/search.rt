@@ -1,4 +1,4 @@
-// The order in which a depth-first search finishes numbers.
+//! The order in which a depth-first search finishes numbers.
 ghost use Rattle.std.specs.Prelude.{◌≡◌, ℕ, ◌+◌, ◌-◌, ◌*◌, sum, ◌<◌, ◌≤◌, List, [], ◌∷◌, ◌++◌, length, slice_index, slice_set, OnOk, IfOk};
 ghost use Rattle.cedar_components.specs.Reach.{AreArcs, HasArc};
 ghost use Rattle.cedar_components.specs.laws.Search.{AreLinks, AreRead, IsSearch, IsFinishOrder};

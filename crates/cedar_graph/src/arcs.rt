@@ -1,4 +1,4 @@
-// Reading the edges of a map of nodes as arcs between numbers.
+//! Reading the edges of a map of nodes as arcs between numbers.
 ghost use Rattle.std.specs.Prelude.{List, ◌≡◌, ◌<◌, ◌≤◌, ◌+◌, ℕ, true, length, is_some, IsSome, IfOk, OnOk, slice_get, Some, ◌++◌, ◌∷◌, [], slice_index, take, false};
 ghost use Rattle.std.specs.Set.{is_member, ClonesAreEqual};
 ghost use Rattle.std.specs.HashMap.{get, hash_map_len};

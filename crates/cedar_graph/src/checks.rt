@@ -1,4 +1,4 @@
-// The checks that a graph is closed and that no node has an edge to itself.
+//! The checks that a graph is closed and that no node has an edge to itself.
 ghost use Rattle.std.specs.Prelude.{◌≡◌, true, false, IfErr, OnOk};
 ghost use Rattle.std.specs.Set.{ClonesAreEqual};
 ghost use Rattle.std.specs.HashMap.{get};

@@ -1,4 +1,4 @@
-// Closing and repairing: what the nodes' numbers reach, written back as edges.
+//! Closing and repairing: what the nodes' numbers reach, written back as edges.
 ghost use Rattle.std.specs.Prelude.{
   ◌≡◌,
   ◌<◌,

@@ -1,4 +1,4 @@
-// Lists of the keys of maps and sets, which copy no key.
+//! Lists of the keys of maps and sets, which copy no key.
 ghost use Rattle.std.specs.Prelude.{◌≡◌, is_some, length, map, IfOk};
 ghost use Rattle.std.specs.Set.{is_member};
 ghost use Rattle.std.specs.HashMap.{get, hash_map_len};

@@ -1,4 +1,4 @@
-// Numbers for keys: their places in a set that keeps them in the order in which they came.
+//! Numbers for keys: their places in a set that keeps them in the order in which they came.
 ghost use Rattle.std.specs.Prelude.{◌≡◌, ◌≤◌, ◌+◌, ◌⊎◌, ℕ, length, ◌++◌, List, true, Some, IfOk, OnOk, slice_get, IsSomeAnd};
 ghost use Rattle.std.specs.Set.{ClonesAreEqual};
 ghost use Rattle.indexmap.specs.IndexSet.{IsUnique};
