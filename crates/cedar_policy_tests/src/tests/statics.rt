@@ -1,0 +1,318 @@
+// Static policies: how they are made, what is refused, and where things stand.
+ghost use Rattle.std.specs.Prelude.{◌≡◌, [], IfOk};
+ghost use Rattle.cedar_terms.specs.Walk.{slots_of};
+
+use super::{Scope, equal, free, id, on_both, on_principal, permits};
+use cedar_ids::loc::Loc;
+use cedar_ids::policy_id::PolicyID;
+use cedar_policy::{Effect, LinkingError, Policy, StaticPolicy, Template, UnexpectedSlotError};
+use cedar_scope::{
+    ActionConstraint, Annotations, EntityReference, PrincipalConstraint,
+    PrincipalOrResourceConstraint, ResourceConstraint,
+};
+use cedar_terms::expr::Expr;
+use cedar_terms::literal::Literal;
+use cedar_terms::slot::SlotId;
+use std::alloc::Global;
+use std::rc::{Rc, RcStr};
+use std::test::Fail;
+
+// A place of one character.
+fn place(alloc: Global, start: usize) -> Result<Option<Loc>, Fail> {
+    let src = RcStr::from_str(alloc, "permit(principal, action, resource);")?;
+    Ok(Some(Loc::new(start, start.saturating_add(1), src)))
+}
+
+// Where a place begins.
+fn start_of(loc: Option<&Loc>) -> Option<usize> {
+    loc.map(|loc| loc.start)
+}
+
+// The policy of these constraints and this clause, at this place.
+fn made(
+    alloc: Global,
+    name: PolicyID,
+    loc: Option<Loc>,
+    scope: Scope,
+    clause: Option<Expr>,
+) -> Result<StaticPolicy, UnexpectedSlotError> {
+    let none = Annotations::new(alloc);
+    let Scope {
+        principal,
+        action,
+        resource,
+    } = scope;
+    StaticPolicy::new(
+        alloc,
+        name,
+        loc,
+        none,
+        Effect::Forbid,
+        principal,
+        action,
+        resource,
+        clause,
+    )
+}
+
+// The slot that a refusal names, and where it begins.
+type Found = Option<(SlotId, Option<usize>)>;
+
+fn found(answer: Result<StaticPolicy, UnexpectedSlotError>) -> Found {
+    match answer {
+        Ok(_) => None,
+        Err(UnexpectedSlotError::FoundSlot(slot)) => Some((slot.id, start_of(slot.loc.as_ref()))),
+        Err(UnexpectedSlotError::Memory) => None,
+    }
+}
+
+// The slot, at this place.
+fn slot_at(alloc: Global, start: usize) -> Result<EntityReference, Fail> {
+    Ok(EntityReference::Slot(place(alloc, start)?))
+}
+
+// `principal == ?principal`, the slot at the place 3.
+fn principal_at_place(alloc: Global) -> Result<PrincipalConstraint, Fail> {
+    let constraint = PrincipalOrResourceConstraint::Eq(slot_at(alloc, 3)?);
+    Ok(PrincipalConstraint::new(constraint))
+}
+
+// `resource in ?resource`, the slot at the place 5.
+fn resource_at_place(alloc: Global) -> Result<ResourceConstraint, Fail> {
+    let constraint = PrincipalOrResourceConstraint::In(slot_at(alloc, 5)?);
+    Ok(ResourceConstraint::new(constraint))
+}
+
+// Both.
+fn slots_at_places(alloc: Global) -> Result<Scope, Fail> {
+    let principal = principal_at_place(alloc)?;
+    let resource = resource_at_place(alloc)?;
+    Ok(Scope {
+        principal,
+        action: ActionConstraint::any(),
+        resource,
+    })
+}
+
+// `?principal`, at the place 7.
+fn slot_at_place(alloc: Global) -> Result<Expr, Fail> {
+    let slot = Expr::slot(alloc, SlotId::Principal)?;
+    Ok(slot.with_maybe_source_loc(place(alloc, 7)?))
+}
+
+// What a static policy of these constraints and this clause is refused for.
+fn refusal(alloc: Global, scope: Scope, clause: Option<Expr>) -> Result<Found, Fail> {
+    let name = id(alloc, "p")?;
+    Ok(found(made(alloc, name, None, scope, clause)))
+}
+
+// The same, of the clause with a slot.
+fn refusal_with_clause(alloc: Global) -> Result<Found, Fail> {
+    let clause = slot_at_place(alloc)?;
+    let scope = slots_at_places(alloc)?;
+    refusal(alloc, scope, Some(clause))
+}
+
+#[test]
+fn a_slot_is_refused_where_it_stands(rt: HostRuntime) -> Result<(), Fail> {
+    let alloc = rt.alloc();
+    assert!(rt; refusal_with_clause(alloc)? == Some((SlotId::Principal, Some(7))));
+    let scope = slots_at_places(alloc)?;
+    assert!(rt; refusal(alloc, scope, None)? == Some((SlotId::Resource, Some(5))));
+    assert!(rt; refusal(alloc, on_principal(), None)? == Some((SlotId::Principal, None)));
+    Ok(())
+}
+
+// The slot that a template is refused for as a static policy.
+fn refused(template: Template) -> Found {
+    found(StaticPolicy::try_from(template))
+}
+
+#[test]
+fn a_template_with_a_slot_is_no_static_policy(rt: HostRuntime) -> Result<(), Fail> {
+    let alloc = rt.alloc();
+    let template = permits(alloc, slots_at_places(alloc)?, None)?;
+    assert!(rt; refused(template) == Some((SlotId::Resource, Some(5))));
+    let template = permits(alloc, free(), Some(slot_at_place(alloc)?))?;
+    assert!(rt; refused(template) == Some((SlotId::Principal, Some(7))));
+    assert!(rt; refused(permits(alloc, free(), None)?).is_none());
+    Ok(())
+}
+
+// The static policy `p` that forbids where `1 == 2`, at the place 9.
+fn at_place(alloc: Global) -> Result<StaticPolicy, Fail> {
+    let clause = equal(alloc, 1, 2)?;
+    let loc = place(alloc, 9)?;
+    let name = id(alloc, "p")?;
+    Ok(made(alloc, name, loc, free(), Some(clause))?)
+}
+
+#[test]
+fn a_static_policy_is_made_of_its_parts(rt: HostRuntime) -> Result<(), Fail> {
+    let alloc = rt.alloc();
+    let policy = at_place(alloc)?;
+    assert!(rt; policy.id().as_ref() == "p" && policy.effect() == Effect::Forbid);
+    assert!(rt; start_of(policy.loc()) == Some(9));
+    assert!(rt; policy.non_scope_constraints().is_some());
+    Ok(())
+}
+
+// The same policy under the id `q`.
+fn renamed(alloc: Global) -> Result<StaticPolicy, Fail> {
+    let policy = at_place(alloc)?;
+    Ok(policy.new_id(id(alloc, "q")?)?)
+}
+
+#[test]
+fn a_static_policy_takes_another_id(rt: HostRuntime) -> Result<(), Fail> {
+    let alloc = rt.alloc();
+    let policy = renamed(alloc)?;
+    assert!(rt; policy.id().as_ref() == "q" && start_of(policy.loc()) == Some(9));
+    Ok(())
+}
+
+// Where the nodes of an expression that the walk meets begin, of as many as are asked for.
+fn starts(alloc: Global, expr: &Expr, count: usize) -> Result<Vec<Option<usize>>, Fail> {
+    let mut all = Vec::new(alloc);
+    for node in expr.subexpressions(alloc)?.iter().take(count) {
+        all.push(start_of(node.source_loc()))?;
+    }
+    Ok(all)
+}
+
+// The condition of the policy at the place 9.
+fn condition_at_place(alloc: Global) -> Result<Expr, Fail> {
+    let policy = Policy::from_static(alloc, at_place(alloc)?)?;
+    Ok(policy.condition(alloc)?)
+}
+
+#[test]
+fn the_three_nodes_of_a_condition_stand_where_the_policy_does(rt: HostRuntime) -> Result<(), Fail> {
+    let alloc = rt.alloc();
+    let condition = condition_at_place(alloc)?;
+    let found = starts(alloc, &condition, 4)?;
+    assert!(rt; found.as_slice() == [Some(9), Some(9), Some(9), None].as_slice());
+    Ok(())
+}
+
+// Where the slots of a condition stand, in the order of the walk.
+fn slot_starts(alloc: Global, template: &Template) -> Result<Vec<Option<usize>>, Fail> {
+    let mut all = Vec::new(alloc);
+    for slot in template.slots() {
+        all.push(start_of(slot.loc.as_ref()))?;
+    }
+    Ok(all)
+}
+
+// The template with three slots, each at a place.
+fn placed_template(alloc: Global) -> Result<Template, Fail> {
+    let clause = slot_at_place(alloc)?;
+    let scope = slots_at_places(alloc)?;
+    permits(alloc, scope, Some(clause))
+}
+
+#[test]
+fn the_slots_of_a_template_stand_where_their_references_do(rt: HostRuntime) -> Result<(), Fail> {
+    let alloc = rt.alloc();
+    let template = placed_template(alloc)?;
+    let found = slot_starts(alloc, &template)?;
+    assert!(rt; found.as_slice() == [Some(7), Some(5), Some(3)].as_slice());
+    Ok(())
+}
+
+// How many slots a refusal says are not bound.
+fn count_unbound(answer: Result<Policy, LinkingError>) -> Option<usize> {
+    match answer {
+        Ok(_) => None,
+        Err(LinkingError::ArityError { unbound_values, .. }) => Some(unbound_values.len()),
+        Err(_) => Some(0),
+    }
+}
+
+// How many slots of the template of these constraints are not bound where it makes no policy.
+fn unbound(alloc: Global, scope: Scope) -> Result<Option<usize>, Fail> {
+    let template = Rc::new(alloc, permits(alloc, scope, None)?)?;
+    Ok(count_unbound(Template::try_as_policy(alloc, template)))
+}
+
+#[test]
+fn a_template_without_slots_is_a_policy(rt: HostRuntime) -> Result<(), Fail> {
+    let alloc = rt.alloc();
+    assert!(rt; unbound(alloc, free())?.is_none());
+    assert!(rt; unbound(alloc, on_principal())? == Some(1));
+    assert!(rt; unbound(alloc, on_both())? == Some(2));
+    Ok(())
+}
+
+// Whether a template and its policy have this id, and the policy binds nothing.
+fn are_one(template: &Template, policy: &Policy, name: &str) -> bool {
+    template.id().as_ref() == name
+        && policy.id().as_ref() == name
+        && policy.is_static()
+        && policy.env().is_empty()
+        && *policy.template() == *template
+}
+
+#[test]
+fn a_static_policy_is_linked_under_its_id(rt: HostRuntime) -> Result<(), Fail> {
+    let alloc = rt.alloc();
+    let (template, policy) = Template::link_static_policy(alloc, at_place(alloc)?)?;
+    assert!(rt; are_one(&template, &policy, "p"));
+    Ok(())
+}
+
+fn policy_at_place(alloc: Global) -> Result<Policy, Fail> {
+    let policy = at_place(alloc)?;
+    Ok(Policy::from_static(alloc, policy)?)
+}
+
+// The same policy under the id `q`.
+fn renamed_policy(alloc: Global) -> Result<Policy, Fail> {
+    let policy = policy_at_place(alloc)?;
+    let name = id(alloc, "q")?;
+    Ok(policy.new_id(alloc, name)?)
+}
+
+// Whether its template takes no other id.
+fn keeps_its_template(alloc: Global) -> Result<bool, Fail> {
+    let policy = policy_at_place(alloc)?;
+    let name = id(alloc, "q")?;
+    Ok(policy.new_template_id(alloc, name)?.is_none())
+}
+
+#[test]
+fn another_id_of_a_static_policy_is_its_templates(rt: HostRuntime) -> Result<(), Fail> {
+    let alloc = rt.alloc();
+    let policy = renamed_policy(alloc)?;
+    assert!(rt; are_one(policy.template(), &policy, "q"));
+    assert!(rt; start_of(policy.loc()) == Some(9));
+    assert!(rt; keeps_its_template(alloc)?);
+    Ok(())
+}
+
+// The clause `true`: no slot stands in it.
+fn truth(alloc: Global) -> Result<Expr, Fail>
+    ensures { IfOk result (λ e. slots_of e ≡ []) }
+{
+    Ok(Expr::val(alloc, Literal::Bool(true))?)
+}
+
+// The policy `w` that forbids all.
+fn from_clause(alloc: Global) -> Result<Policy, Fail> {
+    let when = truth(alloc)?;
+    let name = id(alloc, "w")?;
+    let loc = place(alloc, 4)?;
+    Ok(Policy::from_when_clause(alloc, Effect::Forbid, when, name, loc)?)
+}
+
+#[test]
+fn a_clause_makes_a_policy(rt: HostRuntime) -> Result<(), Fail> {
+    let alloc = rt.alloc();
+    let policy = from_clause(alloc)?;
+    let text = policy.to_string(alloc)?;
+    let want = "forbid(\n  principal,\n  action,\n  resource\n) when {\n  true\n};";
+    assert!(rt; text.as_str() == want && policy.is_static());
+    assert!(rt; policy.id().as_ref() == "w" && start_of(policy.loc()) == Some(4));
+    assert!(rt; policy.annotations_arc().is_empty());
+    Ok(())
+}

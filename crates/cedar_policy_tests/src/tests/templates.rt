@@ -1,0 +1,277 @@
+// The two hundred templates: principal and resource each free, equal to or in a uid or a slot; the action free,
+// equal to a uid, or in one or two of them; both effects.
+use super::{Scope, id, shared, template, uid};
+use cedar_ids::policy_id::PolicyID;
+use cedar_policy::{Effect, SlotEnv, StaticPolicy, Template, UnexpectedSlotError};
+use cedar_scope::{
+    ActionConstraint, Annotations, PrincipalConstraint, PrincipalOrResourceConstraint,
+    ResourceConstraint,
+};
+use cedar_terms::expr::Expr;
+use std::alloc::Global;
+use std::collections::HashMap;
+use std::rc::Rc;
+use std::test::Fail;
+
+// How many there are.
+const TEMPLATES: usize = 200;
+
+// The five constraints of a principal or a resource.
+fn constraint(alloc: Global, k: usize) -> Result<PrincipalOrResourceConstraint, Fail> {
+    match k {
+        0 => Ok(PrincipalOrResourceConstraint::any()),
+        1 => Ok(PrincipalOrResourceConstraint::is_eq(shared(alloc, "A", "test")?)),
+        2 => Ok(PrincipalOrResourceConstraint::is_eq_slot()),
+        3 => Ok(PrincipalOrResourceConstraint::is_in(shared(alloc, "A", "test")?)),
+        _ => Ok(PrincipalOrResourceConstraint::is_in_slot()),
+    }
+}
+
+// In an action as often as that.
+fn in_actions(alloc: Global, count: usize) -> Result<ActionConstraint, Fail> {
+    let mut uids = Vec::new(alloc);
+    for _ in 0..count {
+        uids.push(uid(alloc, "Action", "test")?)?;
+    }
+    Ok(ActionConstraint::is_in(alloc, uids)?)
+}
+
+// The four constraints of an action.
+fn action(alloc: Global, k: usize) -> Result<ActionConstraint, Fail> {
+    match k {
+        0 => Ok(ActionConstraint::any()),
+        1 => Ok(ActionConstraint::is_eq(alloc, uid(alloc, "Action", "test")?)?),
+        2 => in_actions(alloc, 1),
+        _ => in_actions(alloc, 2),
+    }
+}
+
+// The constraints of the template at a place.
+fn scope(alloc: Global, n: usize) -> Result<Scope, Fail> {
+    let principal = PrincipalConstraint::new(constraint(alloc, n % 5)?);
+    let resource = ResourceConstraint::new(constraint(alloc, n / 5 % 5)?);
+    let action = action(alloc, n / 25 % 4)?;
+    Ok(Scope {
+        principal,
+        action,
+        resource,
+    })
+}
+
+// The id and the effect of the template at a place.
+fn name(alloc: Global, n: usize) -> Result<PolicyID, Fail> {
+    if n < 100 {
+        return id(alloc, "permit");
+    }
+    id(alloc, "forbid")
+}
+
+fn effect(n: usize) -> Effect {
+    if n < 100 {
+        return Effect::Permit;
+    }
+    Effect::Forbid
+}
+
+// The template at a place.
+fn nth(alloc: Global, n: usize) -> Result<Template, Fail> {
+    let name = name(alloc, n)?;
+    let scope = scope(alloc, n)?;
+    template(alloc, name, effect(n), scope, None)
+}
+
+// A uid for each of its slots.
+fn bound(alloc: Global, template: &Template) -> Result<SlotEnv, Fail> {
+    let mut values = HashMap::new(alloc);
+    for slot in template.slots() {
+        drop(values.insert(slot.id, uid(alloc, "A", "eid")?)?);
+    }
+    Ok(values)
+}
+
+// Whether it links with its slots bound.
+fn links(alloc: Global, n: usize) -> Result<bool, Fail> {
+    let template = Rc::new(alloc, nth(alloc, n)?)?;
+    template.check_invariant();
+    let values = bound(alloc, &template)?;
+    let link = Template::link(alloc, template, id(alloc, "id")?, values)?;
+    Ok(!link.is_static())
+}
+
+#[test]
+fn each_template_links_with_its_slots_bound(rt: HostRuntime) -> Result<(), Fail> {
+    let alloc = rt.alloc();
+    for n in 0..TEMPLATES {
+        assert!(rt; links(alloc, n)?);
+    }
+    Ok(())
+}
+
+// A copy of a clause, if there is one.
+fn copy_of_clause(clause: Option<&Expr>) -> Result<Option<Expr>, Fail> {
+    match clause {
+        Some(clause) => Ok(Some(clause.clone()?)),
+        None => Ok(None),
+    }
+}
+
+// Copies of the constraints of a template.
+fn scope_of(template: &Template) -> Result<Scope, Fail> {
+    let principal = template.principal_constraint().clone()?;
+    let resource = template.resource_constraint().clone()?;
+    let action = template.action_constraint().clone()?;
+    Ok(Scope {
+        principal,
+        action,
+        resource,
+    })
+}
+
+// The template that is built anew from what it gives.
+fn rebuilt(alloc: Global, one: &Template) -> Result<Template, Fail> {
+    let name = one.id().clone()?;
+    let clause = copy_of_clause(one.non_scope_constraints())?;
+    let scope = scope_of(one)?;
+    template(alloc, name, one.effect(), scope, clause)
+}
+
+// Whether that is equal.
+fn is_rebuilt(alloc: Global, one: &Template) -> Result<bool, Fail> {
+    let other = rebuilt(alloc, one)?;
+    Ok(*one == other)
+}
+
+#[test]
+fn each_template_is_equal_to_one_built_of_its_parts(rt: HostRuntime) -> Result<(), Fail> {
+    let alloc = rt.alloc();
+    for n in 0..TEMPLATES {
+        assert!(rt; is_rebuilt(alloc, &nth(alloc, n)?)?);
+    }
+    Ok(())
+}
+
+// Whether it makes a static policy exactly where it has no slots.
+fn is_static_without_slots(template: Template) -> bool {
+    let count = template.slots().count();
+    let is_static = template.is_static();
+    match StaticPolicy::try_from(template) {
+        Ok(_) => count == 0 && is_static,
+        Err(UnexpectedSlotError::FoundSlot(_)) => count > 0 && !is_static,
+        Err(UnexpectedSlotError::Memory) => false,
+    }
+}
+
+#[test]
+fn a_template_is_static_exactly_without_slots(rt: HostRuntime) -> Result<(), Fail> {
+    let alloc = rt.alloc();
+    for n in 0..TEMPLATES {
+        assert!(rt; is_static_without_slots(nth(alloc, n)?));
+    }
+    Ok(())
+}
+
+// The static policy of the template at a place, if it has no slots.
+fn nth_static(alloc: Global, n: usize) -> Result<Option<StaticPolicy>, Fail> {
+    match StaticPolicy::try_from(nth(alloc, n)?) {
+        Ok(policy) => Ok(Some(policy)),
+        Err(_) => Ok(None),
+    }
+}
+
+// How many of the templates have no slots.
+const STATICS: usize = 72;
+
+// Whether a static policy has the condition and the effect of its template.
+fn says_the_same(alloc: Global, policy: &StaticPolicy, template: &Template) -> Result<bool, Fail> {
+    let one = policy.condition(alloc)?;
+    let other = template.condition(alloc)?;
+    Ok(one == other && policy.effect() == template.effect())
+}
+
+#[test]
+fn a_static_policy_has_its_templates_condition_and_effect(rt: HostRuntime) -> Result<(), Fail> {
+    let alloc = rt.alloc();
+    let mut count: usize = 0;
+    for n in 0..TEMPLATES {
+        if let Some(policy) = nth_static(alloc, n)? {
+            assert!(rt; says_the_same(alloc, &policy, &nth(alloc, n)?)?);
+            count = count.saturating_add(1);
+        }
+    }
+    assert!(rt; count == STATICS);
+    Ok(())
+}
+
+// Whether the template of a static policy is this one, and the policy has its id.
+fn gives_back(alloc: Global, policy: StaticPolicy, want: &Template) -> Result<bool, Fail> {
+    let (template, policy) = Template::link_static_policy(alloc, policy)?;
+    let template: &Template = &template;
+    Ok(*template == *want && policy.is_static() && *policy.id() == *want.id())
+}
+
+#[test]
+fn a_static_policy_gives_its_template_back(rt: HostRuntime) -> Result<(), Fail> {
+    let alloc = rt.alloc();
+    for n in 0..TEMPLATES {
+        if let Some(policy) = nth_static(alloc, n)? {
+            assert!(rt; gives_back(alloc, policy, &nth(alloc, n)?)?);
+        }
+    }
+    Ok(())
+}
+
+// The static policy of these parts.
+fn made(
+    alloc: Global,
+    name: PolicyID,
+    effect: Effect,
+    scope: Scope,
+    clause: Option<Expr>,
+) -> Result<StaticPolicy, UnexpectedSlotError> {
+    let none = Annotations::new(alloc);
+    let Scope {
+        principal,
+        action,
+        resource,
+    } = scope;
+    StaticPolicy::new(
+        alloc, name, None, none, effect, principal, action, resource, clause,
+    )
+}
+
+// Copies of the constraints of a static policy.
+fn scope_of_static(policy: &StaticPolicy) -> Result<Scope, Fail> {
+    let principal = policy.principal_constraint().clone()?;
+    let resource = policy.resource_constraint().clone()?;
+    let action = policy.action_constraint().clone()?;
+    Ok(Scope {
+        principal,
+        action,
+        resource,
+    })
+}
+
+// The static policy that is built anew from what it gives.
+fn rebuilt_static(alloc: Global, one: &StaticPolicy) -> Result<StaticPolicy, Fail> {
+    let name = one.id().clone()?;
+    let clause = copy_of_clause(one.non_scope_constraints())?;
+    let scope = scope_of_static(one)?;
+    Ok(made(alloc, name, one.effect(), scope, clause)?)
+}
+
+// Whether that is equal.
+fn is_static_rebuilt(alloc: Global, one: &StaticPolicy) -> Result<bool, Fail> {
+    let other = rebuilt_static(alloc, one)?;
+    Ok(*one == other)
+}
+
+#[test]
+fn each_static_policy_is_equal_to_one_built_of_its_parts(rt: HostRuntime) -> Result<(), Fail> {
+    let alloc = rt.alloc();
+    for n in 0..TEMPLATES {
+        if let Some(policy) = nth_static(alloc, n)? {
+            assert!(rt; is_static_rebuilt(alloc, &policy)?);
+        }
+    }
+    Ok(())
+}

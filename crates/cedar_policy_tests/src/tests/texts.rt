@@ -1,0 +1,133 @@
+// How templates and policies are written.
+use super::{
+    Scope, bindings, equal, free, id, on_both, on_principal, permits, shared_type, shows, template,
+    uid,
+};
+use cedar_policy::{Effect, Policy, SlotEnv, StaticPolicy, Template};
+use cedar_scope::{ActionConstraint, PrincipalConstraint, ResourceConstraint};
+use cedar_terms::expr::Expr;
+use cedar_terms::slot::SlotId;
+use std::alloc::Global;
+use std::collections::HashMap;
+use std::rc::Rc;
+use std::test::Fail;
+
+const PLAIN: &str = "permit(\n  principal,\n  action,\n  resource\n);";
+
+fn static_policy(alloc: Global, scope: Scope, clause: Option<Expr>) -> Result<StaticPolicy, Fail> {
+    let template = permits(alloc, scope, clause)?;
+    Ok(StaticPolicy::try_from(template)?)
+}
+
+fn policy(alloc: Global, scope: Scope, clause: Option<Expr>) -> Result<Policy, Fail> {
+    let policy = static_policy(alloc, scope, clause)?;
+    Ok(Policy::from_static(alloc, policy)?)
+}
+
+#[test]
+fn a_policy_without_constraints_takes_five_lines(rt: HostRuntime) -> Result<(), Fail> {
+    let alloc = rt.alloc();
+    assert!(rt; shows(alloc, permits(alloc, free(), None), PLAIN)?);
+    assert!(rt; shows(alloc, static_policy(alloc, free(), None), PLAIN)?);
+    assert!(rt; shows(alloc, policy(alloc, free(), None), PLAIN)?);
+    Ok(())
+}
+
+// `principal is A` and `resource is B`
+fn typed(alloc: Global) -> Result<Scope, Fail> {
+    let principal = shared_type(alloc, "A")?;
+    let resource = shared_type(alloc, "B")?;
+    Ok(Scope {
+        principal: PrincipalConstraint::is_entity_type(principal),
+        action: ActionConstraint::any(),
+        resource: ResourceConstraint::is_entity_type(resource),
+    })
+}
+
+fn condition(alloc: Global, clause: Option<Expr>) -> Result<Expr, Fail> {
+    let policy = policy(alloc, typed(alloc)?, clause)?;
+    Ok(policy.condition(alloc)?)
+}
+
+#[test]
+fn the_condition_of_a_static_policy_is_written(rt: HostRuntime) -> Result<(), Fail> {
+    let alloc = rt.alloc();
+    let want = "(principal is A) && (true && ((resource is B) && (1 == 2)))";
+    assert!(rt; shows(alloc, condition(alloc, Some(equal(alloc, 1, 2)?)), want)?);
+    let want = "(principal is A) && (true && ((resource is B) && true))";
+    assert!(rt; shows(alloc, condition(alloc, None), want)?);
+    Ok(())
+}
+
+// `when { 1 == 2 } unless { 2 == 1 }`, and the same of 3 and 4
+fn whens_and_unlesses(alloc: Global) -> Result<Expr, Fail> {
+    let last = Expr::not(alloc, equal(alloc, 4, 3)?)?;
+    let last = Expr::and(alloc, equal(alloc, 3, 4)?, last)?;
+    let second = Expr::not(alloc, equal(alloc, 2, 1)?)?;
+    let second = Expr::and(alloc, second, last)?;
+    Ok(Expr::and(alloc, equal(alloc, 1, 2)?, second)?)
+}
+
+#[test]
+fn the_condition_has_every_when_and_unless(rt: HostRuntime) -> Result<(), Fail> {
+    let alloc = rt.alloc();
+    let want =
+        "(principal is A) && (true && ((resource is B) && ((1 == 2) && ((!(2 == 1)) && ((3 == 4) && (!(4 == 3)))))))";
+    let clause = whens_and_unlesses(alloc)?;
+    assert!(rt; shows(alloc, condition(alloc, Some(clause)), want)?);
+    Ok(())
+}
+
+// The binding of the principal's slot to this uid.
+fn one_binding(alloc: Global, ty: &str, eid: &str) -> Result<SlotEnv, Fail> {
+    let uid = uid(alloc, ty, eid)?;
+    let mut values = HashMap::new(alloc);
+    drop(values.insert(SlotId::Principal, uid)?);
+    Ok(values)
+}
+
+// The template of this id with the principal's slot.
+fn slotted(alloc: Global, name: &str) -> Result<Rc<Template>, Fail> {
+    let name = id(alloc, name)?;
+    let template = template(alloc, name, Effect::Permit, on_principal(), None)?;
+    Ok(Rc::new(alloc, template)?)
+}
+
+// The link `l` of that template, bound to this uid.
+fn link(alloc: Global, name: &str, ty: &str, eid: &str) -> Result<Policy, Fail> {
+    let l = id(alloc, "l")?;
+    let template = slotted(alloc, name)?;
+    let values = one_binding(alloc, ty, eid)?;
+    Ok(Template::link(alloc, template, l, values)?)
+}
+
+#[test]
+fn a_link_is_written_by_its_template_and_its_bindings(rt: HostRuntime) -> Result<(), Fail> {
+    let alloc = rt.alloc();
+    let want = "Template Instance of t, slots: [?principal -> Test::\"test1\"]";
+    assert!(rt; shows(alloc, link(alloc, "t", "Test", "test1"), want)?);
+    let want = "Template Instance of a\\\"b, slots: [?principal -> A::B::\"it\\'s\"]";
+    assert!(rt; shows(alloc, link(alloc, "a\"b", "A::B", "it's"), want)?);
+    let want = "Template Instance of é, slots: [?principal -> A::\"é\"]";
+    assert!(rt; shows(alloc, link(alloc, "é", "A", "é"), want)?);
+    Ok(())
+}
+
+// The link of a template with both slots, bound in this order.
+fn both(alloc: Global, pairs: &[(SlotId, &str)]) -> Result<Policy, Fail> {
+    let l = id(alloc, "l")?;
+    let template = Rc::new(alloc, permits(alloc, on_both(), None)?)?;
+    let values = bindings(alloc, pairs)?;
+    Ok(Template::link(alloc, template, l, values)?)
+}
+
+#[test]
+fn the_binding_of_the_principal_is_written_first(rt: HostRuntime) -> Result<(), Fail> {
+    let alloc = rt.alloc();
+    let want = "Template Instance of t, slots: [?principal -> A::\"p\",?resource -> A::\"r\"]";
+    let one = [(SlotId::Principal, "p"), (SlotId::Resource, "r")];
+    assert!(rt; shows(alloc, both(alloc, &one), want)?);
+    let other = [(SlotId::Resource, "r"), (SlotId::Principal, "p")];
+    assert!(rt; shows(alloc, both(alloc, &other), want)?);
+    Ok(())
+}

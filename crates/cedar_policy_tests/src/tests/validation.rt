@@ -1,0 +1,266 @@
+// What validating a template finds, in its order, and the texts of the refusals.
+use super::{Scope, free, on_principal, permits, shared, uid};
+use cedar_ids::name::Name;
+use cedar_ids::non_empty::NonEmpty;
+use cedar_policy::{Template, TemplateValidationError, UnexpectedSlotError};
+use cedar_scope::{ActionConstraint, PrincipalConstraint, ResourceConstraint};
+use cedar_terms::err::ExprValidationError;
+use cedar_terms::expr::Expr;
+use cedar_terms::slot::{Slot, SlotId};
+use std::alloc::Global;
+use std::test::Fail;
+
+// What is expected of validating.
+#[derive(Clone, Copy)]
+enum Want<'a> {
+    // The template comes back.
+    Valid,
+    // A slot in the clause.
+    Slot(SlotId),
+    // One uid that is no action.
+    Action(&'a str),
+    // A function that is not known.
+    Function(&'a str),
+}
+
+// Whether a refusal is of this kind and names this.
+fn names(error: &TemplateValidationError, want: Want<'_>) -> bool {
+    match want {
+        Want::Valid => false,
+        Want::Slot(id) => {
+            matches!(error, TemplateValidationError::SlotsInConditionClause(slot) if slot.id == id)
+        }
+        Want::Action(eid) => names_action(error, eid),
+        Want::Function(name) => names_function(error, name),
+    }
+}
+
+// Whether it names one uid, of this eid.
+fn names_action(error: &TemplateValidationError, eid: &str) -> bool {
+    match error {
+        TemplateValidationError::InvalidActionType(uids) => {
+            uids.tail.is_empty() && uids.head.eid().as_ref() == eid
+        }
+        _ => false,
+    }
+}
+
+// Whether it names this function.
+fn names_function(error: &TemplateValidationError, want: &str) -> bool {
+    match error {
+        TemplateValidationError::InvalidExpression(ExprValidationError::UnknownFunction { name }) =>
+            name.basename().as_ref() == want,
+        _ => false,
+    }
+}
+
+// Whether that came: the template itself where it is valid.
+fn came(
+    answer: Result<Template, TemplateValidationError>,
+    template: &Template,
+    want: Want<'_>,
+) -> bool {
+    match answer {
+        Ok(same) => matches!(want, Want::Valid) && same == *template,
+        Err(error) => names(&error, want),
+    }
+}
+
+// Whether validating a template gives that.
+fn gives(alloc: Global, template: Template, want: Want<'_>) -> Result<bool, Fail> {
+    let copy = template.clone()?;
+    Ok(came(template.try_validate(alloc), &copy, want))
+}
+
+// `action == T::"E"`, and this constraint of the principal
+fn acting(
+    alloc: Global,
+    principal: PrincipalConstraint,
+    ty: &str,
+    eid: &str,
+) -> Result<Scope, Fail> {
+    let action = ActionConstraint::is_eq(alloc, uid(alloc, ty, eid)?)?;
+    Ok(Scope {
+        principal,
+        action,
+        resource: ResourceConstraint::any(),
+    })
+}
+
+// `NAME()`
+fn called(alloc: Global, name: &str) -> Result<Expr, Fail> {
+    let name = Name::from_normalized_str(alloc, name)?;
+    Ok(Expr::call(alloc, name, Vec::new(alloc))?)
+}
+
+// The template `action == T::"E"` with the clause `NAME()`.
+fn calling(alloc: Global, ty: &str, eid: &str, name: &str) -> Result<Template, Fail> {
+    let clause = called(alloc, name)?;
+    let scope = acting(alloc, PrincipalConstraint::any(), ty, eid)?;
+    permits(alloc, scope, Some(clause))
+}
+
+// The template `action == T::"E"` without a clause.
+fn plain(alloc: Global, ty: &str, eid: &str) -> Result<Template, Fail> {
+    let scope = acting(alloc, PrincipalConstraint::any(), ty, eid)?;
+    permits(alloc, scope, None)
+}
+
+#[test]
+fn a_template_of_actions_is_valid(rt: HostRuntime) -> Result<(), Fail> {
+    let alloc = rt.alloc();
+    assert!(rt; gives(alloc, permits(alloc, free(), None)?, Want::Valid)?);
+    assert!(rt; gives(alloc, calling(alloc, "Action", "view", "ip")?, Want::Valid)?);
+    assert!(rt; gives(alloc, plain(alloc, "Foo::Action", "view")?, Want::Valid)?);
+    assert!(rt; gives(alloc, permits(alloc, on_principal(), None)?, Want::Valid)?);
+    Ok(())
+}
+
+// The template `principal == ?principal`, `action == T::"E"` with the clause `?principal`.
+fn slotted(alloc: Global, ty: &str, eid: &str) -> Result<Template, Fail> {
+    let clause = Expr::slot(alloc, SlotId::Principal)?;
+    let scope = acting(alloc, PrincipalConstraint::is_eq_slot(), ty, eid)?;
+    permits(alloc, scope, Some(clause))
+}
+
+#[test]
+fn a_slot_in_the_clause_comes_first(rt: HostRuntime) -> Result<(), Fail> {
+    let alloc = rt.alloc();
+    let want = Want::Slot(SlotId::Principal);
+    assert!(rt; gives(alloc, slotted(alloc, "User", "x")?, want)?);
+    assert!(rt; gives(alloc, slotted(alloc, "Action", "view")?, want)?);
+    Ok(())
+}
+
+// The template with the clause `?principal == ?resource`: the walk meets the last first.
+fn two_slots(alloc: Global) -> Result<Template, Fail> {
+    let left = Expr::slot(alloc, SlotId::Principal)?;
+    let right = Expr::slot(alloc, SlotId::Resource)?;
+    let clause = Expr::is_eq(alloc, left, right)?;
+    permits(alloc, free(), Some(clause))
+}
+
+#[test]
+fn the_slot_that_the_walk_meets_first_is_named(rt: HostRuntime) -> Result<(), Fail> {
+    let alloc = rt.alloc();
+    assert!(rt; gives(alloc, two_slots(alloc)?, Want::Slot(SlotId::Resource))?);
+    Ok(())
+}
+
+// `action in [Action::"view", User::"alice"]`
+fn in_two(alloc: Global) -> Result<ActionConstraint, Fail> {
+    let mut uids = Vec::new(alloc);
+    uids.push(uid(alloc, "Action", "view")?)?;
+    uids.push(uid(alloc, "User", "alice")?)?;
+    Ok(ActionConstraint::is_in(alloc, uids)?)
+}
+
+// The template of that.
+fn acting_in_two(alloc: Global) -> Result<Template, Fail> {
+    let scope = Scope {
+        action: in_two(alloc)?,
+        principal: PrincipalConstraint::any(),
+        resource: ResourceConstraint::any(),
+    };
+    permits(alloc, scope, None)
+}
+
+#[test]
+fn a_uid_that_is_no_action_comes_next(rt: HostRuntime) -> Result<(), Fail> {
+    let alloc = rt.alloc();
+    assert!(rt;
+        gives(
+            alloc,
+            calling(alloc, "User", "x", "foo")?,
+            Want::Action("x")
+        )?
+    );
+    assert!(rt; gives(alloc, acting_in_two(alloc)?, Want::Action("alice"))?);
+    Ok(())
+}
+
+#[test]
+fn a_function_that_is_not_known_comes_last(rt: HostRuntime) -> Result<(), Fail> {
+    let alloc = rt.alloc();
+    let want = Want::Function("foo");
+    assert!(rt; gives(alloc, calling(alloc, "Action", "v", "foo")?, want)?);
+    Ok(())
+}
+
+// Whether a refusal and its copy are written so.
+fn reads(alloc: Global, error: TemplateValidationError, want: &str) -> Result<bool, Fail> {
+    let copy = error.clone()?;
+    let one = error.to_string(alloc)?;
+    let other = copy.to_string(alloc)?;
+    Ok(one.as_str() == want && other.as_str() == want)
+}
+
+fn nowhere(id: SlotId) -> Slot {
+    Slot { id, loc: None }
+}
+
+#[test]
+fn refusals_of_a_template_have_their_texts(rt: HostRuntime) -> Result<(), Fail> {
+    let alloc = rt.alloc();
+    let slot = TemplateValidationError::SlotsInConditionClause(nowhere(SlotId::Resource));
+    assert!(rt; reads(alloc, slot, "found slot `?resource` in a condition clause")?);
+    let cache = TemplateValidationError::SlotCacheMismatch;
+    assert!(rt;
+        reads(
+            alloc,
+            cache,
+            "template slot cache is inconsistent with condition expression"
+        )?
+    );
+    assert!(rt; reads(alloc, TemplateValidationError::Memory, "out of memory")?);
+    Ok(())
+}
+
+// Whether the refusal of two uids is written so.
+fn reads_uids(alloc: Global, want: &str) -> Result<bool, Fail> {
+    let mut tail = Vec::new(alloc);
+    tail.push(shared(alloc, "User", "y")?)?;
+    let head = shared(alloc, "User", "x")?;
+    let error = TemplateValidationError::InvalidActionType(NonEmpty { head, tail });
+    reads(alloc, error, want)
+}
+
+// Whether the refusal of a function is written so.
+fn reads_function(alloc: Global, want: &str) -> Result<bool, Fail> {
+    let name = Name::from_normalized_str(alloc, "a::foo")?;
+    let error = ExprValidationError::UnknownFunction { name };
+    reads(
+        alloc,
+        TemplateValidationError::InvalidExpression(error),
+        want,
+    )
+}
+
+#[test]
+fn refusals_of_uids_and_functions_name_them(rt: HostRuntime) -> Result<(), Fail> {
+    let alloc = rt.alloc();
+    let want = "the action constraint holds uids that are not actions: User::\"x\",User::\"y\"";
+    assert!(rt; reads_uids(alloc, want)?);
+    assert!(rt; reads_function(alloc, "`a::foo` is not a known function")?);
+    Ok(())
+}
+
+// Whether a refusal of a slot and its copy are equal and written so.
+fn reads_slot(alloc: Global, error: UnexpectedSlotError, want: &str) -> Result<bool, Fail> {
+    let copy = error.clone()?;
+    let text = copy.to_string(alloc)?;
+    Ok(copy == error && text.as_str() == want)
+}
+
+#[test]
+fn refusals_of_a_static_policy_have_their_texts(rt: HostRuntime) -> Result<(), Fail> {
+    let alloc = rt.alloc();
+    let found = UnexpectedSlotError::FoundSlot(nowhere(SlotId::Principal));
+    let want = "found slot `?principal` where slots are not allowed";
+    assert!(rt; reads_slot(alloc, found, want)?);
+    assert!(rt; reads_slot(alloc, UnexpectedSlotError::Memory, "out of memory")?);
+    let one = UnexpectedSlotError::FoundSlot(nowhere(SlotId::Principal));
+    let other = UnexpectedSlotError::FoundSlot(nowhere(SlotId::Resource));
+    assert!(rt; one != other);
+    Ok(())
+}
