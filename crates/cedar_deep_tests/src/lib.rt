@@ -1,4 +1,5 @@
-//! The tests of 10,000 levels: values and expressions that are compared, hashed, copied, written, walked and dropped.
+//! The tests of 10,000 levels: values, expressions and policies that are compared,
+//! hashed, copied, written, walked and dropped.
 //!
 //! They stand apart since they need the stack of a built program: run them with `rt test`, not with `rt try --test`.
 #![tactic(auto)]

@@ -1,21 +1,30 @@
 -- Adding to the plain store of a world.
-use Rattle.std.specs.Prelude.{◌≡◌, ◌↔◌, Bool, true, false, List, [], ◌∷◌, ◌++◌, Option, Some, None, map}
+use Rattle.std.specs.Prelude.{◌≡◌, ◌↔◌, Bool, true, false, cond, not, ◌&&◌, ◌||◌, List, [], ◌∷◌, ◌++◌, Option, Some, None, map}
 use Rattle.std.proofs.Common.{ap, sym, refl, subst, ◌∙◌}
-use Rattle.std.proofs.lemmas.Bool.{false≢true}
-use Rattle.std.specs.Option.{option_or, option_map, IfSome, unwrap_or}
-use Rattle.std.specs.List.{AllByRecursion}
+use Rattle.std.proofs.lemmas.Bool.{both_ways, false≢true, false_from_ne_true, or_left, or_parts}
+use Rattle.std.proofs.lemmas.Map.Made.{is_member-filter}
+use Rattle.std.specs.Option.{option_or, option_map, IfSome, is_some, unwrap_or}
+use Rattle.std.specs.List.{AllByRecursion, list_any}
+use Rattle.std.specs.Ordering.{eq_by_cmp}
+use Rattle.std.specs.Set.{is_member}
 use Rattle.std.specs.FinSet as set
 use Rattle.std.specs.FinMap as finmap
 use Rattle.cedar_graph.specs.Graph.{Reach, KeepsEdges, AddsOnlyReached}
 use Rattle.cedar_graph.specs.ReachLaws.{reach_edge, reach_over_reach}
 use Rattle.cedar_graph.specs.declared.err.TcError.{TcError}
-use Rattle.cedar_ids.specs.UidOf.{uid_order_total}
+use Rattle.cedar_ids.specs.UidOf.{same_uid, same_uid_decides, same_uid_equiv, uid_order, uid_order_total}
 use Rattle.cedar_ids.specs.declared.entity.EntityUID.{EntityUID}
-use Rattle.cedar_entity.specs.UidSets.{one_equal}
+use Rattle.cedar_entity.specs.UidSets.{one_equal, same_tests}
 use Rattle.cedar_entity.specs.View.{EntityView, has_ancestor, IsDeepEqual, deep_equality, parents_are_ancestors}
 use Rattle.cedar_entities.specs.ClosureFaults.{IsClosureFault}
-use Rattle.cedar_entities.specs.Plain.{StoreView, IsPlainStore, IsBare, AreBare, IsApart, parts_of, given_of}
-use Rattle.cedar_entities.specs.Modes.{ancestry, is_ancestor_in, IsClosureOf, IsFinished, IsClosureRefused, WhereComputed}
+use Rattle.cedar_entities.specs.Plain.{StoreView, Held, IsPlainStore, IsBare, AreBare, IsApart, parts_of, given_of}
+use Rattle.cedar_entities.specs.Modes.{ancestry, is_ancestor_in, IsClosureRefused, WhereComputed}
+use Rattle.cedar_entities.specs.laws.Closures.{IsClosureOf}
+use Rattle.cedar_entities.specs.Edits.{uids_of}
+use Rattle.cedar_entities.specs.Touching.{inserted_in, is_touched, IsSettled, StaysUntouched}
+use Rattle.cedar_entities.proofs.Reaching.{untouched}
+use Rattle.cedar_entities.proofs.Readings.{any_member, is_none}
+use Rattle.cedar_entities.proofs.Repaired.{ancestry_plain, repaired}
 use Rattle.cedar_entities.specs.declared.entities.TCComputation.{TCComputation}
 use Rattle.cedar_entities.specs.declared.entities.TCComputation.TheVariants as modes
 use Rattle.cedar_entities.specs.Present.{first_entity, with_first, MatchesPresent, AllMatch, FirstMismatch}
@@ -24,6 +33,45 @@ use Rattle.cedar_entities.proofs.StoreMaps.{get_with_first}
 use Rattle.cedar_entities.proofs.Versions.{map_at}
 use Rattle.cedar_entities.specs.laws.Worlds.{get_added}
 use Rattle.cedar_entities.proofs.PlainStores.{plain_from, cycle_in, found_parts, map_or, if_or, if_map, first_all, first_keyed, bare_apart, bare_leads, leads_or, parents_alone}
+
+some_cond : {X : Type 0} (b : Bool) (x : X) (o : Option X) → is_some (cond b (Some x) o) ≡ (b || is_some o)
+some_cond true x o = refl
+some_cond false x o = refl
+
+-- there is a first with a uid where the list has the uid
+first_some : (L : List EntityView) (q : EntityUID) → is_some (first_entity L q) ≡ is_member same_uid (uids_of L) q
+first_some [] q = refl
+first_some (e ∷ L) q =
+    some_cond (eq_by_cmp uid_order q e.uid) e (first_entity L q)
+    ∙ ap (λ f. f q e.uid || is_some (first_entity L q)) same_tests
+    ∙ ap (λ b. same_uid q e.uid || b) (first_some L q)
+
+and_on : (b : Bool) → b ≡ (b && true)
+and_on true = refl
+and_on false = refl
+
+-- the uids that are inserted, as a list
+inserted_members : (D : Held) (L : List EntityView) (q : EntityUID) → is_member same_uid (inserted_in D L) q ≡ (is_member same_uid (uids_of L) q && not (finmap.contains_key D q))
+inserted_members D L q = is_member-filter same_uid_equiv (λ u. not (finmap.contains_key D u)) q (λ x t. ap (λ u. not (finmap.contains_key D u)) ((same_uid_decides q x).0 t)) (uids_of L)
+
+first_out : (D : Held) (L : List EntityView) (q : EntityUID) → is_member same_uid (inserted_in D L) q ≡ false → (o : Option EntityView) → finmap.get D q ≡ o → option_or o (first_entity L q) ≡ o
+first_out D L q h (Some e) is = refl
+first_out D L q h None is = is_none (first_entity L q) (first_some L q ∙ and_on (is_member same_uid (uids_of L) q) ∙ ap (λ o. is_member same_uid (uids_of L) q && not (is_some o)) (sym is) ∙ sym (inserted_members D L q) ∙ h)
+
+pub added_same : (D : Held) (L : List EntityView) (q : EntityUID) → is_member same_uid (inserted_in D L) q ≡ false → finmap.get (with_first D L) q ≡ finmap.get D q
+added_same D L q h = get_with_first D L q ∙ first_out D L q h (finmap.get D q) refl
+
+-- what is not touched is as it was
+pub add_untouched : (D : Held) (L : List EntityView) → StaysUntouched (inserted_in D L) D (with_first D L)
+add_untouched D L q h = added_same D L q (or_parts (is_member same_uid (inserted_in D L) q) (list_any (ancestry D q) (inserted_in D L)) h).0
+
+-- before or after the adding, the same is touched
+pub touched_alike : (D : Held) (L : List EntityView) (q : EntityUID) → (is_member same_uid (inserted_in D L) q || list_any (ancestry (with_first D L) q) (inserted_in D L)) ≡ is_touched D (inserted_in D L) q
+touched_alike D L q = at (is_member same_uid (inserted_in D L) q) refl
+  where
+    at : (b : Bool) → is_member same_uid (inserted_in D L) q ≡ b → (is_member same_uid (inserted_in D L) q || list_any (ancestry (with_first D L) q) (inserted_in D L)) ≡ is_touched D (inserted_in D L) q
+    at true t = or_left (is_member same_uid (inserted_in D L) q) (list_any (ancestry (with_first D L) q) (inserted_in D L)) t ∙ sym (or_left (is_member same_uid (inserted_in D L) q) (list_any (ancestry D q) (inserted_in D L)) t)
+    at false t = ap (λ o. is_member same_uid (inserted_in D L) q || list_any (is_ancestor_in o) (inserted_in D L)) (added_same D L q t)
 
 parent_stays : (o p : Option Parts) (b : EntityUID) → is_parent_in o b ≡ true → is_parent_in (option_or o p) b ≡ true
 parent_stays None p b h = absurd (false≢true h)
@@ -65,10 +113,21 @@ module _ (W : World) (S : StoreView) (L : List EntityView) (plain : IsPlainStore
       (λ q. subst (λ o. IfSome o IsApart) (sym (get_with_first S.held L q)) (if_or IsApart (finmap.get S.held q) (first_entity L q) (plain.apart q) (bare_apart (first_entity L q) (first_all IsBare L bare q))))
       only_added closed
 
-  pub finished_plain : (tc : TCComputation) (N : StoreView) → N.partial ≡ S.partial → IsFinished tc (with_first S.held L) N.held → WhereComputed tc (IsPlainStore (added W (map given_of L)) N)
-  finished_plain modes.AssumeAlreadyComputed N same h = tt
-  finished_plain modes.EnforceAlreadyComputed N same h = tt
-  finished_plain modes.ComputeNow N same h = added_plain N same h
+  -- what is not touched reaches no more than it did
+  add_back : (a b : EntityUID) → is_touched S.held (inserted_in S.held L) a ≡ false → Reach (graph (added W (map given_of L))) a b → Reach (graph W) a b
+  add_back a b h =
+      let p = or_parts (is_member same_uid (inserted_in S.held L) a) (list_any (ancestry S.held a) (inserted_in S.held L)) h in
+      untouched (graph W) (graph (added W (map given_of L))) (is_member same_uid (inserted_in S.held L))
+      (λ x y out t. ap (λ o. is_parent_in o y) (sym (plain.holds x) ∙ ap (option_map parts_of) (sym (added_same S.held L x out)) ∙ holds_added x) ∙ t) a b p.0
+      (λ u r. false_from_ne_true (is_member same_uid (inserted_in S.held L) u)
+      (λ m. both_ways (list_any (ancestry S.held a) (inserted_in S.held L)) p.1 (any_member (ancestry S.held a) (inserted_in S.held L) u m ((ancestry_plain W S plain a u).1 r))))
+
+  pub settled_plain : (tc : TCComputation) (N : StoreView) → N.partial ≡ S.partial → IsSettled tc (is_touched S.held (inserted_in S.held L)) (with_first S.held L) N.held → WhereComputed tc (IsPlainStore (added W (map given_of L)) N)
+  settled_plain modes.AssumeAlreadyComputed N same h = tt
+  settled_plain modes.EnforceAlreadyComputed N same h = tt
+  settled_plain modes.ComputeNow N same h =
+      added_plain N same (repaired S.held (with_first S.held L) (graph W) (graph (added W (map given_of L))) (is_touched S.held (inserted_in S.held L)) (ancestry_plain W S plain) plain.acyclic only_added add_back
+      (add_untouched S.held L) N.held h.0 h.1)
 
   pub refused_plain : (tc : TCComputation) (t : TcError EntityUID) → IsClosureRefused tc (with_first S.held L) t
       → WhereComputed tc (IsClosureFault t (λ _ _ _. ⊥) (λ v. Reach (graph (added W (map given_of L))) v v))

@@ -29,6 +29,16 @@ pub put_in : {S : Type 0} (m n : HashMap EntityUID SharedEntity S) (D : Held) (L
     → ((q : EntityUID) → held n q ≡ option_or (held m q) (first_entity L q)) → held_map n ≡ with_first D L
 put_in m n D L is put = seen_as n (with_first D L) (λ q. put q ∙ ap (λ f. option_or (f q) (first_entity L q)) (stored m D is) ∙ sym (get_with_first D L q))
 
+-- a refusal of the closure for one reason is one for another that follows
+pub refused_for : (C F : TcError EntityUID → Type 0) → ((t : TcError EntityUID) → C t → F t) → (e : EntitiesError) → MatchRefusal e (λ _. ⊥) C → MatchRefusal e (λ _. ⊥) F
+refused_for C F f (errors.Duplicate u) h = h
+refused_for C F f (errors.TransitiveClosureError t) h = f t h
+refused_for C F f (errors.SelfAncestor u) h = h
+refused_for C F f (errors.DuplicateAncestor u a) h = h
+refused_for C F f (errors.ActionParentIsNotAction u p) h = h
+refused_for C F f (errors.ReservedKey k) h = h
+refused_for C F f errors.Memory h = tt
+
 -- a refusal for a mismatch, over the same versions
 pub mismatch_at : (f g : EntityUID → Option EntityView) (L : List EntityView) (C : TcError EntityUID → Type 0) → f ≡ g → (e : EntitiesError) → MatchRefusal e (FirstMismatch f L) (λ _. ⊥) → MatchRefusal e (FirstMismatch g L) C
 mismatch_at f g L C is (errors.Duplicate u) h = subst (λ k. FirstMismatch k L u) is h

@@ -1,9 +1,9 @@
 -- From what the closure calls say of the map to what is seen of it.
-use Rattle.std.specs.Prelude.{◌≡◌, ◌↔◌, Bool, true, Option, Some, None, IsTrue, Result, Ok, Err, IfErr}
+use Rattle.std.specs.Prelude.{◌≡◌, Bool, true, false, Option, Some, None, Result, Ok, Err, IfErr}
 use Rattle.std.proofs.Common.{ap, sym, refl, subst, ◌∙◌}
 use Rattle.std.specs.Option.{option_map}
 use Rattle.std.specs.HashMap.{HashMap, get}
-use Rattle.cedar_graph.specs.Graph.{KeepsNodes, Reach, IsClosure, IsClosed, HasNoLoop, HasNoCycle, graph_of, edge_at}
+use Rattle.cedar_graph.specs.Graph.{KeepsNodes, KeepsEdges, AddsOnlyReached, Reach, IsClosure, IsClosed, IsTrusted, HasNoCycleAt, HasNoLoop, graph_of, edge_at}
 use Rattle.cedar_graph.specs.Faults.{MatchFault, BreaksClosed}
 use Rattle.cedar_graph.specs.declared.err.TcError.{TcError}
 use Rattle.cedar_graph.specs.declared.err.TcError.TheVariants as tc
@@ -16,7 +16,8 @@ use Rattle.cedar_entity.specs.ClosureRefusals.{refusal_of}
 use Rattle.cedar_entities.specs.ClosureFaults.{IsClosureFault}
 use Rattle.cedar_entities.specs.Refusals.{MatchRefusal}
 use Rattle.cedar_entities.specs.laws.Held.{held_map, shared}
-use Rattle.cedar_entities.specs.Modes.{ancestry, is_ancestor_in, IsClosureOf, IsClosureRefused}
+use Rattle.cedar_entities.specs.Modes.{ancestry, is_ancestor_in, IsClosureRefused}
+use Rattle.cedar_entities.specs.Touching.{IsRepairOf, IsAcyclicAt}
 use Rattle.cedar_entities.specs.declared.entities.TCComputation.TheVariants as modes
 use Rattle.cedar_entity.specs.View.{has_ancestor, Kept, kept}
 use Rattle.cedar_entities.proofs.StoreMaps.{get_seen}
@@ -39,16 +40,26 @@ kept_at : (o : Option SharedEntity) → option_map kept (option_map shared o) �
 kept_at None = refl
 kept_at (Some n) = refl
 
-pub closure_of : {S : Type 0} (m n : HashMap EntityUID SharedEntity S) → KeepsNodes same_uid (λ e. (shared e).uid) node_kept m n
-    → IsClosure (graph_of same_uid node_edges m) (graph_of same_uid node_edges n) → HasNoCycle (graph_of same_uid node_edges m) → IsClosureOf (held_map m) (held_map n)
-closure_of m n keeps closed dag =
+pub repair_of : {S : Type 0} (m n : HashMap EntityUID SharedEntity S) (fix : EntityUID → Bool) → KeepsNodes same_uid (λ e. (shared e).uid) node_kept m n
+    → ((q : EntityUID) → fix q ≡ false → get same_uid n q ≡ get same_uid m q)
+    → KeepsEdges (graph_of same_uid node_edges m) (graph_of same_uid node_edges n)
+    → AddsOnlyReached (graph_of same_uid node_edges m) (graph_of same_uid node_edges n)
+    → (IsTrusted fix (graph_of same_uid node_edges m) → HasNoCycleAt fix (graph_of same_uid node_edges m) → IsClosure (graph_of same_uid node_edges m) (graph_of same_uid node_edges n))
+    → IsRepairOf fix (held_map m) (held_map n)
+repair_of m n fix keeps alone stays only closed =
     let G = same_ancestry m in
     let H = same_ancestry n in
     record {
       parts = λ q. ap (option_map kept) (get_seen n q) ∙ kept_at (get same_uid n q) ∙ keeps.rests q ∙ sym (kept_at (get same_uid m q)) ∙ sym (ap (option_map kept) (get_seen m q));
-      ancestors = λ a b. subst (λ F. (ancestry (held_map n) a b ≡ true) ↔ Reach F a b) G (subst (λ F. (F a b ≡ true) ↔ Reach (graph_of same_uid node_edges m) a b) H (closed a b));
-      acyclic = λ v r. dag v (subst (λ F. Reach F v v) (sym G) r);
+      alone = λ q t. get_seen n q ∙ ap (option_map shared) (alone q t) ∙ sym (get_seen m q);
+      stays = subst (λ F. KeepsEdges F (ancestry (held_map n))) G (subst (KeepsEdges (graph_of same_uid node_edges m)) H stays);
+      only = subst (λ F. AddsOnlyReached F (ancestry (held_map n))) G (subst (AddsOnlyReached (graph_of same_uid node_edges m)) H only);
+      closed = subst (λ F. IsTrusted fix F → HasNoCycleAt fix F → IsClosure F (ancestry (held_map n))) G
+          (subst (λ F. IsTrusted fix (graph_of same_uid node_edges m) → HasNoCycleAt fix (graph_of same_uid node_edges m) → IsClosure (graph_of same_uid node_edges m) F) H closed);
     }
+
+pub acyclic_of : {S : Type 0} (m : HashMap EntityUID SharedEntity S) (fix : EntityUID → Bool) → (IsTrusted fix (graph_of same_uid node_edges m) → HasNoCycleAt fix (graph_of same_uid node_edges m)) → IsAcyclicAt fix (held_map m)
+acyclic_of m fix h = subst (λ F. IsTrusted fix F → HasNoCycleAt fix F) (same_ancestry m) h
 
 -- a fault as the call tells it
 pub told : (P : EntityUID → EntityUID → EntityUID → Type 0) (Q : EntityUID → Type 0) (t : TcError EntityUID) → MatchFault t P Q → MatchRefusal (refusal_of t) (λ _. ⊥) (λ u. IsClosureFault u P Q)
@@ -56,14 +67,11 @@ told P Q (tc.MissingTcEdge x) h = h
 told P Q (tc.HasCycle x) h = h
 told P Q tc.Memory h = tt
 
-cycle_fault : {S : Type 0} (m : HashMap EntityUID SharedEntity S) (t : TcError EntityUID) → MatchFault t (λ _ _ _. ⊥) (λ v. IsTrue true × Reach (graph_of same_uid node_edges m) v v) → MatchFault t (λ _ _ _. ⊥) (λ v. Reach (ancestry (held_map m)) v v)
-cycle_fault m (tc.MissingTcEdge x) h = h
-cycle_fault m (tc.HasCycle x) h = subst (λ F. Reach F x.vertex x.vertex) (same_ancestry m) h.1
-cycle_fault m tc.Memory h = tt
-
-pub cycle_told : {S : Type 0} (m : HashMap EntityUID SharedEntity S) (t : TcError EntityUID) → MatchFault t (λ _ _ _. ⊥) (λ v. IsTrue true × Reach (graph_of same_uid node_edges m) v v)
-    → MatchRefusal (refusal_of t) (λ _. ⊥) (IsClosureRefused modes.ComputeNow (held_map m))
-cycle_told m t h = told (λ _ _ _. ⊥) (λ v. Reach (ancestry (held_map m)) v v) t (cycle_fault m t h)
+pub cycle_told : {S : Type 0} (m : HashMap EntityUID SharedEntity S) (asked : Type 0) (fix : EntityUID → Bool) (t : TcError EntityUID) → MatchFault t (λ _ _ _. ⊥) (λ v. asked × (fix v ≡ true) × Reach (graph_of same_uid node_edges m) v v)
+    → MatchRefusal (refusal_of t) (λ _. ⊥) (λ u. asked × IsClosureRefused modes.ComputeNow (held_map m) u)
+cycle_told m asked fix (tc.MissingTcEdge x) h = absurd h
+cycle_told m asked fix (tc.HasCycle x) h = (h.0, subst (λ F. Reach F x.vertex x.vertex) (same_ancestry m) h.2)
+cycle_told m asked fix tc.Memory h = tt
 
 pub closed_told : {S : Type 0} (m : HashMap EntityUID SharedEntity S) (t : TcError EntityUID) → MatchFault t (BreaksClosed (graph_of same_uid node_edges m)) (λ v. IsClosed (graph_of same_uid node_edges m) × (graph_of same_uid node_edges m v v ≡ true))
     → MatchRefusal (refusal_of t) (λ _. ⊥) (IsClosureRefused modes.EnforceAlreadyComputed (held_map m))

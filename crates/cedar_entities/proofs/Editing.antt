@@ -11,7 +11,7 @@ use Rattle.std.specs.Ordering.{eq_by_cmp}
 use Rattle.cedar_ids.specs.UidOf.{same_uid, uid_order, uid_order_total, same_uid_decides, same_uid_equiv}
 use Rattle.cedar_ids.specs.declared.entity.EntityUID.{EntityUID}
 use Rattle.cedar_entity.specs.declared.node.SharedEntity.{SharedEntity}
-use Rattle.cedar_entities.specs.Edits.{stripped}
+use Rattle.cedar_entities.specs.Edits.{parted, stripped}
 use Rattle.cedar_entities.specs.laws.Held.{held, shared, UidsMatch}
 use Rattle.cedar_entity.specs.UidSets.{UidSet, same_tests, one_equal}
 use Rattle.cedar_entity.specs.laws.UidSets.{kept_in}
@@ -83,46 +83,78 @@ retain_twice s gone = set.same_set uid_order_total one_equal _ _ (λ q.
     kept_in (set.retain s (λ p. not (gone p))) gone q ∙ ap (λ b. b && not (gone q)) (kept_in s gone q) ∙ twice (set.contains s q) (gone q) ∙ sym (kept_in s gone q))
 
 -- stripping
-pub stripped_none : (e : EntityView) → record e { indirect = set.empty } ≡ stripped (is_member same_uid []) e
-stripped_none e = λ i. record e { parents = sym (retain_none e.parents) i; indirect = set.empty }
+-- what goes in two turns goes in one
+kept_twice : (c g h : Bool) → ((c && not g) && not h) ≡ (c && not (g || h))
+kept_twice true true h = refl
+kept_twice true false h = refl
+kept_twice false g h = refl
 
-pub stripped_more : (e : EntityView) (gone : List EntityUID) (i : ℕ) (k : EntityUID) → i < length gone → k ≡ get_or gone i k
-    → record (stripped (is_member same_uid (take i gone)) e) { parents = set.remove (set.retain e.parents (λ p. not (is_member same_uid (take i gone) p))) k } ≡ stripped (is_member same_uid (take (i + 1) gone)) e
-stripped_more e gone i k within is = λ j. record e {
-  parents = retain_more e.parents (is_member same_uid (take i gone)) (is_member same_uid (take (i + 1) gone)) k
-      (λ q. list_any_more (same_uid q) gone i k within ∙ ap (λ x. is_member same_uid (take i gone) q || same_uid q x) (sym is)) j;
-  indirect = set.empty;
+pub retain_both : (s : UidSet) (g h : EntityUID → Bool) → set.retain (set.retain s (λ p. not (g p))) (λ p. not (h p)) ≡ set.retain s (λ p. not (g p || h p))
+retain_both s g h = set.same_set uid_order_total one_equal _ _ (λ q.
+    kept_in (set.retain s (λ p. not (g p))) h q ∙ ap (λ b. b && not (h q)) (kept_in s g q) ∙ kept_twice (set.contains s q) (g q) (h q) ∙ sym (kept_in s (λ p. g p || h p) q))
+
+-- an entity of which nothing goes
+pub stripped_nothing : (e : EntityView) → e ≡ stripped (is_member same_uid []) (is_member same_uid []) e
+stripped_nothing e = λ i. record e { parents = sym (retain_none e.parents) i; indirect = sym (retain_none e.indirect) i }
+
+pub parted_nothing : (e : EntityView) → e ≡ parted (is_member same_uid []) e
+parted_nothing e = λ i. record e { parents = sym (retain_none e.parents) i }
+
+taken_more : (xs : List EntityUID) (i : ℕ) (k : EntityUID) → i < length xs → k ≡ get_or xs i k → (q : EntityUID) → is_member same_uid (take (i + 1) xs) q ≡ (is_member same_uid (take i xs) q || same_uid q k)
+taken_more xs i k within is q = list_any_more (same_uid q) xs i k within ∙ ap (λ x. is_member same_uid (take i xs) q || same_uid q x) (sym is)
+
+-- one more goes from the indirect ancestors
+pub lessened_more : (e : EntityView) (lost : List EntityUID) (i : ℕ) (k : EntityUID) → i < length lost → k ≡ get_or lost i k
+    → record (stripped (is_member same_uid []) (is_member same_uid (take i lost)) e) { indirect = set.remove (set.retain e.indirect (λ p. not (is_member same_uid (take i lost) p))) k }
+    ≡ stripped (is_member same_uid []) (is_member same_uid (take (i + 1) lost)) e
+lessened_more e lost i k within is = λ j. record e {
+  parents = set.retain e.parents (λ p. not (is_member same_uid [] p));
+  indirect = retain_more e.indirect (is_member same_uid (take i lost)) (is_member same_uid (take (i + 1) lost)) k (taken_more lost i k within is) j;
 }
 
-stripped_twice : (gone : EntityUID → Bool) (o : Option EntityView) → option_map (stripped gone) (option_map (stripped gone) o) ≡ option_map (stripped gone) o
-stripped_twice gone None = refl
-stripped_twice gone (Some e) = λ i. Some (record e { parents = retain_twice e.parents gone i; indirect = set.empty })
+-- one more goes from the parents
+pub parted_more : (e : EntityView) (gone : List EntityUID) (i : ℕ) (k : EntityUID) → i < length gone → k ≡ get_or gone i k
+    → record (parted (is_member same_uid (take i gone)) e) { parents = set.remove (set.retain e.parents (λ p. not (is_member same_uid (take i gone) p))) k }
+    ≡ parted (is_member same_uid (take (i + 1) gone)) e
+parted_more e gone i k within is = λ j. record e {
+  parents = retain_more e.parents (is_member same_uid (take i gone)) (is_member same_uid (take (i + 1) gone)) k (taken_more gone i k within is) j;
+}
 
-strip_cases : (gone : EntityUID → Bool) (o : Option EntityView) (d k : Bool)
-    → cond k (option_map (stripped gone) (cond d (option_map (stripped gone) o) o)) (cond d (option_map (stripped gone) o) o) ≡ cond (d || k) (option_map (stripped gone) o) o
-strip_cases gone o true true = stripped_twice gone o
-strip_cases gone o true false = refl
-strip_cases gone o false true = refl
-strip_cases gone o false false = refl
+none_or : (g : EntityUID → Bool) → (λ p. is_member same_uid [] p || g p) ≡ g
+none_or g = refl
+
+-- indirect ancestors first, then parents
+pub parted_lessened : (e : EntityView) (g l : EntityUID → Bool) → parted g (stripped (is_member same_uid []) l e) ≡ stripped g l e
+parted_lessened e g l = λ j. record e { parents = retain_both e.parents (is_member same_uid []) g j; indirect = set.retain e.indirect (λ w. not (l w)) }
+
+pub stripped_both : (e : EntityView) (g l h m : EntityUID → Bool) → stripped h m (stripped g l e) ≡ stripped (λ p. g p || h p) (λ w. l w || m w) e
+stripped_both e g l h m = λ j. record e { parents = retain_both e.parents g h j; indirect = retain_both e.indirect l m j }
+
+or_itself : (b : Bool) → (b || b) ≡ b
+or_itself true = refl
+or_itself false = refl
+
+stripped_twice : (g l : EntityUID → Bool) (o : Option EntityView) → option_map (stripped g l) (option_map (stripped g l) o) ≡ option_map (stripped g l) o
+stripped_twice g l None = refl
+stripped_twice g l (Some e) = ap Some (stripped_both e g l g l ∙ λ i. stripped (λ p. or_itself (g p) i) (λ w. or_itself (l w) i) e)
+
+strip_cases : (g l : EntityUID → Bool) (o : Option EntityView) (d k : Bool)
+    → cond k (option_map (stripped g l) (cond d (option_map (stripped g l) o) o)) (cond d (option_map (stripped g l) o) o) ≡ cond (d || k) (option_map (stripped g l) o) o
+strip_cases g l o true true = stripped_twice g l o
+strip_cases g l o true false = refl
+strip_cases g l o false true = refl
+strip_cases g l o false false = refl
 
 -- one more entity is stripped
-pub strip_push : (gone : EntityUID → Bool) (first now new : Option EntityView) (done : List EntityUID) (k q : EntityUID)
-    → now ≡ cond (is_member same_uid done q) (option_map (stripped gone) first) first
-    → new ≡ cond (same_uid k q) (option_map (stripped gone) now) now
-    → new ≡ cond (is_member same_uid (done ++ k ∷ []) q) (option_map (stripped gone) first) first
-strip_push gone first now new done k q so step =
-    step ∙ ap (λ o. cond (same_uid k q) (option_map (stripped gone) o) o) so
-    ∙ strip_cases gone first (is_member same_uid done q) (same_uid k q)
-    ∙ ap (λ b. cond b (option_map (stripped gone) first) first) (sym (member_push done k q))
-
-some_at : (f : EntityView → EntityView) (o : Option SharedEntity) → cond (is_some o) (option_map f (option_map shared o)) (option_map shared o) ≡ option_map f (option_map shared o)
-some_at f None = refl
-some_at f (Some n) = refl
-
--- all that are held are stripped
-pub strip_end : {S : Type 0} (m : HashMap EntityUID SharedEntity S) (gone : EntityUID → Bool) (all : List EntityUID) (q : EntityUID) → is_member same_uid all q ≡ is_some (get same_uid m q)
-    → cond (is_member same_uid all q) (option_map (stripped gone) (held m q)) (held m q) ≡ option_map (stripped gone) (held m q)
-strip_end m gone all q is = ap (λ b. cond b (option_map (stripped gone) (held m q)) (held m q)) is ∙ some_at (stripped gone) (get same_uid m q)
+pub strip_more : (g l : EntityUID → Bool) (first now new : Option EntityView) (by : List EntityUID) (i : ℕ) (k q : EntityUID) → i < length by → k ≡ get_or by i k
+    → now ≡ cond (is_member same_uid (take i by) q) (option_map (stripped g l) first) first
+    → new ≡ cond (same_uid k q) (option_map (stripped g l) now) now
+    → new ≡ cond (is_member same_uid (take (i + 1) by) q) (option_map (stripped g l) first) first
+strip_more g l first now new by i k q within is so step =
+    step ∙ ap (λ o. cond (same_uid k q) (option_map (stripped g l) o) o) so
+    ∙ strip_cases g l first (is_member same_uid (take i by) q) (same_uid k q)
+    ∙ ap (λ b. cond (is_member same_uid (take i by) q || b) (option_map (stripped g l) first) first) (same_uid_equiv.symm k q)
+    ∙ ap (λ b. cond b (option_map (stripped g l) first) first) (sym (taken_more by i k within is q))
 
 -- taking out
 out_at : (b : Bool) (o : Option SharedEntity) → option_map shared (cond b None o) ≡ cond b None (option_map shared o)
@@ -143,56 +175,3 @@ pub out_push : (first now new : Option EntityView) (done : List EntityUID) (k q 
     → new ≡ cond (is_member same_uid (done ++ k ∷ []) q) None first
 out_push first now new done k q so step =
     step ∙ ap (λ o. cond (same_uid k q) None o) so ∙ out_cases (is_member same_uid done q) (same_uid k q) first ∙ ap (λ b. cond b None first) (sym (member_push done k q))
-
--- whether anything is left of what was found
-left_some : (d : Bool) (o : Option EntityView) → is_some (cond d None o) ≡ (not d && is_some o)
-left_some true o = refl
-left_some false o = refl
-
-was_there : (d s k : Bool) → (not d && s) ≡ true → ((d && s) || k) ≡ ((d || k) && s)
-was_there true s k h = absurd (false≢true h)
-was_there false true true h = refl
-was_there false true false h = refl
-was_there false false k h = absurd (false≢true h)
-
-was_not : (d s : Bool) → (not d && s) ≡ false → (d && s) ≡ ((d || true) && s)
-was_not true s h = refl
-was_not false true h = absurd (false≢true (sym h))
-was_not false false h = refl
-
-or_off : (d : Bool) → d ≡ (d || false)
-or_off true = refl
-or_off false = refl
-
-module _ (first now : EntityUID → Option EntityView) (done gone : List EntityUID) (k : EntityUID)
-    (so : (q : EntityUID) → now q ≡ cond (is_member same_uid done q) None (first q))
-    (is : (q : EntityUID) → is_member same_uid gone q ≡ (is_member same_uid done q && is_some (first q))) where
-  found_now : is_some (now k) ≡ (not (is_member same_uid done k) && is_some (first k))
-  found_now = ap is_some (so k) ∙ left_some (is_member same_uid done k) (first k)
-
-  there_at : is_some (now k) ≡ true → (q : EntityUID) (b : Bool) → same_uid k q ≡ b → ((is_member same_uid done q && is_some (first q)) || b) ≡ ((is_member same_uid done q || b) && is_some (first q))
-  there_at some q true t =
-      let e : k ≡ q = (same_uid_decides k q).0 t in
-      was_there (is_member same_uid done q) (is_some (first q)) true (subst (λ x. (not (is_member same_uid done x) && is_some (first x)) ≡ true) e (sym found_now ∙ some))
-  there_at some q false t = or_both (is_member same_uid done q) (is_some (first q))
-    where
-      or_both : (d s : Bool) → ((d && s) || false) ≡ ((d || false) && s)
-      or_both true true = refl
-      or_both true false = refl
-      or_both false s = refl
-
-  -- the uid was there, and is listed
-  pub gone_more : is_some (now k) ≡ true → (q : EntityUID) → is_member same_uid (gone ++ k ∷ []) q ≡ (is_member same_uid (done ++ k ∷ []) q && is_some (first q))
-  gone_more some q =
-      member_push gone k q ∙ ap (λ b. b || same_uid k q) (is q) ∙ there_at some q (same_uid k q) refl
-      ∙ ap (λ b. b && is_some (first q)) (sym (member_push done k q))
-
-  not_at : is_some (now k) ≡ false → (q : EntityUID) (b : Bool) → same_uid k q ≡ b → (is_member same_uid done q && is_some (first q)) ≡ ((is_member same_uid done q || b) && is_some (first q))
-  not_at none q true t =
-      let e : k ≡ q = (same_uid_decides k q).0 t in
-      was_not (is_member same_uid done q) (is_some (first q)) (subst (λ x. (not (is_member same_uid done x) && is_some (first x)) ≡ false) e (sym found_now ∙ none))
-  not_at none q false t = ap (λ b. b && is_some (first q)) (or_off (is_member same_uid done q))
-
-  -- the uid was not there, and is not
-  pub gone_same : is_some (now k) ≡ false → (q : EntityUID) → is_member same_uid gone q ≡ (is_member same_uid (done ++ k ∷ []) q && is_some (first q))
-  gone_same none q = is q ∙ not_at none q (same_uid k q) refl ∙ ap (λ b. b && is_some (first q)) (sym (member_push done k q))

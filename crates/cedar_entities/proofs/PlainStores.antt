@@ -17,7 +17,8 @@ use Rattle.cedar_entity.specs.UidSets.{same_tests}
 use Rattle.cedar_entity.specs.View.{EntityView, has_ancestor, Kept, kept, overlap}
 use Rattle.cedar_entities.specs.ClosureFaults.{IsClosureFault}
 use Rattle.cedar_entities.specs.Plain.{StoreView, Held, IsPlainStore, IsKeyed, IsBare, IsApart, parts_of, given_of}
-use Rattle.cedar_entities.specs.Modes.{ancestry, is_ancestor_in, IsClosureOf}
+use Rattle.cedar_entities.specs.Modes.{ancestry, is_ancestor_in}
+use Rattle.cedar_entities.specs.laws.Closures.{IsClosureOf}
 use Rattle.cedar_entities.specs.Present.{first_entity}
 use Rattle.cedar_entities.specs.World.{World, Parts, graph, is_parent_in, empty_world, first}
 

@@ -18,7 +18,6 @@ use Rattle.cedar_entities.specs.Refusals.{MatchRefusal}
 use Rattle.cedar_entity.specs.declared.err.EntitiesError.{EntitiesError}
 use Rattle.cedar_entity.specs.declared.err.EntitiesError.TheVariants as errors
 use Rattle.cedar_entities.specs.World.{reversed}
-use Rattle.cedar_entities.specs.laws.Lists.{all_push}
 
 abbrev pub Fn : Type 0
 Fn = EntityUID → Option EntityView

@@ -7,5 +7,6 @@ pub mod Present
 pub mod Refusals
 pub mod SameUids
 pub mod StoreFaults
+pub mod Touching
 pub mod World
 pub mod laws

@@ -1,13 +1,12 @@
--- What becomes of the entities that are held when their closure is assumed, checked or computed.
-use Rattle.std.specs.Prelude.{◌≡◌, ◌↔◌, Bool, true, false, Option, Some, None}
-use Rattle.std.specs.Option.{option_map}
+-- The ancestors that are held as a graph, and when each mode refuses it.
+use Rattle.std.specs.Prelude.{◌≡◌, Bool, true, false, Option, Some, None}
 use Rattle.std.specs.FinMap as finmap
 use Rattle.cedar_graph.specs.Graph.{Reach, IsClosed, HasNoLoop}
 use Rattle.cedar_graph.specs.Faults.{BreaksClosed}
 use Rattle.cedar_graph.specs.declared.err.TcError.{TcError}
 use Rattle.cedar_ids.specs.declared.entity.EntityUID.{EntityUID}
 use Rattle.cedar_entities.specs.ClosureFaults.{IsClosureFault}
-use Rattle.cedar_entity.specs.View.{EntityView, has_ancestor, kept}
+use Rattle.cedar_entity.specs.View.{EntityView, has_ancestor}
 use Rattle.cedar_entities.specs.Plain.{Held}
 use Rattle.cedar_entities.specs.declared.entities.TCComputation.{TCComputation}
 use Rattle.cedar_entities.specs.declared.entities.TCComputation.TheVariants as modes
@@ -21,23 +20,9 @@ is_ancestor_in (Some e) b = has_ancestor e b
 abbrev pub ancestry : Held → EntityUID → EntityUID → Bool
 ancestry D a b = is_ancestor_in (finmap.get D a) b
 
--- N holds the entities of D with their attributes, tags and parents. The ancestors of each are what it reached
--- over the ancestors in D, and none reached itself. A parent is an indirect ancestor too only where it was one
-pub record IsClosureOf (D N : Held) : Type 0 where
-  pub parts : (q : EntityUID) → option_map kept (finmap.get N q) ≡ option_map kept (finmap.get D q)
-  pub ancestors : (a b : EntityUID) → (ancestry N a b ≡ true) ↔ Reach (ancestry D) a b
-  pub acyclic : (v : EntityUID) → Reach (ancestry D) v v → ⊥
-
 -- the graph of the ancestors is closed, and no entity is among its own
 abbrev pub IsSound : Held → Type 0
 IsSound D = IsClosed (ancestry D) × HasNoLoop (ancestry D)
-
--- what a store has in the place of D. A computed closure counts each ancestor in D as an edge, also an indirect
--- one that a caller put in; the other modes leave each entity as it is
-abbrev pub IsFinished : TCComputation → Held → Held → Type 0
-IsFinished modes.AssumeAlreadyComputed D N = N ≡ D
-IsFinished modes.EnforceAlreadyComputed D N = (N ≡ D) × IsSound D
-IsFinished modes.ComputeNow D N = IsClosureOf D N
 
 -- why it is refused: never where the closure is assumed; where it is checked, for what breaks it, and for an
 -- entity among its own ancestors only if nothing does; where it is computed, for a uid that reaches itself

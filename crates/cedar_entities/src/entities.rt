@@ -10,9 +10,10 @@ ghost use Rattle.cedar_graph.specs.Graph.{Reach};
 ghost use Rattle.cedar_entities.specs.ClosureFaults.{IsClosureFault};
 ghost use Rattle.cedar_entity.specs.View.{EntityView, IsDeepEqual, IsEquivalenceRelation};
 ghost use Rattle.cedar_entities.specs.Answers.{AreDeepEqual, HasDeepEqual, Finds, IsUnknownOf, ListsHeld};
-ghost use Rattle.cedar_entities.specs.Edits.{last_entity, stripped, with_last, with_none};
+ghost use Rattle.std.specs.HashSet.{contains};
+ghost use Rattle.cedar_entities.specs.Edits.{last_entity, put_over, taken_out, uids_of};
 ghost use Rattle.cedar_entities.specs.laws.Held.{held, held_map, shared, UidsMatch};
-ghost use Rattle.cedar_entities.specs.Modes.{IsFinished, IsClosureOf, IsClosureRefused, WhereComputed};
+ghost use Rattle.cedar_entities.specs.Modes.{IsClosureRefused, IsSound, WhereComputed};
 ghost use Rattle.cedar_entities.specs.Plain.{StoreView, entities_in, IsPlainStore, IsKeyed, AreBare, given_of, no_entities};
 ghost use Rattle.cedar_entities.specs.Present.{first_entity, with_first, AllMatch, FirstMismatch};
 ghost use Rattle.cedar_entities.specs.Refusals.{MatchRefusal, IsAddingRefused, IsOverwritingRefused};
@@ -20,19 +21,23 @@ ghost use Rattle.cedar_entity.specs.declared.err.EntitiesError.TheVariants.{Memo
 ghost use Rattle.cedar_entities.specs.declared.entities.TCComputation.TheVariants.{EnforceAlreadyComputed, ComputeNow};
 ghost use Rattle.cedar_entities.specs.SameUids.{HaveSameUids, same_uids};
 ghost use Rattle.cedar_entities.specs.StoreFaults.{IsStoreFault, IsValidStore};
+ghost use Rattle.cedar_entities.specs.Touching.{IsAcyclicAt, IsMended, IsMendRefused, IsRepairOf, IsSettled, LosesBetween, StaysUntouched, WhereTaken, inserted_in, is_touched, removed_from};
 ghost use Rattle.cedar_entities.specs.World.{World, empty_world, added, overwritten, deleted, graph, AllAgree, FirstDiffers};
 
 use crate::dereference::Dereference;
 use crate::store_iters::{IntoIter, Iter};
 use crate::store_valid::check_each;
+use crate::touching::{
+    absent_uids, apply_each, copy_of, held_uids, note_all, read_each, touched_by_any, uids_in,
+};
 use cedar_entity::entity::Entity;
 use cedar_entity::err::EntitiesError;
 use cedar_entity::node::SharedEntity;
-use cedar_graph::{compute_tc, enforce_tc_and_dag};
+use cedar_graph::{enforce_tc_and_dag, repair_tc};
 use cedar_ids::entity::EntityUID;
 use cedar_terms::{Expr, StaticallyTyped, Unknown};
 use std::alloc::{AllocError, Global};
-use std::collections::HashMap;
+use std::collections::{HashMap, HashSet};
 use std::marker::Model;
 use std::rc::Rc;
 
@@ -43,7 +48,8 @@ pub enum TCComputation {
     AssumeAlreadyComputed,
     /// The whole store is checked, and refused where an ancestor is missing or an entity is its own.
     EnforceAlreadyComputed,
-    /// The ancestors are computed, and the store is refused where an entity is among its own.
+    /// The ancestors of the entities that the call touches are computed, and the store is refused where one of
+    /// these is among its own.
     ComputeNow,
 }
 
@@ -68,13 +74,6 @@ impl Model for Entities {
     ghost view = { λ s. record { held = held_map s.entities; partial = s.partial } };
 
     ghost invariant = { λ s. UidsMatch s.entities };
-}
-
-// A copy of a uid.
-fn copy_of(uid: &EntityUID) -> Result<EntityUID, AllocError>
-    ensures { IfOk result (λ copy. copy ≡ uid.now) }
-{
-    uid.clone()
 }
 
 // The unknown that stands for the entity with a uid.
@@ -164,97 +163,24 @@ fn overwrite_all(
     Ok(())
 }
 
-// Takes its indirect ancestors from an entity, and the parents that go.
-fn strip(entity: &mut Entity, gone: &[EntityUID])
-    ensures { entity.new ≡ stripped (is_member same_uid gone.now) entity.old }
-{
-    entity.remove_all_indirect_ancestors();
-    for uid in gone {
-        entity.remove_parent(uid);
-    }
-}
-
-// Takes these uids out of the parents of the entity at a uid, and all of its indirect ancestors.
-fn strip_at(
-    entities: &mut HashMap<EntityUID, SharedEntity>,
-    uid: &EntityUID,
-    gone: &[EntityUID],
-) -> Result<(), EntitiesError>
-    ensures ok { OnOk result ((q : EntityUID) → held entities.new q ≡ cond (same_uid uid.now q)
-        (option_map (stripped (is_member same_uid gone.now)) (held entities.old q))
-        (held entities.old q)) }
-    ensures err { IfErr result (λ e. e ≡ Memory) }
-{
-    if let Some(node) = entities.get_mut(uid) {
-        strip(Rc::make_mut(&mut node.0)?, gone);
-    }
-    Ok(())
-}
-
-// Copies of the keys of the map.
-fn keys_of(
-    alloc: Global,
-    entities: &HashMap<EntityUID, SharedEntity>,
-) -> Result<Vec<EntityUID>, AllocError>
-    ensures { IfOk result (λ v. (q : EntityUID) →
-        is_member same_uid v.items q ≡ is_some (get same_uid entities.now q)) }
-{
-    let mut copies = Vec::new(alloc);
-    for key in entities.keys() {
-        copies.push(copy_of(key)?)?;
-    }
-    Ok(copies)
-}
-
-// Takes these uids out of the parents of each entity, and all indirect ancestors.
-fn strip_all(
-    alloc: Global,
-    entities: &mut HashMap<EntityUID, SharedEntity>,
-    gone: &[EntityUID],
-) -> Result<(), EntitiesError>
-    requires { UidsMatch entities.old }
-    ensures keys { OnOk result (UidsMatch entities.new) }
-    ensures ok { OnOk result ((q : EntityUID) → held entities.new q ≡ option_map
-        (stripped (is_member same_uid gone.now)) (held entities.old q)) }
-    ensures err { IfErr result (λ e. e ≡ Memory) }
-{
-    let all = keys_of(alloc, entities)?;
-    for key in all {
-        strip_at(entities, &key, gone)?;
-    }
-    Ok(())
-}
-
-// Takes out the entity with a uid, and answers whether there was one.
-fn take_at(entities: &mut HashMap<EntityUID, SharedEntity>, uid: &EntityUID) -> bool
-    ensures was { result ≡ is_some (held entities.old uid.now) }
-    ensures left { (q : EntityUID) → held entities.new q
+// Takes out the entity with a uid, if there is one.
+fn take_at(entities: &mut HashMap<EntityUID, SharedEntity>, uid: &EntityUID)
+    ensures { (q : EntityUID) → held entities.new q
         ≡ cond (same_uid uid.now q) None (held entities.old q) }
 {
-    entities.remove(uid).is_some()
+    let _gone = entities.remove(uid);
 }
 
-// Takes out the entities with these uids, and answers the uids that were there.
-fn take_out(
-    alloc: Global,
-    entities: &mut HashMap<EntityUID, SharedEntity>,
-    list: Vec<EntityUID>,
-) -> Result<Vec<EntityUID>, EntitiesError>
+// Takes out the entities with these uids.
+fn take_out(entities: &mut HashMap<EntityUID, SharedEntity>, gone: Vec<EntityUID>)
     requires { UidsMatch entities.old }
-    ensures keys { OnOk result (UidsMatch entities.new) }
-    ensures gone { IfOk result (λ v. (q : EntityUID) → is_member same_uid v.items q
-        ≡ (is_member same_uid list.items q && is_some (held entities.old q))) }
-    ensures ok { OnOk result ((q : EntityUID) → held entities.new q
-        ≡ cond (is_member same_uid list.items q) None (held entities.old q)) }
-    ensures err { IfErr result (λ e. e ≡ Memory) }
+    ensures keys { UidsMatch entities.new }
+    ensures left { (q : EntityUID) → held entities.new q
+        ≡ cond (is_member same_uid gone.items q) None (held entities.old q) }
 {
-    let mut gone = Vec::new(alloc);
-    for uid in list {
-        if take_at(entities, &uid) {
-            gone.push(uid)?;
-        }
+    for uid in gone {
+        take_at(entities, &uid);
     }
-    Ok(gone)
 }
 
 // The entities, to be shared.
@@ -271,8 +197,8 @@ fn shared_all(alloc: Global, list: Vec<Entity>) -> Result<Vec<Rc<Entity>>, Alloc
 // Checks that the ancestors are closed and that no entity is its own.
 fn check(alloc: Global, entities: &HashMap<EntityUID, SharedEntity>) -> Result<(), EntitiesError>
     requires { UidsMatch entities.now }
-    ensures ok { OnOk result (IsFinished EnforceAlreadyComputed
-        (held_map entities.now) (held_map entities.now)) }
+    ensures ok { OnOk result ((held_map entities.now ≡ held_map entities.now)
+        × IsSound (held_map entities.now)) }
     ensures err { IfErr result (λ e. MatchRefusal e (λ _. ⊥)
         (IsClosureRefused EnforceAlreadyComputed (held_map entities.now))) }
 {
@@ -280,37 +206,68 @@ fn check(alloc: Global, entities: &HashMap<EntityUID, SharedEntity>) -> Result<(
     Ok(())
 }
 
-// Gives each entity the ancestors that it reaches.
-fn compute(
+// Gives the entities that are touched the ancestors that they reach.
+fn repair(
     alloc: Global,
     entities: &mut HashMap<EntityUID, SharedEntity>,
+    touched: &HashSet<EntityUID>,
+    enforce_dag: bool,
 ) -> Result<(), EntitiesError>
     requires { UidsMatch entities.old }
     ensures keys { UidsMatch entities.new }
-    ensures ok { OnOk result (IsFinished ComputeNow (held_map entities.old) (held_map entities.new)) }
-    ensures err { IfErr result (λ e. MatchRefusal e (λ _. ⊥)
-        (IsClosureRefused ComputeNow (held_map entities.old))) }
+    ensures ok { OnOk result (IsRepairOf (contains same_uid touched.now)
+        (held_map entities.old) (held_map entities.new)
+        × (IsTrue enforce_dag →
+        IsAcyclicAt (contains same_uid touched.now) (held_map entities.old))) }
+    ensures err { IfErr result (λ e. MatchRefusal e (λ _. ⊥) (λ t. IsTrue enforce_dag
+        × IsClosureRefused ComputeNow (held_map entities.old) t)) }
 {
-    compute_tc(alloc, entities, true)?;
+    repair_tc(alloc, touched, entities, enforce_dag)?;
     Ok(())
 }
 
-// Sees to it that the ancestors are closed, as the mode says.
-fn finish(
+// Ends an adding or an overwriting, as the mode says.
+fn settle(
     alloc: Global,
     entities: &mut HashMap<EntityUID, SharedEntity>,
+    touched: &HashSet<EntityUID>,
     tc_computation: TCComputation,
 ) -> Result<(), EntitiesError>
     requires { UidsMatch entities.old }
     ensures keys { UidsMatch entities.new }
-    ensures ok { OnOk result (IsFinished tc_computation (held_map entities.old) (held_map entities.new)) }
+    ensures ok { OnOk result (IsSettled tc_computation (contains same_uid touched.now)
+        (held_map entities.old) (held_map entities.new)) }
     ensures err { IfErr result (λ e. MatchRefusal e (λ _. ⊥)
         (IsClosureRefused tc_computation (held_map entities.old))) }
 {
     match tc_computation {
         TCComputation::AssumeAlreadyComputed => Ok(()),
         TCComputation::EnforceAlreadyComputed => check(alloc, entities),
-        TCComputation::ComputeNow => compute(alloc, entities),
+        TCComputation::ComputeNow => repair(alloc, entities, touched, true),
+    }
+}
+
+// Repairs what a removal touched, and ends that as the mode says.
+fn mend(
+    alloc: Global,
+    entities: &mut HashMap<EntityUID, SharedEntity>,
+    touched: &HashSet<EntityUID>,
+    tc_computation: TCComputation,
+) -> Result<(), EntitiesError>
+    requires { UidsMatch entities.old }
+    ensures keys { UidsMatch entities.new }
+    ensures ok { OnOk result (IsMended tc_computation (contains same_uid touched.now)
+        (held_map entities.old) (held_map entities.new)) }
+    ensures err { IfErr result (λ e. MatchRefusal e (λ _. ⊥) (IsMendRefused tc_computation
+        (contains same_uid touched.now) (held_map entities.old))) }
+{
+    match tc_computation {
+        TCComputation::AssumeAlreadyComputed => repair(alloc, entities, touched, false),
+        TCComputation::EnforceAlreadyComputed => {
+            repair(alloc, entities, touched, false)?;
+            check(alloc, entities)
+        }
+        TCComputation::ComputeNow => repair(alloc, entities, touched, true),
     }
 }
 
@@ -413,7 +370,8 @@ impl Entities {
     ) -> Result<Entities, EntitiesError>
         ensures partial { IfOk result (λ s. s.partial ≡ false) }
         ensures agree { OnOk result (AllMatch (finmap.get no_entities) list.items) }
-        ensures ok { IfOk result (λ s. IsFinished tc_computation
+        ensures ok { IfOk result (λ s. IsSettled tc_computation
+            (is_touched no_entities (inserted_in no_entities list.items))
             (with_first no_entities list.items) s.held) }
         ensures err { IfErr result (λ e. MatchRefusal e
             (FirstMismatch (finmap.get no_entities) list.items)
@@ -437,8 +395,10 @@ impl Entities {
     /// any work on the closure; then by [`EntitiesError::TransitiveClosureError`] as the mode says; and by
     /// `Memory`. A refusal gives no store back.
     ///
-    /// An indirect ancestor that an entity was given with counts as one that it has. It takes memory. It
-    /// looks up each entity once, and closes or checks the whole store.
+    /// An indirect ancestor that an entity was given with counts as one that it has. What is touched is what
+    /// was inserted, and what has one of that among its ancestors; the others stay as they are in every mode.
+    /// It takes memory. It looks up each entity of the list once and walks over the store once, with up to 16
+    /// looks an entity or one for each of its ancestors; then it closes what is touched, or checks the whole.
     pub fn add_entities(
         self,
         alloc: Global,
@@ -448,8 +408,11 @@ impl Entities {
         ensures partial { IfOk result (λ s. s.partial ≡ self.partial) }
         ensures agree { OnOk result
             (AllMatch (finmap.get self.held) (entities_in list.items)) }
-        ensures ok { IfOk result (λ s. IsFinished tc_computation
+        ensures ok { IfOk result (λ s. IsSettled tc_computation
+            (is_touched self.held (inserted_in self.held (entities_in list.items)))
             (with_first self.held (entities_in list.items)) s.held) }
+        ensures untouched { IfOk result (λ s. StaysUntouched
+            (inserted_in self.held (entities_in list.items)) self.held s.held) }
         ensures err { IfErr result (λ e. MatchRefusal e
             (FirstMismatch (finmap.get self.held) (entities_in list.items))
             (λ t. AllMatch (finmap.get self.held) (entities_in list.items)
@@ -465,9 +428,15 @@ impl Entities {
             AreBare (entities_in list.items) → WhereComputed tc_computation
             (IsAddingRefused W (map given_of (entities_in list.items)) e)) }
     {
+        let uids = uids_in(alloc, &list)?;
+        let fresh = absent_uids(alloc, &self.entities, uids)?;
+        let mut touched = HashSet::new(alloc);
+        note_all(&mut touched, fresh)?;
         let mut entities = self.entities;
         put_all(&mut entities, list)?;
-        finish(alloc, &mut entities, tc_computation)?;
+        let by = touched_by_any(alloc, &entities, &touched)?;
+        note_all(&mut touched, by)?;
+        settle(alloc, &mut entities, &touched, tc_computation)?;
         Ok(Entities {
             entities,
             partial: self.partial,
@@ -475,34 +444,46 @@ impl Entities {
     }
 
     /// The store with these entities, each in the place of any with its uid; of several with one uid the last
-    /// counts. Ancestors are computed anew.
+    /// counts. An entity that had one of the uids among its ancestors is touched: it loses, from its indirect
+    /// ancestors, each of these uids that the store held and the ancestors which that had. Computing gives it
+    /// back what it still reaches; the other modes do not. What is not touched stays as it is.
     ///
-    /// Refused by [`EntitiesError::TransitiveClosureError`] where an entity is among its own ancestors then,
-    /// and by `Memory`; a refusal gives no store back. An indirect ancestor that one of these entities was
-    /// given with counts as one that it has. It takes memory, and closes the whole store.
+    /// Refused by [`EntitiesError::TransitiveClosureError`] as the mode says, and by `Memory`; a refusal gives
+    /// no store back. An indirect ancestor that one of these entities was given with counts as one that it has.
+    /// It takes memory. It walks over the store once for each entity of the list, with a look or two an entity,
+    /// and closes what is touched, or checks the whole.
     ///
-    /// Unlike the original it takes no mode: it computes the ancestors.
+    /// Unlike the original it takes neither a schema nor extensions.
     pub fn upsert_entities(
         self,
         alloc: Global,
         list: Vec<Rc<Entity>>,
+        tc_computation: TCComputation,
     ) -> Result<Entities, EntitiesError>
         ensures partial { IfOk result (λ s. s.partial ≡ self.partial) }
-        ensures ok { IfOk result (λ s. IsClosureOf
-            (with_last self.held (entities_in list.items)) s.held) }
-        ensures err { IfErr result (λ e. MatchRefusal e (λ _. ⊥) (IsClosureRefused ComputeNow
-            (with_last self.held (entities_in list.items)))) }
+        ensures ok { IfOk result (λ s. IsSettled tc_computation
+            (is_touched self.held (uids_of (entities_in list.items)))
+            (put_over self.held (entities_in list.items)) s.held) }
+        ensures err { IfErr result (λ e. MatchRefusal e (λ _. ⊥) (IsClosureRefused tc_computation
+            (put_over self.held (entities_in list.items)))) }
+        ensures untouched { IfOk result (λ s. StaysUntouched
+            (uids_of (entities_in list.items)) self.held s.held) }
+        ensures between { IfOk result (λ s. (W : World) → IsPlainStore W self → WhereTaken tc_computation
+            (LosesBetween W (uids_of (entities_in list.items)) self.held s.held)) }
         ensures plain { IfOk result (λ s. (W : World) → IsPlainStore W self →
-            AreBare (entities_in list.items) →
-            IsPlainStore (overwritten W (map given_of (entities_in list.items))) s) }
+            AreBare (entities_in list.items) → WhereComputed tc_computation
+            (IsPlainStore (overwritten W (map given_of (entities_in list.items))) s)) }
         ensures plain_err { IfErr result (λ e. (W : World) → IsPlainStore W self →
-            AreBare (entities_in list.items) →
-            IsOverwritingRefused W (map given_of (entities_in list.items)) e) }
+            AreBare (entities_in list.items) → WhereComputed tc_computation
+            (IsOverwritingRefused W (map given_of (entities_in list.items)) e)) }
     {
+        let uids = uids_in(alloc, &list)?;
+        let read = read_each(alloc, &self.entities, &uids)?;
         let mut entities = self.entities;
-        strip_all(alloc, &mut entities, &[])?;
+        let mut touched = HashSet::new(alloc);
+        apply_each(&mut entities, read, &[], &mut touched)?;
         overwrite_all(&mut entities, list)?;
-        compute(alloc, &mut entities)?;
+        settle(alloc, &mut entities, &touched, tc_computation)?;
         Ok(Entities {
             entities,
             partial: self.partial,
@@ -510,30 +491,39 @@ impl Entities {
     }
 
     /// The store without the entities with these uids, which then are no parents either. Uids that are not
-    /// in the store change nothing, so they stay where they are parents. Ancestors are computed anew.
+    /// in the store change nothing, so they stay where they are parents. What had one of the others among its
+    /// ancestors is touched: it loses it and the ancestors which that had, and is given back, in each mode,
+    /// what it still reaches. What is not touched stays as it is.
     ///
-    /// Refused by [`EntitiesError::TransitiveClosureError`] where an entity is among its own ancestors even
-    /// then, which no computed store has, and by `Memory`; a refusal gives no store back. It takes memory,
-    /// and closes the whole store.
-    ///
-    /// Unlike the original it takes no mode: it computes the ancestors.
+    /// Refused by [`EntitiesError::TransitiveClosureError`] as the mode says, which over a computed store is
+    /// never, and by `Memory`; a refusal gives no store back. It takes memory. It walks over the store once for
+    /// each uid that is held, with a look or two an entity, and closes what is touched, or checks the whole.
     pub fn remove_entities(
         self,
         alloc: Global,
         list: Vec<EntityUID>,
+        tc_computation: TCComputation,
     ) -> Result<Entities, EntitiesError>
         ensures partial { IfOk result (λ s. s.partial ≡ self.partial) }
-        ensures ok { IfOk result (λ s. IsClosureOf (with_none self.held list.items) s.held) }
-        ensures err { IfErr result (λ e. MatchRefusal e (λ _. ⊥)
-            (IsClosureRefused ComputeNow (with_none self.held list.items))) }
+        ensures ok { IfOk result (λ s. IsMended tc_computation
+            (is_touched self.held (removed_from self.held list.items))
+            (taken_out self.held list.items) s.held) }
+        ensures err { IfErr result (λ e. MatchRefusal e (λ _. ⊥) (IsMendRefused tc_computation
+            (is_touched self.held (removed_from self.held list.items))
+            (taken_out self.held list.items))) }
+        ensures untouched { IfOk result (λ s. StaysUntouched
+            (removed_from self.held list.items) self.held s.held) }
         ensures plain { IfOk result (λ s. (W : World) → IsPlainStore W self →
             IsPlainStore (deleted W list.items) s) }
         ensures plain_err { IfErr result (λ e. (W : World) → IsPlainStore W self → e ≡ Memory) }
     {
+        let gone = held_uids(alloc, &self.entities, list)?;
+        let read = read_each(alloc, &self.entities, &gone)?;
         let mut entities = self.entities;
-        let gone = take_out(alloc, &mut entities, list)?;
-        strip_all(alloc, &mut entities, &gone)?;
-        compute(alloc, &mut entities)?;
+        let mut touched = HashSet::new(alloc);
+        apply_each(&mut entities, read, &gone, &mut touched)?;
+        take_out(&mut entities, gone);
+        mend(alloc, &mut entities, &touched, tc_computation)?;
         Ok(Entities {
             entities,
             partial: self.partial,

@@ -10,6 +10,7 @@ pub mod entities;
 pub mod store_iters;
 mod store_text;
 mod store_valid;
+mod touching;
 
 pub use cedar_entity::{
     Ancestors, EntitiesError, Entity, Keys, Pairs, SharedEntity, Uids, entity, err, iters, node,

@@ -2,12 +2,11 @@
 use Rattle.std.specs.Prelude.{◌≡◌, Bool, true, false, List, [], ◌∷◌, ◌||◌, ◌&&◌, not, Option, Some, None, MatchOption, if◌then◌else◌}
 use Rattle.std.proofs.Common.{ap, sym, refl, subst, inr, ◌∙◌}
 use Rattle.std.proofs.lemmas.Bool.{false≢true}
-use Rattle.std.specs.Ordering.{is_lt, ordering_reverse}
+use Rattle.std.specs.Ordering.{is_lt}
 use Rattle.std.specs.FinSet as set
 use Rattle.std.specs.Cmp.{first_so, second_so}
 use Rattle.std.specs.Set.{is_member}
-use Rattle.std.specs.declared.cmp.Ordering.{Ordering}
-use Rattle.std.specs.declared.cmp.Ordering.TheVariants.{Less, Equal, Greater}
+use Rattle.std.specs.declared.cmp.Ordering.TheVariants.{Less}
 use Rattle.cedar_ids.specs.UidOf.{same_uid, uid_order, uid_order_total, same_uid_decides}
 use Rattle.cedar_ids.specs.declared.entity.EntityUID.{EntityUID}
 use Rattle.cedar_entity.specs.laws.UidOrder.{irreflexive, less}

@@ -3,6 +3,7 @@ ghost use Rattle.std.specs.Prelude.{◌≡◌, Bool, true, All, IfOk, OnOk, IfEr
 ghost use Rattle.std.specs.Option.{option_map, option_copied};
 ghost use Rattle.std.specs.FinSet as set;
 ghost use Rattle.std.specs.Set.{is_member};
+ghost use Rattle.std.specs.HashSet.{contains};
 ghost use Rattle.cedar_ids.specs.UidOf.{same_uid, uid_order};
 ghost use Rattle.cedar_ids.specs.declared.entity.EntityUID.{EntityUID};
 ghost use Rattle.cedar_entity.specs.Fields.{Fields, AreFieldsOf, Ascend, fields_of, field_at, field_keys};
@@ -116,6 +117,9 @@ impl StaticallyTyped for Entity {
     }
 }
 
+// So many uids are looked through one by one.
+const FEW: usize = 3;
+
 // A copy of a uid.
 fn copy_of(uid: &EntityUID) -> Result<EntityUID, AllocError>
     ensures { IfOk result (λ copy. copy ≡ uid.now) }
@@ -137,6 +141,23 @@ fn same_fields(one: &BTreeMap<String, PartialValue>, other: &BTreeMap<String, Pa
     ensures { IsTrue result ↔ (fields_of one.now.entries ≡ fields_of other.now.entries) }
 {
     one == other
+}
+
+// Whether two uids are equal. Their eids are looked at first, since they differ where their types do not.
+fn are_equal(one: &EntityUID, other: &EntityUID) -> bool
+    ensures { result ≡ same_uid one.now other.now }
+{
+    one.eid().as_ref() == other.eid().as_ref() && one == other
+}
+
+// Whether a uid is in a set. A set of few is gone through, which costs less than a hash.
+fn is_among(uids: &HashSet<EntityUID>, uid: &EntityUID) -> bool
+    ensures { result ≡ contains same_uid uids.now uid.now }
+{
+    if uids.len() > FEW {
+        return uids.contains(uid);
+    }
+    uids.iter().any(|other| are_equal(uid, other))
 }
 
 // Whether each of these is an ancestor of the entity.
@@ -164,13 +185,14 @@ impl Entity {
     /// An entity with these attributes and tags, indirect ancestors and parents. Of several pairs with one
     /// key the last counts. Whether parents and indirect ancestors are apart is not looked at.
     ///
-    /// It takes memory, and is refused only where that is; it looks a key up for each pair.
+    /// It takes memory, and is refused only where that is; it looks a key up for each pair. Room that the
+    /// parents do not need is given back.
     pub fn new_with_attr_partial_value(
         alloc: Global,
         uid: EntityUID,
         attrs: Vec<(String, PartialValue)>,
         indirect_ancestors: HashSet<EntityUID>,
-        parents: HashSet<EntityUID>,
+        mut parents: HashSet<EntityUID>,
         tags: Vec<(String, PartialValue)>,
     ) -> Result<Entity, AllocError>
         ensures uid { IfOk result (λ e. e.uid ≡ uid) }
@@ -181,6 +203,7 @@ impl Entity {
     {
         let attrs = fields(alloc, attrs)?;
         let tags = fields(alloc, tags)?;
+        parents.shrink_to_fit();
         Ok(Entity {
             uid,
             attrs,
@@ -250,7 +273,7 @@ impl Entity {
     pub fn is_child_of(&self, other: &EntityUID) -> bool
         ensures { result ≡ set.contains self.now.parents other.now }
     {
-        self.parents.contains(other)
+        is_among(&self.parents, other)
     }
 
     /// Whether a uid is an indirect ancestor. It takes no memory.
@@ -528,12 +551,12 @@ impl Entity {
         self.indirect_ancestors.reserve(additional)
     }
 
-    // Gives back what room the ancestors do not need.
-    pub(crate) fn shrink_ancestors(&mut self)
+    // Gives back what room the indirect ancestors do not need, but for five: std would lay a smaller set
+    // out anew.
+    pub(crate) fn shrink_indirect_ancestors(&mut self)
         ensures { self.new ≡ self.old }
     {
-        self.indirect_ancestors.shrink_to_fit();
-        self.parents.shrink_to_fit();
+        self.indirect_ancestors.shrink_to(5);
     }
 
     /// Takes in a parent, which is then no indirect ancestor; a parent already changes nothing but that.

@@ -87,9 +87,9 @@ impl TCNode<EntityUID> for Entity {
         self.reserve_indirect_ancestors(additional)
     }
 
-    /// Gives back what room neither the indirect ancestors nor the parents need.
+    /// Gives back what room the indirect ancestors do not need.
     fn shrink_edges(&mut self) {
-        self.shrink_ancestors();
+        self.shrink_indirect_ancestors();
     }
 
     ghost respects_eq = { ancestors_respect };
@@ -129,7 +129,10 @@ impl TCNode<EntityUID> for SharedEntity {
 
     /// As that of the entity, where it is shared on a copy of its own.
     fn add_edge_to(&mut self, alloc: Global, k: EntityUID) -> Result<(), AllocError> {
-        Rc::make_mut(&mut self.0)?.add_edge_to(alloc, k)
+        match Rc::get_mut(&mut self.0) {
+            Some(entity) => entity.add_edge_to(alloc, k),
+            None => Rc::make_mut(&mut self.0)?.add_edge_to(alloc, k),
+        }
     }
 
     /// The ancestors. It takes memory for the list, and is refused only where that is.

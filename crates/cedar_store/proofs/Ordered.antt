@@ -1,5 +1,5 @@
 -- Sets of references to uids in their order.
-use Rattle.std.specs.Prelude.{◌≡◌, Bool, true, false, ◌||◌, ◌++◌, List, [], ◌∷◌, map}
+use Rattle.std.specs.Prelude.{◌≡◌, ◌||◌, List, [], ◌∷◌, map}
 use Rattle.std.proofs.Common.{ap, sym, refl, ◌∙◌}
 use Rattle.std.specs.Borrow.{Bor}
 use Rattle.std.specs.List.{list_any, AllByRecursion}

@@ -1,6 +1,6 @@
 -- The world that calls make, one call after another.
-use Rattle.std.specs.Prelude.{◌≡◌, ℕ, suc, ◌+◌, List, [], ◌∷◌, ◌++◌, length, map, Result, Ok, Err, OnOk, IfOk, IfErr}
-use Rattle.std.proofs.Common.{ap, sym, subst, refl, ◌∙◌, arith}
+use Rattle.std.specs.Prelude.{◌≡◌, ℕ, suc, ◌+◌, List, [], ◌∷◌, ◌++◌, length, map, Result, Ok, Err, OnOk, IfOk}
+use Rattle.std.proofs.Common.{ap, refl, ◌∙◌, arith}
 use Rattle.cedar_entities.specs.Plain.{StoreView, IsPlainStore, AreBare, given_of}
 use Rattle.cedar_entity.specs.View.{EntityView}
 use Rattle.cedar_entities.specs.World.{World, empty_world, added, overwritten, AllAgree, IsCyclic}

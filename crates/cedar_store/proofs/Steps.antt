@@ -9,7 +9,6 @@ use Rattle.std.specs.Option.{option_map, option_or, is_some, IfSome}
 use Rattle.std.specs.List.{AllByRecursion, flat_map}
 use Rattle.std.specs.List.Sorted.{IsStrictlySortedBy}
 use Rattle.std.specs.Set.{is_member}
-use Rattle.std.specs.Fmt.{decimal}
 use Rattle.std.specs.FinSet as set
 use Rattle.std.specs.FinMap as finmap
 use Rattle.std.specs.Ordering.{eq_by_cmp}
@@ -23,7 +22,7 @@ use Rattle.cedar_entity.specs.UidSets.{contains_listed}
 use Rattle.cedar_entities.specs.Plain.{StoreView, IsPlainStore, parts_of, given_of, IsBare, AreBare}
 use Rattle.cedar_entity.specs.View.{EntityView, has_ancestor}
 use Rattle.cedar_entities.specs.Refusals.{IsAddingRefused, IsOverwritingRefused}
-use Rattle.cedar_entities.specs.World.{World, Parts, Given, given, graph, is_parent_in, entry_of, reversed, goes, without, added, overwritten, deleted, empty_world, first, AllAgree}
+use Rattle.cedar_entities.specs.World.{World, Parts, Given, given, graph, is_parent_in, entry_of, reversed, goes, without, added, overwritten, deleted, empty_world, AllAgree}
 use Rattle.cedar_entity.specs.declared.err.EntitiesError.{EntitiesError}
 use Rattle.cedar_entity.specs.declared.err.EntitiesError.TheVariants as errors
 use Rattle.cedar_entities.specs.laws.Worlds.{get_added, get_overwritten, get_deleted}
@@ -32,7 +31,6 @@ use Rattle.cedar_store.specs.laws.Machines.{IsAsciiUid, IsAsciiGiven, IsAsciiWor
 use Rattle.cedar_store.specs.Command.{Command, Nothing, Ent, Build, Add, Upsert, Remove, Anc, AreTexts, IsCommand}
 use Rattle.cedar_store.specs.declared.machine.Machine.{Machine}
 use Rattle.std.specs.Borrow.{Bor}
-use Rattle.std.specs.declared.rc.Rc.{Rc}
 use mathlib.Core.List.{append-nil}
 use Rattle.std.proofs.lemmas.List.{map-append}
 use Rattle.std.proofs.lemmas.Grind.{flat_map-append}

@@ -246,7 +246,7 @@ impl Machine {
     {
         let list = mem::replace(&mut self.waiting, Vec::new(alloc));
         let store = mem::replace(&mut self.store, Entities::new(alloc));
-        let given = store.upsert_entities(alloc, list);
+        let given = store.upsert_entities(alloc, list, TCComputation::ComputeNow);
         self.settle(alloc, given, out)
     }
 
@@ -261,7 +261,7 @@ impl Machine {
             Takes (Remove uids.items) s self.new out.old.items out.new.items) }
     {
         let store = mem::replace(&mut self.store, Entities::new(alloc));
-        let given = store.remove_entities(alloc, uids);
+        let given = store.remove_entities(alloc, uids, TCComputation::ComputeNow);
         self.settle(alloc, given, out)
     }
 

@@ -40,8 +40,8 @@ fn replay_one(alloc: Global, store: Entities, call: EntityCall) -> Result<Entiti
             Entities::from_entities(alloc, list, TCComputation::ComputeNow)
         }
         EntityCall::Add(list) => store.add_entities(alloc, list, TCComputation::ComputeNow),
-        EntityCall::Upsert(list) => store.upsert_entities(alloc, list),
-        EntityCall::Remove(list) => store.remove_entities(alloc, list),
+        EntityCall::Upsert(list) => store.upsert_entities(alloc, list, TCComputation::ComputeNow),
+        EntityCall::Remove(list) => store.remove_entities(alloc, list, TCComputation::ComputeNow),
         EntityCall::Partial => Ok(store.partial()),
     }
 }

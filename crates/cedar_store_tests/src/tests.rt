@@ -1,5 +1,12 @@
 mod edits;
 mod replays;
+mod store_edits;
+mod store_faults;
+mod store_modes;
+mod store_reads;
+mod store_script;
+mod store_shapes;
+mod store_touch;
 mod streams;
 
 use cedar_store::{RunError, run};

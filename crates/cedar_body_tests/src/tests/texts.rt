@@ -1,9 +1,14 @@
 // How bodies are written.
-use super::{annotated, annotated_body, free, one_is, owned, permits, shows, slotted};
-use cedar_body::Effect;
-use cedar_scope::Annotations;
+use super::{
+    Scope, annotated, annotated_body, free, id, one_is, owned, permits, shared_type, shows,
+    slotted, uid,
+};
+use cedar_body::{Effect, TemplateBody};
+use cedar_scope::{ActionConstraint, Annotations, PrincipalConstraint, ResourceConstraint};
 use cedar_terms::expr::Expr;
 use cedar_terms::literal::Literal;
+use std::alloc::Global;
+use std::rc::Rc;
 use std::test::Fail;
 
 #[test]
@@ -32,6 +37,62 @@ fn annotations_are_written_first_a_line_each(rt: HostRuntime) -> Result<(), Fail
     let made = annotated_body(alloc, pairs, Effect::Forbid, None, None);
     let want = "@if(\"x\\\"y\")\n@k(\"1\")\nforbid(\n  principal,\n  action,\n  resource\n);";
     assert!(rt; shows(alloc, made, want)?);
+    Ok(())
+}
+
+// `principal in A::"g"`, `action == Action::"v"`, `resource is T`
+fn named(alloc: Global) -> Result<Scope, Fail> {
+    let group = Rc::new(alloc, uid(alloc, "A", "g")?)?;
+    let ty = shared_type(alloc, "T")?;
+    let action = ActionConstraint::is_eq(alloc, uid(alloc, "Action", "v")?)?;
+    Ok(Scope {
+        principal: PrincipalConstraint::is_in(group),
+        action,
+        resource: ResourceConstraint::is_entity_type(ty),
+    })
+}
+
+// The body `p` that forbids, of these parts.
+fn forbids(
+    alloc: Global,
+    annotations: Annotations,
+    scope: Scope,
+    clause: Expr,
+) -> Result<TemplateBody, Fail> {
+    let Scope {
+        principal,
+        action,
+        resource,
+    } = scope;
+    let id = id(alloc, "p")?;
+    let made = TemplateBody::new(
+        alloc,
+        id,
+        None,
+        annotations,
+        Effect::Forbid,
+        principal,
+        action,
+        resource,
+        Some(clause),
+    );
+    Ok(made?)
+}
+
+// The body with an annotation, three constraints and a clause.
+fn whole(alloc: Global) -> Result<TemplateBody, Fail> {
+    let scope = named(alloc)?;
+    let clause = one_is(alloc, 2)?;
+    let pairs = annotated(alloc, &[("id", "x\"y")])?;
+    forbids(alloc, pairs, scope, clause)
+}
+
+#[test]
+fn a_body_of_all_parts_is_eight_lines(rt: HostRuntime) -> Result<(), Fail> {
+    let alloc = rt.alloc();
+    let want =
+        "@id(\"x\\\"y\")\nforbid(\n  principal in A::\"g\",\n  action == Action::\"v\",\n  resource is T\n) when {\n  1 == 2\n};";
+    assert!(rt; shows(alloc, whole(alloc), want)?);
     Ok(())
 }
 

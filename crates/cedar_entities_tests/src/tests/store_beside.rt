@@ -1,9 +1,7 @@
 // Calls on a store beside the same calls on the world that it stands for.
-use super::store_script::Outcome;
 use super::store_world::{
     Call, Refused, Row, Rows, World, after, ancestors, bit, count, empty, entry,
 };
-use super::{known, numbers};
 use cedar_entities::dereference::Dereference;
 use cedar_entities::entities::{Entities, TCComputation};
 use cedar_entity::entity::Entity;
@@ -11,6 +9,7 @@ use cedar_entity::err::EntitiesError;
 use cedar_entity::iters::Uids;
 use cedar_graph::TcError;
 use cedar_ids::entity::EntityUID;
+use cedar_terms::{Literal, PartialValue, Value, ValueKind};
 use std::alloc::Global;
 use std::collections::HashSet;
 use std::rc::Rc;
@@ -47,10 +46,17 @@ fn set_of(alloc: Global, bits: u8) -> Result<HashSet<EntityUID>, Fail> {
     Ok(set)
 }
 
+// The attribute of an entity.
+fn attr_of(row: &Row) -> PartialValue {
+    let number = Literal::Long(i64::from(row.attr));
+    PartialValue::Value(Value::new(ValueKind::Lit(number), None))
+}
+
 fn entity_of(alloc: Global, row: &Row) -> Result<Entity, Fail> {
     let uid = numbered(alloc, row.uid)?;
     let parents = set_of(alloc, row.parents)?;
-    let attrs = numbers(alloc, &[("k", i64::from(row.attr))])?;
+    let mut attrs = Vec::new(alloc);
+    attrs.push((String::from_str(alloc, "k")?, attr_of(row)))?;
     let none = HashSet::new(alloc);
     let tags = Vec::new(alloc);
     Ok(Entity::new_with_attr_partial_value(alloc, uid, attrs, none, parents, tags)?)
@@ -81,13 +87,17 @@ fn uids_of(alloc: Global, list: &[u8; 2]) -> Result<Vec<EntityUID>, Fail> {
 }
 
 // What a call makes of a store.
-fn done(alloc: Global, store: Entities, call: &Call) -> Result<Outcome, Fail> {
+fn done(
+    alloc: Global,
+    store: Entities,
+    call: &Call,
+) -> Result<Result<Entities, EntitiesError>, Fail> {
     let mode = TCComputation::ComputeNow;
     match call {
         Call::From(rows) => Ok(Entities::from_entities(alloc, entities_of(alloc, rows)?, mode)),
         Call::Add(rows) => Ok(store.add_entities(alloc, shared_of(alloc, rows)?, mode)),
-        Call::Upsert(rows) => Ok(store.upsert_entities(alloc, shared_of(alloc, rows)?)),
-        Call::Remove(list) => Ok(store.remove_entities(alloc, uids_of(alloc, list)?)),
+        Call::Upsert(rows) => Ok(store.upsert_entities(alloc, shared_of(alloc, rows)?, mode)),
+        Call::Remove(list) => Ok(store.remove_entities(alloc, uids_of(alloc, list)?, mode)),
         Call::Partial => Ok(Ok(store.partial())),
     }
 }
@@ -106,7 +116,7 @@ fn is_row(entity: &Entity, row: &Row, ancestors: u8) -> bool {
     bit_of(entity.uid()) == bit(row.uid)
         && bits_of(entity.parents()) == row.parents
         && bits_of(entity.indirect_ancestors()) == ancestors & !row.parents
-        && entity.get("k") == Some(&known(i64::from(row.attr)))
+        && entity.get("k") == Some(&attr_of(row))
 }
 
 // Whether a store has with a uid what the world has.

@@ -209,21 +209,42 @@ fn drawn_calls(seed: &mut u64) -> [Call; 4] {
     ]
 }
 
-// Tells of this many lists of four calls.
-fn all_drawn(alloc: Global, count: u16) -> Result<Tally, Fail> {
+// Tells of this many lists of four calls, drawn from a seed on.
+fn all_drawn(alloc: Global, seed: u64, count: u16) -> Result<Tally, Fail> {
     let mut tally = nothing();
-    let mut seed = 2_026;
+    let mut seed = seed;
     for _list in 0..count {
         tell(&mut tally, compared(alloc, &drawn_calls(&mut seed))?);
     }
     Ok(tally)
 }
 
+// Whether each of 5,000 lists of four calls leaves the plain store, with each way to end among them.
+fn leave_plain_stores(alloc: Global, seed: u64) -> Result<bool, Fail> {
+    let tally = all_drawn(alloc, seed, 5_000)?;
+    Ok(tally.differs == 0 && tally.total() == 5_000 && tally.has_each(500))
+}
+
 #[test]
 fn long_lists_of_calls_leave_the_plain_store(rt: HostRuntime) -> Result<(), Fail> {
-    let tally = all_drawn(rt.alloc(), 20_000)?;
-    assert_eq!(rt; tally.differs, 0);
-    assert_eq!(rt; tally.total(), 20_000);
-    assert!(rt; tally.has_each(2_000));
+    assert!(rt; leave_plain_stores(rt.alloc(), 2_026)?);
+    Ok(())
+}
+
+#[test]
+fn long_lists_of_a_second_seed_leave_the_plain_store(rt: HostRuntime) -> Result<(), Fail> {
+    assert!(rt; leave_plain_stores(rt.alloc(), 2_027)?);
+    Ok(())
+}
+
+#[test]
+fn long_lists_of_a_third_seed_leave_the_plain_store(rt: HostRuntime) -> Result<(), Fail> {
+    assert!(rt; leave_plain_stores(rt.alloc(), 2_028)?);
+    Ok(())
+}
+
+#[test]
+fn long_lists_of_a_fourth_seed_leave_the_plain_store(rt: HostRuntime) -> Result<(), Fail> {
+    assert!(rt; leave_plain_stores(rt.alloc(), 2_029)?);
     Ok(())
 }

@@ -14,7 +14,6 @@ use Rattle.cedar_entity.specs.View.{EntityView}
 use Rattle.cedar_entities.specs.World.{Given, World, empty_world, graph}
 use Rattle.cedar_entity.specs.declared.err.EntitiesError.{EntitiesError}
 use Rattle.cedar_entity.specs.declared.err.EntitiesError.TheVariants.{Duplicate, TransitiveClosureError}
-use Rattle.cedar_entity.specs.declared.err.EntitiesError.TheVariants as errors
 use Rattle.cedar_store.specs.Output.{State, Gives, count_line, written_line, uid_text}
 use Rattle.cedar_store.specs.declared.machine.Machine.{Machine}
 

@@ -1,4 +1,4 @@
-use Rattle.std.specs.Prelude.{◌≡◌, cond, ◌&&◌, None, is_some}
+use Rattle.std.specs.Prelude.{◌≡◌, cond, None}
 use Rattle.std.specs.Set.{is_member}
 use Rattle.cedar_ids.specs.UidOf.{same_uid}
 use Rattle.cedar_ids.specs.declared.entity.EntityUID.{EntityUID}
@@ -6,7 +6,4 @@ use Rattle.cedar_entities.specs.laws.Held.{held}
 use Rattle.cedar_entities.proofs.entities.take_out.Given as goal
 
 abbrev pub invariant-loop-uid : goal.invariant-loop-uid
-invariant-loop-uid l = record {
-  holds : (q : EntityUID) → held l.entities q ≡ cond (is_member same_uid l.yielded q) None (held l.initial.entities q);
-  out : (q : EntityUID) → is_member same_uid l.gone.items q ≡ (is_member same_uid l.yielded q && is_some (held l.initial.entities q));
-}
+invariant-loop-uid l = (q : EntityUID) → held l.entities q ≡ cond (is_member same_uid l.yielded q) None (held l.initial.entities q)

@@ -1,5 +1,4 @@
-use Rattle.std.proofs.Common.{[], ◌∷◌, ◌≡◌, ◌+◌, ap, sym, subst, ◌∙◌, ◌++◌, map, length}
-use Rattle.std.specs.List.{AllByRecursion}
+use Rattle.std.proofs.Common.{[], ◌∷◌, ◌+◌, ap, sym, subst, ◌∙◌, ◌++◌, map}
 use Rattle.cedar_entities.specs.Plain.{IsPlainStore}
 use Rattle.cedar_entities.specs.World.{World, empty_world}
 use Rattle.cedar_store.specs.Calls.{all_made, AllPass}

@@ -1,5 +1,5 @@
 use Rattle.std.specs.Prelude.{map}
-use Rattle.std.proofs.lemmas.Result.{on_ok_weaker, IfOk-weaker, IfErr-weaker}
+use Rattle.std.proofs.lemmas.Result.{on_ok_weaker, IfOk-weaker}
 use Rattle.cedar_store.proofs.Replays.{from_passes, add_passes, upsert_passes}
 use Rattle.cedar_store.proofs.replay.replay_one.Goals as goal
 

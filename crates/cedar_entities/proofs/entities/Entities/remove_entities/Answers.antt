@@ -1,33 +1,63 @@
-use Rattle.std.proofs.Common.{ap, subst}
+use Rattle.std.proofs.Common.{ap, subst, map, ◌∙◌, ◌≡◌, ◌||◌}
 use Rattle.std.proofs.lemmas.Result.{err_from_is_err_and}
+use Rattle.std.specs.HashSet.{contains}
+use Rattle.std.specs.Set.{is_member}
+use Rattle.cedar_ids.specs.UidOf.{same_uid}
+use Rattle.cedar_entities.specs.Edits.{taken_out}
 use Rattle.cedar_entities.specs.laws.Held.{held_map}
-use Rattle.cedar_entities.specs.Modes.{IsClosureOf, IsClosureRefused}
+use Rattle.cedar_entities.specs.laws.Readings.{notes}
 use Rattle.cedar_entities.specs.Plain.{StoreView}
 use Rattle.cedar_entities.specs.Refusals.{MatchRefusal}
-use Rattle.cedar_entities.specs.declared.entities.TCComputation.TheVariants as modes
-use Rattle.cedar_entities.proofs.PlainEdits.{taken_from, left_plain, left_refused}
+use Rattle.cedar_entities.specs.Touching.{is_touched, removed_from, IsMended, IsMendRefused}
+use Rattle.cedar_entities.proofs.Edited.{gone_all, noted_touched, taken_from}
+use Rattle.cedar_entities.proofs.Removing.{left_refused, mended_plain, mended_untouched, taken_untouched}
 use Rattle.cedar_entities.proofs.entities.Entities.remove_entities.Goals as goal
 
-pub returns-in_err-compute-clause-err : goal.returns-in_err-compute-clause-err
-returns-in_err-compute-clause-err c =
-    let p = err_from_is_err_and c.from_residual-in_err-compute.result c.from_residual-in_err-compute.ensures.1 in
-    rw (p.1, p.2) (subst (λ D. MatchRefusal c.in_err-compute.field-0.0 (λ _. ⊥) (IsClosureRefused modes.ComputeNow D))
-    (taken_from c.self.inside.entities c.take_out.new.entities c.strip_all.new.entities c.args.self.held c.args.list.items c.in_ok-gone.gone.items (ap (λ (s : StoreView). s.held) c.self.view_is) c.in_ok-gone.ensures.gone c.in_ok-gone.ensures.ok (rw (← c.deref.ensures.value) c.in_ok-strip_all.ensures.ok))
-    c.in_err-compute.ensures.err)
+pub returns-in_err-mend-clause-err : goal.returns-in_err-mend-clause-err
+returns-in_err-mend-clause-err c =
+    let is = ap (λ (s : StoreView). s.held) c.self.view_is in
+    let D = c.args.self.held in
+    let U = c.args.list.items in
+    let uids : map (λ a. a.uid) c.in_ok-read.read.items ≡ c.in_ok-gone.gone.items = c.in_ok-read.ensures.uids ∙ c.deref.ensures.value in
+    let taken = taken_from c.self.inside.entities c.apply_each.new.entities c.take_out.new.entities D U c.in_ok-gone.gone.items c.in_ok-read.read.items is c.in_ok-gone.ensures uids c.in_ok-read.ensures.read (rw (← c.deref-2.ensures.value) c.in_ok-apply_each.ensures.ok) c.take_out.ensures.left in
+    let touched = noted_touched c.self.inside.entities D (removed_from D U) c.in_ok-read.read.items (contains same_uid c.apply_each.new.touched) is (uids ∙ c.in_ok-gone.ensures ∙ gone_all c.self.inside.entities D U is) c.in_ok-read.ensures.read
+    (λ q. c.in_ok-apply_each.ensures.touched q ∙ ap (λ ks. is_member same_uid ks q || notes c.in_ok-read.read.items q) c.new-touched.ensures.empty) in
+    let p = err_from_is_err_and c.from_residual-in_err-mend.result c.from_residual-in_err-mend.ensures.1 in
+    rw (p.1, p.2) (subst (λ f. MatchRefusal c.in_err-mend.field-0.0 (λ _. ⊥) (IsMendRefused c.args.tc_computation f (taken_out D U))) touched
+    (subst (λ E. MatchRefusal c.in_err-mend.field-0.0 (λ _. ⊥) (IsMendRefused c.args.tc_computation (contains same_uid c.apply_each.new.touched) E)) taken c.in_err-mend.ensures.err))
 
-pub returns-in_err-compute-clause-plain_err : goal.returns-in_err-compute-clause-plain_err
-returns-in_err-compute-clause-plain_err c =
-    let p = err_from_is_err_and c.from_residual-in_err-compute.result c.from_residual-in_err-compute.ensures.1 in
-    rw (p.1, p.2) (λ W plain. left_refused W c.args.self c.args.list.items plain c.in_err-compute.field-0.0
-    (subst (λ D. MatchRefusal c.in_err-compute.field-0.0 (λ _. ⊥) (IsClosureRefused modes.ComputeNow D))
-    (taken_from c.self.inside.entities c.take_out.new.entities c.strip_all.new.entities c.args.self.held c.args.list.items c.in_ok-gone.gone.items (ap (λ (s : StoreView). s.held) c.self.view_is) c.in_ok-gone.ensures.gone c.in_ok-gone.ensures.ok (rw (← c.deref.ensures.value) c.in_ok-strip_all.ensures.ok))
-    c.in_err-compute.ensures.err))
+pub returns-in_err-mend-clause-plain_err : goal.returns-in_err-mend-clause-plain_err
+returns-in_err-mend-clause-plain_err c =
+    let is = ap (λ (s : StoreView). s.held) c.self.view_is in
+    let D = c.args.self.held in
+    let U = c.args.list.items in
+    let uids : map (λ a. a.uid) c.in_ok-read.read.items ≡ c.in_ok-gone.gone.items = c.in_ok-read.ensures.uids ∙ c.deref.ensures.value in
+    let taken = taken_from c.self.inside.entities c.apply_each.new.entities c.take_out.new.entities D U c.in_ok-gone.gone.items c.in_ok-read.read.items is c.in_ok-gone.ensures uids c.in_ok-read.ensures.read (rw (← c.deref-2.ensures.value) c.in_ok-apply_each.ensures.ok) c.take_out.ensures.left in
+    let touched = noted_touched c.self.inside.entities D (removed_from D U) c.in_ok-read.read.items (contains same_uid c.apply_each.new.touched) is (uids ∙ c.in_ok-gone.ensures ∙ gone_all c.self.inside.entities D U is) c.in_ok-read.ensures.read
+    (λ q. c.in_ok-apply_each.ensures.touched q ∙ ap (λ ks. is_member same_uid ks q || notes c.in_ok-read.read.items q) c.new-touched.ensures.empty) in
+    let p = err_from_is_err_and c.from_residual-in_err-mend.result c.from_residual-in_err-mend.ensures.1 in
+    rw (p.1, p.2) (λ W plain. left_refused W c.args.self U plain c.args.tc_computation c.in_err-mend.field-0.0
+    (subst (λ f. MatchRefusal c.in_err-mend.field-0.0 (λ _. ⊥) (IsMendRefused c.args.tc_computation f (taken_out D U))) touched
+    (subst (λ E. MatchRefusal c.in_err-mend.field-0.0 (λ _. ⊥) (IsMendRefused c.args.tc_computation (contains same_uid c.apply_each.new.touched) E)) taken c.in_err-mend.ensures.err)))
 
 pub returns-clause-ok : goal.returns-clause-ok
-returns-clause-ok c = subst (λ D. IsClosureOf D (held_map c.compute.new.entities))
-    (taken_from c.self.inside.entities c.take_out.new.entities c.strip_all.new.entities c.args.self.held c.args.list.items c.in_ok-gone.gone.items (ap (λ (s : StoreView). s.held) c.self.view_is) c.in_ok-gone.ensures.gone c.in_ok-gone.ensures.ok (rw (← c.deref.ensures.value) c.in_ok-strip_all.ensures.ok))
-    c.in_ok-compute.ensures.ok
+returns-clause-ok c =
+    let is = ap (λ (s : StoreView). s.held) c.self.view_is in
+    let D = c.args.self.held in
+    let U = c.args.list.items in
+    let uids : map (λ a. a.uid) c.in_ok-read.read.items ≡ c.in_ok-gone.gone.items = c.in_ok-read.ensures.uids ∙ c.deref.ensures.value in
+    let taken = taken_from c.self.inside.entities c.apply_each.new.entities c.take_out.new.entities D U c.in_ok-gone.gone.items c.in_ok-read.read.items is c.in_ok-gone.ensures uids c.in_ok-read.ensures.read (rw (← c.deref-2.ensures.value) c.in_ok-apply_each.ensures.ok) c.take_out.ensures.left in
+    let touched = noted_touched c.self.inside.entities D (removed_from D U) c.in_ok-read.read.items (contains same_uid c.apply_each.new.touched) is (uids ∙ c.in_ok-gone.ensures ∙ gone_all c.self.inside.entities D U is) c.in_ok-read.ensures.read
+    (λ q. c.in_ok-apply_each.ensures.touched q ∙ ap (λ ks. is_member same_uid ks q || notes c.in_ok-read.read.items q) c.new-touched.ensures.empty) in
+    subst (λ f. IsMended c.args.tc_computation f (taken_out D U) (held_map c.mend.new.entities)) touched
+    (subst (λ E. IsMended c.args.tc_computation (contains same_uid c.apply_each.new.touched) E (held_map c.mend.new.entities)) taken c.in_ok-mend.ensures.ok)
+
+pub returns-clause-untouched : goal.returns-clause-untouched
+returns-clause-untouched c =
+    let D = c.args.self.held in
+    let U = c.args.list.items in
+    mended_untouched c.args.tc_computation (removed_from D U) D (taken_out D U) (held_map c.mend.new.entities) (taken_untouched D U) (returns-clause-ok c)
 
 pub returns-clause-plain : goal.returns-clause-plain
-returns-clause-plain c W plain = left_plain W c.args.self c.args.list.items plain
-    (record { held = held_map c.compute.new.entities; partial = c.self.inside.partial }) (ap (λ (s : StoreView). s.partial) c.self.view_is) (returns-clause-ok c)
+returns-clause-plain c W plain = mended_plain W c.args.self c.args.list.items plain c.args.tc_computation
+    (record { held = held_map c.mend.new.entities; partial = c.self.inside.partial }) (ap (λ (s : StoreView). s.partial) c.self.view_is) (returns-clause-ok c)

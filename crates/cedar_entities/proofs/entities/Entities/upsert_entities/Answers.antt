@@ -1,35 +1,59 @@
-use Rattle.std.proofs.Common.{ap, subst, map}
+use Rattle.std.proofs.Common.{ap, subst, map, ◌∙◌, ◌≡◌, ◌||◌}
 use Rattle.std.proofs.lemmas.Result.{err_from_is_err_and}
+use Rattle.std.specs.HashSet.{contains}
+use Rattle.std.specs.Set.{is_member}
+use Rattle.cedar_ids.specs.UidOf.{same_uid}
+use Rattle.cedar_entities.specs.Edits.{put_over, uids_of}
 use Rattle.cedar_entities.specs.laws.Held.{held_map}
-use Rattle.cedar_entities.specs.Modes.{IsClosureOf, IsClosureRefused}
+use Rattle.cedar_entities.specs.laws.Readings.{notes}
+use Rattle.cedar_entities.specs.Modes.{IsClosureRefused}
 use Rattle.cedar_entities.specs.Plain.{StoreView}
 use Rattle.cedar_entities.specs.Refusals.{MatchRefusal}
-use Rattle.cedar_entities.specs.declared.entities.TCComputation.TheVariants as modes
-use Rattle.cedar_entities.proofs.PlainEdits.{laid_over, over_plain, over_refused}
+use Rattle.cedar_entities.specs.Touching.{is_touched, IsSettled}
+use Rattle.cedar_entities.proofs.Edited.{laid_over, noted_touched}
+use Rattle.cedar_entities.proofs.Overwriting.{over_between, over_plain, over_refused, over_untouched, settled_untouched}
 use Rattle.cedar_entities.proofs.entities.Entities.upsert_entities.Goals as goal
 
-pub returns-in_err-compute-clause-err : goal.returns-in_err-compute-clause-err
-returns-in_err-compute-clause-err c =
+pub returns-in_err-settle-clause-err : goal.returns-in_err-settle-clause-err
+returns-in_err-settle-clause-err c =
+    let is = ap (λ (s : StoreView). s.held) c.self.view_is in
     let L = map (λ r. r.value) c.args.list.items in
-    let p = err_from_is_err_and c.from_residual-in_err-compute.result c.from_residual-in_err-compute.ensures.1 in
-    rw (p.1, p.2) (subst (λ D. MatchRefusal c.in_err-compute.field-0.0 (λ _. ⊥) (IsClosureRefused modes.ComputeNow D))
-    (laid_over c.self.inside.entities c.strip_all.new.entities c.overwrite_all.new.entities c.args.self.held L (ap (λ (s : StoreView). s.held) c.self.view_is) c.in_ok-strip_all.ensures.ok c.in_ok-overwrite_all.ensures.ok)
-    c.in_err-compute.ensures.err)
+    let uids : map (λ a. a.uid) c.in_ok-read.read.items ≡ uids_of L = c.in_ok-read.ensures.uids ∙ c.deref-2.ensures.value ∙ c.in_ok-uids.ensures ∙ ap (λ l. uids_of (map (λ r. r.value) l)) c.deref.ensures.value in
+    let laid = laid_over c.self.inside.entities c.apply_each.new.entities c.overwrite_all.new.entities c.args.self.held L c.in_ok-read.read.items is uids c.in_ok-read.ensures.read c.in_ok-apply_each.ensures.ok c.in_ok-overwrite_all.ensures.ok in
+    let p = err_from_is_err_and c.from_residual-in_err-settle.result c.from_residual-in_err-settle.ensures.1 in
+    rw (p.1, p.2) (subst (λ D. MatchRefusal c.in_err-settle.field-0.0 (λ _. ⊥) (IsClosureRefused c.args.tc_computation D)) laid c.in_err-settle.ensures.err)
 
-pub returns-in_err-compute-clause-plain_err : goal.returns-in_err-compute-clause-plain_err
-returns-in_err-compute-clause-plain_err c =
+pub returns-in_err-settle-clause-plain_err : goal.returns-in_err-settle-clause-plain_err
+returns-in_err-settle-clause-plain_err c =
+    let is = ap (λ (s : StoreView). s.held) c.self.view_is in
     let L = map (λ r. r.value) c.args.list.items in
-    let p = err_from_is_err_and c.from_residual-in_err-compute.result c.from_residual-in_err-compute.ensures.1 in
-    rw (p.1, p.2) (λ W plain bare. over_refused W c.args.self L plain bare c.in_err-compute.field-0.0
-    (subst (λ D. MatchRefusal c.in_err-compute.field-0.0 (λ _. ⊥) (IsClosureRefused modes.ComputeNow D))
-    (laid_over c.self.inside.entities c.strip_all.new.entities c.overwrite_all.new.entities c.args.self.held L (ap (λ (s : StoreView). s.held) c.self.view_is) c.in_ok-strip_all.ensures.ok c.in_ok-overwrite_all.ensures.ok)
-    c.in_err-compute.ensures.err))
+    let uids : map (λ a. a.uid) c.in_ok-read.read.items ≡ uids_of L = c.in_ok-read.ensures.uids ∙ c.deref-2.ensures.value ∙ c.in_ok-uids.ensures ∙ ap (λ l. uids_of (map (λ r. r.value) l)) c.deref.ensures.value in
+    let laid = laid_over c.self.inside.entities c.apply_each.new.entities c.overwrite_all.new.entities c.args.self.held L c.in_ok-read.read.items is uids c.in_ok-read.ensures.read c.in_ok-apply_each.ensures.ok c.in_ok-overwrite_all.ensures.ok in
+    let p = err_from_is_err_and c.from_residual-in_err-settle.result c.from_residual-in_err-settle.ensures.1 in
+    rw (p.1, p.2) (λ W plain bare. over_refused W c.args.self L plain bare c.args.tc_computation c.in_err-settle.field-0.0
+    (subst (λ D. MatchRefusal c.in_err-settle.field-0.0 (λ _. ⊥) (IsClosureRefused c.args.tc_computation D)) laid c.in_err-settle.ensures.err))
 
 pub returns-clause-ok : goal.returns-clause-ok
-returns-clause-ok c = subst (λ D. IsClosureOf D (held_map c.compute.new.entities))
-    (laid_over c.self.inside.entities c.strip_all.new.entities c.overwrite_all.new.entities c.args.self.held (map (λ r. r.value) c.args.list.items) (ap (λ (s : StoreView). s.held) c.self.view_is) c.in_ok-strip_all.ensures.ok c.in_ok-overwrite_all.ensures.ok)
-    c.in_ok-compute.ensures.ok
+returns-clause-ok c =
+    let is = ap (λ (s : StoreView). s.held) c.self.view_is in
+    let L = map (λ r. r.value) c.args.list.items in
+    let uids : map (λ a. a.uid) c.in_ok-read.read.items ≡ uids_of L = c.in_ok-read.ensures.uids ∙ c.deref-2.ensures.value ∙ c.in_ok-uids.ensures ∙ ap (λ l. uids_of (map (λ r. r.value) l)) c.deref.ensures.value in
+    let laid = laid_over c.self.inside.entities c.apply_each.new.entities c.overwrite_all.new.entities c.args.self.held L c.in_ok-read.read.items is uids c.in_ok-read.ensures.read c.in_ok-apply_each.ensures.ok c.in_ok-overwrite_all.ensures.ok in
+    let touched = noted_touched c.self.inside.entities c.args.self.held (uids_of L) c.in_ok-read.read.items (contains same_uid c.apply_each.new.touched) is uids c.in_ok-read.ensures.read
+    (λ q. c.in_ok-apply_each.ensures.touched q ∙ ap (λ ks. is_member same_uid ks q || notes c.in_ok-read.read.items q) c.new-touched.ensures.empty) in
+    subst (λ f. IsSettled c.args.tc_computation f (put_over c.args.self.held L) (held_map c.settle.new.entities)) touched
+    (subst (λ D. IsSettled c.args.tc_computation (contains same_uid c.apply_each.new.touched) D (held_map c.settle.new.entities)) laid c.in_ok-settle.ensures.ok)
+
+pub returns-clause-untouched : goal.returns-clause-untouched
+returns-clause-untouched c =
+    let L = map (λ r. r.value) c.args.list.items in
+    settled_untouched c.args.tc_computation (uids_of L) c.args.self.held (put_over c.args.self.held L) (held_map c.settle.new.entities) (over_untouched c.args.self.held L) (returns-clause-ok c)
+
+pub returns-clause-between : goal.returns-clause-between
+returns-clause-between c W plain =
+    let L = map (λ r. r.value) c.args.list.items in
+    over_between W c.args.self plain c.args.tc_computation L (is_touched c.args.self.held (uids_of L)) (held_map c.settle.new.entities) (returns-clause-ok c)
 
 pub returns-clause-plain : goal.returns-clause-plain
-returns-clause-plain c W plain bare = over_plain W c.args.self (map (λ r. r.value) c.args.list.items) plain bare
-    (record { held = held_map c.compute.new.entities; partial = c.self.inside.partial }) (ap (λ (s : StoreView). s.partial) c.self.view_is) (returns-clause-ok c)
+returns-clause-plain c W plain bare = over_plain W c.args.self (map (λ r. r.value) c.args.list.items) plain bare c.args.tc_computation
+    (record { held = held_map c.settle.new.entities; partial = c.self.inside.partial }) (ap (λ (s : StoreView). s.partial) c.self.view_is) (returns-clause-ok c)

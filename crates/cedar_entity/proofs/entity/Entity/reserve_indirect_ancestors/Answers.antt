@@ -2,7 +2,6 @@ use Rattle.std.proofs.Common.{ap, ◌∙◌}
 use Rattle.std.specs.FinSet as set
 use Rattle.cedar_entity.specs.Fields.{fields_of}
 use Rattle.cedar_entity.specs.UidSets.{UidSet, same_listed}
-use Rattle.cedar_entity.specs.View.{EntityView}
 use Rattle.cedar_entity.proofs.entity.Entity.reserve_indirect_ancestors.Goals as goal
 
 pub returns : goal.returns

@@ -1,6 +1,5 @@
 use Rattle.std.proofs.Common.{[], ◌∷◌, ap, refl, sym, subst, map, ◌∙◌}
 use Rattle.cedar_entities.specs.Plain.{IsBare, given_of}
-use Rattle.cedar_entity.specs.View.{EntityView}
 use Rattle.cedar_store.proofs.Steps.{ent_takes}
 use Rattle.cedar_store.proofs.machine.Machine.ent.Goals as goal
 use Rattle.std.proofs.lemmas.List.{map-append}

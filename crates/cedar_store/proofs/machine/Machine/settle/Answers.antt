@@ -1,4 +1,4 @@
-use Rattle.std.proofs.Common.{◌≡◌, sym, subst, OnOk}
+use Rattle.std.proofs.Common.{sym, subst, OnOk}
 use Rattle.std.proofs.lemmas.Result.{on_ok_weaker}
 use Rattle.cedar_store.specs.laws.Machines.{Settles}
 use Rattle.cedar_store.proofs.machine.Machine.settle.Goals as goal

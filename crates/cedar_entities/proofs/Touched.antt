@@ -1,0 +1,183 @@
+-- What is noted, read and stripped of the map, one uid after another.
+use Rattle.std.specs.Prelude.{◌≡◌, Bool, true, false, cond, not, ◌&&◌, ◌||◌, List, [], ◌∷◌, ◌++◌, Option, Some, None, map}
+use Rattle.std.proofs.Common.{ap, sym, refl, subst, ◌∙◌}
+use Rattle.std.proofs.lemmas.Bool.{false≢true}
+use Rattle.std.proofs.lemmas.List.Folds.{list_any-append}
+use Rattle.std.specs.List.{list_any}
+use Rattle.std.specs.Map.{lookup}
+use Rattle.std.specs.Option.{option_map, is_some}
+use Rattle.std.specs.Set.{is_member}
+use Rattle.cedar_ids.specs.UidOf.{same_uid, same_uid_decides, same_uid_equiv}
+use Rattle.cedar_ids.specs.declared.entity.EntityUID.{EntityUID}
+use Rattle.cedar_entity.specs.View.{EntityView}
+use Rattle.cedar_entity.specs.declared.node.SharedEntity.{SharedEntity}
+use Rattle.cedar_entities.specs.Edits.{stripped}
+use Rattle.cedar_entities.specs.Modes.{is_ancestor_in}
+use Rattle.cedar_entities.specs.laws.Held.{shared}
+use Rattle.cedar_entities.specs.laws.Readings.{goes_from, is_below, notes}
+use Rattle.cedar_entities.specs.declared.touching.Applied.{Applied}
+use Rattle.cedar_entities.proofs.Editing.{member_push, stripped_both}
+
+pub or_off : (b : Bool) → b ≡ (b || false)
+or_off true = refl
+or_off false = refl
+
+or_itself : (b : Bool) → (b || b) ≡ b
+or_itself true = refl
+or_itself false = refl
+
+pub or_both : (a b : Bool) → (a || b) ≡ (b || a)
+or_both true true = refl
+or_both true false = refl
+or_both false true = refl
+or_both false false = refl
+
+pub or_turn : (a b c : Bool) → ((a || b) || c) ≡ (a || (b || c))
+or_turn true b c = refl
+or_turn false b c = refl
+
+added : (o d k : Bool) → cond k true (o || d) ≡ (o || (d || k))
+added true d true = refl
+added true d false = refl
+added false true true = refl
+added false true false = refl
+added false false true = refl
+added false false false = refl
+
+-- one more uid is noted
+pub noted_push : (first now new : Bool) (done : List EntityUID) (k q : EntityUID) → now ≡ (first || is_member same_uid done q) → new ≡ cond (same_uid k q) true now → new ≡ (first || is_member same_uid (done ++ k ∷ []) q)
+noted_push first now new done k q so step =
+    step ∙ ap (cond (same_uid k q) true) so ∙ added first (is_member same_uid done q) (same_uid k q) ∙ ap (λ b. first || b) (sym (member_push done k q))
+
+-- nothing is stripped where nothing goes
+pub nothing_stripped : (none : EntityView → EntityView) → ((e : EntityView) → e ≡ none e) → (o : Option EntityView) → o ≡ option_map none o
+nothing_stripped none is None = refl
+nothing_stripped none is (Some e) = ap Some (is e)
+
+grown : (D G : Bool) → ((D && G) || G) ≡ ((D || true) && G)
+grown true G = or_itself G
+grown false G = refl
+
+grow : (G : EntityUID → Bool) (L l : EntityUID → Bool) (D b : Bool) (o : Option EntityView)
+    → cond b (option_map (stripped G l) (option_map (stripped (λ p. D && G p) L) o)) (option_map (stripped (λ p. D && G p) L) o)
+    ≡ option_map (stripped (λ p. (D || (b || false)) && G p) (λ w. L w || ((b && l w) || false))) o
+grow G L l D true None = refl
+grow G L l D false None = refl
+grow G L l D true (Some e) = ap Some (stripped_both e (λ p. D && G p) L G l ∙ λ i. stripped (λ p. grown D (G p) i) (λ w. L w || or_off (l w) i) e)
+grow G L l D false (Some e) = λ i. Some (stripped (λ p. or_off D i && G p) (λ w. or_off (L w) i) e)
+
+-- one more reading is applied
+pub applied_push : (G : EntityUID → Bool) (done : List Applied) (a : Applied) (first now new : Option EntityView) (q : EntityUID)
+    → now ≡ option_map (stripped (λ p. is_below done q && G p) (goes_from done q)) first
+    → new ≡ cond (is_member same_uid a.by.items q) (option_map (stripped G (is_member same_uid a.lost.items)) now) now
+    → new ≡ option_map (stripped (λ p. is_below (done ++ a ∷ []) q && G p) (goes_from (done ++ a ∷ []) q)) first
+applied_push G done a first now new q so step =
+    step ∙ ap (λ o. cond (is_member same_uid a.by.items q) (option_map (stripped G (is_member same_uid a.lost.items)) o) o) so
+    ∙ grow G (goes_from done q) (is_member same_uid a.lost.items) (is_below done q) (is_member same_uid a.by.items q) first
+    ∙ λ i. option_map (stripped
+    (λ p. sym (list_any-append (λ (x : Applied). is_member same_uid x.by.items q) done (a ∷ [])) i && G p)
+    (λ w. sym (list_any-append (λ (x : Applied). is_member same_uid x.by.items q && is_member same_uid x.lost.items w) done (a ∷ [])) i)) first
+
+pub notes_push : (first now new : Bool) (done : List Applied) (a : Applied) (q : EntityUID) → now ≡ (first || notes done q)
+    → new ≡ (now || (same_uid q a.uid || is_member same_uid a.by.items q)) → new ≡ (first || notes (done ++ a ∷ []) q)
+notes_push first now new done a q so step =
+    let x = same_uid q a.uid || is_member same_uid a.by.items q in
+    step ∙ ap (λ b. b || x) so ∙ or_turn first (notes done q) x ∙ ap (λ b. first || (notes done q || b)) (or_off x)
+    ∙ ap (λ b. first || b) (sym (list_any-append (λ (y : Applied). same_uid q y.uid || is_member same_uid y.by.items q) done (a ∷ [])))
+
+-- a key is found among entries with one more
+pub seen_key : (es : List (EntityUID × SharedEntity)) (k : EntityUID) (n : SharedEntity) (q : EntityUID) → is_some (lookup (same_uid q) (es ++ (k, n) ∷ [])) ≡ (is_some (lookup (same_uid q) es) || same_uid k q)
+seen_key [] k n q = at (same_uid q k) ∙ sym (same_uid_equiv.symm k q)
+  where
+    at : (b : Bool) → is_some (cond b (Some n) None) ≡ b
+    at true = refl
+    at false = refl
+seen_key (e ∷ es) k n q = at (same_uid q e.0) (seen_key es k n q)
+  where
+    at : (b : Bool) → is_some (lookup (same_uid q) (es ++ (k, n) ∷ [])) ≡ (is_some (lookup (same_uid q) es) || same_uid k q) → is_some (cond b (Some e.1) (lookup (same_uid q) (es ++ (k, n) ∷ []))) ≡ (is_some (cond b (Some e.1) (lookup (same_uid q) es)) || same_uid k q)
+    at true h = refl
+    at false h = h
+
+hit : (d b : Bool) → ((d && true) || b) ≡ ((d || b) && true)
+hit true b = refl
+hit false true = refl
+hit false false = refl
+
+in_both : (d f b : Bool) → (b ≡ true → f ≡ true) → ((d && f) || b) ≡ ((d || b) && f)
+in_both d true b h = hit d b
+in_both true false true h = absurd (false≢true (h refl))
+in_both true false false h = refl
+in_both false false true h = absurd (false≢true (h refl))
+in_both false false false h = refl
+
+out_of : (d f b : Bool) → (b ≡ true → f ≡ false) → (d && f) ≡ ((d || b) && f)
+out_of d f true h = ap (λ x. d && x) (h refl) ∙ none d ∙ sym (h refl) ∙ one d
+  where
+    none : (d : Bool) → (d && false) ≡ false
+    none true = refl
+    none false = refl
+
+    one : (d : Bool) → f ≡ ((d || true) && f)
+    one true = refl
+    one false = refl
+out_of true f false h = refl
+out_of false f false h = refl
+
+module _ (f : EntityUID → Bool) (es : List (EntityUID × SharedEntity)) (k : EntityUID) (n : SharedEntity) (q : EntityUID) (now : Bool)
+    (so : now ≡ (is_some (lookup (same_uid q) es) && f q)) where
+  -- one more key that passes is listed
+  pub listed_key : (new : Bool) → new ≡ (now || same_uid k q) → f k ≡ true → new ≡ (is_some (lookup (same_uid q) (es ++ (k, n) ∷ [])) && f q)
+  listed_key new step hits =
+      step ∙ ap (λ b. b || same_uid k q) so
+      ∙ in_both (is_some (lookup (same_uid q) es)) (f q) (same_uid k q) (λ t. sym (ap f ((same_uid_decides k q).0 t)) ∙ hits)
+      ∙ ap (λ b. b && f q) (sym (seen_key es k n q))
+
+  -- one that does not is not
+  pub unlisted_key : f k ≡ false → now ≡ (is_some (lookup (same_uid q) (es ++ (k, n) ∷ [])) && f q)
+  unlisted_key misses =
+      so ∙ out_of (is_some (lookup (same_uid q) es)) (f q) (same_uid k q) (λ t. sym (ap f ((same_uid_decides k q).0 t)) ∙ misses)
+      ∙ ap (λ b. b && f q) (sym (seen_key es k n q))
+
+-- only what is there has ancestors
+pub there_only : (o : Option SharedEntity) (u : EntityUID) → (is_some o && is_ancestor_in (option_map shared o) u) ≡ is_ancestor_in (option_map shared o) u
+there_only None u = refl
+there_only (Some n) u = refl
+
+none_any : (us : List EntityUID) → false ≡ list_any (is_ancestor_in None) us
+none_any [] = refl
+none_any (u ∷ us) = none_any us
+
+pub there_only_any : (o : Option SharedEntity) (us : List EntityUID) → (is_some o && list_any (is_ancestor_in (option_map shared o)) us) ≡ list_any (is_ancestor_in (option_map shared o)) us
+there_only_any None us = none_any us
+there_only_any (Some n) us = refl
+
+-- that some of one list is in another is that some of the other is in the one
+none_in : (xs : List EntityUID) → list_any (λ x. is_member same_uid [] x) xs ≡ false
+none_in [] = refl
+none_in (x ∷ xs) = none_in xs
+
+or_swap : (a b c d : Bool) → ((a || b) || (c || d)) ≡ ((a || c) || (b || d))
+or_swap true b c d = refl
+or_swap false true true d = refl
+or_swap false true false d = refl
+or_swap false false c d = refl
+
+split : (y : EntityUID) (ys xs : List EntityUID) → list_any (λ x. is_member same_uid (y ∷ ys) x) xs ≡ (is_member same_uid xs y || list_any (λ x. is_member same_uid ys x) xs)
+split y ys [] = refl
+split y ys (x ∷ xs) =
+    ap (λ b. (same_uid x y || is_member same_uid ys x) || b) (split y ys xs)
+    ∙ or_swap (same_uid x y) (is_member same_uid ys x) (is_member same_uid xs y) (list_any (λ z. is_member same_uid ys z) xs)
+    ∙ ap (λ b. (b || is_member same_uid xs y) || (is_member same_uid ys x || list_any (λ z. is_member same_uid ys z) xs)) (same_uid_equiv.symm x y)
+
+pub meet : (xs ys : List EntityUID) → list_any (is_member same_uid ys) xs ≡ list_any (is_member same_uid xs) ys
+meet xs [] = none_in xs
+meet xs (y ∷ ys) = split y ys xs ∙ ap (λ b. is_member same_uid xs y || b) (meet xs ys)
+
+-- one of a list that passes makes the list pass
+pub any_with : {X : Type 0} (f : X → Bool) (xs : List X) (x : X) (ys : List X) → f x ≡ true → list_any f (xs ++ x ∷ ys) ≡ true
+any_with f [] x ys h = ap (λ b. b || list_any f ys) h
+any_with f (y ∷ xs) x ys h = ap (λ b. f y || b) (any_with f xs x ys h) ∙ end (f y)
+  where
+    end : (b : Bool) → (b || true) ≡ true
+    end true = refl
+    end false = refl

@@ -1,0 +1,16 @@
+use Rattle.std.specs.HashSet.{contains}
+use Rattle.cedar_ids.specs.UidOf.{same_uid}
+use Rattle.cedar_entities.proofs.Closures.{acyclic_of, cycle_told, refused_as, repair_of}
+use Rattle.cedar_entities.proofs.entities.repair.Goals as goal
+
+pub returns-in_err-repair_tc-clause-err : goal.returns-in_err-repair_tc-clause-err
+returns-in_err-repair_tc-clause-err c =
+    refused_as _ c.from_residual.result c.in_err-repair_tc.field-0.0 c.from_residual.ensures.1
+    (cycle_told c.args.entities.now _ (contains same_uid c.args.touched.now) c.in_err-repair_tc.field-0.0 c.in_err-repair_tc.ensures.err)
+
+pub returns-clause-ok : goal.returns-clause-ok
+returns-clause-ok c =
+    let e = c.in_ok-repair_tc.ensures in (
+      repair_of c.args.entities.now c.repair_tc.new.nodes (contains same_uid c.args.touched.now) e.kept e.alone e.stays e.only e.closed,
+      λ asked. acyclic_of c.args.entities.now (contains same_uid c.args.touched.now) (λ t. e.ok t asked),
+    )

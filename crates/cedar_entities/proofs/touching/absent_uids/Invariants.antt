@@ -1,0 +1,7 @@
+use Rattle.std.specs.Prelude.{◌≡◌, is_some, not}
+use Rattle.std.specs.List.{filter}
+use Rattle.cedar_entities.specs.laws.Held.{held}
+use Rattle.cedar_entities.proofs.touching.absent_uids.Given as goal
+
+abbrev pub invariant-loop-uid : goal.invariant-loop-uid
+invariant-loop-uid l = l.kept.items ≡ filter (λ u. not (is_some (held l.entities u))) l.yielded

@@ -1,0 +1,26 @@
+use Rattle.std.proofs.Common.{◌≡◌, ◌∙◌, ◌||◌, ap, sym, map}
+use Rattle.std.specs.Set.{is_member}
+use Rattle.std.proofs.lemmas.Iterator.Consumers.{YieldsList-from_first, YieldsList-end}
+use Rattle.cedar_ids.specs.UidOf.{same_uid}
+use Rattle.cedar_entity.specs.Listing.{ancestors_listed}
+use Rattle.cedar_entities.proofs.Editing.{member_push}
+use Rattle.cedar_entities.proofs.Versions.{map_append_one}
+use Rattle.cedar_entities.proofs.touching.ancestors_of.Goals as goal
+
+pub loop-ancestor-preserved : goal.loop-ancestor-preserved
+loop-ancestor-preserved c q =
+    let all = c.loop-ancestor.all.items in
+    let done = map (λ x. x.now) c.loop-ancestor.yielded in
+    ap (λ l. is_member same_uid l q) c.in_ok-push.ensures.items
+    ∙ member_push all c.in_ok-copy_of.field-0 q
+    ∙ ap (λ k. is_member same_uid all q || same_uid k q) c.in_ok-copy_of.ensures
+    ∙ ap (λ b. b || same_uid c.in-Some.ancestor.now q) (c.loop-ancestor.invariant q)
+    ∙ sym (member_push done c.in-Some.ancestor.now q) ∙ ap (λ l. is_member same_uid l q) (sym (map_append_one (λ x. x.now) c.loop-ancestor.yielded c.in-Some.ancestor))
+
+pub returns : goal.returns
+returns c q =
+    let us = c.ancestors-ancestor-items.result in
+    let whole = (YieldsList-end (YieldsList-from_first (λ x. x.now) (λ l. l) {s = c.into_iter-ancestor-iterator.result} us c.into_iter-ancestor-iterator.ensures.into_iter_gives) c.loop-ancestor.yielded c.loop-ancestor.ancestor-iterator c.loop-ancestor.yielded_by c.next.result c.next.new.self c.in-None.is c.next.ensures.steps).0 in
+    c.loop-ancestor.invariant q
+    ∙ ap (λ l. is_member same_uid l q) whole
+    ∙ ancestors_listed c.args.entity.now us c.ancestors-ancestor-items.ensures q

@@ -1,0 +1,55 @@
+-- What a reader's answer says of a policy or a template, as a truth value.
+use Rattle.std.specs.Prelude.{◌≡◌, ◌↔◌, ℕ, List, [], ◌∷◌, Bool, true, false, not, Option, Some, None, IsTrue, is_some, refl}
+use Rattle.std.specs.declared.rc.Rc.{Rc}
+use Rattle.std.specs.declared.alloc.Global.{Global}
+use Rattle.std.proofs.Common.{sym, ap, ◌∙◌, Bor}
+use Rattle.std.specs.List.{flat_map, list_all, list_any, find}
+use Rattle.std.specs.Option.{unwrap_or, option_copied, option_map}
+use Rattle.std.proofs.lemmas.List.Folds.{flat_map-map, list_all-map}
+use Rattle.std.specs.Cmp.Lexicographic.{pointwise}
+use Rattle.std.specs.Cmp.Derive.Mapped.{pointwise-map}
+use Rattle.cedar_body.specs.Bodies.{BodyParts}
+use Rattle.cedar_body.specs.BodyEquality.{same_body}
+use Rattle.cedar_policy_set.specs.BoardTexts.{body_line, is_known_body}
+use Rattle.cedar_policy_set.specs.Boards.{is_body_at}
+use Rattle.cedar_policy_set.specs.laws.OnceLaws.{find-map, any-map}
+use Rattle.cedar_policy_set.specs.Views.{bodies_of}
+use Rattle.cedar_policy_set.specs.Validity.{is_slotless}
+use Rattle.cedar_terms.specs.declared.slot.SlotId.{SlotId}
+
+pub link_told : (o : Option (List ℕ)) (v : Bool) → (IsTrue v ↔ (o ≡ None)) → not v ≡ is_some o
+link_told None true h = refl
+link_told None false h = absurd (cc (h.1 refl))
+link_told (Some l) true h = absurd (cc (h.0 refl))
+link_told (Some l) false h = refl
+
+pub slots_told : (ss : List SlotId) (v : Bool) → (IsTrue v ↔ (ss ≡ [])) → v ≡ is_slotless ss
+slots_told [] true h = refl
+slots_told [] false h = absurd (cc (h.1 refl))
+slots_told (s ∷ ss) true h = absurd (cc (h.0 refl))
+slots_told (s ∷ ss) false h = refl
+
+pub bodies_told : (ts us : List (Rc BodyParts Global)) → pointwise same_body (bodies_of ts) (bodies_of us) ≡ pointwise (λ t u. same_body t.value u.value) ts us
+bodies_told ts us = pointwise-map (λ (t : Rc BodyParts Global). t.value) same_body ts us
+
+-- a text that is known
+pub known_text : (o : Option (List ℕ)) → is_some o ≡ true → o ≡ Some (unwrap_or o [])
+known_text None h = absurd (cc)
+known_text (Some x) h = refl
+
+abbrev body : Rc BodyParts Global → BodyParts
+body t = t.value
+
+pub lines_told : (ts : List (Rc BodyParts Global)) → flat_map (λ t. body_line t.value) ts ≡ flat_map body_line (bodies_of ts)
+lines_told ts = sym (flat_map-map body_line body ts)
+
+pub known_told : (ts : List (Rc BodyParts Global)) → list_all (λ t. is_known_body t.value) ts ≡ list_all is_known_body (bodies_of ts)
+known_told ts = sym (list_all-map is_known_body body ts)
+
+pub body_found : (o : Option (Bor (Rc BodyParts Global))) (i : List ℕ) (ts : List (Rc BodyParts Global)) →
+    option_copied o ≡ find (λ t. is_body_at i t.value) ts → option_map (λ t. t.now.value) o ≡ find (is_body_at i) (bodies_of ts)
+body_found None i ts e = ap (option_map body) e ∙ sym (find-map body (is_body_at i) ts)
+body_found (Some t) i ts e = ap (option_map body) e ∙ sym (find-map body (is_body_at i) ts)
+
+pub body_there : (i : List ℕ) (ts : List (Rc BodyParts Global)) → list_any (λ t. is_body_at i t.value) ts ≡ list_any (is_body_at i) (bodies_of ts)
+body_there i ts = sym (any-map body (is_body_at i) ts)

@@ -1,0 +1,10 @@
+-- Equality of policy sets.
+use Rattle.std.specs.Prelude.{Bool, ◌&&◌}
+use Rattle.std.specs.Cmp.Lexicographic.{pointwise}
+use Rattle.cedar_body.specs.BodyEquality.{same_body}
+use Rattle.cedar_policy.specs.PolicyEquality.{same_policy}
+use Rattle.cedar_policy_set.specs.Boards.{Board}
+
+-- equal bodies and equal policies, at equal places of the two orders
+abbrev pub same_board : Board → Board → Bool
+same_board x y = pointwise same_body x.bodies y.bodies && pointwise same_policy x.policies y.policies

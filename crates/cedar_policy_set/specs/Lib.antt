@@ -1,0 +1,13 @@
+pub mod BoardEquality
+pub mod BoardTexts
+pub mod Boards
+pub mod Codes
+pub mod Fresh
+pub mod Lists
+pub mod Merge
+pub mod Refusals
+pub mod SetFaults
+pub mod Steps
+pub mod Validity
+pub mod Views
+pub mod laws

@@ -1,0 +1,73 @@
+-- What each error tells, and how an answer goes with a step.
+use Rattle.std.specs.Prelude.{◌≡◌, ℕ, List, Option, Some, None, Result, Ok, Err}
+use Rattle.cedar_binding.specs.declared.err.LinkingError.{LinkingError}
+use Rattle.cedar_binding.specs.declared.err.LinkingError.TheVariants as links
+use Rattle.cedar_policy_set.specs.declared.err.PolicySetError.{PolicySetError}
+use Rattle.cedar_policy_set.specs.declared.err.PolicySetError.TheVariants as sets
+use Rattle.cedar_policy_set.specs.declared.err.PolicySetGetLinksError.{PolicySetGetLinksError}
+use Rattle.cedar_policy_set.specs.declared.err.PolicySetGetLinksError.TheVariants as listings
+use Rattle.cedar_policy_set.specs.declared.err.PolicySetPolicyRemovalError.{PolicySetPolicyRemovalError}
+use Rattle.cedar_policy_set.specs.declared.err.PolicySetPolicyRemovalError.TheVariants as removals
+use Rattle.cedar_policy_set.specs.declared.err.PolicySetTemplateRemovalError.{PolicySetTemplateRemovalError}
+use Rattle.cedar_policy_set.specs.declared.err.PolicySetTemplateRemovalError.TheVariants as templates
+use Rattle.cedar_policy_set.specs.declared.err.PolicySetUnlinkError.{PolicySetUnlinkError}
+use Rattle.cedar_policy_set.specs.declared.err.PolicySetUnlinkError.TheVariants as unlinks
+use Rattle.cedar_policy_set.specs.Boards.{Board, Binding, without}
+use Rattle.cedar_policy_set.specs.Steps.{Refusal, occupied, no_body, no_such_template, arity, id_conflict, no_link, not_a_link, no_template, with_links, not_a_template, no_static, not_static}
+
+-- what an error tells; want of memory tells nothing
+abbrev pub told_by_set : PolicySetError → Option Refusal
+told_by_set (sets.Occupied i) = Some (occupied i)
+told_by_set sets.Memory = None
+
+abbrev pub told_by_listing : PolicySetGetLinksError → Option Refusal
+told_by_listing (listings.MissingTemplate i) = Some (no_body i)
+told_by_listing listings.Memory = None
+
+abbrev pub told_by_linking : LinkingError → Option Refusal
+told_by_linking (links.ArityError u x) = Some (arity u.items x.items)
+told_by_linking (links.NoSuchTemplate i) = Some (no_such_template i)
+told_by_linking (links.PolicyIdConflict i) = Some (id_conflict i)
+told_by_linking links.Memory = None
+
+abbrev pub told_by_unlinking : PolicySetUnlinkError → Option Refusal
+told_by_unlinking (unlinks.UnlinkingError i) = Some (no_link i)
+told_by_unlinking (unlinks.NotLinkError i) = Some (not_a_link i)
+told_by_unlinking unlinks.Memory = None
+
+abbrev pub told_by_template_removal : PolicySetTemplateRemovalError → Option Refusal
+told_by_template_removal (templates.RemovePolicyNoTemplateError i) = Some (no_template i)
+told_by_template_removal (templates.RemoveTemplateWithLinksError i) = Some (with_links i)
+told_by_template_removal (templates.NotTemplateError i) = Some (not_a_template i)
+told_by_template_removal templates.Memory = None
+
+abbrev pub told_by_removal : PolicySetPolicyRemovalError → Option Refusal
+told_by_removal (removals.RemovePolicyNoLinkError i) = Some (no_static i)
+told_by_removal (removals.RemovePolicyNoTemplateError i) = Some (not_static i)
+told_by_removal removals.Memory = None
+
+-- the step is refused as is told; where nothing is told nothing is said
+abbrev pub IsRefusal : {B : Type 0} → Option Refusal → Result B Refusal → Type 0
+IsRefusal None step = Unit {0}
+IsRefusal (Some r) step = step ≡ Err r
+
+-- the board afterwards is that of the step; or the step is refused, and the board is as it was
+abbrev pub Steps : {A E : Type 0} → (E → Option Refusal) → Result A E → Board → Board → Result Board Refusal → Type 0
+Steps told (Ok a) old new step = step ≡ Ok new
+Steps told (Err e) old new step = (new ≡ old) × IsRefusal (told e) step
+
+-- what was taken out is that of the step, and the board is without its id; or the step is refused, and the board is as
+-- it was
+abbrev pub TakesOut : {A E : Type 0} → (E → Option Refusal) → (A → Binding) → Result A E → Board → Board → List ℕ → Result Binding Refusal → Type 0
+TakesOut told binding (Ok a) old new i step = (step ≡ Ok (binding a)) × (new ≡ without old i)
+TakesOut told binding (Err e) old new i step = (new ≡ old) × IsRefusal (told e) step
+
+-- the board of an answer is that of the step; or the step is refused
+abbrev pub Makes : {E : Type 0} → (E → Option Refusal) → Result Board E → Result Board Refusal → Type 0
+Makes told (Ok b) step = step ≡ Ok b
+Makes told (Err e) step = IsRefusal (told e) step
+
+-- the answer is what the step says, by its value; or the step is refused
+abbrev pub Answers : {A E B : Type 0} → (E → Option Refusal) → (A → B) → Result A E → Result B Refusal → Type 0
+Answers told value (Ok a) step = step ≡ Ok (value a)
+Answers told value (Err e) step = IsRefusal (told e) step

@@ -1,0 +1,43 @@
+-- What validating a set answers.
+use Rattle.std.specs.Prelude.{◌≡◌, List, [], ◌∷◌, ◌++◌, Bool, true, false, ◌&&◌, Some, None, Result, Ok, Err, is_some, All}
+use Rattle.std.specs.List.{find}
+use Rattle.cedar_terms.specs.declared.slot.SlotId.{SlotId}
+use Rattle.cedar_body.specs.Bodies.{BodyParts, body_slots}
+use Rattle.cedar_policy.specs.Policies.{PolicyParts, policy_id}
+use Rattle.cedar_policy.specs.Validation.{HasActions, IsFault, clause_fault}
+use Rattle.cedar_policy_set.specs.declared.err.PolicySetValidationError.{PolicySetValidationError}
+use Rattle.cedar_policy_set.specs.declared.err.PolicySetValidationError.TheVariants.{InvalidTemplate, LinkToSlotlessTemplate, Memory}
+use Rattle.cedar_policy_set.specs.Boards.{Board}
+
+-- there are no slots
+abbrev pub is_slotless : List SlotId → Bool
+is_slotless [] = true
+is_slotless (s ∷ ss) = false
+
+-- a link of a template without slots
+abbrev pub is_slotless_link : PolicyParts → Bool
+is_slotless_link p = is_some p.link && is_slotless (body_slots p.template)
+
+-- a parser could have made the body
+abbrev pub IsValidBody : BodyParts → Type 0
+IsValidBody t = HasActions t.clause t.action × (clause_fault t.clause ≡ None)
+
+-- no link is one of a template without slots
+abbrev pub HasSlottedLinks : Board → Type 0
+HasSlottedLinks b = find is_slotless_link b.policies ≡ None
+
+-- links come first: the error names the first one of a template without slots, with that template; else the first body
+-- that is not valid, with its fault. Want of memory says nothing
+abbrev pub IsSetFault : PolicySetValidationError → Board → Type 0
+IsSetFault (LinkToSlotlessTemplate l t) b =
+    (p : PolicyParts) × (find is_slotless_link b.policies ≡ Some p) × (l ≡ policy_id p) × (t ≡ p.template.id)
+IsSetFault (InvalidTemplate i e) b =
+    HasSlottedLinks b
+    × (before : List BodyParts) × (t : BodyParts) × (after : List BodyParts)
+    × (b.bodies ≡ before ++ t ∷ after) × All IsValidBody before × (i ≡ t.id) × IsFault e t.clause t.action
+IsSetFault Memory b = Unit {0}
+
+-- the set itself where there is no fault, else the first one
+abbrev pub ValidatesSet : Result Board PolicySetValidationError → Board → Type 0
+ValidatesSet (Ok s) b = HasSlottedLinks b × All IsValidBody b.bodies × (s ≡ b)
+ValidatesSet (Err e) b = IsSetFault e b

@@ -1,0 +1,12 @@
+pub mod BoardLaws
+pub mod BodyFaults
+pub mod EqualityLaws
+pub mod Founds
+pub mod FreshLaws
+pub mod Joins
+pub mod LinkLaws
+pub mod ListSteps
+pub mod MergeLaws
+pub mod MergeSteps
+pub mod OnceLaws
+pub mod RenamingLaws

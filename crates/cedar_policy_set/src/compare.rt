@@ -1,0 +1,47 @@
+//! Copies and equality of policy sets.
+ghost use Rattle.std.specs.Prelude.{◌≡◌};
+ghost use Rattle.std.specs.Cmp.{partial_equiv_from_equiv};
+ghost use Rattle.std.specs.Cmp.Lexicographic.{pointwise};
+ghost use Rattle.cedar_body.specs.BodyEquality.{same_body};
+ghost use Rattle.cedar_policy_set.specs.BoardEquality.{same_board};
+ghost use Rattle.cedar_policy_set.specs.Views.{bodies_of};
+ghost use Rattle.cedar_policy_set.specs.laws.EqualityLaws.{same_board_equiv};
+
+use crate::lists::copy_of_bodies;
+use crate::policy_set::PolicySet;
+use cedar_policy::Template;
+use std::alloc::AllocError;
+use std::rc::Rc;
+
+impl Clone for PolicySet {
+    ghost is_clone = { λ x y. y ≡ x };
+
+    fn clone(&self) -> Result<PolicySet, AllocError> {
+        Ok(PolicySet {
+            bodies: copy_of_bodies(&self.bodies)?,
+            policies: self.policies.clone()?,
+        })
+    }
+}
+
+impl PartialEq for PolicySet {
+    ghost eq = { same_board };
+
+    ghost laws = { partial_equiv_from_equiv same_board_equiv };
+
+    fn eq(&self, other: &PolicySet) -> bool {
+        same_bodies(&self.bodies, &other.bodies) && self.policies == other.policies
+    }
+}
+
+impl Eq for PolicySet {
+    ghost laws = { same_board_equiv };
+}
+
+// Whether bodies are equal, at equal places.
+#[tactic(auto, using(crate::proofs::Told::bodies_told))]
+fn same_bodies(bodies: &[Rc<Template>], others: &[Rc<Template>]) -> bool
+    ensures { result ≡ pointwise same_body (bodies_of bodies.now) (bodies_of others.now) }
+{
+    bodies == others
+}

@@ -1,0 +1,89 @@
+//! New ids for a merge: policy0, policy1 and so on, as far as neither set binds them.
+ghost use Rattle.std.specs.Prelude.{◌≡◌, ◌+◌, ◌^◌, ◌<◌, IfOk, List, ℕ, length};
+ghost use Rattle.std.specs.Map.{keys_of, values_of};
+ghost use Rattle.cedar_policy_set.specs.Boards.{AreOnce};
+ghost use Rattle.cedar_policy_set.specs.Fresh.{numbered, is_bound_in_either, free_below, IsFree, AreFree};
+ghost use Rattle.cedar_policy_set.specs.laws.FreshLaws.{count};
+
+use crate::lists::either;
+use crate::policy_set::PolicySet;
+use cedar_ids::policy_id::PolicyID;
+use indexmap::{IndexMap, IndexSet};
+use std::alloc::{AllocError, Global};
+
+// The id of a number.
+fn numbered(alloc: Global, number: u128) -> Result<PolicyID, AllocError>
+    ensures { IfOk result (λ i. i ≡ numbered number) }
+{
+    match format!(in alloc; "policy{number}") {
+        Ok(text) => Ok(PolicyID::from_smolstr(text)),
+        Err(error) => Err(error),
+    }
+}
+
+// Whether one of two sets binds an id.
+fn is_bound_in_either(here: &PolicySet, other: &PolicySet, id: &PolicyID) -> bool
+    ensures { result ≡ is_bound_in_either here.now other.now id.now }
+{
+    either(here.is_bound(id), other.is_bound(id))
+}
+
+// The first free id from this number on, with its number.
+fn next_free(
+    alloc: Global,
+    here: &PolicySet,
+    other: &PolicySet,
+    start: u128,
+) -> Result<(PolicyID, u128), AllocError>
+    requires { free_below (is_bound_in_either here.now other.now) start + count here.now other.now < 2 ^ 100 }
+    ensures named { IfOk result (λ r. r.0 ≡ numbered r.1) }
+    ensures free { IfOk result (λ r. IsFree (is_bound_in_either here.now other.now) (free_below (is_bound_in_either here.now other.now) start) r.1) }
+    ensures small { IfOk result (λ r. r.1 < 2 ^ 100) }
+{
+    let mut number = start;
+    loop {
+        let id = numbered(alloc, number)?;
+        if !is_bound_in_either(here, other, &id) {
+            return Ok((id, number));
+        }
+        number += 1;
+    }
+}
+
+// How many ids two sets have, those of static policies twice.
+fn count_ids(here: &PolicySet, other: &PolicySet) -> u128
+    ensures count { result ≡ count here.now other.now }
+    ensures small { result < 2 ^ 66 }
+{
+    size(here) + size(other)
+}
+
+// How many ids a set has, those of static policies twice.
+fn size(set: &PolicySet) -> u128
+    ensures size { result ≡ length set.now.policies + length set.now.bodies }
+    ensures small { result < 2 ^ 65 }
+{
+    set.policies.len() as u128 + set.bodies.len() as u128
+}
+
+// The free ids that some ids go to, in their order.
+pub(crate) fn fresh_ids(
+    alloc: Global,
+    ids: IndexSet<PolicyID>,
+    here: &PolicySet,
+    other: &PolicySet,
+) -> Result<IndexMap<PolicyID, PolicyID>, AllocError>
+    requires { AreOnce (λ (i : List ℕ). i) ids.keys }
+    ensures keys { IfOk result (λ r. keys_of r.entries ≡ ids.keys) }
+    ensures free { IfOk result (λ r. AreFree (is_bound_in_either here.now other.now) 0 (values_of r.entries)) }
+{
+    let _count = count_ids(here, other);
+    let mut renaming = IndexMap::new(alloc);
+    let mut start: u128 = 0;
+    for id in ids {
+        let (fresh, number) = next_free(alloc, here, other, start)?;
+        renaming.insert(id, fresh)?;
+        start = number + 1;
+    }
+    Ok(renaming)
+}

@@ -1,0 +1,250 @@
+//! What joins a policy set: policies, static policies, templates, and links of a template in the set.
+ghost use Rattle.std.specs.Prelude.{◌≡◌, ◌<◌, length, IfOk, OnOk, MatchOption, Ok, Some, None};
+ghost use Rattle.cedar_body.specs.BodyEquality.{same_body};
+ghost use Rattle.cedar_body.specs.Bodies.{body_slots};
+ghost use Rattle.cedar_binding.specs.Checks.{Binds};
+ghost use Rattle.cedar_binding.specs.Views.{env_of};
+ghost use Rattle.cedar_policy_set.specs.Boards.{empty_board, bound_at, without, Template as template_binding};
+ghost use Rattle.cedar_policy_set.specs.Refusals.{Steps, Makes, told_by_set, told_by_linking};
+ghost use Rattle.cedar_policy_set.specs.Steps.{add_static_step, add_template_step, add_step, link_onto, link_step, add_then};
+ghost use Rattle.cedar_policy_set.specs.laws.Joins.{CanJoinBoth, HasNoTemplate, Stands, StandsThere};
+
+use crate::err::PolicySetError;
+use crate::found::Found;
+use crate::lists::either;
+use crate::policy_set::PolicySet;
+use cedar_ids::policy_id::PolicyID;
+use cedar_policy::{LinkingError, Policy, SlotEnv, StaticPolicy, Template};
+use std::alloc::{AllocError, Global};
+use std::rc::Rc;
+
+impl PolicySet {
+    /// The set with this policy alone, and with its template: what adding it to the set without a binding leaves. A link
+    /// may not have its template's id; the original asks nothing. Takes memory for the two places, and is refused only
+    /// where that is.
+    pub fn singleton(alloc: Global, policy: Policy) -> Result<PolicySet, AllocError>
+        requires { CanJoinBoth empty_board policy }
+        ensures { IfOk result (λ s. add_step empty_board policy ≡ Ok s) }
+    {
+        let mut set = PolicySet::new(alloc);
+        set.put_both(policy)?;
+        Ok(set)
+    }
+
+    /// The set that adding these policies leaves, one after another; the first refusal is the answer, and there is no set
+    /// then. Takes memory as `add` does.
+    #[tactic(auto, using(crate::specs::laws::ListSteps::refused_then))]
+    pub fn try_from_iter(alloc: Global, policies: Vec<Policy>) -> Result<PolicySet, PolicySetError>
+        ensures { Makes told_by_set result (add_then (Ok empty_board) policies.items) }
+    {
+        let mut set = PolicySet::new(alloc);
+        for policy in policies {
+            set.add(alloc, policy)?;
+        }
+        Ok(set)
+    }
+
+    /// Takes in a static policy, its body last in the order of bodies and the policy last in the other.
+    ///
+    /// `Occupied` comes where its id is bound. Takes memory to share the body and for the two places; a refused call, for
+    /// memory too, leaves both orders as they were.
+    pub fn add_static(&mut self, alloc: Global, policy: StaticPolicy) -> Result<(), PolicySetError>
+        ensures { Steps told_by_set result self.old self.new (add_static_step self.old policy) }
+    {
+        if self.is_bound(policy.id()) {
+            return Err(PolicySetError::Occupied {
+                id: policy.id().clone()?,
+            });
+        }
+        let policy = Policy::from_static(alloc, policy)?;
+        self.put_both(policy)?;
+        Ok(())
+    }
+
+    /// Takes in a template, last in the order of bodies.
+    ///
+    /// `Occupied` comes where its id is bound. Takes memory to share the template and for its place; a refused call, for
+    /// memory too, leaves both orders as they were.
+    pub fn add_template(&mut self, alloc: Global, template: Template) -> Result<(), PolicySetError>
+        ensures { Steps told_by_set result self.old self.new (add_template_step self.old template) }
+    {
+        if self.is_bound(template.id()) {
+            return Err(PolicySetError::Occupied {
+                id: template.id().clone()?,
+            });
+        }
+        let template = Rc::new(alloc, template)?;
+        self.put_template(template)?;
+        Ok(())
+    }
+
+    /// Takes in a policy, last in its order.
+    ///
+    /// A static policy is refused where its id is bound: `Occupied` names it. A link is refused with its template's id
+    /// where that is bound to anything but an equal template, and then with its own where that is bound or is its
+    /// template's; where its template is missing, it goes in first. Takes memory for the two places and for an id that
+    /// a refusal names, and from the allocator of the set, so that `alloc` stands for the form alone. A refused call,
+    /// for memory too, leaves both orders as they were. In the original a link whose id is a template's, or whose
+    /// missing template has the id of a link, is taken in, and so is a static policy onto an equal template without
+    /// slots and a link onto an equal static policy.
+    pub fn add(&mut self, _alloc: Global, policy: Policy) -> Result<(), PolicySetError>
+        ensures { Steps told_by_set result self.old self.new (add_step self.old policy) }
+    {
+        if policy.is_static() {
+            return self.add_unlinked(policy);
+        }
+        self.add_link(policy)
+    }
+
+    // Takes in a static policy.
+    fn add_unlinked(&mut self, policy: Policy) -> Result<(), PolicySetError>
+        requires { policy.link ≡ None }
+        ensures { Steps told_by_set result self.old self.new (add_static_step self.old policy.template) }
+    {
+        let _whole = policy.is_static();
+        if self.is_bound(policy.id()) {
+            return Err(PolicySetError::Occupied {
+                id: policy.id().clone()?,
+            });
+        }
+        self.put_both(policy)?;
+        Ok(())
+    }
+
+    // Takes in a link, by what the id of its template is bound to.
+    fn add_link(&mut self, policy: Policy) -> Result<(), PolicySetError>
+        requires { policy.link ≡ None → ⊥ }
+        ensures { Steps told_by_set result self.old self.new (add_step self.old policy) }
+    {
+        match self.found(policy.template().id()) {
+            None => self.add_with_template(policy),
+            Some(Found::Template(template)) => {
+                let same = are_same(template, policy.template());
+                self.add_onto(policy, same)
+            }
+            Some(Found::Policy(_policy)) => Err(PolicySetError::Occupied {
+                id: policy.template().id().clone()?,
+            }),
+        }
+    }
+
+    // Takes in a link where a template stands under its template's id, which is equal or not.
+    fn add_onto(&mut self, policy: Policy, same: bool) -> Result<(), PolicySetError>
+        requires link { policy.link ≡ None → ⊥ }
+        requires stands { StandsThere self.old policy.template.id same policy.template }
+        ensures { Steps told_by_set result self.old self.new (add_step self.old policy) }
+    {
+        let _total = policy.env();
+        if !same {
+            return Err(PolicySetError::Occupied {
+                id: policy.template().id().clone()?,
+            });
+        }
+        if self.is_bound(policy.id()) {
+            return Err(PolicySetError::Occupied {
+                id: policy.id().clone()?,
+            });
+        }
+        self.put_policy(policy)?;
+        Ok(())
+    }
+
+    // Takes in a link of which the template is missing.
+    fn add_with_template(&mut self, policy: Policy) -> Result<(), PolicySetError>
+        requires link { policy.link ≡ None → ⊥ }
+        requires missing { bound_at self.old policy.template.id ≡ None }
+        ensures { Steps told_by_set result self.old self.new (add_step self.old policy) }
+    {
+        let _total = policy.env();
+        if either(
+            policy.id() == policy.template().id(),
+            self.is_bound(policy.id()),
+        ) {
+            return Err(PolicySetError::Occupied {
+                id: policy.id().clone()?,
+            });
+        }
+        self.put_both(policy)?;
+        Ok(())
+    }
+
+    // Puts a link of a template in the set last.
+    #[tactic(auto, using(crate::specs::laws::BoardLaws::no_template_step))]
+    fn put_link(
+        &mut self,
+        alloc: Global,
+        template_id: PolicyID,
+        new_id: PolicyID,
+        values: SlotEnv,
+    ) -> Result<(), LinkingError>
+        ensures { Steps told_by_linking result self.old self.new (link_step self.old template_id new_id (env_of values)) }
+    {
+        match self.template(&template_id)? {
+            None => Err(LinkingError::NoSuchTemplate { id: template_id }),
+            Some(template) => self.link_template(alloc, template, new_id, values),
+        }
+    }
+
+    // Puts a link of a template in the set last: to take it out again leaves the former set.
+    #[tactic(auto, using(crate::specs::laws::LinkLaws::link_undone, crate::specs::laws::LinkLaws::link_there))]
+    pub(crate) fn join_link(
+        &mut self,
+        alloc: Global,
+        template_id: PolicyID,
+        new_id: PolicyID,
+        values: SlotEnv,
+    ) -> Result<(), LinkingError>
+        ensures steps { Steps told_by_linking result self.old self.new (link_step self.old template_id new_id (env_of values)) }
+        ensures undone { OnOk result (without self.new new_id ≡ self.old) }
+        ensures there { OnOk result (0 < length self.new.policies) }
+    {
+        self.put_link(alloc, template_id, new_id, values)
+    }
+
+    // A further share of the template with this id, where a template stands there.
+    fn template(&self, id: &PolicyID) -> Result<Option<Rc<Template>>, AllocError>
+        ensures { IfOk result (λ o. MatchOption o (HasNoTemplate (bound_at self.now id.now))
+            (λ t. bound_at self.now id.now ≡ Some (template_binding t.value))) }
+    {
+        match self.found(id) {
+            None => Ok(None),
+            Some(Found::Policy(_policy)) => Ok(None),
+            Some(Found::Template(template)) => Ok(Some(template.clone()?)),
+        }
+    }
+
+    // Puts a link of this template, which stands under its id, last.
+    #[tactic(auto, using(crate::specs::laws::BoardLaws::unfit_is_refused, crate::specs::laws::BoardLaws::fit_is_not_refused, crate::specs::laws::BoardLaws::fit_goes_on))]
+    fn link_template(
+        &mut self,
+        alloc: Global,
+        template: Rc<Template>,
+        new_id: PolicyID,
+        values: SlotEnv,
+    ) -> Result<(), LinkingError>
+        requires { Stands self.old template.value }
+        ensures { Steps told_by_linking result self.old self.new (link_onto template.value self.old new_id (env_of values)) }
+    {
+        check_values(alloc, &template, &values)?;
+        if self.is_bound(&new_id) {
+            return Err(LinkingError::PolicyIdConflict { id: new_id });
+        }
+        let policy = Template::link(alloc, template, new_id, values)?;
+        self.put_policy(policy)?;
+        Ok(())
+    }
+}
+
+// Refuses bindings that don't fit a template's slots.
+fn check_values(alloc: Global, template: &Template, values: &SlotEnv) -> Result<(), LinkingError>
+    ensures { Binds result (body_slots template.now) (env_of values.now) }
+{
+    Template::check_binding(alloc, template, values)
+}
+
+// Whether two templates are equal.
+fn are_same(template: &Template, other: &Template) -> bool
+    ensures { result ≡ same_body template.now other.now }
+{
+    template == other
+}

@@ -1,0 +1,68 @@
+//! The policy that linking made, lent by the set that it stands in.
+ghost use Rattle.std.specs.Prelude.{◌≡◌, ◌<◌, IfOk, Some, length};
+ghost use Rattle.std.specs.Borrow.{sem, RestsIfErr};
+ghost use Rattle.cedar_binding.specs.Views.{env_of};
+ghost use Rattle.cedar_policy_set.specs.Boards.{last_policy, without};
+ghost use Rattle.cedar_policy_set.specs.Refusals.{Answers, told_by_linking};
+ghost use Rattle.cedar_policy_set.specs.Steps.{link_step};
+ghost use Rattle.cedar_policy_set.specs.contracts.policy_set.PolicySet.{the_row};
+
+use crate::policy_set::PolicySet;
+use cedar_ids::policy_id::PolicyID;
+use cedar_policy::{LinkingError, Policy, SlotEnv};
+use std::alloc::Global;
+use std::ops::Deref;
+
+/// The link that a set just took in. It lends the set for as long as it is held, and is read as the policy itself.
+///
+/// The original answers a plain reference to the policy. Beside an error that owns an id no caller could prove from that
+/// what the set became, so this stands in its place.
+#[derive(Debug)]
+pub struct Linked<'a> {
+    set: &'a mut PolicySet,
+    ghost there: { 0 < length set.now.policies },
+}
+
+impl PolicySet {
+    /// Links the template with this id to these bindings under a new id: the link goes last in the order of policies.
+    ///
+    /// Refused in this order: `NoSuchTemplate` where the first id is no template's, also where it is a static policy's;
+    /// `ArityError` as `Template::check_binding` says; `PolicyIdConflict` where the new id is bound. Takes memory for the
+    /// place and for the lists of a refusal; a refused call, for memory too, leaves both orders as they were. To take the
+    /// new link out again leaves the former set, orders included.
+    pub fn link(
+        &mut self,
+        alloc: Global,
+        template_id: PolicyID,
+        new_id: PolicyID,
+        values: SlotEnv,
+    ) -> Result<Linked<'_>, LinkingError>
+        ensures* refused { sem 𝓛 (RestsIfErr the_row self.entry (λ l. l.set.ghost_name) result (λ n. n ≡ self.old)) }
+        ensures same_set { IfOk result (λ l. l.set.ghost_name ≡ self.entry.ghost_name) }
+        ensures steps { Answers told_by_linking (λ l. l.set.now) result (link_step self.old template_id new_id (env_of values)) }
+        ensures undone { IfOk result (λ l. without l.set.now new_id ≡ self.old) }
+    {
+        self.join_link(alloc, template_id, new_id, values)?;
+        Ok(Linked { set: self })
+    }
+}
+
+impl Drop for Linked<'_> {
+    fn drop(self)
+        ensures { self.exit.0.now ≡ self.entry.set.now }
+    {
+        let Linked { set: _set } = self;
+    }
+}
+
+impl Deref for Linked<'_> {
+    type Target = Policy;
+
+    ghost deref_gives = { λ l p. Some p ≡ last_policy l.set.now };
+
+    fn deref(&self) -> &Policy
+        ensures { Some result.now ≡ last_policy self.now.set.now }
+    {
+        self.set.last()
+    }
+}

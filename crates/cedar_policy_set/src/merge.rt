@@ -1,0 +1,438 @@
+//! Merging another policy set into this one.
+ghost use Rattle.std.specs.Prelude.{◌≡◌, ◌&&◌, ◌++◌, ◌+◌, ◌∷◌, [], false, not, length, IfOk, OnOk, IsTrue, List, ℕ};
+ghost use Rattle.std.specs.List.{list_any};
+ghost use Rattle.std.specs.Map.{values_of};
+ghost use Rattle.std.specs.Option.{option_copied};
+ghost use Rattle.cedar_policy_set.specs.Boards.{AreOnce, IsBoard};
+ghost use Rattle.cedar_policy_set.specs.Fresh.{is_bound_in_either};
+ghost use Rattle.cedar_policy_set.specs.Merge.{body_ids, policy_ids, is_same_at, stands_by, conflicting, gathered, conflicts, renamed_body, renamed_policy, joined_bodies, joined_policies, merged, new_id, Merges, AreBelow, bound_ids};
+ghost use Rattle.cedar_policy_set.specs.laws.MergeSteps.{Refuses, with_template_renamed};
+ghost use Rattle.cedar_policy_set.specs.Views.{bodies_of, board_of};
+
+use crate::err::PolicySetError;
+use crate::fresh::fresh_ids;
+use crate::lists::{has_body, has_policy};
+use crate::policy_set::PolicySet;
+use cedar_ids::policy_id::PolicyID;
+use cedar_policy::{Policy, Template};
+use indexmap::{IndexMap, IndexSet};
+use std::alloc::{AllocError, Global};
+use std::rc::Rc;
+
+impl PolicySet {
+    /// Takes in what another set binds, which stays as it is, and answers the ids that were renamed with their new ones.
+    ///
+    /// An id conflicts where both sets bind it to something else: another kind of thing, or bodies, templates or bindings
+    /// that are not equal. Without `rename_duplicates` the first such id is refused as `Occupied`. With it each gets the next of
+    /// the ids `policy0`, `policy1` and so on that neither set binds, first the bodies there that conflict with bodies here,
+    /// then policies with policies, templates there with links here, and links there with templates here. What the other
+    /// set binds goes last, in its orders, each link with its template renamed. Ids of this set keep their places; the
+    /// original moves those that both bind to the back, and takes a template without slots for an equal static policy. What
+    /// both bind alike takes the other's value, which differs in locations alone.
+    ///
+    /// Takes memory for both lists, what is renamed and the answer. A refused call, for memory too, leaves both orders as
+    /// they were: the result is built apart and put in at the end. It costs look-ups for each id of the other set, and a
+    /// walk of this one.
+    #[tactic(auto, using(crate::specs::laws::RenamingLaws::once_free, crate::specs::laws::RenamingLaws::none_bound_of, crate::specs::laws::RenamingLaws::numbers_below))]
+    pub fn merge_policyset(
+        &mut self,
+        alloc: Global,
+        other: &PolicySet,
+        rename_duplicates: bool,
+    ) -> Result<IndexMap<PolicyID, PolicyID>, PolicySetError>
+        ensures merges { Merges (λ r. r.entries) result self.old other.now rename_duplicates self.new }
+        ensures apart { IfOk result (λ r. AreOnce (λ (i : List ℕ). i) (values_of r.entries)) }
+        ensures unbound { IfOk result (λ r. list_any (is_bound_in_either self.old other.now) (values_of r.entries) ≡ false) }
+        ensures below { IfOk result (λ r. AreBelow (length (bound_ids self.old other.now) + length r.entries) (values_of r.entries)) }
+    {
+        let _ = &self.bodies;
+        let _ = &other.bodies;
+        let ids = conflicting_ids(alloc, self, other)?;
+        if let Some(id) = refused(&ids, rename_duplicates) {
+            return Err(PolicySetError::Occupied { id: id.clone()? });
+        }
+        let renaming = fresh_ids(alloc, ids, self, other)?;
+        let bodies = merged_bodies(alloc, self, other, &renaming)?;
+        let policies = merged_policies(alloc, self, other, &renaming)?;
+        self.replace(bodies, policies);
+        Ok(renaming)
+    }
+
+    // Puts other lists in the place of both.
+    fn replace(&mut self, bodies: Vec<Rc<Template>>, policies: Vec<Policy>)
+        requires { IsBoard (board_of bodies.items policies.items) }
+        ensures { self.new ≡ board_of bodies.items policies.items }
+    {
+        self.bodies = bodies;
+        self.policies = policies;
+    }
+}
+
+// The first of some ids, where none may be renamed.
+fn refused<'a>(ids: &'a IndexSet<PolicyID>, rename: bool) -> Option<&'a PolicyID>
+    ensures { Refuses (option_copied result) ids.now.keys rename }
+{
+    if rename {
+        return None;
+    }
+    ids.iter().next()
+}
+
+// The ids that conflict.
+#[tactic(auto, using(crate::specs::laws::MergeSteps::gathered_all))]
+fn conflicting_ids(
+    alloc: Global,
+    here: &PolicySet,
+    other: &PolicySet,
+) -> Result<IndexSet<PolicyID>, AllocError>
+    ensures { IfOk result (λ ids. ids.keys ≡ conflicts here.now other.now) }
+{
+    let mut ids = IndexSet::new(alloc);
+    gather_bodies(&mut ids, here, other, true)?;
+    gather_policies(&mut ids, here, other, false)?;
+    gather_bodies(&mut ids, here, other, false)?;
+    gather_policies(&mut ids, here, other, true)?;
+    Ok(ids)
+}
+
+// Gathers the ids of bodies there that conflict with a body here, or with a policy.
+fn gather_bodies(
+    ids: &mut IndexSet<PolicyID>,
+    here: &PolicySet,
+    other: &PolicySet,
+    bodies: bool,
+) -> Result<(), AllocError>
+    ensures { OnOk result (ids.new.keys ≡ gathered ids.old.keys (conflicting here.now other.now (stands_by bodies here.now) (body_ids other.now))) }
+{
+    for template in other.all_templates() {
+        gather_one(ids, here, other, template.id(), bodies)?;
+    }
+    Ok(())
+}
+
+// Gathers the ids of policies there that conflict with a body here, or with a policy.
+fn gather_policies(
+    ids: &mut IndexSet<PolicyID>,
+    here: &PolicySet,
+    other: &PolicySet,
+    bodies: bool,
+) -> Result<(), AllocError>
+    ensures { OnOk result (ids.new.keys ≡ gathered ids.old.keys (conflicting here.now other.now (stands_by bodies here.now) (policy_ids other.now))) }
+{
+    for policy in other.policies() {
+        gather_one(ids, here, other, policy.id(), bodies)?;
+    }
+    Ok(())
+}
+
+// Gathers an id, if it conflicts with a body here, or with a policy.
+fn gather_one(
+    ids: &mut IndexSet<PolicyID>,
+    here: &PolicySet,
+    other: &PolicySet,
+    id: &PolicyID,
+    bodies: bool,
+) -> Result<(), AllocError>
+    ensures { OnOk result (ids.new.keys ≡ gathered ids.old.keys (conflicting here.now other.now (stands_by bodies here.now) (id.now ∷ []))) }
+{
+    if is_conflicting(here, other, id, bodies) {
+        ids.insert(id.clone()?)?;
+    }
+    Ok(())
+}
+
+// Whether a body here, or a policy, has an id that is not bound alike in both sets.
+fn is_conflicting(here: &PolicySet, other: &PolicySet, id: &PolicyID, bodies: bool) -> bool
+    ensures { result ≡ (stands_by bodies here.now id.now && not (is_same_at here.now other.now id.now)) }
+{
+    stands(here, id, bodies) && !is_same_at(here, other, id)
+}
+
+// Whether a body, or a policy, has an id.
+fn stands(set: &PolicySet, id: &PolicyID, bodies: bool) -> bool
+    ensures { result ≡ stands_by bodies set.now id.now }
+{
+    if bodies {
+        return has_body(&set.bodies, id);
+    }
+    has_policy(&set.policies, id)
+}
+
+// Whether an id is bound alike in both sets.
+fn is_same_at(here: &PolicySet, other: &PolicySet, id: &PolicyID) -> bool
+    ensures { result ≡ is_same_at here.now other.now id.now }
+{
+    here.get(id) == other.get(id) && here.get_template(id) == other.get_template(id)
+}
+
+// The id that a renaming gives.
+fn new_id<'a>(renaming: &'a IndexMap<PolicyID, PolicyID>, id: &'a PolicyID) -> &'a PolicyID
+    ensures { result.now ≡ new_id renaming.now.entries id.now }
+{
+    match renaming.get(id) {
+        Some(new) => new,
+        None => id,
+    }
+}
+
+// The bodies of both sets.
+fn merged_bodies(
+    alloc: Global,
+    here: &PolicySet,
+    other: &PolicySet,
+    renaming: &IndexMap<PolicyID, PolicyID>,
+) -> Result<Vec<Rc<Template>>, AllocError>
+    ensures { IfOk result (λ v. bodies_of v.items ≡ (merged here.now other.now (new_id renaming.now.entries)).bodies) }
+{
+    let mut bodies = Vec::new(alloc);
+    keep_bodies(&mut bodies, &here.bodies, other, renaming)?;
+    join_bodies(alloc, &mut bodies, here, &other.bodies, renaming)?;
+    Ok(bodies)
+}
+
+// Puts the bodies of this set last.
+fn keep_bodies(
+    bodies: &mut Vec<Rc<Template>>,
+    ours: &[Rc<Template>],
+    other: &PolicySet,
+    renaming: &IndexMap<PolicyID, PolicyID>,
+) -> Result<(), AllocError>
+    ensures { OnOk result (bodies_of bodies.new.items ≡ bodies_of bodies.old.items ++ bodies_of ours.now) }
+{
+    for template in ours {
+        keep_body(bodies, template, other, renaming)?;
+    }
+    Ok(())
+}
+
+// Puts a body of this set last.
+fn keep_body(
+    bodies: &mut Vec<Rc<Template>>,
+    template: &Rc<Template>,
+    other: &PolicySet,
+    renaming: &IndexMap<PolicyID, PolicyID>,
+) -> Result<(), AllocError>
+    ensures { OnOk result (bodies_of bodies.new.items ≡ bodies_of bodies.old.items ++ template.now.value ∷ []) }
+{
+    bodies.push(kept_body(template, other, renaming)?)?;
+    Ok(())
+}
+
+// A body of this set: the other's, if it is the same there.
+fn kept_body(
+    template: &Rc<Template>,
+    other: &PolicySet,
+    renaming: &IndexMap<PolicyID, PolicyID>,
+) -> Result<Rc<Template>, AllocError>
+    ensures { IfOk result (λ t. t.value ≡ template.now.value) }
+{
+    if renaming.contains_key(template.id()) {
+        return template.clone();
+    }
+    match other.get_template_arc(template.id()) {
+        None => template.clone(),
+        Some(theirs) => {
+            if is_body(theirs, template) {
+                theirs.clone()
+            } else {
+                template.clone()
+            }
+        }
+    }
+}
+
+// Whether a template is another.
+#[tactic(auto, using(crate::specs::laws::MergeSteps::same_body_is))]
+fn is_body(template: &Template, other: &Template) -> bool
+    ensures { IsTrue result → (template.now ≡ other.now) }
+{
+    template == other
+}
+
+// Puts the bodies of the other set last, but those that are bound here.
+fn join_bodies(
+    alloc: Global,
+    bodies: &mut Vec<Rc<Template>>,
+    here: &PolicySet,
+    theirs: &[Rc<Template>],
+    renaming: &IndexMap<PolicyID, PolicyID>,
+) -> Result<(), AllocError>
+    ensures { OnOk result (bodies_of bodies.new.items ≡ bodies_of bodies.old.items ++ joined_bodies here.now (new_id renaming.now.entries) (bodies_of theirs.now)) }
+{
+    for template in theirs {
+        join_body(alloc, bodies, here, template, renaming)?;
+    }
+    Ok(())
+}
+
+// Puts a body of the other set last, if it is not bound here.
+fn join_body(
+    alloc: Global,
+    bodies: &mut Vec<Rc<Template>>,
+    here: &PolicySet,
+    template: &Rc<Template>,
+    renaming: &IndexMap<PolicyID, PolicyID>,
+) -> Result<(), AllocError>
+    ensures { OnOk result (bodies_of bodies.new.items ≡ bodies_of bodies.old.items ++ joined_bodies here.now (new_id renaming.now.entries) (template.now.value ∷ [])) }
+{
+    if !here.is_bound(new_id(renaming, template.id())) {
+        bodies.push(renamed_body(alloc, template, renaming)?)?;
+    }
+    Ok(())
+}
+
+// A body under its new id.
+fn renamed_body(
+    alloc: Global,
+    template: &Rc<Template>,
+    renaming: &IndexMap<PolicyID, PolicyID>,
+) -> Result<Rc<Template>, AllocError>
+    ensures { IfOk result (λ t. t.value ≡ renamed_body (new_id renaming.now.entries) template.now.value) }
+{
+    match renaming.get(template.id()) {
+        None => template.clone(),
+        Some(id) => Ok(Rc::new(alloc, template.new_id(id.clone()?)?)?),
+    }
+}
+
+// The policies of both sets.
+fn merged_policies(
+    alloc: Global,
+    here: &PolicySet,
+    other: &PolicySet,
+    renaming: &IndexMap<PolicyID, PolicyID>,
+) -> Result<Vec<Policy>, AllocError>
+    ensures { IfOk result (λ v. v.items ≡ (merged here.now other.now (new_id renaming.now.entries)).policies) }
+{
+    let mut policies = Vec::new(alloc);
+    keep_policies(&mut policies, &here.policies, other, renaming)?;
+    join_policies(alloc, &mut policies, here, &other.policies, renaming)?;
+    Ok(policies)
+}
+
+// Puts the policies of this set last.
+fn keep_policies(
+    policies: &mut Vec<Policy>,
+    ours: &[Policy],
+    other: &PolicySet,
+    renaming: &IndexMap<PolicyID, PolicyID>,
+) -> Result<(), AllocError>
+    ensures { OnOk result (policies.new.items ≡ policies.old.items ++ ours.now) }
+{
+    for policy in ours {
+        keep_policy(policies, policy, other, renaming)?;
+    }
+    Ok(())
+}
+
+// Puts a policy of this set last.
+fn keep_policy(
+    policies: &mut Vec<Policy>,
+    policy: &Policy,
+    other: &PolicySet,
+    renaming: &IndexMap<PolicyID, PolicyID>,
+) -> Result<(), AllocError>
+    ensures { OnOk result (policies.new.items ≡ policies.old.items ++ policy.now ∷ []) }
+{
+    policies.push(kept_policy(policy, other, renaming)?)?;
+    Ok(())
+}
+
+// A policy of this set: the other's, if it is the same there.
+fn kept_policy(
+    policy: &Policy,
+    other: &PolicySet,
+    renaming: &IndexMap<PolicyID, PolicyID>,
+) -> Result<Policy, AllocError>
+    ensures { IfOk result (λ p. p ≡ policy.now) }
+{
+    if renaming.contains_key(policy.id()) {
+        return policy.clone();
+    }
+    match other.get(policy.id()) {
+        None => policy.clone(),
+        Some(theirs) => {
+            if is_policy(theirs, policy) {
+                theirs.clone()
+            } else {
+                policy.clone()
+            }
+        }
+    }
+}
+
+// Whether a policy is another.
+#[tactic(auto, using(crate::specs::laws::MergeSteps::same_policy_is))]
+fn is_policy(policy: &Policy, other: &Policy) -> bool
+    ensures { IsTrue result → (policy.now ≡ other.now) }
+{
+    policy == other
+}
+
+// Puts the policies of the other set last, but those that are bound here.
+fn join_policies(
+    alloc: Global,
+    policies: &mut Vec<Policy>,
+    here: &PolicySet,
+    theirs: &[Policy],
+    renaming: &IndexMap<PolicyID, PolicyID>,
+) -> Result<(), AllocError>
+    ensures { OnOk result (policies.new.items ≡ policies.old.items ++ joined_policies here.now (new_id renaming.now.entries) theirs.now) }
+{
+    for policy in theirs {
+        join_policy(alloc, policies, here, policy, renaming)?;
+    }
+    Ok(())
+}
+
+// Puts a policy of the other set last, if it is not bound here.
+fn join_policy(
+    alloc: Global,
+    policies: &mut Vec<Policy>,
+    here: &PolicySet,
+    policy: &Policy,
+    renaming: &IndexMap<PolicyID, PolicyID>,
+) -> Result<(), AllocError>
+    ensures { OnOk result (policies.new.items ≡ policies.old.items ++ joined_policies here.now (new_id renaming.now.entries) (policy.now ∷ [])) }
+{
+    if !here.is_bound(new_id(renaming, policy.id())) {
+        policies.push(renamed_policy(alloc, policy, renaming)?)?;
+    }
+    Ok(())
+}
+
+// A policy under its new id, a link with its template under its own.
+#[tactic(auto, using(crate::specs::laws::MergeSteps::renamed_whole))]
+fn renamed_policy(
+    alloc: Global,
+    policy: &Policy,
+    renaming: &IndexMap<PolicyID, PolicyID>,
+) -> Result<Policy, AllocError>
+    ensures { IfOk result (λ p. p ≡ renamed_policy (new_id renaming.now.entries) policy.now) }
+{
+    let renamed = with_renamed_template(alloc, policy, renaming)?;
+    match renaming.get(policy.id()) {
+        None => Ok(renamed),
+        Some(id) => renamed.new_id(alloc, id.clone()?),
+    }
+}
+
+// A link with its template under its new id; a static policy as it is.
+fn with_renamed_template(
+    alloc: Global,
+    policy: &Policy,
+    renaming: &IndexMap<PolicyID, PolicyID>,
+) -> Result<Policy, AllocError>
+    ensures { IfOk result (λ p. p ≡ with_template_renamed (new_id renaming.now.entries) policy.now) }
+{
+    match renaming.get(policy.template().id()) {
+        None => policy.clone(),
+        Some(id) => {
+            let copy = policy.clone()?;
+            match copy.new_template_id(alloc, id.clone()?)? {
+                None => policy.clone(),
+                Some(renamed) => Ok(renamed),
+            }
+        }
+    }
+}

@@ -1,0 +1,136 @@
+//! How policy sets are written.
+ghost use Rattle.std.specs.Prelude.{◌≡◌, ◌&&◌, ◌++◌, true};
+ghost use Rattle.std.specs.Fmt.{WritesOnOk};
+ghost use Rattle.std.specs.List.{list_all, flat_map};
+ghost use Rattle.cedar_policy_set.specs.BoardTexts.{board_output, bodies_text, body_line, known_body, is_known_body, is_known_policy, orders_text, policies_text, policy_line, titled_text};
+ghost use Rattle.cedar_policy_set.specs.Views.{bodies_of};
+
+use crate::policy_set::{PolicySet, are_empty};
+use cedar_policy::{Policy, Template};
+use std::fmt;
+use std::rc::Rc;
+
+impl fmt::Display for PolicySet {
+    ghost output = { board_output };
+
+    /// Writes all bodies and then all policies, each on lines of its own; of a set without a binding it says that. It takes
+    /// no memory.
+    fn fmt<W: fmt::Write>(&self, f: &mut fmt::Formatter<W>) -> fmt::Result {
+        write_orders(&self.bodies, &self.policies, f)
+    }
+}
+
+// Writes the two orders.
+#[tactic(auto, using(crate::proofs::Written::empty_text, crate::proofs::Written::full_text))]
+fn write_orders<W: fmt::Write>(
+    bodies: &[Rc<Template>],
+    policies: &[Policy],
+    f: &mut fmt::Formatter<W>,
+) -> fmt::Result
+    ensures { (list_all is_known_body (bodies_of bodies.now) && list_all is_known_policy policies.now) ≡ true
+        → WritesOnOk W.write_str_gives f.old result (orders_text (bodies_of bodies.now) policies.now) f.new }
+{
+    if are_empty(bodies, policies) {
+        return f.write_str("<empty policyset>");
+    }
+    write_titled(bodies, policies, f)
+}
+
+// Writes the two orders, each under its title.
+fn write_titled<W: fmt::Write>(
+    bodies: &[Rc<Template>],
+    policies: &[Policy],
+    f: &mut fmt::Formatter<W>,
+) -> fmt::Result
+    ensures { (list_all is_known_body (bodies_of bodies.now) && list_all is_known_policy policies.now) ≡ true
+        → WritesOnOk W.write_str_gives f.old result (titled_text (bodies_of bodies.now) policies.now) f.new }
+{
+    f.write_str("Templates:\n")?;
+    write_bodies(bodies, f)?;
+    f.write_str(", Template Linked Policies:\n")?;
+    write_policies(policies, f)
+}
+
+// Writes bodies, parted by line feeds.
+fn write_bodies<W: fmt::Write>(bodies: &[Rc<Template>], f: &mut fmt::Formatter<W>) -> fmt::Result
+    ensures { list_all is_known_body (bodies_of bodies.now) ≡ true
+        → WritesOnOk W.write_str_gives f.old result (bodies_text (bodies_of bodies.now)) f.new }
+{
+    match bodies.split_first() {
+        None => Ok(()),
+        Some((first, rest)) => write_parted(first, rest, f),
+    }
+}
+
+// Writes a body, and others after it, each after a line feed.
+#[tactic(auto, using(crate::proofs::Told::lines_told, crate::proofs::Told::known_told))]
+fn write_parted<W: fmt::Write>(
+    first: &Template,
+    rest: &[Rc<Template>],
+    f: &mut fmt::Formatter<W>,
+) -> fmt::Result
+    ensures { (is_known_body first.now && list_all is_known_body (bodies_of rest.now)) ≡ true
+        → WritesOnOk W.write_str_gives f.old result (known_body first.now ++ flat_map body_line (bodies_of rest.now)) f.new }
+{
+    write_body(first, f)?;
+    write_body_lines(rest, f)
+}
+
+// Writes a body after a line feed.
+#[tactic(auto, using(crate::proofs::Told::known_text))]
+fn write_body_line<W: fmt::Write>(body: &Template, f: &mut fmt::Formatter<W>) -> fmt::Result
+    ensures { is_known_body body.now ≡ true
+        → WritesOnOk W.write_str_gives f.old result (body_line body.now) f.new }
+{
+    write!(f, "\n{body}")
+}
+
+// Writes a body.
+#[tactic(auto, using(crate::proofs::Told::known_text))]
+fn write_body<W: fmt::Write>(body: &Template, f: &mut fmt::Formatter<W>) -> fmt::Result
+    ensures { is_known_body body.now ≡ true
+        → WritesOnOk W.write_str_gives f.old result (known_body body.now) f.new }
+{
+    write!(f, "{body}")
+}
+
+// Writes bodies, each after a line feed.
+fn write_body_lines<W: fmt::Write>(
+    bodies: &[Rc<Template>],
+    f: &mut fmt::Formatter<W>,
+) -> fmt::Result
+    ensures { list_all (λ t. is_known_body t.value) bodies.now ≡ true
+        → WritesOnOk W.write_str_gives f.old result (flat_map (λ t. body_line t.value) bodies.now) f.new }
+{
+    for body in bodies {
+        write_body_line(body, f)?;
+    }
+    Ok(())
+}
+
+// Writes policies, parted by line feeds.
+#[tactic(auto, using(crate::proofs::Told::known_text))]
+fn write_policies<W: fmt::Write>(policies: &[Policy], f: &mut fmt::Formatter<W>) -> fmt::Result
+    ensures { list_all is_known_policy policies.now ≡ true
+        → WritesOnOk W.write_str_gives f.old result (policies_text policies.now) f.new }
+{
+    match policies.split_first() {
+        None => Ok(()),
+        Some((first, rest)) => {
+            write!(f, "{first}")?;
+            write_policy_lines(rest, f)
+        }
+    }
+}
+
+// Writes policies, each after a line feed.
+#[tactic(auto, using(crate::proofs::Told::known_text))]
+fn write_policy_lines<W: fmt::Write>(policies: &[Policy], f: &mut fmt::Formatter<W>) -> fmt::Result
+    ensures { list_all is_known_policy policies.now ≡ true
+        → WritesOnOk W.write_str_gives f.old result (flat_map policy_line policies.now) f.new }
+{
+    for policy in policies {
+        write!(f, "\n{policy}")?;
+    }
+    Ok(())
+}

@@ -1,0 +1,76 @@
+//! Whether the links and the bodies of a policy set are valid.
+ghost use Rattle.std.specs.Prelude.{◌≡◌, OnOk, IfErr, All};
+ghost use Rattle.std.specs.List.{find};
+ghost use Rattle.std.specs.Option.{option_copied};
+ghost use Rattle.cedar_policy_set.specs.Validity.{is_slotless_link, IsValidBody, ValidatesSet};
+ghost use Rattle.cedar_policy_set.specs.Views.{bodies_of};
+ghost use Rattle.cedar_policy_set.specs.laws.BodyFaults.{IsBodyFault, IsFirstFault};
+
+use crate::err::PolicySetValidationError;
+use crate::lists::{has_no_slots, is_link};
+use crate::policy_set::PolicySet;
+use cedar_policy::{Policy, Template, TemplateValidationError};
+use std::alloc::Global;
+use std::rc::Rc;
+
+impl PolicySet {
+    /// The set itself, if its links and its bodies are valid; else the first fault.
+    ///
+    /// `LinkToSlotlessTemplate` names the first link, in the order of policies, of a template without slots; else
+    /// `InvalidTemplate` has the first body, in the order of bodies, that `Template::try_validate` refuses, with its error.
+    /// Takes memory for a copy of each body and as that call does; `Memory` comes only where that was refused. A refusal
+    /// drops the set.
+    pub fn try_validate(self, alloc: Global) -> Result<PolicySet, PolicySetValidationError>
+        ensures { ValidatesSet result self }
+    {
+        if let Some(link) = first_slotless(&self.policies) {
+            return Err(PolicySetValidationError::LinkToSlotlessTemplate {
+                link_id: link.id().clone()?,
+                template_id: link.template().id().clone()?,
+            });
+        }
+        validate_bodies(alloc, &self.bodies)?;
+        Ok(self)
+    }
+}
+
+// The first link of a template without slots.
+fn first_slotless(policies: &[Policy]) -> Option<&Policy>
+    ensures { option_copied result ≡ find is_slotless_link policies.now }
+{
+    policies.iter().find(|p| is_slotless_link(p))
+}
+
+// Whether a policy is a link of a template without slots.
+fn is_slotless_link(policy: &Policy) -> bool
+    ensures { result ≡ is_slotless_link policy.now }
+{
+    is_link(policy) && has_no_slots(policy.template())
+}
+
+// Refuses the first body that is not valid.
+#[tactic(auto, using(crate::specs::laws::ListSteps::all_bodies))]
+fn validate_bodies(alloc: Global, bodies: &[Rc<Template>]) -> Result<(), PolicySetValidationError>
+    ensures ok { OnOk result (All IsValidBody (bodies_of bodies.now)) }
+    ensures err { IfErr result (λ e. IsFirstFault e (bodies_of bodies.now)) }
+{
+    for template in bodies {
+        validate_body(alloc, template)?;
+    }
+    Ok(())
+}
+
+// Refuses a body that is not valid.
+fn validate_body(alloc: Global, template: &Template) -> Result<(), PolicySetValidationError>
+    ensures ok { OnOk result (IsValidBody template.now) }
+    ensures err { IfErr result (λ e. IsBodyFault e template.now) }
+{
+    match template.clone()?.try_validate(alloc) {
+        Ok(_valid) => Ok(()),
+        Err(TemplateValidationError::Memory) => Err(PolicySetValidationError::Memory),
+        Err(error) => {
+            let id = template.id().clone()?;
+            Err(PolicySetValidationError::InvalidTemplate { id, error })
+        }
+    }
+}

@@ -1,0 +1,259 @@
+// Many lists of calls, each on a set and on the board that it stands for.
+use super::board::{Body, Row, after, empty};
+use super::notation::{Call, Said, Verb, call_of, unlinked};
+use super::script::{board_of, done};
+use cedar_policy_set::PolicySet;
+use std::alloc::Global;
+use std::test::Fail;
+
+// How many lists there were, how many calls in them, how many of those were refused, and after how
+// many the set was another than the board or had answered something else.
+#[derive(Clone, Copy, Drop)]
+struct Tally {
+    lists: u32,
+    calls: u32,
+    refused: u32,
+    differs: u32,
+}
+
+fn nothing() -> Tally {
+    Tally {
+        lists: 0,
+        calls: 0,
+        refused: 0,
+        differs: 0,
+    }
+}
+
+fn more(count: &mut u32) {
+    *count = count.wrapping_add(1);
+}
+
+fn is_refusal(said: Said) -> bool {
+    matches!(said, Said::Refused(_, _) | Said::Arity(_, _) | Said::Memory)
+}
+
+// Tells of a call: what the set answered, and whether all was as it should be.
+fn tell(tally: &mut Tally, said: Said, held: bool) {
+    more(&mut tally.calls);
+    if is_refusal(said) {
+        more(&mut tally.refused);
+    }
+    if !held {
+        more(&mut tally.differs);
+    }
+}
+
+// Makes calls on the empty set and on the empty board; after each the answers and both orders have
+// to be the same.
+fn compare(alloc: Global, tally: &mut Tally, calls: &[Call]) -> Result<(), Fail> {
+    more(&mut tally.lists);
+    let mut set = PolicySet::new(alloc);
+    let mut board = empty();
+    for call in calls {
+        let said = done(alloc, &mut set, call)?;
+        let held = said == after(&mut board, call) && board_of(&set) == board;
+        tell(tally, said, held);
+    }
+    Ok(())
+}
+
+// Calls over two ids of each kind, one of which, `a`, all kinds share.
+const CALLS: [&str; 25] = [
+    "static a",
+    "static s",
+    "template a1",
+    "template t",
+    "template t1",
+    "add a",
+    "add a=t",
+    "add a=t1+1x",
+    "add l=t1+1x",
+    "add l=a1+1x",
+    "add a=a1+1x",
+    "add l=s",
+    "link a=t+1x",
+    "link l=t+1x",
+    "link l=a+1x",
+    "link l=t",
+    "unlink a",
+    "unlink l",
+    "remove_static a",
+    "remove_static s",
+    "remove_static l",
+    "remove_template a",
+    "remove_template t",
+    "links a",
+    "links t",
+];
+
+// Those calls.
+fn calls(alloc: Global) -> Result<Vec<Call>, Fail> {
+    let mut calls = Vec::new(alloc);
+    for text in CALLS {
+        calls.push(call_of(text))?;
+    }
+    Ok(calls)
+}
+
+// Each list of three calls that begins with these two.
+fn all_of_two(
+    alloc: Global,
+    tally: &mut Tally,
+    all: &[Call],
+    one: Call,
+    two: Call,
+) -> Result<(), Fail> {
+    for three in all {
+        compare(alloc, tally, &[one, two, *three])?;
+    }
+    Ok(())
+}
+
+// Each list of three calls that begins with this one.
+fn all_of_one(alloc: Global, tally: &mut Tally, all: &[Call], one: Call) -> Result<(), Fail> {
+    for two in all {
+        all_of_two(alloc, tally, all, one, *two)?;
+    }
+    Ok(())
+}
+
+fn all_of_three(alloc: Global, all: &[Call]) -> Result<Tally, Fail> {
+    let mut tally = nothing();
+    for one in all {
+        all_of_one(alloc, &mut tally, all, *one)?;
+    }
+    Ok(tally)
+}
+
+#[test]
+fn each_list_of_three_calls_leaves_its_board(rt: HostRuntime) -> Result<(), Fail> {
+    let alloc = rt.alloc();
+    let all = calls(alloc)?;
+    let tally = all_of_three(alloc, &all)?;
+    assert_eq!(rt; tally.differs, 0);
+    assert_eq!(rt; tally.lists, 15_625);
+    assert_eq!(rt; tally.calls, 46_875);
+    assert!(rt; tally.refused > 10_000 && tally.refused < 35_000);
+    Ok(())
+}
+
+// The next of a sequence of numbers that has no visible order.
+fn draw(seed: &mut u64) -> u64 {
+    *seed = seed
+        .wrapping_mul(6_364_136_223_846_793_005)
+        .wrapping_add(1_442_695_040_888_963_407);
+    *seed >> 33
+}
+
+// A number below this one, which is not 0.
+fn below(seed: &mut u64, end: u8) -> u8 {
+    let [low, ..] = (draw(seed) % u64::from(end.max(1))).to_le_bytes();
+    low
+}
+
+// One of six letters.
+fn drawn_letter(seed: &mut u64) -> u8 {
+    b'a'.wrapping_add(below(seed, 6))
+}
+
+// No slot, the principal's, or both, and now and then one that forbids.
+fn drawn_body(seed: &mut u64) -> Body {
+    let slots = match below(seed, 4) {
+        0 | 1 => 0,
+        2 => 1,
+        _ => 21,
+    };
+    Body {
+        id: drawn_letter(seed),
+        slots,
+        mark: if below(seed, 8) == 0 { b'!' } else { 0 },
+    }
+}
+
+// A body without slots.
+fn drawn_static(seed: &mut u64) -> Row {
+    let body = drawn_body(seed);
+    unlinked(Body {
+        id: body.id,
+        slots: 0,
+        mark: body.mark,
+    })
+}
+
+// The letter for a slot, where it is to be bound.
+fn drawn_value(seed: &mut u64, bound: bool) -> u8 {
+    let letter = b'x'.wrapping_add(below(seed, 2));
+    if bound { letter } else { 0 }
+}
+
+// A link of which the bindings fit.
+fn drawn_link(seed: &mut u64) -> Row {
+    let body = drawn_body(seed);
+    let id = drawn_letter(seed);
+    let principal = drawn_value(seed, body.slots % 10 == 1);
+    let resource = drawn_value(seed, body.slots / 10 == 2);
+    Row {
+        id,
+        body,
+        link: true,
+        principal,
+        resource,
+    }
+}
+
+fn drawn_row(seed: &mut u64) -> Row {
+    if below(seed, 4) == 0 {
+        return drawn_static(seed);
+    }
+    drawn_link(seed)
+}
+
+fn drawn_template(seed: &mut u64) -> Row {
+    unlinked(drawn_body(seed))
+}
+
+fn drawn_call(seed: &mut u64) -> Call {
+    let (verb, row) = match below(seed, 16) {
+        0 | 1 => (Verb::Static, drawn_static(seed)),
+        2 | 3 | 4 => (Verb::Template, drawn_template(seed)),
+        5 | 6 | 7 => (Verb::Add, drawn_row(seed)),
+        8 | 9 | 10 => (Verb::Link, drawn_link(seed)),
+        11 | 12 => (Verb::Unlink, drawn_link(seed)),
+        13 => (Verb::RemoveStatic, drawn_static(seed)),
+        14 => (Verb::RemoveTemplate, drawn_template(seed)),
+        _ => (Verb::Links, drawn_template(seed)),
+    };
+    Call { verb, row }
+}
+
+// Up to eight calls.
+fn drawn_calls(alloc: Global, seed: &mut u64) -> Result<Vec<Call>, Fail> {
+    let mut calls = Vec::new(alloc);
+    let count = below(seed, 8).wrapping_add(1);
+    for _call in 0..count {
+        calls.push(drawn_call(seed))?;
+    }
+    Ok(calls)
+}
+
+// This many lists.
+fn all_drawn(alloc: Global, count: u16) -> Result<Tally, Fail> {
+    let mut tally = nothing();
+    let mut seed = 2_026;
+    for _list in 0..count {
+        let calls = drawn_calls(alloc, &mut seed)?;
+        compare(alloc, &mut tally, &calls)?;
+    }
+    Ok(tally)
+}
+
+#[test]
+fn longer_lists_of_calls_leave_their_board(rt: HostRuntime) -> Result<(), Fail> {
+    let tally = all_drawn(rt.alloc(), 20_000)?;
+    assert_eq!(rt; tally.differs, 0);
+    assert_eq!(rt; tally.lists, 20_000);
+    assert!(rt; tally.calls > 80_000 && tally.calls < 100_000);
+    assert!(rt; tally.refused > 20_000 && tally.refused < 70_000);
+    Ok(())
+}

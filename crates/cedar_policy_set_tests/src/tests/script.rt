@@ -1,0 +1,473 @@
+// Calls on a policy set, by the short texts of `notation`.
+use super::board::{Board, Body, Row, empty, put_body, put_row};
+use super::notation::{Call, Said, Verb, Why, behind, call_of, joined, told_text};
+use super::uid;
+use cedar_ids::entity::EntityUID;
+use cedar_ids::name::Name;
+use cedar_ids::policy_id::PolicyID;
+use cedar_policy::{Effect, LinkingError, Policy, SlotEnv, StaticPolicy, Template};
+use cedar_policy_set::{
+    LinkedIds, PolicySet, PolicySetError, PolicySetGetLinksError, PolicySetPolicyRemovalError,
+    PolicySetTemplateRemovalError, PolicySetUnlinkError,
+};
+use cedar_scope::{ActionConstraint, Annotations, PrincipalConstraint, ResourceConstraint};
+use cedar_terms::expr::Expr;
+use cedar_terms::slot::SlotId;
+use std::alloc::Global;
+use std::collections::HashMap;
+use std::rc::Rc;
+use std::test::Fail;
+
+// The id that is a letter; `P` to `Y` stand for `policy0` to `policy9`.
+pub(super) fn id_of(alloc: Global, letter: u8) -> Result<PolicyID, Fail> {
+    let mut text = String::new(alloc);
+    if letter.is_ascii_uppercase() {
+        text.push_str("policy")?;
+        text.push(char::from(letter.wrapping_sub(b'P').wrapping_add(b'0')))?;
+        return Ok(PolicyID::from_smolstr(text));
+    }
+    text.push(char::from(letter))?;
+    Ok(PolicyID::from_smolstr(text))
+}
+
+// The uid of type `A` with a letter.
+fn uid_of(alloc: Global, letter: u8) -> Result<EntityUID, Fail> {
+    let mut text = String::new(alloc);
+    text.push(char::from(letter))?;
+    uid(alloc, text.as_str())
+}
+
+// The digits of the slots in the scope: all but the first, if that stands in the clause.
+fn in_scope(body: Body) -> u32 {
+    if body.mark != b'?' {
+        return body.slots;
+    }
+    match body.slots {
+        0..10 => 0,
+        10..100 => body.slots % 10,
+        _ => body.slots % 100,
+    }
+}
+
+fn principal_of(body: Body) -> PrincipalConstraint {
+    if in_scope(body) % 10 == 1 {
+        return PrincipalConstraint::is_eq_slot();
+    }
+    PrincipalConstraint::any()
+}
+
+fn resource_of(body: Body) -> ResourceConstraint {
+    let slots = in_scope(body);
+    if slots / 10 == 2 || slots == 2 {
+        return ResourceConstraint::is_in_slot();
+    }
+    ResourceConstraint::any()
+}
+
+fn effect_of(body: Body) -> Effect {
+    if body.mark == b'!' {
+        return Effect::Forbid;
+    }
+    Effect::Permit
+}
+
+fn action_of(alloc: Global, body: Body) -> Result<ActionConstraint, Fail> {
+    let ty = match body.mark {
+        b'@' => "User",
+        b'%' => "Action",
+        _ => return Ok(ActionConstraint::any()),
+    };
+    let x = EntityUID::with_eid_and_type(alloc, ty, "x")?;
+    Ok(ActionConstraint::is_eq(alloc, x)?)
+}
+
+// The slot that is the clause.
+fn slot_of(body: Body) -> SlotId {
+    match body.slots {
+        2 | 20..30 | 200..300 => SlotId::Resource,
+        _ => SlotId::Principal,
+    }
+}
+
+// `foo()`
+fn call_of_foo(alloc: Global) -> Result<Expr, Fail> {
+    let name = Name::from_normalized_str(alloc, "foo")?;
+    Ok(Expr::call(alloc, name, Vec::new(alloc))?)
+}
+
+fn clause_of(alloc: Global, body: Body) -> Result<Option<Expr>, Fail> {
+    match body.mark {
+        b'?' => Ok(Some(Expr::slot(alloc, slot_of(body))?)),
+        b'~' => Ok(Some(call_of_foo(alloc)?)),
+        _ => Ok(None),
+    }
+}
+
+// The template that a body is.
+pub(super) fn template_of(alloc: Global, body: Body) -> Result<Template, Fail> {
+    let id = id_of(alloc, body.id)?;
+    let action = action_of(alloc, body)?;
+    let clause = clause_of(alloc, body)?;
+    let template = Template::new(
+        alloc,
+        id,
+        None,
+        Annotations::new(alloc),
+        effect_of(body),
+        principal_of(body),
+        action,
+        resource_of(body),
+        clause,
+    );
+    Ok(template?)
+}
+
+// The static policy that a body is.
+pub(super) fn static_of(alloc: Global, body: Body) -> Result<StaticPolicy, Fail> {
+    let template = template_of(alloc, body)?;
+    Ok(StaticPolicy::try_from(template)?)
+}
+
+// Binds a slot, where there is a letter for it.
+fn bind(alloc: Global, values: &mut SlotEnv, slot: SlotId, letter: u8) -> Result<(), Fail> {
+    if letter == 0 {
+        return Ok(());
+    }
+    let value = uid_of(alloc, letter)?;
+    drop(values.insert(slot, value)?);
+    Ok(())
+}
+
+// The bindings of a link.
+fn values_of(alloc: Global, row: Row) -> Result<SlotEnv, Fail> {
+    let mut values = HashMap::new(alloc);
+    bind(alloc, &mut values, SlotId::Principal, row.principal)?;
+    bind(alloc, &mut values, SlotId::Resource, row.resource)?;
+    Ok(values)
+}
+
+// The link that a row is.
+fn link_of(alloc: Global, row: Row) -> Result<Policy, Fail> {
+    let template = Rc::new(alloc, template_of(alloc, row.body)?)?;
+    let id = id_of(alloc, row.id)?;
+    let values = values_of(alloc, row)?;
+    Ok(Template::link(alloc, template, id, values)?)
+}
+
+// The policy that a row is.
+pub(super) fn policy_of(alloc: Global, row: Row) -> Result<Policy, Fail> {
+    if row.link {
+        return link_of(alloc, row);
+    }
+    let policy = static_of(alloc, row.body)?;
+    Ok(Policy::from_static(alloc, policy)?)
+}
+
+// The letter that a text is, or a question mark.
+fn letter(text: &str) -> u8 {
+    match text.as_bytes() {
+        [letter] => *letter,
+        _ => b'?',
+    }
+}
+
+// The letter of an id.
+pub(super) fn letter_of(id: &PolicyID) -> u8 {
+    match id.as_ref().strip_prefix("policy") {
+        Some(number) => letter(number).wrapping_sub(b'0').wrapping_add(b'P'),
+        None => letter(id.as_ref()),
+    }
+}
+
+// The digit of a slot.
+fn digit(slot: SlotId) -> u32 {
+    match slot {
+        SlotId::Principal => 1,
+        SlotId::Resource => 2,
+    }
+}
+
+// The digits of the slots of a template.
+fn slots_of(template: &Template) -> u32 {
+    let mut digits = 0;
+    for slot in template.slots() {
+        digits = behind(digits, digit(slot.id));
+    }
+    digits
+}
+
+// The digits of a list.
+fn digits_of(slots: &[SlotId]) -> u32 {
+    let mut digits = 0;
+    for slot in slots {
+        digits = behind(digits, digit(*slot));
+    }
+    digits
+}
+
+// The mark of a template, or 0. One with a clause has a slot there, if it has slots.
+fn mark_of(template: &Template) -> u8 {
+    if matches!(template.effect(), Effect::Forbid) {
+        return b'!';
+    }
+    if let ActionConstraint::Eq(uid) = template.action_constraint() {
+        return if uid.is_action() { b'%' } else { b'@' };
+    }
+    match template.non_scope_constraints() {
+        Some(_) if slots_of(template) == 0 => b'~',
+        Some(_) => b'?',
+        None => 0,
+    }
+}
+
+// The body that a template is.
+pub(super) fn body_of(template: &Template) -> Body {
+    Body {
+        id: letter_of(template.id()),
+        slots: slots_of(template),
+        mark: mark_of(template),
+    }
+}
+
+// The letter that a slot is bound to, or 0.
+fn bound_in(values: &SlotEnv, slot: SlotId) -> u8 {
+    match values.get(&slot) {
+        Some(uid) => letter(uid.eid().as_ref()),
+        None => 0,
+    }
+}
+
+// The row that a policy is.
+pub(super) fn row_of(policy: &Policy) -> Row {
+    Row {
+        id: letter_of(policy.id()),
+        body: body_of(policy.template()),
+        link: !policy.is_static(),
+        principal: bound_in(policy.env(), SlotId::Principal),
+        resource: bound_in(policy.env(), SlotId::Resource),
+    }
+}
+
+// The bodies of a set in their order.
+fn put_bodies(set: &PolicySet, board: &mut Board) {
+    for template in set.all_templates() {
+        put_body(board, body_of(template));
+    }
+}
+
+// The policies of a set in their order.
+fn put_rows(set: &PolicySet, board: &mut Board) {
+    for policy in set.policies() {
+        put_row(board, row_of(policy));
+    }
+}
+
+// Both orders of a set.
+pub(super) fn board_of(set: &PolicySet) -> Board {
+    let mut board = empty();
+    put_bodies(set, &mut board);
+    put_rows(set, &mut board);
+    board
+}
+
+// What joining answers.
+pub(super) fn said_by_set(answer: Result<(), PolicySetError>) -> Said {
+    match answer {
+        Ok(()) => Said::Done,
+        Err(PolicySetError::Occupied { id }) => Said::Refused(Why::Occupied, letter_of(&id)),
+        Err(PolicySetError::Memory) => Said::Memory,
+    }
+}
+
+fn said_by_linking(error: LinkingError) -> Said {
+    match error {
+        LinkingError::ArityError {
+            unbound_values,
+            extra_values,
+        } => Said::Arity(digits_of(&unbound_values), digits_of(&extra_values)),
+        LinkingError::NoSuchTemplate { id } => Said::Refused(Why::NoSuchTemplate, letter_of(&id)),
+        LinkingError::PolicyIdConflict { id } => Said::Refused(Why::IdConflict, letter_of(&id)),
+        LinkingError::Memory => Said::Memory,
+    }
+}
+
+fn said_by_unlinking(answer: Result<Policy, PolicySetUnlinkError>) -> Said {
+    match answer {
+        Ok(policy) => Said::Policy(row_of(&policy)),
+        Err(PolicySetUnlinkError::UnlinkingError(id)) => Said::Refused(Why::NoLink, letter_of(&id)),
+        Err(PolicySetUnlinkError::NotLinkError(id)) => Said::Refused(Why::NotLink, letter_of(&id)),
+        Err(PolicySetUnlinkError::Memory) => Said::Memory,
+    }
+}
+
+fn said_by_removal(answer: Result<Policy, PolicySetPolicyRemovalError>) -> Said {
+    match answer {
+        Ok(policy) => Said::Policy(row_of(&policy)),
+        Err(PolicySetPolicyRemovalError::RemovePolicyNoLinkError(id)) => {
+            Said::Refused(Why::NoStatic, letter_of(&id))
+        }
+        Err(PolicySetPolicyRemovalError::RemovePolicyNoTemplateError(id)) => {
+            Said::Refused(Why::NotStatic, letter_of(&id))
+        }
+        Err(PolicySetPolicyRemovalError::Memory) => Said::Memory,
+    }
+}
+
+fn said_by_template_removal(answer: Result<Template, PolicySetTemplateRemovalError>) -> Said {
+    match answer {
+        Ok(template) => Said::Template(body_of(&template)),
+        Err(PolicySetTemplateRemovalError::RemovePolicyNoTemplateError(id)) => {
+            Said::Refused(Why::NoTemplate, letter_of(&id))
+        }
+        Err(PolicySetTemplateRemovalError::RemoveTemplateWithLinksError(id)) => {
+            Said::Refused(Why::WithLinks, letter_of(&id))
+        }
+        Err(PolicySetTemplateRemovalError::NotTemplateError(id)) => {
+            Said::Refused(Why::NotTemplate, letter_of(&id))
+        }
+        Err(PolicySetTemplateRemovalError::Memory) => Said::Memory,
+    }
+}
+
+fn add_static(alloc: Global, set: &mut PolicySet, row: Row) -> Result<Said, Fail> {
+    let policy = static_of(alloc, row.body)?;
+    Ok(said_by_set(set.add_static(alloc, policy)))
+}
+
+fn add_template(alloc: Global, set: &mut PolicySet, row: Row) -> Result<Said, Fail> {
+    let template = template_of(alloc, row.body)?;
+    Ok(said_by_set(set.add_template(alloc, template)))
+}
+
+fn add(alloc: Global, set: &mut PolicySet, row: Row) -> Result<Said, Fail> {
+    let policy = policy_of(alloc, row)?;
+    Ok(said_by_set(set.add(alloc, policy)))
+}
+
+// What `link` takes.
+#[derive(Drop)]
+struct Linking {
+    template: PolicyID,
+    id: PolicyID,
+    values: SlotEnv,
+}
+
+fn linking_of(alloc: Global, row: Row) -> Result<Linking, Fail> {
+    let template = id_of(alloc, row.body.id)?;
+    let id = id_of(alloc, row.id)?;
+    let values = values_of(alloc, row)?;
+    Ok(Linking {
+        template,
+        id,
+        values,
+    })
+}
+
+// What linking answers: the policy that it lends.
+fn linked(alloc: Global, set: &mut PolicySet, linking: Linking) -> Said {
+    let Linking {
+        template,
+        id,
+        values,
+    } = linking;
+    match set.link(alloc, template, id, values) {
+        Ok(policy) => Said::Policy(row_of(&policy)),
+        Err(error) => said_by_linking(error),
+    }
+}
+
+fn link(alloc: Global, set: &mut PolicySet, row: Row) -> Result<Said, Fail> {
+    let linking = linking_of(alloc, row)?;
+    Ok(linked(alloc, set, linking))
+}
+
+fn unlink(alloc: Global, set: &mut PolicySet, row: Row) -> Result<Said, Fail> {
+    let id = id_of(alloc, row.id)?;
+    Ok(said_by_unlinking(set.unlink(&id)))
+}
+
+fn remove_static(alloc: Global, set: &mut PolicySet, row: Row) -> Result<Said, Fail> {
+    let id = id_of(alloc, row.id)?;
+    Ok(said_by_removal(set.remove_static(&id)))
+}
+
+fn remove_template(alloc: Global, set: &mut PolicySet, row: Row) -> Result<Said, Fail> {
+    let id = id_of(alloc, row.id)?;
+    Ok(said_by_template_removal(set.remove_template(&id)))
+}
+
+// The letters of ids.
+fn letters_of(ids: LinkedIds<'_>) -> u64 {
+    let mut letters = 0;
+    for id in ids {
+        letters = joined(letters, letter_of(id));
+    }
+    letters
+}
+
+fn said_by_listing(answer: Result<LinkedIds<'_>, PolicySetGetLinksError>) -> Said {
+    match answer {
+        Ok(ids) => Said::Listed(letters_of(ids)),
+        Err(PolicySetGetLinksError::MissingTemplate(id)) => {
+            Said::Refused(Why::NoBody, letter_of(&id))
+        }
+        Err(PolicySetGetLinksError::Memory) => Said::Memory,
+    }
+}
+
+fn links(alloc: Global, set: &PolicySet, row: Row) -> Result<Said, Fail> {
+    let id = id_of(alloc, row.id)?;
+    Ok(said_by_listing(set.get_linked_policies(&id)))
+}
+
+// One call on a set, and what it answers.
+pub(super) fn done(alloc: Global, set: &mut PolicySet, call: &Call) -> Result<Said, Fail> {
+    let row = call.row;
+    match call.verb {
+        Verb::Static => add_static(alloc, set, row),
+        Verb::Template => add_template(alloc, set, row),
+        Verb::Add => add(alloc, set, row),
+        Verb::Link => link(alloc, set, row),
+        Verb::Unlink => unlink(alloc, set, row),
+        Verb::RemoveStatic => remove_static(alloc, set, row),
+        Verb::RemoveTemplate => remove_template(alloc, set, row),
+        Verb::Links => links(alloc, set, row),
+    }
+}
+
+// Makes some calls on a set; what the last one answers.
+fn run(alloc: Global, set: &mut PolicySet, calls: &str) -> Result<Said, Fail> {
+    let mut said = Said::Done;
+    for text in calls.split(';') {
+        if !text.trim().is_empty() {
+            said = done(alloc, set, &call_of(text))?;
+        }
+    }
+    Ok(said)
+}
+
+// The set that some calls leave.
+pub(super) fn set_of(alloc: Global, calls: &str) -> Result<PolicySet, Fail> {
+    let mut set = PolicySet::new(alloc);
+    run(alloc, &mut set, calls)?;
+    Ok(set)
+}
+
+// What the last of some calls answers, and both orders after it.
+pub(super) fn told(alloc: Global, calls: &str) -> Result<String, Fail> {
+    let mut set = PolicySet::new(alloc);
+    let said = run(alloc, &mut set, calls)?;
+    told_text(alloc, said, &board_of(&set))
+}
+
+// The first of these lists of calls of which another thing is told than stands beside it, or
+// nothing.
+pub(super) fn wrong(alloc: Global, table: &[(&str, &str)]) -> Result<String, Fail> {
+    for (calls, want) in table {
+        let told = told(alloc, calls)?;
+        if told.as_str() != *want {
+            return Ok(format!(in alloc; "{calls}: {told}")?);
+        }
+    }
+    Ok(String::new(alloc))
+}

@@ -1,0 +1,296 @@
+// Look-ups, comparisons, copies and texts of stores.
+use super::store_script::{entity_of, named, store_of, text_of, texts_of};
+use cedar_entities::dereference::Dereference;
+use cedar_entities::entities::{Entities, TCComputation};
+use cedar_entity::entity::Entity;
+use cedar_terms::{Expr, StaticType};
+use std::alloc::Global;
+use std::rc::Rc;
+use std::test::Fail;
+
+// What a look-up finds, as a text.
+fn looked_up(alloc: Global, found: &Dereference<'_, Entity>) -> Result<String, Fail> {
+    match found {
+        Dereference::NoSuchEntity => Ok(String::from_str(alloc, "none")?),
+        Dereference::Residual(expr) => Ok(expr.to_string(alloc)?),
+        Dereference::Data(entity) => text_of(alloc, entity),
+    }
+}
+
+// What a store that these calls leave has with a name.
+fn found(alloc: Global, calls: &str, name: &str) -> Result<String, Fail> {
+    let store = store_of(alloc, calls)?;
+    let uid = named(alloc, name)?;
+    let answer = store.entity(alloc, &uid)?;
+    looked_up(alloc, &answer)
+}
+
+// What a copy of the answer has, of a store that these calls leave and a name.
+fn found_again(alloc: Global, calls: &str, name: &str) -> Result<String, Fail> {
+    let store = store_of(alloc, calls)?;
+    let uid = named(alloc, name)?;
+    let copy = store.entity(alloc, &uid)?.clone()?;
+    looked_up(alloc, &copy)
+}
+
+#[test]
+fn a_look_up_is_copied(rt: HostRuntime) -> Result<(), Fail> {
+    for (calls, name, want) in [
+        ("new", "a", "none"),
+        ("from: a b | | k=1", "a", "a b | | k=1"),
+        ("partial", "a", "unknown(\"A::\\\"a\\\"\")"),
+    ] {
+        assert_eq!(rt; found_again(rt.alloc(), calls, name)?.as_str(), want);
+    }
+    Ok(())
+}
+
+#[test]
+fn a_look_up_finds_what_is_there(rt: HostRuntime) -> Result<(), Fail> {
+    for (calls, name, want) in [
+        ("new", "z", "none"),
+        ("partial", "z", "unknown(\"A::\\\"z\\\"\")"),
+        ("from: a b, b c", "a", "a b | c"),
+        ("from: a b, b c", "c", "none"),
+        ("from: a b; partial", "a", "a b"),
+        ("from: a b; partial", "b", "unknown(\"A::\\\"b\\\"\")"),
+        (
+            "from: a b; partial; remove: a",
+            "a",
+            "unknown(\"A::\\\"a\\\"\")",
+        ),
+        ("partial; from: a b", "b", "none"),
+        ("from: a", "B.a", "none"),
+        ("partial", "T.é", "unknown(\"T::\\\"é\\\"\")"),
+    ] {
+        assert_eq!(rt; found(rt.alloc(), calls, name)?.as_str(), want);
+    }
+    Ok(())
+}
+
+// The type of the one unknown that an expression is, as a text.
+fn type_in(alloc: Global, expr: &Expr) -> Result<String, Fail> {
+    for unknown in expr.unknowns(alloc)? {
+        if let Some(StaticType::Entity { ty }) = &unknown.type_annotation {
+            return Ok(ty.to_string(alloc)?);
+        }
+    }
+    Ok(String::new(alloc))
+}
+
+// The type of what a partial store has with a name.
+fn type_found(alloc: Global, name: &str) -> Result<String, Fail> {
+    let store = Entities::new(alloc).partial();
+    match store.entity(alloc, &named(alloc, name)?)? {
+        Dereference::Residual(expr) => type_in(alloc, &expr),
+        _ => Ok(String::new(alloc)),
+    }
+}
+
+#[test]
+fn an_unknown_entity_is_typed(rt: HostRuntime) -> Result<(), Fail> {
+    assert_eq!(rt; type_found(rt.alloc(), "z")?.as_str(), "A");
+    assert_eq!(rt; type_found(rt.alloc(), "T.z")?.as_str(), "T");
+    Ok(())
+}
+
+// Whether what is found can be taken out, both ways.
+fn is_taken(alloc: Global, calls: &str, name: &str) -> Result<bool, Fail> {
+    let store = store_of(alloc, calls)?;
+    let uid = named(alloc, name)?;
+    let Dereference::Data(entity) = store.entity(alloc, &uid)? else {
+        return Ok(false);
+    };
+    let one = Dereference::Data(entity).unwrap();
+    let other = Dereference::Data(entity).expect("it was found");
+    Ok(*one.uid() == uid && *other.uid() == uid)
+}
+
+#[test]
+fn what_was_found_is_taken_out(rt: HostRuntime) -> Result<(), Fail> {
+    assert!(rt; is_taken(rt.alloc(), "from: a b, b c", "a")?);
+    assert!(rt; !is_taken(rt.alloc(), "from: a b, b c", "c")?);
+    Ok(())
+}
+
+// Whether two stores are deeply equal and whether they are equal, the one way and the other.
+fn compared(alloc: Global, one: &str, other: &str) -> Result<[bool; 4], Fail> {
+    let one = store_of(alloc, one)?;
+    let other = store_of(alloc, other)?;
+    Ok([
+        one.deep_eq(&other),
+        other.deep_eq(&one),
+        one == other,
+        other == one,
+    ])
+}
+
+#[test]
+fn stores_are_compared(rt: HostRuntime) -> Result<(), Fail> {
+    for (one, other, deep, same) in [
+        ("new", "new", true, true),
+        ("new", "partial", false, false),
+        ("new", "from: a", false, false),
+        ("from: a b, b c", "from: b c, a b", true, true),
+        ("from: a b, b c", "from: a b c, b c", true, true),
+        ("from: a b", "from: a c", false, true),
+        ("from: a", "from: b", false, false),
+        ("from: a, b", "from: a", false, false),
+        ("from: a, b", "from: a, c", false, false),
+        ("from: a | | k=1", "from: a | | k=2", false, true),
+        ("from: a | | | k=1", "from: a", false, true),
+        ("from: a b; partial", "from: a b", false, false),
+        ("from: a b; partial", "partial; add: a b", true, true),
+        ("from assume: a b, b c", "from: a b, b c", false, true),
+        ("from: a", "from: B.a", false, false),
+    ] {
+        assert!(rt;
+            compared(rt.alloc(), one, other)? == [deep, deep, same, same],
+            "{one} {other}"
+        );
+    }
+    Ok(())
+}
+
+// How many entities a store has, how many its iterator gives, whether it is empty, and whether it
+// is partial.
+fn measured(alloc: Global, calls: &str) -> Result<(usize, usize, bool, bool), Fail> {
+    let store = store_of(alloc, calls)?;
+    Ok((
+        store.len(),
+        store.iter().count(),
+        store.is_empty(),
+        store.is_partial(),
+    ))
+}
+
+#[test]
+fn stores_are_counted_and_keep_their_mode(rt: HostRuntime) -> Result<(), Fail> {
+    for (calls, len, partial) in [
+        ("new", 0, false),
+        ("partial", 0, true),
+        ("from:", 0, false),
+        ("from: a b", 1, false),
+        ("from: a b, b, a b, c", 3, false),
+        ("partial; add: a", 1, true),
+        ("partial; add: a; upsert: a b, b", 2, true),
+        ("partial; add: a, b; remove: a", 1, true),
+        ("partial; add: a; add assume: b; add enforce: c", 3, true),
+        ("partial; from: a", 1, false),
+        ("partial; partial", 0, true),
+    ] {
+        let want = (len, len, len == 0, partial);
+        assert!(rt; measured(rt.alloc(), calls)? == want, "{calls}");
+    }
+    Ok(())
+}
+
+// Whether a copy is as the store was, also after the store has changed.
+fn stays_apart(alloc: Global, calls: &str) -> Result<bool, Fail> {
+    let store = store_of(alloc, calls)?;
+    let was = texts_of(alloc, &store)?;
+    let copy = store.clone()?;
+    let equal = copy.deep_eq(&store) && store.deep_eq(&copy) && copy == store;
+    let mut gone = Vec::new(alloc);
+    gone.push(named(alloc, "b")?)?;
+    let mode = TCComputation::ComputeNow;
+    let changed = texts_of(alloc, &store.remove_entities(alloc, gone, mode)?)?;
+    Ok(equal && changed != was && texts_of(alloc, &copy)? == was)
+}
+
+#[test]
+fn a_copy_is_equal_and_stays_as_it_is(rt: HostRuntime) -> Result<(), Fail> {
+    assert!(rt; stays_apart(rt.alloc(), "from: a b, b c, c")?);
+    assert!(rt; stays_apart(rt.alloc(), "from: a b | d | k=1 | t=2, b; partial")?);
+    Ok(())
+}
+
+// The texts of the entities of a store, taken out one by one.
+fn taken_out(alloc: Global, store: Entities) -> Result<String, Fail> {
+    let mut list = Vec::new(alloc);
+    for entity in store {
+        list.push(entity?)?;
+    }
+    let again = Entities::from_entities(alloc, list, TCComputation::AssumeAlreadyComputed)?;
+    texts_of(alloc, &again)
+}
+
+// Whether these texts are what a store gives when it is taken apart, also while a copy shares its
+// entities.
+fn gives(alloc: Global, calls: &str, want: &str) -> Result<bool, Fail> {
+    let store = store_of(alloc, calls)?;
+    let copy = store.clone()?;
+    let shared = taken_out(alloc, store)?;
+    let alone = taken_out(alloc, copy)?;
+    Ok(shared.as_str() == want && alone.as_str() == want)
+}
+
+#[test]
+fn a_store_gives_its_entities(rt: HostRuntime) -> Result<(), Fail> {
+    assert!(rt; gives(rt.alloc(), "new", "")?);
+    assert!(rt; gives(rt.alloc(), "from: b c, a b | | k=1", "a b | c | k=1, b c")?);
+    Ok(())
+}
+
+// The text of an entity that was given to a store while it was shared, after the store was
+// computed.
+fn given_shared(alloc: Global) -> Result<String, Fail> {
+    let entity = Rc::new(alloc, entity_of(alloc, "a b")?)?;
+    let mut list = Vec::new(alloc);
+    list.push(entity.clone()?)?;
+    list.push(Rc::new(alloc, entity_of(alloc, "b c")?)?)?;
+    let mode = TCComputation::ComputeNow;
+    let store = Entities::new(alloc).add_entities(alloc, list, mode)?;
+    let within = texts_of(alloc, &store)?;
+    let outside = text_of(alloc, &entity)?;
+    Ok(format!(in alloc; "{within}; {outside}")?)
+}
+
+#[test]
+fn an_entity_that_is_shared_stays_as_it_was(rt: HostRuntime) -> Result<(), Fail> {
+    assert_eq!(rt; given_shared(rt.alloc())?.as_str(), "a b | c, b c; a b");
+    Ok(())
+}
+
+// The text of the store that these calls leave.
+fn written(alloc: Global, calls: &str) -> Result<String, Fail> {
+    Ok(store_of(alloc, calls)?.to_string(alloc)?)
+}
+
+#[test]
+fn stores_are_written(rt: HostRuntime) -> Result<(), Fail> {
+    for (calls, want) in [
+        ("new", "<empty Entities>"),
+        ("partial", "<empty Entities>"),
+        ("from: a; remove: a", "<empty Entities>"),
+        (
+            "from: a b | | k=1 | t=2",
+            "A::\"a\":\n  attrs:k: 1\n  ancestors:A::\"b\"\n",
+        ),
+        (
+            "from: b z, a c b, Z.a, c",
+            "A::\"a\":\n  attrs:\n  ancestors:A::\"b\", A::\"c\", A::\"z\"\n\
+             A::\"b\":\n  attrs:\n  ancestors:A::\"z\"\n\
+             A::\"c\":\n  attrs:\n  ancestors:\n\
+             Z::\"a\":\n  attrs:\n  ancestors:\n",
+        ),
+        (
+            "from: é ß | | ñ=-1 a=2, e é",
+            "A::\"e\":\n  attrs:\n  ancestors:A::\"ß\", A::\"é\"\n\
+             A::\"é\":\n  attrs:a: 2; ñ: -1\n  ancestors:A::\"ß\"\n",
+        ),
+    ] {
+        assert_eq!(rt; written(rt.alloc(), calls)?.as_str(), want);
+    }
+    Ok(())
+}
+
+#[test]
+fn entities_are_written_in_the_order_of_uids(rt: HostRuntime) -> Result<(), Fail> {
+    let calls = "from: A::B::\"x\", B::A::\"x\", y, A::A::\"z\", x";
+    let want = "A::\"x\":\n  attrs:\n  ancestors:\nA::\"y\":\n  attrs:\n  ancestors:\n\
+        A::A::\"z\":\n  attrs:\n  ancestors:\nB::A::\"x\":\n  attrs:\n  ancestors:\n\
+        A::B::\"x\":\n  attrs:\n  ancestors:\n";
+    assert_eq!(rt; written(rt.alloc(), calls)?.as_str(), want);
+    Ok(())
+}
