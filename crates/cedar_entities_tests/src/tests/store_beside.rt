@@ -16,7 +16,7 @@ use std::rc::Rc;
 use std::test::Fail;
 
 // The uid with a number.
-fn numbered(alloc: Global, uid: u8) -> Result<EntityUID, Fail> {
+pub(super) fn numbered(alloc: Global, uid: u8) -> Result<EntityUID, Fail> {
     let eid = match uid {
         0 => "a",
         1 => "b",
@@ -27,7 +27,7 @@ fn numbered(alloc: Global, uid: u8) -> Result<EntityUID, Fail> {
 }
 
 // The set with a uid; of any but the three it is one that no world has.
-fn bit_of(uid: &EntityUID) -> u8 {
+pub(super) fn bit_of(uid: &EntityUID) -> u8 {
     match uid.eid().as_ref() {
         "a" => 1,
         "b" => 2,
@@ -47,7 +47,7 @@ fn set_of(alloc: Global, bits: u8) -> Result<HashSet<EntityUID>, Fail> {
 }
 
 // The attribute of an entity.
-fn attr_of(row: &Row) -> PartialValue {
+pub(super) fn attr_of(row: &Row) -> PartialValue {
     let number = Literal::Long(i64::from(row.attr));
     PartialValue::Value(Value::new(ValueKind::Lit(number), None))
 }
@@ -86,13 +86,13 @@ fn uids_of(alloc: Global, list: &[u8; 2]) -> Result<Vec<EntityUID>, Fail> {
     Ok(uids)
 }
 
-// What a call makes of a store.
-fn done(
+// What a call in a mode makes of a store.
+pub(super) fn done(
     alloc: Global,
     store: Entities,
     call: &Call,
+    mode: TCComputation,
 ) -> Result<Result<Entities, EntitiesError>, Fail> {
-    let mode = TCComputation::ComputeNow;
     match call {
         Call::From(rows) => Ok(Entities::from_entities(alloc, entities_of(alloc, rows)?, mode)),
         Call::Add(rows) => Ok(store.add_entities(alloc, shared_of(alloc, rows)?, mode)),
@@ -103,7 +103,7 @@ fn done(
 }
 
 // Some uids as a set.
-fn bits_of(uids: Uids<'_>) -> u8 {
+pub(super) fn bits_of(uids: Uids<'_>) -> u8 {
     let mut bits = 0;
     for uid in uids {
         bits |= bit_of(uid);
@@ -198,7 +198,7 @@ pub(super) fn compared(alloc: Global, calls: &[Call]) -> Result<End, Fail> {
     let mut world = empty();
     for call in calls {
         let then = after(&world, call);
-        match done(alloc, store, call)? {
+        match done(alloc, store, call, TCComputation::ComputeNow)? {
             Ok(next) => {
                 let Some(held) = stood_for(alloc, &next, then)? else {
                     return Ok(End::Differs);

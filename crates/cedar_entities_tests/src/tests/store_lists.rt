@@ -59,7 +59,7 @@ fn alone(number: u8) -> Rows {
 
 // The call with a number below 82: each that gives one entity in three ways, each that takes away
 // two of the uids or one twice, and the one that makes the store partial.
-fn call_at(number: u8) -> Call {
+pub(super) fn call_at(number: u8) -> Call {
     match number / 24 {
         0 => Call::From(alone(number % 24)),
         1 => Call::Add(alone(number % 24)),
@@ -112,7 +112,7 @@ fn child(uid: u8, parents: u16) -> Option<Row> {
 }
 
 // The list with a number below 512 of all three uids: each with each set of parents.
-fn three(number: u16) -> Rows {
+pub(super) fn three(number: u16) -> Rows {
     [
         child(0, number),
         child(1, number / 8),
@@ -160,7 +160,7 @@ fn draw(seed: &mut u64) -> u64 {
 }
 
 // A number below this one, which is not 0.
-fn below(seed: &mut u64, end: u8) -> u8 {
+pub(super) fn below(seed: &mut u64, end: u8) -> u8 {
     let [low, ..] = (draw(seed) % u64::from(end.max(1))).to_le_bytes();
     low
 }
@@ -189,7 +189,7 @@ fn drawn_rows(seed: &mut u64) -> Rows {
     [drawn_row(seed), drawn_row(seed), drawn_row(seed)]
 }
 
-fn drawn_call(seed: &mut u64) -> Call {
+pub(super) fn drawn_call(seed: &mut u64) -> Call {
     match below(seed, 10) {
         0 | 1 => Call::From(drawn_rows(seed)),
         2 | 3 => Call::Add(drawn_rows(seed)),

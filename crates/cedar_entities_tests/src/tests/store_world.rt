@@ -124,7 +124,7 @@ fn without_cycle(world: World) -> Result<World, Refused> {
 }
 
 // The first of a list with a uid.
-fn first(list: &Rows, uid: u8) -> Option<Row> {
+pub(super) fn first(list: &Rows, uid: u8) -> Option<Row> {
     for row in list.iter().flatten() {
         if row.uid == uid {
             return Some(*row);
@@ -134,7 +134,7 @@ fn first(list: &Rows, uid: u8) -> Option<Row> {
 }
 
 // The last of a list with a uid.
-fn last(list: &Rows, uid: u8) -> Option<Row> {
+pub(super) fn last(list: &Rows, uid: u8) -> Option<Row> {
     let mut found = None;
     for row in list.iter().flatten() {
         if row.uid == uid {
@@ -145,23 +145,34 @@ fn last(list: &Rows, uid: u8) -> Option<Row> {
 }
 
 // Whether an entity of a list differs from the version that is present: the one of the world with
-// all that it reaches, or else the first of the list with its parents.
-fn differs(world: &World, list: &Rows, given: &Row) -> bool {
+// these ancestors, or else the first of the list with its parents.
+fn differs(world: &World, above: &[u8; 3], list: &Rows, given: &Row) -> bool {
     let uid = given.uid;
     if let Some(held) = entry(world, uid) {
-        return ancestors(world, uid) != given.parents || held.attr != given.attr;
+        let above = above.get(usize::from(uid));
+        return above != Some(&given.parents) || held.attr != given.attr;
     }
     first(list, uid) != Some(*given)
 }
 
-// The uid of the first of a list that differs.
-fn first_differing(world: &World, list: &Rows) -> Option<u8> {
+// The uid of the first of a list that differs, from a world whose uids have these ancestors.
+pub(super) fn differing_uid(world: &World, above: &[u8; 3], list: &Rows) -> Option<u8> {
     for given in list.iter().flatten() {
-        if differs(world, list, given) {
+        if differs(world, above, list, given) {
             return Some(given.uid);
         }
     }
     None
+}
+
+// The uid of the first of a list that differs from the plain store of a world.
+fn first_differing(world: &World, list: &Rows) -> Option<u8> {
+    let above = [
+        ancestors(world, 0),
+        ancestors(world, 1),
+        ancestors(world, 2),
+    ];
+    differing_uid(world, &above, list)
 }
 
 // The world with the first of a list for each uid that it lacks.
@@ -209,7 +220,7 @@ fn left(world: &World, uid: u8, gone: u8) -> Option<Row> {
 }
 
 // The world without the uids of a list that it has.
-fn deleted(world: &World, list: &[u8; 2]) -> World {
+pub(super) fn deleted(world: &World, list: &[u8; 2]) -> World {
     let [one, other] = *list;
     let gone = (bit(one) | bit(other)) & keys(world);
     World {
