@@ -1,5 +1,5 @@
 -- Which fields are those of which command.
-use Rattle.std.specs.Prelude.{◌≡◌, ℕ, zero, suc, ◌+◌, ◌<◌, List, [], ◌∷◌, ◌++◌, map, codes, length, ◌==◌, Bool, true, false}
+use Rattle.std.specs.Prelude.{◌≡◌, ℕ, zero, suc, ◌+◌, ◌<◌, List, [], ◌∷◌, ◌++◌, map, codes, length, ◌==◌, Bool, true, false, Option, Some, None}
 use Rattle.std.proofs.Common.{ap, sym, refl, ◌∙◌, get_or, take, arith}
 use Rattle.std.proofs.lemmas.Bool.{false≢true}
 use Rattle.std.specs.Str.{bytes_eq}
@@ -9,7 +9,8 @@ use borrow.Author.Tests.{eqb-true}
 use Rattle.cedar_ids.specs.TextOf.{IsPrinted}
 use Rattle.cedar_ids.specs.UidOf.{uid_parts}
 use Rattle.cedar_ids.specs.declared.entity.EntityUID.{EntityUID}
-use Rattle.cedar_store.specs.Command.{Command, Nothing, Ent, Build, Add, Upsert, Remove, Anc, AreTexts, IsCommand}
+use Rattle.cedar_policy_lines.specs.PolicyCommand.{PolicyCommand, policy_command}
+use Rattle.cedar_store.specs.Command.{Command, Nothing, Ent, Build, Add, Upsert, Remove, Anc, Policy, AreTexts, IsCommand}
 
 abbrev pub Text : EntityUID → List ℕ → Type 0
 Text u t = IsPrinted (uid_parts u) t
@@ -47,6 +48,10 @@ no_fields Add h = h
 no_fields Upsert h = h
 no_fields (Remove us) h = h.0
 no_fields (Anc u) h = h
+no_fields (Policy c) h = cc
+
+pub not_both : (o : Option PolicyCommand) (c : PolicyCommand) → o ≡ None → o ≡ Some c → ⊥
+not_both o c e f = let g : None ≡ Some c = sym e ∙ f in cc
 
 -- the words of the commands differ
 pub differs : (a b : List ℕ) → bytes_eq a b ≡ false → bytes_eq b b ≡ true → a ≡ b → ⊥
@@ -54,6 +59,10 @@ differs a b apart itself e = false≢true (sym apart ∙ ap (λ w. bytes_eq w b)
 
 one_field : (w : List ℕ) (ts : List (List ℕ)) → w ∷ ts ≡ [] ∷ [] → w ≡ []
 one_field w ts h = cc
+
+-- fields that begin with another word are those of no command on policy sets
+other_word : (w v : List ℕ) (ts : List (List ℕ)) (c : PolicyCommand) → w ≡ v → policy_command (v ∷ ts) ≡ None → policy_command (w ∷ ts) ≡ Some c → ⊥
+other_word w v ts c e none h = not_both (policy_command (v ∷ ts)) c none (ap (λ u. policy_command (u ∷ ts)) (sym e) ∙ h)
 
 -- the first field tells which command there may be
 pub not_ent : (w : List ℕ) (ts : List (List ℕ)) → w ≡ codes "ent" → ((p : EntityUID × List EntityUID) → AreTexts (p.0 ∷ p.1) ts → ⊥) → (c : Command) → IsCommand c (w ∷ ts) → ⊥
@@ -64,6 +73,7 @@ not_ent w ts e none Add h = differs (codes "ent") (codes "add") refl refl (sym e
 not_ent w ts e none Upsert h = differs (codes "ent") (codes "upsert") refl refl (sym e ∙ h.0)
 not_ent w ts e none (Remove us) h = differs (codes "ent") (codes "remove") refl refl (sym e ∙ h.0.0)
 not_ent w ts e none (Anc u) h = differs (codes "ent") (codes "anc") refl refl (sym e ∙ h.0)
+not_ent w ts e none (Policy c) h = other_word w (codes "ent") ts c e refl h
 
 pub not_remove : (w : List ℕ) (ts : List (List ℕ)) → w ≡ codes "remove" → ((us : List EntityUID) → (us ≡ [] → ⊥) × AreTexts us ts → ⊥) → (c : Command) → IsCommand c (w ∷ ts) → ⊥
 not_remove w ts e none Nothing h = differs (codes "remove") [] refl refl (sym e ∙ one_field w ts h)
@@ -73,6 +83,7 @@ not_remove w ts e none Add h = differs (codes "remove") (codes "add") refl refl 
 not_remove w ts e none Upsert h = differs (codes "remove") (codes "upsert") refl refl (sym e ∙ h.0)
 not_remove w ts e none (Remove us) h = none us (h.1, h.0.1)
 not_remove w ts e none (Anc u) h = differs (codes "remove") (codes "anc") refl refl (sym e ∙ h.0)
+not_remove w ts e none (Policy c) h = other_word w (codes "remove") ts c e refl h
 
 pub not_anc : (w : List ℕ) (ts : List (List ℕ)) → w ≡ codes "anc" → ((u : EntityUID) → AreTexts (u ∷ []) ts → ⊥) → (c : Command) → IsCommand c (w ∷ ts) → ⊥
 not_anc w ts e none Nothing h = differs (codes "anc") [] refl refl (sym e ∙ one_field w ts h)
@@ -82,17 +93,19 @@ not_anc w ts e none Add h = differs (codes "anc") (codes "add") refl refl (sym e
 not_anc w ts e none Upsert h = differs (codes "anc") (codes "upsert") refl refl (sym e ∙ h.0)
 not_anc w ts e none (Remove us) h = differs (codes "anc") (codes "remove") refl refl (sym e ∙ h.0.0)
 not_anc w ts e none (Anc u) h = none u h.1
+not_anc w ts e none (Policy c) h = other_word w (codes "anc") ts c e refl h
 
--- a word by itself is one of four commands or none
-pub not_word : (w : List ℕ) → (w ≡ codes "build" → ⊥) → (w ≡ codes "add" → ⊥) → (w ≡ codes "upsert" → ⊥) → (w ≡ [] → ⊥) → (c : Command) → IsCommand c (w ∷ []) → ⊥
-not_word w build add upsert empty Nothing h = empty (one_field w [] h)
-not_word w build add upsert empty (Ent u ps) h = h.1
-not_word w build add upsert empty Build h = build h.0
-not_word w build add upsert empty Add h = add h.0
-not_word w build add upsert empty Upsert h = upsert h.0
-not_word w build add upsert empty (Remove []) h = h.1 refl
-not_word w build add upsert empty (Remove (u ∷ us)) h = h.0.1
-not_word w build add upsert empty (Anc u) h = h.1
+-- a word by itself is one of four commands or none, where it is none on policy sets
+pub not_word : (w : List ℕ) → policy_command (w ∷ []) ≡ None → (w ≡ codes "build" → ⊥) → (w ≡ codes "add" → ⊥) → (w ≡ codes "upsert" → ⊥) → (w ≡ [] → ⊥) → (c : Command) → IsCommand c (w ∷ []) → ⊥
+not_word w policy build add upsert empty Nothing h = empty (one_field w [] h)
+not_word w policy build add upsert empty (Ent u ps) h = h.1
+not_word w policy build add upsert empty Build h = build h.0
+not_word w policy build add upsert empty Add h = add h.0
+not_word w policy build add upsert empty Upsert h = upsert h.0
+not_word w policy build add upsert empty (Remove []) h = h.1 refl
+not_word w policy build add upsert empty (Remove (u ∷ us)) h = h.0.1
+not_word w policy build add upsert empty (Anc u) h = h.1
+not_word w policy build add upsert empty (Policy c) h = not_both (policy_command (w ∷ [])) c policy h
 
 -- no field is the text of no uid, and of no others
 pub no_uids : (fs : List (Bor (List ℕ))) (b : Bool) → b ≡ (length fs == 0) → b ≡ true → (us : List EntityUID) → (us ≡ [] → ⊥) × AreTexts us (map (λ f. f.now) fs) → ⊥

@@ -17,10 +17,12 @@ use Rattle.cedar_ids.specs.declared.entity.EntityUID.{EntityUID}
 use Rattle.cedar_ids.specs.declared.entity.EntityUID.TheVariants as uids
 use Rattle.cedar_entities.specs.World.{World, Given, given, graph, IsCyclic, added, overwritten, deleted, empty_world}
 use Rattle.cedar_entities.specs.laws.Settled.{Settled, settled_by, world_keys, decides_world_cycle, reached_list, reached_ascend, reached_members, agree_or_differs}
-use Rattle.cedar_store.specs.Command.{Command, Nothing, Ent, Build, Add, Upsert, Remove, Anc, AreTexts, IsCommand, IsLine, is_plain}
+use Rattle.cedar_policy_lines.specs.PolicyCommand.{PolicyCommand, policy_command}
+use Rattle.cedar_policy_lines.specs.laws.OneAnswer.{policy_gives}
+use Rattle.cedar_store.specs.Command.{Command, Nothing, Ent, Build, Add, Upsert, Remove, Anc, Policy, AreTexts, IsCommand, IsLine, is_plain}
 use Rattle.cedar_store.specs.Output.{State, Written, Adds, Overwrites, AreAncestors, ShowsAncestors, Gives, IsOutput, IsOutputFrom, HasOneOutput, start, after, written_line, count_line, uid_text, field_of, not_command}
 use Rattle.cedar_store.proofs.OneOutput.{one_output}
-use Rattle.cedar_store.proofs.Commands.{Text, no_fields, not_anc, not_word}
+use Rattle.cedar_store.proofs.Commands.{Text, no_fields, not_anc, not_word, not_both}
 
 -- there is one that P holds of, or P holds of none
 abbrev Found : {X : Type 0} → (X → Type 0) → Type 0
@@ -59,8 +61,8 @@ word_is : (w v : List ℕ) → Settled (w ≡ v)
 word_is w v = settled_by (bytes_eq w v) (bytes_eq-Decides w v)
 
 -- a word by itself
-alone_found : (w : List ℕ) → Found (λ c. IsCommand c (w ∷ []))
-alone_found w = elim (word_is w (codes "build")) [
+alone_found : (w : List ℕ) → policy_command (w ∷ []) ≡ None → Found (λ c. IsCommand c (w ∷ []))
+alone_found w policy = elim (word_is w (codes "build")) [
   | inl e ↦ inl (Build, (e, tt))
   | inr build ↦ elim (word_is w (codes "add")) [
     | inl e ↦ inl (Add, (e, tt))
@@ -68,29 +70,31 @@ alone_found w = elim (word_is w (codes "build")) [
       | inl e ↦ inl (Upsert, (e, tt))
       | inr upsert ↦ elim (word_is w []) [
         | inl e ↦ inl (Nothing, ap (λ x. x ∷ []) e)
-        | inr empty ↦ inr (not_word w build add upsert empty)
+        | inr empty ↦ inr (not_word w policy build add upsert empty)
       ]
     ]
   ]
 ]
 
-no_uid_texts : (w t : List ℕ) (ts : List (List ℕ)) → ((us : List EntityUID) → AreTexts us (t ∷ ts) → ⊥) → (c : Command) → IsCommand c (w ∷ t ∷ ts) → ⊥
-no_uid_texts w t ts none Nothing h = cc
-no_uid_texts w t ts none (Ent u ps) h = none (u ∷ ps) h.1
-no_uid_texts w t ts none Build h = h.1
-no_uid_texts w t ts none Add h = h.1
-no_uid_texts w t ts none Upsert h = h.1
-no_uid_texts w t ts none (Remove us) h = none us h.0.1
-no_uid_texts w t ts none (Anc u) h = none (u ∷ []) h.1
+no_uid_texts : (w t : List ℕ) (ts : List (List ℕ)) → policy_command (w ∷ t ∷ ts) ≡ None → ((us : List EntityUID) → AreTexts us (t ∷ ts) → ⊥) → (c : Command) → IsCommand c (w ∷ t ∷ ts) → ⊥
+no_uid_texts w t ts policy none Nothing h = cc
+no_uid_texts w t ts policy none (Ent u ps) h = none (u ∷ ps) h.1
+no_uid_texts w t ts policy none Build h = h.1
+no_uid_texts w t ts policy none Add h = h.1
+no_uid_texts w t ts policy none Upsert h = h.1
+no_uid_texts w t ts policy none (Remove us) h = none us h.0.1
+no_uid_texts w t ts policy none (Anc u) h = none (u ∷ []) h.1
+no_uid_texts w t ts policy none (Policy c) h = not_both (policy_command (w ∷ t ∷ ts)) c policy h
 
-no_such_word : (w t : List ℕ) (ts : List (List ℕ)) → (w ≡ codes "ent" → ⊥) → (w ≡ codes "remove" → ⊥) → (w ≡ codes "anc" → ⊥) → (c : Command) → IsCommand c (w ∷ t ∷ ts) → ⊥
-no_such_word w t ts ent remove anc Nothing h = cc
-no_such_word w t ts ent remove anc (Ent u ps) h = ent h.0
-no_such_word w t ts ent remove anc Build h = h.1
-no_such_word w t ts ent remove anc Add h = h.1
-no_such_word w t ts ent remove anc Upsert h = h.1
-no_such_word w t ts ent remove anc (Remove us) h = remove h.0.0
-no_such_word w t ts ent remove anc (Anc u) h = anc h.0
+no_such_word : (w t : List ℕ) (ts : List (List ℕ)) → policy_command (w ∷ t ∷ ts) ≡ None → (w ≡ codes "ent" → ⊥) → (w ≡ codes "remove" → ⊥) → (w ≡ codes "anc" → ⊥) → (c : Command) → IsCommand c (w ∷ t ∷ ts) → ⊥
+no_such_word w t ts policy ent remove anc Nothing h = cc
+no_such_word w t ts policy ent remove anc (Ent u ps) h = ent h.0
+no_such_word w t ts policy ent remove anc Build h = h.1
+no_such_word w t ts policy ent remove anc Add h = h.1
+no_such_word w t ts policy ent remove anc Upsert h = h.1
+no_such_word w t ts policy ent remove anc (Remove us) h = remove h.0.0
+no_such_word w t ts policy ent remove anc (Anc u) h = anc h.0
+no_such_word w t ts policy ent remove anc (Policy c) h = not_both (policy_command (w ∷ t ∷ ts)) c policy h
 
 two_or_none : (v : EntityUID) (vs : List EntityUID) (ts : List (List ℕ)) → AreTexts (v ∷ vs) ts → AreTexts [] ts → ⊥
 two_or_none v vs [] h k = h
@@ -104,24 +108,31 @@ anc_found w t ts u [] e h = inl (Anc u, (e, h))
 anc_found w t ts u (v ∷ vs) e h = inr (not_anc w (t ∷ ts) e (λ x k. two_or_none v vs ts h.1 k.1))
 
 -- a word and the texts of uids
-with_found : (w t : List ℕ) (ts : List (List ℕ)) → Found (λ us. AreTexts us (t ∷ ts)) → Found (λ c. IsCommand c (w ∷ t ∷ ts))
-with_found w t ts (inr none) = inr (no_uid_texts w t ts none)
-with_found w t ts (inl ([], h)) = absurd h
-with_found w t ts (inl (u ∷ us, h)) = elim (word_is w (codes "ent")) [
+with_found : (w t : List ℕ) (ts : List (List ℕ)) → policy_command (w ∷ t ∷ ts) ≡ None → Found (λ us. AreTexts us (t ∷ ts)) → Found (λ c. IsCommand c (w ∷ t ∷ ts))
+with_found w t ts policy (inr none) = inr (no_uid_texts w t ts policy none)
+with_found w t ts policy (inl ([], h)) = absurd h
+with_found w t ts policy (inl (u ∷ us, h)) = elim (word_is w (codes "ent")) [
   | inl e ↦ inl (Ent u us, (e, h))
   | inr ent ↦ elim (word_is w (codes "remove")) [
     | inl e ↦ inl (Remove (u ∷ us), ((e, h), not_empty u us))
     | inr remove ↦ elim (word_is w (codes "anc")) [
       | inl e ↦ anc_found w t ts u us e h
-      | inr anc ↦ inr (no_such_word w t ts ent remove anc)
+      | inr anc ↦ inr (no_such_word w t ts policy ent remove anc)
     ]
   ]
 ]
 
+other_found : (fs : List (List ℕ)) → policy_command fs ≡ None → Found (λ c. IsCommand c fs)
+other_found [] policy = inr no_fields
+other_found (w ∷ []) policy = alone_found w policy
+other_found (w ∷ t ∷ ts) policy = with_found w t ts policy (texts_found (t ∷ ts))
+
+found_by : (fs : List (List ℕ)) (o : Option PolicyCommand) → policy_command fs ≡ o → Found (λ c. IsCommand c fs)
+found_by fs (Some c) e = inl (Policy c, e)
+found_by fs None e = other_found fs e
+
 command_found : (fs : List (List ℕ)) → Found (λ c. IsCommand c fs)
-command_found [] = inr no_fields
-command_found (w ∷ []) = alone_found w
-command_found (w ∷ t ∷ ts) = with_found w t ts (texts_found (t ∷ ts))
+command_found fs = found_by fs (policy_command fs) refl
 
 plain_line : (b : Bool) (fs : List (List ℕ)) → Found (λ c. IsCommand c fs) → Found (λ c. (b ≡ true) × IsCommand c fs)
 plain_line true fs (inl c) = inl (c.0, (refl, c.1))
@@ -165,12 +176,13 @@ shows W u = shows_so W u (finmap.contains_key W.entities u)
 
 gives : (s : State) (c : Command) → (t : State) × (out : List ℕ) × Gives s c t out
 gives s Nothing = (s, [], (refl, refl))
-gives s (Ent u ps) = (record { waiting = s.waiting ++ given u ps ∷ []; world = s.world }, [], (refl, refl))
-gives s Build = let a = adds empty_world s.waiting in (record { waiting = []; world = a.0 }, a.1, (refl, a.2))
-gives s Add = let a = adds s.world s.waiting in (record { waiting = []; world = a.0 }, a.1, (refl, a.2))
-gives s Upsert = let a = overwrites s.world s.waiting in (record { waiting = []; world = a.0 }, a.1, (refl, a.2))
-gives s (Remove us) = (record { waiting = s.waiting; world = deleted s.world us }, count_line (deleted s.world us), (refl, (refl, refl)))
+gives s (Ent u ps) = (record { waiting = s.waiting ++ given u ps ∷ []; world = s.world; boards = s.boards }, [], (refl, refl))
+gives s Build = let a = adds empty_world s.waiting in (record { waiting = []; world = a.0; boards = s.boards }, a.1, (refl, a.2, refl))
+gives s Add = let a = adds s.world s.waiting in (record { waiting = []; world = a.0; boards = s.boards }, a.1, (refl, a.2, refl))
+gives s Upsert = let a = overwrites s.world s.waiting in (record { waiting = []; world = a.0; boards = s.boards }, a.1, (refl, a.2, refl))
+gives s (Remove us) = (record { waiting = s.waiting; world = deleted s.world us; boards = s.boards }, count_line (deleted s.world us), (refl, (refl, refl), refl))
 gives s (Anc u) = let a = shows s.world u in (s, a.0, (refl, a.1))
+gives s (Policy c) = let a = policy_gives c s.boards in (record { waiting = s.waiting; world = s.world; boards = a.0 }, a.1, (refl, refl, a.2))
 
 -- ---- the lines
 

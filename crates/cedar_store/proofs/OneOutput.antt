@@ -1,5 +1,5 @@
 -- No input has two outputs.
-use Rattle.std.specs.Prelude.{◌≡◌, ℕ, ◌+◌, List, [], ◌∷◌, ◌++◌, codes, Bool, true, false, ◌||◌, if◌then◌else◌}
+use Rattle.std.specs.Prelude.{◌≡◌, ℕ, ◌+◌, List, [], ◌∷◌, ◌++◌, codes, Bool, true, false, ◌||◌, if◌then◌else◌, Option, Some, None}
 use Rattle.std.proofs.Common.{ap, sym, refl, subst, ◌∙◌, inl, inr}
 use Rattle.std.proofs.lemmas.Bool.{false≢true, or_cases}
 use Rattle.std.specs.Cmp.{tied_itself}
@@ -16,7 +16,9 @@ use Rattle.cedar_ids.specs.UidOf.{uid_parts, uid_order, same_uid, same_uid_decid
 use Rattle.cedar_ids.specs.laws.PrintedLaws.{printed_uid_injective}
 use Rattle.cedar_ids.specs.declared.entity.EntityUID.{EntityUID}
 use Rattle.cedar_ids.specs.declared.entity.EntityUID.TheVariants as uids
-use Rattle.cedar_store.specs.Command.{Command, Nothing, Ent, Build, Add, Upsert, Remove, Anc, AreTexts, AreFields, IsCommand}
+use Rattle.cedar_policy_lines.specs.PolicyCommand.{PolicyCommand, policy_command}
+use Rattle.cedar_policy_lines.specs.laws.OneAnswer.{one_policy_gives}
+use Rattle.cedar_store.specs.Command.{Command, Nothing, Ent, Build, Add, Upsert, Remove, Anc, Policy, AreTexts, AreFields, IsCommand}
 use Rattle.cedar_entities.specs.World.{World, Given, AllAgree, Agrees, FirstDiffers, empty_world}
 use Rattle.cedar_store.specs.Output.{State, Written, Adds, Overwrites, Deletes, AreAncestors, Gives, IsOutput, IsOutputFrom, after, written_line, uid_text, field_of}
 use Rattle.cedar_store.proofs.Commands.{Text}
@@ -47,6 +49,7 @@ word_of Add = codes "add"
 word_of Upsert = codes "upsert"
 word_of (Remove us) = codes "remove"
 word_of (Anc u) = codes "anc"
+word_of (Policy c) = []
 
 abbrev named_by : Command → List EntityUID
 named_by Nothing = []
@@ -56,16 +59,45 @@ named_by Add = []
 named_by Upsert = []
 named_by (Remove us) = us
 named_by (Anc u) = u ∷ []
+named_by (Policy c) = []
 
--- a command's fields are its word and the texts of the uids that it names
-fields_are : (c : Command) (fs : List (List ℕ)) → IsCommand c fs → AreFields (word_of c) (named_by c) fs
-fields_are Nothing fs h = subst (AreFields [] []) (sym h) (refl, tt)
-fields_are (Ent u ps) fs h = h
-fields_are Build fs h = h
-fields_are Add fs h = h
-fields_are Upsert fs h = h
-fields_are (Remove us) fs h = h.0
-fields_are (Anc u) fs h = h
+-- the command on policy sets that a command is, if it is one
+abbrev policy_of : Command → Option PolicyCommand
+policy_of Nothing = None
+policy_of (Ent u ps) = None
+policy_of Build = None
+policy_of Add = None
+policy_of Upsert = None
+policy_of (Remove us) = None
+policy_of (Anc u) = None
+policy_of (Policy c) = Some c
+
+-- fields that begin with another word are those of no command on policy sets
+no_policy : (w : List ℕ) (us : List EntityUID) (fs : List (List ℕ)) → ((ts : List (List ℕ)) → None ≡ policy_command (w ∷ ts)) → AreFields w us fs → None ≡ policy_command fs
+no_policy w us [] none h = absurd h
+no_policy w us (f ∷ fs) none h = none fs ∙ ap (λ v. policy_command (v ∷ fs)) (sym h.0)
+
+-- it is told by the fields
+policy_told : (c : Command) (fs : List (List ℕ)) → IsCommand c fs → policy_of c ≡ policy_command fs
+policy_told Nothing fs h = ap policy_command (sym h)
+policy_told (Ent u ps) fs h = no_policy (codes "ent") (u ∷ ps) fs (λ ts. refl) h
+policy_told Build fs h = no_policy (codes "build") [] fs (λ ts. refl) h
+policy_told Add fs h = no_policy (codes "add") [] fs (λ ts. refl) h
+policy_told Upsert fs h = no_policy (codes "upsert") [] fs (λ ts. refl) h
+policy_told (Remove us) fs h = no_policy (codes "remove") us fs (λ ts. refl) h.0
+policy_told (Anc u) fs h = no_policy (codes "anc") (u ∷ []) fs (λ ts. refl) h
+policy_told (Policy c) fs h = sym h
+
+-- the fields of any other command are its word and the texts of the uids that it names
+fields_are : (c : Command) (fs : List (List ℕ)) → policy_of c ≡ None → IsCommand c fs → AreFields (word_of c) (named_by c) fs
+fields_are Nothing fs e h = subst (AreFields [] []) (sym h) (refl, tt)
+fields_are (Ent u ps) fs e h = h
+fields_are Build fs e h = h
+fields_are Add fs e h = h
+fields_are Upsert fs e h = h
+fields_are (Remove us) fs e h = h.0
+fields_are (Anc u) fs e h = h
+fields_are (Policy c) fs e h = absurd (cc)
 
 -- a command with a first uid
 abbrev with_first : (EntityUID → List EntityUID → Command) → List EntityUID → Command
@@ -83,8 +115,13 @@ command_by w us =
     else if bytes_eq w (codes "anc") then with_first (λ u _. Anc u) us
     else Nothing
 
+-- and the command on policy sets, where it is one
+abbrev command_with : Option PolicyCommand → List ℕ → List EntityUID → Command
+command_with (Some c) w us = Policy c
+command_with None w us = command_by w us
+
 -- it is read back from them
-read_back : (c : Command) → command_by (word_of c) (named_by c) ≡ c
+read_back : (c : Command) → command_with (policy_of c) (word_of c) (named_by c) ≡ c
 read_back Nothing = refl
 read_back (Ent u ps) = refl
 read_back Build = refl
@@ -92,6 +129,7 @@ read_back Add = refl
 read_back Upsert = refl
 read_back (Remove us) = refl
 read_back (Anc u) = refl
+read_back (Policy c) = refl
 
 same_words : (a b : List ℕ) (us vs : List EntityUID) (fs : List (List ℕ)) → AreFields a us fs → AreFields b vs fs → a ≡ b
 same_words a b us vs [] h k = absurd h
@@ -101,14 +139,19 @@ same_named : (a b : List ℕ) (us vs : List EntityUID) (fs : List (List ℕ)) �
 same_named a b us vs [] h k = absurd h
 same_named a b us vs (f ∷ fs) h k = one_list us vs fs h.1 k.1
 
--- fields are those of one command
-pub one_command : (c d : Command) (fs : List (List ℕ)) → IsCommand c fs → IsCommand d fs → c ≡ d
-one_command c d fs h k =
-    let p = fields_are c fs h in
-    let q = fields_are d fs k in
+one_by : (c d : Command) (fs : List (List ℕ)) (o : Option PolicyCommand) → policy_of c ≡ o → policy_of d ≡ o → IsCommand c fs → IsCommand d fs → c ≡ d
+one_by c d fs (Some p) e f h k = sym (read_back c) ∙ ap (λ o. command_with o (word_of c) (named_by c)) e ∙ sym (ap (λ o. command_with o (word_of d) (named_by d)) f) ∙ read_back d
+one_by c d fs None e f h k =
+    let p = fields_are c fs e h in
+    let q = fields_are d fs f k in
     let words = same_words (word_of c) (word_of d) (named_by c) (named_by d) fs p q in
     let named = same_named (word_of c) (word_of d) (named_by c) (named_by d) fs p q in
-    sym (read_back c) ∙ (λ i. command_by (words i) (named i)) ∙ read_back d
+    let same : policy_of c ≡ policy_of d = e ∙ sym f in
+    sym (read_back c) ∙ (λ i. command_with (same i) (words i) (named i)) ∙ read_back d
+
+-- fields are those of one command
+pub one_command : (c d : Command) (fs : List (List ℕ)) → IsCommand c fs → IsCommand d fs → c ≡ d
+one_command c d fs h k = one_by c d fs (policy_command fs) (policy_told c fs h) (policy_told d fs k) h k
 
 -- the first place that differs is one place
 split_agrees : {X : Type 0} (P : X → Type 0) (before before' : List X) (at at' : X) (after after' : List X) → before ++ at ∷ after ≡ before' ++ at' ∷ after'
@@ -218,18 +261,21 @@ one_shown : (W : World) (u : EntityUID) (out out' : List ℕ) (b : Bool)
 one_shown W u out out' true h k = h.2 ∙ ap (λ l. written_line (codes "anc" ++ flat_map field_of l)) (one_ancestors W u h.0 k.0 h.1 k.1) ∙ sym k.2
 one_shown W u out out' false h k = h ∙ sym k
 
--- one list that waits and one world are one state
-joined : (t t' : State) (out out' : List ℕ) → t.waiting ≡ t'.waiting → (t.world ≡ t'.world) × (out ≡ out') → (t ≡ t') × (out ≡ out')
-joined t t' out out' w a = (λ i. record { waiting = w i; world = a.0 i }, a.1)
+-- one list that waits, one world and two boards are one state
+joined : (t t' : State) (out out' : List ℕ) → t.waiting ≡ t'.waiting → (t.world ≡ t'.world) × (out ≡ out') → t.boards ≡ t'.boards → (t ≡ t') × (out ≡ out')
+joined t t' out out' w a b = (λ i. record { waiting = w i; world = a.0 i; boards = b i }, a.1)
 
 one_step : (s t t' : State) (c : Command) (out out' : List ℕ) → Gives s c t out → Gives s c t' out' → (t ≡ t') × (out ≡ out')
 one_step s t t' Nothing out out' h k = (h.0 ∙ sym k.0, h.1 ∙ sym k.1)
 one_step s t t' (Ent u ps) out out' h k = (h.0 ∙ sym k.0, h.1 ∙ sym k.1)
-one_step s t t' Build out out' h k = joined t t' _ _ (h.0 ∙ sym k.0) (one_adds empty_world s.waiting t.world t'.world out out' h.1 k.1)
-one_step s t t' Add out out' h k = joined t t' _ _ (h.0 ∙ sym k.0) (one_adds s.world s.waiting t.world t'.world out out' h.1 k.1)
-one_step s t t' Upsert out out' h k = joined t t' _ _ (h.0 ∙ sym k.0) (one_overwrites s.world s.waiting t.world t'.world out out' h.1 k.1)
-one_step s t t' (Remove us) out out' h k = joined t t' _ _ (h.0 ∙ sym k.0) (one_deletes s.world us t.world t'.world out out' h.1 k.1)
+one_step s t t' Build out out' h k = joined t t' _ _ (h.0 ∙ sym k.0) (one_adds empty_world s.waiting t.world t'.world out out' h.1 k.1) (h.2 ∙ sym k.2)
+one_step s t t' Add out out' h k = joined t t' _ _ (h.0 ∙ sym k.0) (one_adds s.world s.waiting t.world t'.world out out' h.1 k.1) (h.2 ∙ sym k.2)
+one_step s t t' Upsert out out' h k = joined t t' _ _ (h.0 ∙ sym k.0) (one_overwrites s.world s.waiting t.world t'.world out out' h.1 k.1) (h.2 ∙ sym k.2)
+one_step s t t' (Remove us) out out' h k = joined t t' _ _ (h.0 ∙ sym k.0) (one_deletes s.world us t.world t'.world out out' h.1 k.1) (h.2 ∙ sym k.2)
 one_step s t t' (Anc u) out out' h k = (h.0 ∙ sym k.0, one_shown s.world u out out' (finmap.contains_key s.world.entities u) h.1 k.1)
+one_step s t t' (Policy c) out out' h k =
+    let same = one_policy_gives c s.boards t.boards t'.boards out out' h.2 k.2 in
+    joined t t' out out' (h.0 ∙ sym k.0) (h.1 ∙ sym k.1, same.1) same.0
 
 one_from : (ls : List (List ℕ)) (n : ℕ) (s : State) (v w : Written) → IsOutputFrom n s ls v → IsOutputFrom n s ls w → v ≡ w
 unfolding IsOutputFrom

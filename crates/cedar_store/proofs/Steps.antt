@@ -26,9 +26,13 @@ use Rattle.cedar_entities.specs.World.{World, Parts, Given, given, graph, is_par
 use Rattle.cedar_entity.specs.declared.err.EntitiesError.{EntitiesError}
 use Rattle.cedar_entity.specs.declared.err.EntitiesError.TheVariants as errors
 use Rattle.cedar_entities.specs.laws.Worlds.{get_added, get_overwritten, get_deleted}
+use Rattle.cedar_policy_lines.specs.Boards.{Boards}
+use Rattle.cedar_policy_lines.specs.PolicyCommand.{PolicyCommand}
+use Rattle.cedar_policy_lines.specs.PolicyOutput.{PolicyGives}
+use Rattle.cedar_policy_lines.specs.laws.Machines as policies
 use Rattle.cedar_store.specs.Output.{State, Adds, Overwrites, AreAncestors, ShowsAncestors, count_line, written_line, uid_text, field_of}
 use Rattle.cedar_store.specs.laws.Machines.{IsAsciiUid, IsAsciiGiven, IsAsciiWorld, AreAsciiUids, Refused, Holds, Takes, HasAsciiUids, Settles, waits}
-use Rattle.cedar_store.specs.Command.{Command, Nothing, Ent, Build, Add, Upsert, Remove, Anc, AreTexts, IsCommand}
+use Rattle.cedar_store.specs.Command.{Command, Nothing, Ent, Build, Add, Upsert, Remove, Anc, Policy, AreTexts, IsCommand}
 use Rattle.cedar_store.specs.declared.machine.Machine.{Machine}
 use Rattle.std.specs.Borrow.{Bor}
 use mathlib.Core.List.{append-nil}
@@ -189,10 +193,10 @@ no_fields [] h = refl
 no_fields (f ∷ fs) h = absurd (false≢true (ap is_some (sym (h.last f.0)) ∙ ap (λ b. is_some (if b then Some f.1 else field_at f.0 fs)) ((bytes_decides f.0 f.0).1 refl)))
 
 -- the machine takes an entity
-pub ent_takes : (m n : Machine) (s : State) (u : EntityUID) (ps : List EntityUID) (e : EntityView) (out : List ℕ) → Holds m s → waits n ≡ waits m ++ e ∷ [] → n.store ≡ m.store
+pub ent_takes : (m n : Machine) (s : State) (u : EntityUID) (ps : List EntityUID) (e : EntityView) (out : List ℕ) → Holds m s → waits n ≡ waits m ++ e ∷ [] → n.store ≡ m.store → n.sets ≡ m.sets
     → given_of e ≡ given u ps → IsBare e → AreAsciiUids (u ∷ ps) → Takes (Ent u ps) s n out out
-ent_takes m n s u ps e out h items store is bare ascii = (
-  record { waiting = s.waiting ++ given u ps ∷ []; world = s.world },
+ent_takes m n s u ps e out h items store sets is bare ascii = (
+  record { waiting = s.waiting ++ given u ps ∷ []; world = s.world; boards = s.boards },
   [],
   (refl, refl),
   record {
@@ -201,92 +205,95 @@ ent_takes m n s u ps e out h items store is bare ascii = (
     plain = subst (IsPlainStore s.world) (sym store) h.plain;
     ascii_waiting = all_push IsAsciiGiven s.waiting (given u ps) h.ascii_waiting (given_ascii u ps ascii);
     ascii_world = h.ascii_world;
+    boards = sets ∙ h.boards;
   },
   sym (append-nil out),
 )
 
 -- the machine holds a world and nothing that waits
-pub settled : (n : Machine) (W : World) → waits n ≡ [] → IsPlainStore W n.store → IsAsciiWorld W → Holds n (record { waiting = []; world = W })
-settled n W none plain ascii = record {
+pub settled : (n : Machine) (W : World) (B : Boards) → waits n ≡ [] → IsPlainStore W n.store → IsAsciiWorld W → n.sets ≡ B → Holds n (record { waiting = []; world = W; boards = B })
+settled n W B none plain ascii sets = record {
   waiting = ap (map given_of) none;
   bare = subst AreBare (sym none) tt;
   plain = plain;
   ascii_waiting = tt;
   ascii_world = ascii;
+  boards = sets;
 }
 
 -- the machine takes an adding
-pub add_takes : (m n : Machine) (s : State) (list : List EntityView) (store : StoreView) (r : Result StoreView EntitiesError) (old new : List ℕ) → Holds m s → list ≡ waits m → store ≡ m.store → waits n ≡ []
+pub add_takes : (m n : Machine) (s : State) (list : List EntityView) (store : StoreView) (r : Result StoreView EntitiesError) (old new : List ℕ) → Holds m s → list ≡ waits m → store ≡ m.store → waits n ≡ [] → n.sets ≡ m.sets
     → OnOk r ((W : World) → IsPlainStore W store → AreBare list → AllAgree W (map given_of list))
     → IfOk r (λ S. (W : World) → IsPlainStore W store → AreBare list → IsPlainStore (added W (map given_of list)) S)
     → IfErr r (λ e. (W : World) → IsPlainStore W store → AreBare list → IsAddingRefused W (map given_of list) e)
     → Settles r n old new → Takes Add s n old new
-add_takes m n s list store (Ok S) old new h same at none agrees ok err settles =
+add_takes m n s list store (Ok S) old new h same at none sets agrees ok err settles =
     let L : map given_of list ≡ s.waiting = ap (map given_of) same ∙ h.waiting in
     let bare = subst AreBare (sym same) h.bare in
     let before = subst (IsPlainStore s.world) (sym at) h.plain in
     let plain = subst (λ l. IsPlainStore (added s.world l) S) L (ok s.world before bare) in
     let k = settles (added s.world s.waiting) plain in (
-      record { waiting = []; world = added s.world s.waiting },
+      record { waiting = []; world = added s.world s.waiting; boards = s.boards },
       count_line (added s.world s.waiting),
-      (refl, inr (inr ((subst (AllAgree s.world) L (agrees s.world before bare), (λ c. plain.acyclic c.0 c.1)), refl, refl))),
-      settled n (added s.world s.waiting) none k.0 (added_ascii s.world s.waiting h.ascii_world h.ascii_waiting),
+      (refl, inr (inr ((subst (AllAgree s.world) L (agrees s.world before bare), (λ c. plain.acyclic c.0 c.1)), refl, refl)), refl),
+      settled n (added s.world s.waiting) s.boards none k.0 (added_ascii s.world s.waiting h.ascii_world h.ascii_waiting) (sets ∙ h.boards),
       k.1,
     )
-add_takes m n s list store (Err e) old new h same at none agrees ok err settles =
+add_takes m n s list store (Err e) old new h same at none sets agrees ok err settles =
     let L : map given_of list ≡ s.waiting = ap (map given_of) same ∙ h.waiting in
     let bare = subst AreBare (sym same) h.bare in
     let before = subst (IsPlainStore s.world) (sym at) h.plain in
     let r = refused_adds s.world s.waiting e old new h.ascii_waiting (subst (λ l. IsAddingRefused s.world l e) L (err s.world before bare)) settles.1 in
-    (record { waiting = []; world = empty_world }, r.0, (refl, r.1), settled n empty_world none settles.0 empty_ascii, r.2)
+    (record { waiting = []; world = empty_world; boards = s.boards }, r.0, (refl, r.1, refl), settled n empty_world s.boards none settles.0 empty_ascii (sets ∙ h.boards), r.2)
 
 -- a build is an adding to the store without entities
-pub build_takes : (m n : Machine) (s : State) (old new : List ℕ) → Holds m s → waits n ≡ waits m → IsPlainStore empty_world n.store
+pub build_takes : (m n : Machine) (s : State) (old new : List ℕ) → Holds m s → waits n ≡ waits m → n.sets ≡ m.sets → IsPlainStore empty_world n.store
     → (o : Machine) → ((t : State) → Holds n t → Takes Add t o old new) → Takes Build s o old new
-build_takes m n s old new h same plain o takes =
-    takes (record { waiting = s.waiting; world = empty_world })
-    (record { waiting = ap (map given_of) same ∙ h.waiting; bare = subst AreBare (sym same) h.bare; plain = plain; ascii_waiting = h.ascii_waiting; ascii_world = empty_ascii })
+build_takes m n s old new h same sets plain o takes =
+    takes (record { waiting = s.waiting; world = empty_world; boards = s.boards })
+    (record { waiting = ap (map given_of) same ∙ h.waiting; bare = subst AreBare (sym same) h.bare; plain = plain; ascii_waiting = h.ascii_waiting; ascii_world = empty_ascii; boards = sets ∙ h.boards })
 
 -- the machine takes an overwriting
-pub upsert_takes : (m n : Machine) (s : State) (list : List EntityView) (store : StoreView) (r : Result StoreView EntitiesError) (old new : List ℕ) → Holds m s → list ≡ waits m → store ≡ m.store → waits n ≡ []
+pub upsert_takes : (m n : Machine) (s : State) (list : List EntityView) (store : StoreView) (r : Result StoreView EntitiesError) (old new : List ℕ) → Holds m s → list ≡ waits m → store ≡ m.store → waits n ≡ [] → n.sets ≡ m.sets
     → IfOk r (λ S. (W : World) → IsPlainStore W store → AreBare list → IsPlainStore (overwritten W (map given_of list)) S)
     → IfErr r (λ e. (W : World) → IsPlainStore W store → AreBare list → IsOverwritingRefused W (map given_of list) e)
     → Settles r n old new → Takes Upsert s n old new
-upsert_takes m n s list store (Ok S) old new h same at none ok err settles =
+upsert_takes m n s list store (Ok S) old new h same at none sets ok err settles =
     let L : map given_of list ≡ s.waiting = ap (map given_of) same ∙ h.waiting in
     let plain = subst (λ l. IsPlainStore (overwritten s.world l) S) L (ok s.world (subst (IsPlainStore s.world) (sym at) h.plain) (subst AreBare (sym same) h.bare)) in
     let k = settles (overwritten s.world s.waiting) plain in (
-      record { waiting = []; world = overwritten s.world s.waiting },
+      record { waiting = []; world = overwritten s.world s.waiting; boards = s.boards },
       count_line (overwritten s.world s.waiting),
-      (refl, inr ((λ c. plain.acyclic c.0 c.1), refl, refl)),
-      settled n (overwritten s.world s.waiting) none k.0 (overwritten_ascii s.world s.waiting h.ascii_world h.ascii_waiting),
+      (refl, inr ((λ c. plain.acyclic c.0 c.1), refl, refl), refl),
+      settled n (overwritten s.world s.waiting) s.boards none k.0 (overwritten_ascii s.world s.waiting h.ascii_world h.ascii_waiting) (sets ∙ h.boards),
       k.1,
     )
-upsert_takes m n s list store (Err e) old new h same at none ok err settles =
+upsert_takes m n s list store (Err e) old new h same at none sets ok err settles =
     let L : map given_of list ≡ s.waiting = ap (map given_of) same ∙ h.waiting in
     let r = refused_overwrites s.world s.waiting e old new (subst (λ l. IsOverwritingRefused s.world l e) L (err s.world (subst (IsPlainStore s.world) (sym at) h.plain) (subst AreBare (sym same) h.bare))) settles.1 in
-    (record { waiting = []; world = empty_world }, r.0, (refl, r.1), settled n empty_world none settles.0 empty_ascii, r.2)
+    (record { waiting = []; world = empty_world; boards = s.boards }, r.0, (refl, r.1, refl), settled n empty_world s.boards none settles.0 empty_ascii (sets ∙ h.boards), r.2)
 
 -- the machine takes a removal
-pub remove_takes : (m n : Machine) (s : State) (us : List EntityUID) (store : StoreView) (r : Result StoreView EntitiesError) (old new : List ℕ) → Holds m s → store ≡ m.store → waits n ≡ waits m
+pub remove_takes : (m n : Machine) (s : State) (us : List EntityUID) (store : StoreView) (r : Result StoreView EntitiesError) (old new : List ℕ) → Holds m s → store ≡ m.store → waits n ≡ waits m → n.sets ≡ m.sets
     → IfOk r (λ S. (W : World) → IsPlainStore W store → IsPlainStore (deleted W us) S)
     → IfErr r (λ e. (W : World) → IsPlainStore W store → e ≡ errors.Memory)
     → Settles r n old new → Takes (Remove us) s n old new
-remove_takes m n s us store (Ok S) old new h at same ok err settles =
+remove_takes m n s us store (Ok S) old new h at same sets ok err settles =
     let k = settles (deleted s.world us) (ok s.world (subst (IsPlainStore s.world) (sym at) h.plain)) in (
-      record { waiting = s.waiting; world = deleted s.world us },
+      record { waiting = s.waiting; world = deleted s.world us; boards = s.boards },
       count_line (deleted s.world us),
-      (refl, (refl, refl)),
+      (refl, (refl, refl), refl),
       record {
         waiting = ap (map given_of) same ∙ h.waiting;
         bare = subst AreBare (sym same) h.bare;
         plain = k.0;
         ascii_waiting = h.ascii_waiting;
         ascii_world = deleted_ascii s.world us h.ascii_world;
+        boards = sets ∙ h.boards;
       },
       k.1,
     )
-remove_takes m n s us store (Err e) old new h at same ok err settles = absurd (subst (λ x. Refused x old new) (err s.world (subst (IsPlainStore s.world) (sym at) h.plain)) settles.1)
+remove_takes m n s us store (Err e) old new h at same sets ok err settles = absurd (subst (λ x. Refused x old new) (err s.world (subst (IsPlainStore s.world) (sym at) h.plain)) settles.1)
 
 -- one field more
 pub fields_more : (done : List (Bor EntityUID)) (x : Bor EntityUID) (start now new : List ℕ) → (AreAsciiUids (map (λ y. y.now) done) → now ≡ start ++ flat_map field_of (map (λ y. y.now) done))
@@ -307,6 +314,23 @@ nothing_takes m s out h = (s, [], (refl, refl), h, sym (append-nil out))
 pub anc_takes : (m : Machine) (s : State) (u : EntityUID) (old new : List ℕ) → Holds m s → (text : List ℕ) × ShowsAncestors s.world u text × (new ≡ old ++ text) → Takes (Anc u) s m old new
 anc_takes m s u old new h k = (s, k.0, (refl, k.1), h, k.2)
 
+-- the machine takes a command on policy sets
+pub policy_takes : (m n : Machine) (s : State) (c : PolicyCommand) (old new : List ℕ) → Holds m s → waits n ≡ waits m → n.store ≡ m.store → policies.Takes c m.sets n.sets old new → Takes (Policy c) s n old new
+policy_takes m n s c old new h waiting store k = (
+  record { waiting = s.waiting; world = s.world; boards = n.sets },
+  k.0,
+  (refl, refl, subst (λ b. PolicyGives c b n.sets k.0) h.boards k.1),
+  record {
+    waiting = ap (map given_of) waiting ∙ h.waiting;
+    bare = subst AreBare (sym waiting) h.bare;
+    plain = subst (IsPlainStore s.world) (sym store) h.plain;
+    ascii_waiting = h.ascii_waiting;
+    ascii_world = h.ascii_world;
+    boards = refl;
+  },
+  k.2,
+)
+
 texts_ascii : (us : List EntityUID) (ts : List (List ℕ)) → AreTexts us ts → AreAsciiUids us
 texts_ascii [] ts h = tt
 texts_ascii (u ∷ us) [] h = absurd h
@@ -322,3 +346,4 @@ command_ascii Add fs h = tt
 command_ascii Upsert fs h = tt
 command_ascii (Remove us) fs h = tt
 command_ascii (Anc u) fs h = tt
+command_ascii (Policy c) fs h = tt

@@ -11,22 +11,22 @@ use Rattle.cedar_ids.specs.Printed.{printed_uid}
 use Rattle.cedar_ids.specs.UidOf.{uid_parts, uid_order, same_uid}
 use Rattle.cedar_ids.specs.declared.entity.EntityUID.{EntityUID}
 use Rattle.cedar_entities.specs.World.{World, Given, given, graph, empty_world, AllAgree, FirstDiffers, IsCyclic}
+use Rattle.cedar_policy_lines.specs.Boards.{Boards, no_boards}
+pub use Rattle.cedar_policy_lines.specs.PolicyOutput.{written_line}
+use Rattle.cedar_policy_lines.specs.PolicyOutput.{PolicyGives}
 use Rattle.cedar_store.specs.Calls.{made, Passes}
 use Rattle.cedar_store.specs.Calls as calls
-use Rattle.cedar_store.specs.Command.{Command, Nothing, Ent, Build, Add, Upsert, Remove, Anc, IsLine}
+use Rattle.cedar_store.specs.Command.{Command, Nothing, Ent, Build, Add, Upsert, Remove, Anc, Policy, IsLine}
 
--- what waits for a call on the store, and the world that the store holds
+-- what waits for a call on the store, the world that the store holds, and the two boards
 pub record State : Type 0 where
   pub waiting : List Given
   pub world : World
+  pub boards : Boards
 
--- nothing waits, and the store is empty
+-- nothing waits, the store is empty, and so are both boards
 abbrev pub start : State
-start = record { waiting = []; world = empty_world }
-
--- a text and a line feed
-abbrev pub written_line : List ℕ → List ℕ
-written_line text = text ++ 10 ∷ []
+start = record { waiting = []; world = empty_world; boards = no_boards }
 
 -- the text of a uid
 abbrev pub uid_text : EntityUID → List ℕ
@@ -73,12 +73,13 @@ ShowsAncestors W u out =
 -- the state that a command leaves, and what it writes
 abbrev pub Gives : State → Command → State → List ℕ → Type 0
 Gives s Nothing t out = (t ≡ s) × (out ≡ [])
-Gives s (Ent u ps) t out = (t ≡ record { waiting = s.waiting ++ given u ps ∷ []; world = s.world }) × (out ≡ [])
-Gives s Build t out = (t.waiting ≡ []) × Adds empty_world s.waiting t.world out
-Gives s Add t out = (t.waiting ≡ []) × Adds s.world s.waiting t.world out
-Gives s Upsert t out = (t.waiting ≡ []) × Overwrites s.world s.waiting t.world out
-Gives s (Remove us) t out = (t.waiting ≡ s.waiting) × Deletes s.world us t.world out
+Gives s (Ent u ps) t out = (t ≡ record { waiting = s.waiting ++ given u ps ∷ []; world = s.world; boards = s.boards }) × (out ≡ [])
+Gives s Build t out = (t.waiting ≡ []) × Adds empty_world s.waiting t.world out × (t.boards ≡ s.boards)
+Gives s Add t out = (t.waiting ≡ []) × Adds s.world s.waiting t.world out × (t.boards ≡ s.boards)
+Gives s Upsert t out = (t.waiting ≡ []) × Overwrites s.world s.waiting t.world out × (t.boards ≡ s.boards)
+Gives s (Remove us) t out = (t.waiting ≡ s.waiting) × Deletes s.world us t.world out × (t.boards ≡ s.boards)
 Gives s (Anc u) t out = (t ≡ s) × ShowsAncestors s.world u out
+Gives s (Policy c) t out = (t.waiting ≡ s.waiting) × (t.world ≡ s.world) × PolicyGives c s.boards t.boards out
 
 -- what is written in all, and the status
 pub record Written : Type 0 where

@@ -1,11 +1,11 @@
 //! The store layer of the Cedar authorization language: one crate with every public name of the layers below it,
 //! and the program over them.
 //!
-//! The names stand at the original's module paths: [`ast`] has ids, values, expressions and entities, [`entities`]
-//! their store, [`transitive_closure`] the closure calls. Beside them are this project's own: [`replay_entities`]
-//! makes a list of calls on a store, and its contract says what that leaves and where it ends; [`run`] reads lines
-//! and writes their answers, and its contract says that what is written is the output of what was read, by
-//! `specs/Output.antt`, and that no input has two.
+//! The names stand at the original's module paths: [`ast`] has ids, values, expressions, entities, templates, policies
+//! and their sets, [`entities`] the store, [`transitive_closure`] the closure calls. Beside them are this project's own:
+//! [`replay_entities`] makes a list of calls on a store and [`replay_policies`] one on a policy set, and their contracts
+//! say what that leaves; [`run`] reads lines and writes their answers, and its contract says that what is written is the
+//! output of what was read, by `specs/Output.antt`, and that each input has exactly one.
 #![tactic(auto, using(cedar_ids::specs::UidOf::same_uid_decides))]
 
 mod line;
@@ -24,6 +24,20 @@ pub use cedar_ids::{
     ACTION_ENTITY_TYPE, AnyId, Eid, EntityType, EntityUID, EntityUIDImpl, Escaped, Id, Loc, Name,
     NonEmpty, ParseErrors, PolicyID,
 };
+pub use cedar_policy::{
+    Effect, LinkingError, Policy, SlotEnv, Slots, StaticPolicy, Template, TemplateBody,
+    TemplateBodyImpl, TemplateValidationError, UnexpectedSlotError,
+};
+pub use cedar_policy_replay::{Answer, PolicyCall, replay_policies};
+pub use cedar_policy_set::{
+    AllTemplates, IntoPolicies, Linked, LinkedIds, Policies, PolicySet, PolicySetError,
+    PolicySetGetLinksError, PolicySetPolicyRemovalError, PolicySetTemplateRemovalError,
+    PolicySetUnlinkError, PolicySetValidationError, StaticPolicies, Templates,
+};
+pub use cedar_scope::{
+    ActionConstraint, ActionTypesError, Annotation, Annotations, EntityIterator, EntityReference,
+    PrincipalConstraint, PrincipalOrResource, PrincipalOrResourceConstraint, ResourceConstraint,
+};
 pub use cedar_terms::{
     Expr, ExprValidationError, ExtensionValue, Literal, PartialValue, Slot, SlotId, StaticType,
     StaticallyTyped, Unknown, Value, ValueKind, Var, is_reserved_key,
@@ -31,12 +45,26 @@ pub use cedar_terms::{
 pub use program::{RunError, run};
 pub use replay::{EntityCall, replay_entities};
 
-/// Ids, names, uids, values, expressions and entities, at the original's path.
+/// Ids, names, uids, values, expressions, entities, scope constraints, templates, policies and policy sets, at the
+/// original's path.
 pub mod ast {
     pub use cedar_entities::Entity;
     pub use cedar_ids::{
         ACTION_ENTITY_TYPE, AnyId, Eid, EntityType, EntityUID, EntityUIDImpl, Id, Name, NonEmpty,
         ParseErrors, PolicyID,
+    };
+    pub use cedar_policy::{
+        Effect, LinkingError, Policy, SlotEnv, StaticPolicy, Template, TemplateBody,
+        TemplateBodyImpl, TemplateValidationError, UnexpectedSlotError,
+    };
+    pub use cedar_policy_set::{
+        PolicySet, PolicySetError, PolicySetGetLinksError, PolicySetPolicyRemovalError,
+        PolicySetTemplateRemovalError, PolicySetUnlinkError, PolicySetValidationError,
+    };
+    pub use cedar_scope::{
+        ActionConstraint, ActionTypesError, Annotation, Annotations, EntityIterator,
+        EntityReference, PrincipalConstraint, PrincipalOrResource, PrincipalOrResourceConstraint,
+        ResourceConstraint,
     };
     pub use cedar_terms::{
         Expr, ExprValidationError, ExtensionValue, Literal, PartialValue, Slot, SlotId, StaticType,

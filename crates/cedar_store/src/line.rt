@@ -1,15 +1,14 @@
 //! Which line of the program is which command.
-ghost use Rattle.std.specs.Prelude.{◌≡◌, ◌∷◌, [], List, ℕ, IfOk, map, codes, ◌==◌};
+ghost use Rattle.std.specs.Prelude.{◌≡◌, ◌∷◌, [], List, ℕ, IfOk, map, codes, ◌==◌, None};
 ghost use Rattle.std.specs.List.{list_all, slice_split};
-ghost use Rattle.cedar_ids.specs.Escape.{is_ascii};
-ghost use Rattle.cedar_ids.specs.TextOf.{IsPrinted};
-ghost use Rattle.cedar_ids.specs.UidOf.{uid_parts};
 ghost use Rattle.cedar_ids.specs.declared.entity.EntityUID.{EntityUID};
 ghost use Rattle.cedar_store.specs.Command.{AreTexts, IsCommand, IsLine, is_plain};
+ghost use Rattle.cedar_policy_lines.specs.PolicyCommand.{policy_command};
 ghost use Rattle.cedar_store.specs.laws.Lines.{command_of, ReadsAs};
 
 use cedar_ids::entity::EntityUID;
-use cedar_ids::err::ParseErrors;
+use cedar_policy_lines::field::uid_field;
+use cedar_policy_lines::{PolicyLine, read_policy_line};
 use std::alloc::{AllocError, Global};
 
 // A line that is a command.
@@ -29,31 +28,8 @@ pub(crate) enum Line {
     Remove(Vec<EntityUID>),
     // The ancestors of an entity are asked for.
     Anc(EntityUID),
-}
-
-// Whether the eid of a uid is ASCII.
-fn has_ascii_eid(uid: &EntityUID) -> bool
-    ensures { result ≡ is_ascii (uid_parts uid.now).eid }
-{
-    uid.eid().as_ref().is_ascii()
-}
-
-// The uid with an ASCII eid whose text a field is, if there is one.
-fn uid_field(alloc: Global, text: &str) -> Result<Option<EntityUID>, AllocError>
-    ensures { IfOk result (ReadsAs (λ (u : EntityUID). IsPrinted (uid_parts u) text.now) (λ u. u)) }
-{
-    match EntityUID::from_normalized_str(alloc, text) {
-        Ok(uid) => {
-            if has_ascii_eid(&uid) {
-                Ok(Some(uid))
-            } else {
-                Ok(None)
-            }
-        }
-        Err(ParseErrors::Memory) => Err(AllocError),
-        Err(ParseErrors::NotNormalized) => Ok(None),
-        Err(ParseErrors::InvalidName) => Ok(None),
-    }
+    // A command on policy sets.
+    Policy(PolicyLine),
 }
 
 // The uids whose texts the fields are, if each is one.
@@ -127,8 +103,9 @@ fn fields_of(alloc: Global, line: &str) -> Result<Vec<&str>, AllocError>
     line.split('\t').collect(alloc)
 }
 
-// The command that a word is by itself, if there is one.
+// The command that a word is by itself, if there is one, where it is none on policy sets.
 fn command_of_word(word: &str) -> Option<Line>
+    requires { policy_command (word.now ∷ []) ≡ None }
     ensures { ReadsAs (λ c. IsCommand c (word.now ∷ [])) command_of result }
 {
     if word == "build" {
@@ -148,6 +125,17 @@ fn command_of_word(word: &str) -> Option<Line>
 
 // The command whose fields these are, if there is one.
 fn command_of_fields(alloc: Global, fields: &[&str]) -> Result<Option<Line>, AllocError>
+    ensures { IfOk result (ReadsAs (λ c. IsCommand c (map (λ f. f.now) fields.now)) command_of) }
+{
+    match read_policy_line(alloc, fields)? {
+        Some(line) => Ok(Some(Line::Policy(line))),
+        None => other_command(alloc, fields),
+    }
+}
+
+// The command whose fields these are, if there is one, where it is none on policy sets.
+fn other_command(alloc: Global, fields: &[&str]) -> Result<Option<Line>, AllocError>
+    requires { policy_command (map (λ f. f.now) fields.now) ≡ None }
     ensures { IfOk result (ReadsAs (λ c. IsCommand c (map (λ f. f.now) fields.now)) command_of) }
 {
     let Some((word, rest)) = fields.split_first() else {

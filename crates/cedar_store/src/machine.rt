@@ -20,16 +20,18 @@ use crate::line::{Line, read_line};
 use cedar_entities::{Dereference, Entities, EntitiesError, Entity, TCComputation};
 use cedar_graph::TcError;
 use cedar_ids::entity::EntityUID;
+use cedar_policy_lines::PolicySets;
 use std::alloc::{AllocError, Global};
 use std::collections::{BTreeSet, HashSet};
 use std::mem;
 use std::rc::Rc;
 
-// The state of a run: the entities that wait, and the store.
+// The state of a run: the entities that wait, the store, and the policy sets.
 #[derive(Drop)]
 pub(crate) struct Machine {
     waiting: Vec<Rc<Entity>>,
     store: Entities,
+    sets: PolicySets,
 }
 
 // Adds a text and a line feed.
@@ -170,13 +172,14 @@ pub(crate) fn entity_with(
 }
 
 impl Machine {
-    // Nothing waits, and the store is empty.
+    // Nothing waits, the store is empty, and so are the policy sets.
     pub(crate) fn new(alloc: Global) -> Machine
         ensures { Holds result start }
     {
         Machine {
             waiting: Vec::new(alloc),
             store: Entities::new(alloc),
+            sets: PolicySets::new(alloc),
         }
     }
 
@@ -205,6 +208,7 @@ impl Machine {
     ) -> Result<(), AllocError>
         requires { IfErr given IsTold }
         ensures waiting { self.new.waiting ≡ self.old.waiting }
+        ensures sets { self.new.sets ≡ self.old.sets }
         ensures settles { OnOk result (Settles given self.new out.old.items out.new.items) }
     {
         match given {
@@ -289,6 +293,7 @@ impl Machine {
             Line::Upsert => self.upsert(alloc, out),
             Line::Remove(uids) => self.remove(alloc, uids, out),
             Line::Anc(uid) => self.anc(alloc, &uid, out),
+            Line::Policy(line) => self.sets.take(alloc, line, out),
         }
     }
 

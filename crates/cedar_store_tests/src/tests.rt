@@ -1,4 +1,5 @@
 mod edits;
+mod policies;
 mod replays;
 mod store_edits;
 mod store_faults;
@@ -239,29 +240,6 @@ fn lines_of_another_form_are_no_commands(rt: HostRuntime) -> Result<(), Fail> {
         b"\x80",
         b"b\xc3\xa9",
         b"\x0c",
-    ];
-    for line in lines {
-        let (out, status) = answer(rt.alloc(), line)?;
-        assert!(rt;
-            out.as_slice() == b"line 1: not a command\n".as_slice(),
-            "{line:?} writes {out:?}"
-        );
-        assert!(rt; status == 2, "{line:?} ends with {status}");
-    }
-    Ok(())
-}
-
-#[test]
-fn words_without_a_meaning_yet_are_no_commands(rt: HostRuntime) -> Result<(), Fail> {
-    let lines: [&[u8]; 8] = [
-        b"static\tp\tpermit",
-        b"template\tt\tnone",
-        b"link\tt\tl",
-        b"unlink\tl",
-        b"other",
-        b"merge\tkeep",
-        b"ids",
-        b"slice\tA::\"a\"",
     ];
     for line in lines {
         let (out, status) = answer(rt.alloc(), line)?;

@@ -1,6 +1,7 @@
 -- What the program's line holds, as the command that it is.
-use Rattle.std.specs.Prelude.{Option, MatchOption}
-use Rattle.cedar_store.specs.Command.{Command, Nothing, Ent, Build, Add, Upsert, Remove, Anc}
+pub use Rattle.cedar_policy_lines.specs.Reads.{ReadsAs}
+use Rattle.cedar_policy_lines.specs.laws.Lines as policies
+use Rattle.cedar_store.specs.Command.{Command, Nothing, Ent, Build, Add, Upsert, Remove, Anc, Policy}
 use Rattle.cedar_store.specs.declared.line.Line.{Line}
 use Rattle.cedar_store.specs.declared.line.Line.TheVariants as lines
 
@@ -13,7 +14,4 @@ command_of lines.Add = Add
 command_of lines.Upsert = Upsert
 command_of (lines.Remove us) = Remove us.items
 command_of (lines.Anc u) = Anc u
-
--- what was read: by its value it is what fits; or nothing was, where nothing fits
-abbrev pub ReadsAs : {A B : Type 0} → (B → Type 0) → (A → B) → Option A → Type 0
-ReadsAs {A} {B} Fits value o = MatchOption o ((b : B) → Fits b → ⊥) (λ a. Fits (value a))
+command_of (lines.Policy l) = Policy (policies.command_of l)

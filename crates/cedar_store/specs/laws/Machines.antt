@@ -5,7 +5,7 @@ use Rattle.std.specs.FinSet as set
 use Rattle.cedar_ids.specs.Escape.{is_ascii}
 use Rattle.cedar_ids.specs.UidOf.{uid_parts}
 use Rattle.cedar_ids.specs.declared.entity.EntityUID.{EntityUID}
-use Rattle.cedar_store.specs.Command.{Command, Nothing, Ent, Build, Add, Upsert, Remove, Anc, IsLine}
+use Rattle.cedar_store.specs.Command.{Command, Nothing, Ent, Build, Add, Upsert, Remove, Anc, Policy, IsLine}
 use Rattle.cedar_graph.specs.declared.err.TcError.TheVariants.{HasCycle}
 use Rattle.cedar_entities.specs.ClosureFaults.{IsClosureFault}
 use Rattle.cedar_entities.specs.Refusals.{MatchRefusal}
@@ -34,13 +34,14 @@ abbrev pub waits : Machine → List EntityView
 waits m = map (λ r. r.value) m.waiting.items
 
 -- the machine holds the state: the entities that wait have no indirect ancestors, the store is plain, and
--- whatever may be printed has an ASCII eid
+-- whatever may be printed has an ASCII eid; the sets are the boards
 pub record Holds (m : Machine) (s : State) : Type 0 where
   pub waiting : map given_of (waits m) ≡ s.waiting
   pub bare : AreBare (waits m)
   pub plain : IsPlainStore s.world m.store
   pub ascii_waiting : AllByRecursion IsAsciiGiven s.waiting
   pub ascii_world : IsAsciiWorld s.world
+  pub boards : m.sets ≡ s.boards
 
 -- the uids of the command have ASCII eids
 abbrev pub AreAsciiUids : List EntityUID → Type 0
@@ -64,6 +65,7 @@ HasAsciiUids Add = Unit {0}
 HasAsciiUids Upsert = Unit {0}
 HasAsciiUids (Remove us) = Unit {0}
 HasAsciiUids (Anc u) = Unit {0}
+HasAsciiUids (Policy c) = Unit {0}
 
 -- a refusal that a call with computed ancestors may give: a duplicate, a cycle, or want of memory
 abbrev pub IsTold : EntitiesError → Type 0

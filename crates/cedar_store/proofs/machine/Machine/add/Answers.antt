@@ -11,5 +11,6 @@ returns c = on_ok_weaker c.settle.result
     (ap (λ (v : Vec (Rc EntityView Global) Global). map (λ r. r.value) v.items) c.replace-list.ensures.value)
     c.replace-store.ensures.value
     (ap (λ (v : Vec (Rc EntityView Global) Global). map (λ r. r.value) v.items) (c.settle.ensures.waiting ∙ c.replace-list.ensures.after) ∙ ap (map (λ r. r.value)) c.new.ensures.items)
+    c.settle.ensures.sets
     c.add_entities-given.ensures.plain_agree c.add_entities-given.ensures.plain c.add_entities-given.ensures.plain_err k)
     c.settle.ensures.settles

@@ -7,5 +7,5 @@ use Rattle.std.proofs.lemmas.List.{map-append}
 pub returns : goal.returns
 returns c s h ascii out =
     ent_takes c.args.self.now _ s c.args.uid c.args.parents.items c.in_ok-entity.entity.value out h
-    (ap (map (λ r. r.value)) c.in_ok-push.ensures.items ∙ map-append (λ r. r.value) c.args.self.now.waiting.items (c.in_ok-entity.entity ∷ [])) refl
+    (ap (map (λ r. r.value)) c.in_ok-push.ensures.items ∙ map-append (λ r. r.value) c.args.self.now.waiting.items (c.in_ok-entity.entity ∷ [])) refl refl
     (ap given_of c.in_ok-entity.ensures.ok ∙ c.in_ok-entity_with.ensures.given) (subst IsBare (sym c.in_ok-entity.ensures.ok) c.in_ok-entity_with.ensures.bare) ascii

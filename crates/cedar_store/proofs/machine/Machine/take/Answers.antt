@@ -1,9 +1,10 @@
-use Rattle.std.proofs.Common.{sym, subst}
+use Rattle.std.proofs.Common.{refl, sym, subst}
 use Rattle.std.proofs.lemmas.Result.{on_ok_weaker}
 use Rattle.cedar_store.specs.declared.line.Line.{Line}
+use Rattle.cedar_store.specs.declared.machine.Machine.{Machine}
 use Rattle.cedar_store.specs.laws.Lines.{command_of}
 use Rattle.cedar_store.specs.laws.Machines.{HasAsciiUids, Takes}
-use Rattle.cedar_store.proofs.Steps.{nothing_takes, anc_takes}
+use Rattle.cedar_store.proofs.Steps.{nothing_takes, anc_takes, policy_takes}
 use Rattle.cedar_store.proofs.machine.Machine.take.Goals as goal
 
 pub returns-in-Nothing : goal.returns-in-Nothing
@@ -46,3 +47,11 @@ returns-in-Anc c = on_ok_weaker c.anc.result
     (λ k s h. subst (λ (l : Line). HasAsciiUids (command_of l) → Takes (command_of l) s c.args.self.now c.args.out.now.items c.anc.new.out.items) (sym c.in-Anc.is)
     (λ a. anc_takes c.args.self.now s c.in-Anc.uid c.args.out.now.items c.anc.new.out.items h (k s h)))
     c.anc.ensures
+
+pub returns-in-Policy : goal.returns-in-Policy
+returns-in-Policy c =
+    let new : Machine = record { waiting = c.args.self.now.waiting; store = c.args.self.now.store; sets = c.take.new.self } in
+    on_ok_weaker c.take.result
+    (λ k s h. subst (λ (l : Line). HasAsciiUids (command_of l) → Takes (command_of l) s new c.args.out.now.items c.take.new.out.items) (sym c.in-Policy.is)
+    (λ a. policy_takes c.args.self.now new s _ c.args.out.now.items c.take.new.out.items h refl refl k))
+    c.take.ensures

@@ -1,7 +1,7 @@
 use Rattle.std.proofs.Common.{◌≡◌, ◌∙◌, sym, codes}
 use Rattle.std.specs.Cmp.Lexicographic.{bytes_decides}
 use Rattle.cedar_store.proofs.Commands.{not_ent, not_anc, not_remove}
-use Rattle.cedar_store.proofs.line.command_of_fields.Goals as goal
+use Rattle.cedar_store.proofs.line.other_command.Goals as goal
 
 pub returns-in-None : goal.returns-in-None
 returns-in-None c d =

@@ -1,0 +1,52 @@
+-- Reading fields.
+use Rattle.std.specs.Prelude.{◌≡◌, ℕ, List, [], ◌∷◌, ◌++◌, length, drop, nat_eq, Bool, true, false, Option, Some, None, Result, Ok, Err, MatchOption, ◌==◌, map, if◌then◌else◌}
+use Rattle.std.proofs.Common.{ap, sym, refl, ◌∙◌, subst}
+use Rattle.std.specs.Borrow.{Bor}
+use Rattle.std.specs.List.{starts_with}
+use Rattle.std.specs.Option.{option_map}
+use Rattle.std.specs.Str.Pattern.{FindsTextPrefix, StripsPrefix, LacksTextAt}
+use Rattle.std.specs.Cmp.{unsigned_Decides}
+use Rattle.std.proofs.lemmas.Slice.Eq.{starts_is}
+use Rattle.std.proofs.lemmas.Bool.{false≢true}
+use Rattle.cedar_ids.specs.Uid.{UidParts}
+use Rattle.cedar_ids.specs.UidOf.{uid_parts}
+use Rattle.cedar_ids.specs.TextOf.{IsPrinted}
+use Rattle.cedar_ids.specs.laws.UidReading.{uid_reading}
+use Rattle.cedar_ids.specs.laws.PrintedLaws.{uid_reading-printed}
+use Rattle.cedar_ids.specs.laws.UidTexts.{uid_found}
+use Rattle.cedar_ids.specs.declared.err.ParseErrors.{ParseErrors}
+use Rattle.cedar_ids.specs.declared.entity.EntityUID.{EntityUID}
+use Rattle.cedar_ids.specs.declared.entity.EntityUID.TheVariants as uids
+use Rattle.cedar_policy_lines.specs.PolicyCommand.{behind, uid_of, read_uid, bindings_of}
+
+lacks : (mark s : List ℕ) (b : Bool) → starts_with nat_eq s mark ≡ b → LacksTextAt mark s 0 → None ≡ (if b then Some (drop (length mark) s) else None)
+lacks mark s false e l = refl
+lacks mark s true e l = absurd (l (drop (length mark) s) ((starts_is unsigned_Decides s mark (starts_with nat_eq s mark) refl).0 e))
+
+strips : (mark s x : List ℕ) (b : Bool) → starts_with nat_eq s mark ≡ b → StripsPrefix (FindsTextPrefix mark) s x → Some x ≡ (if b then Some (drop (length mark) s) else None)
+strips mark s x true e h = ap Some (h.2 ∙ ap (λ n. drop n s) h.1.0)
+strips mark s x false e h =
+    let k : s ≡ mark ++ drop (length mark) s = h.1.1 ∙ ap (λ n. mark ++ drop n s) h.1.0 in
+    absurd (false≢true (sym e ∙ (starts_is unsigned_Decides s mark (starts_with nat_eq s mark) refl).1 _ k))
+
+-- what stands behind a mark
+pub behind_is : (mark s : List ℕ) (o : Option (Bor (List ℕ))) → MatchOption o (FindsTextPrefix mark s None) (λ x. StripsPrefix (FindsTextPrefix mark) s x.now) → option_map (λ x. x.now) o ≡ behind mark s
+behind_is mark s None h = lacks mark s (starts_with nat_eq s mark) refl h
+behind_is mark s (Some x) h = strips mark s x.now (starts_with nat_eq s mark) refl h
+
+none_by : (t : List ℕ) (r : Result (Option UidParts) ParseErrors) → uid_reading t ≡ r → ((u : EntityUID) → IsPrinted (uid_parts u) t → ⊥) → read_uid r ≡ None
+none_by t (Ok (Some u)) e none = absurd (none (uids.EntityUID u) (uid_found t u e))
+none_by t (Ok None) e none = refl
+none_by t (Err x) e none = refl
+
+-- a text that is no uid's, and one that is
+pub no_uid : (t : List ℕ) → ((u : EntityUID) → IsPrinted (uid_parts u) t → ⊥) → uid_of t ≡ None
+no_uid t none = none_by t (uid_reading t) refl none
+
+pub uid_is : (t : List ℕ) (u : EntityUID) → IsPrinted (uid_parts u) t → uid_of t ≡ Some (uid_parts u)
+uid_is t u h = ap read_uid (uid_reading-printed (uid_parts u) t h)
+
+-- three fields and more bind nothing
+pub more_fields : (rest : List (Bor (List ℕ))) (b : Bool) → b ≡ (length rest == 0) → b ≡ false → (f g : List ℕ) → bindings_of (f ∷ g ∷ map (λ x. x.now) rest) ≡ None
+more_fields [] b e t f g = absurd (false≢true (sym t ∙ e))
+more_fields (x ∷ rest) b e t f g = refl

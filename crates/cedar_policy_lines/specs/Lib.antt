@@ -1,0 +1,6 @@
+pub mod Boards
+pub mod Codes
+pub mod PolicyCommand
+pub mod PolicyOutput
+pub mod Reads
+pub mod laws

@@ -1,0 +1,116 @@
+-- What the commands on policy sets make of the two boards, and what they write.
+use Rattle.std.specs.Prelude.{◌≡◌, ◌⊎◌, ℕ, List, [], ◌∷◌, ◌++◌, Bool, true, false, Option, Some, None, Result, Ok, Err, codes, if◌then◌else◌}
+use Rattle.std.specs.List.{flat_map}
+use Rattle.std.specs.Option.{unwrap_or}
+use Rattle.cedar_ids.specs.Escape.{escaped_output}
+use Rattle.cedar_scope.specs.Scope.{Constraint, any, equals, to_slot, any_action}
+use Rattle.cedar_body.specs.Bodies.{BodyParts}
+use Rattle.cedar_body.specs.declared.effect.Effect.{Effect}
+use Rattle.cedar_body.specs.declared.effect.Effect.TheVariants.{Permit}
+use Rattle.cedar_policy_set.specs.Boards.{Board, Binding, without}
+use Rattle.cedar_policy_set.specs.Merge.{conflicts, merged, new_id, IsRenaming, body_ids, policy_ids}
+use Rattle.cedar_policy_set.specs.Steps.{Refusal, occupied, no_such_template, arity, id_conflict, no_link, not_a_link, add_static_step, add_template_step, link_step, unlink_step}
+use Rattle.cedar_policy_lines.specs.Boards.{Boards, with_current, swapped}
+use Rattle.cedar_policy_lines.specs.PolicyCommand.{PolicyCommand, Static, Template, Link, Unlink, Other, Merge, Ids}
+
+-- ---- texts
+
+-- a text and a line feed
+abbrev pub written_line : List ℕ → List ℕ
+written_line text = text ++ 10 ∷ []
+
+-- the text of an id. Nothing is written of an id past ASCII, which no line gives
+abbrev pub id_text : List ℕ → List ℕ
+id_text i = unwrap_or (escaped_output i) []
+
+-- a tab and the text of an id
+abbrev pub id_field : List ℕ → List ℕ
+id_field i = 9 ∷ id_text i
+
+-- that a command was taken
+abbrev pub ok_line : List ℕ
+ok_line = written_line (codes "ok")
+
+-- why a call was refused. No line makes a call that is refused for another reason
+abbrev pub refusal_words : Refusal → List ℕ
+refusal_words (occupied i) = codes "occupied " ++ id_text i
+refusal_words (id_conflict i) = codes "occupied " ++ id_text i
+refusal_words (no_such_template i) = codes "no template " ++ id_text i
+refusal_words (arity u x) = codes "arity"
+refusal_words (no_link i) = codes "no link " ++ id_text i
+refusal_words (not_a_link i) = codes "not a link " ++ id_text i
+refusal_words r = []
+
+-- that a call was refused
+abbrev pub refused_line : Refusal → List ℕ
+refused_line r = written_line (codes "refused: " ++ refusal_words r)
+
+-- an id that was renamed, and its new one
+abbrev pub renamed_fields : List ℕ × List ℕ → List ℕ
+renamed_fields p = id_field p.0 ++ id_field p.1
+
+-- that sets were merged: each id that was renamed, with its new one
+abbrev pub merged_line : List (List ℕ × List ℕ) → List ℕ
+merged_line r = written_line (codes "ok" ++ flat_map renamed_fields r)
+
+-- the ids of all bodies, and of all policies, in their orders
+abbrev pub ids_lines : Board → List ℕ
+ids_lines b =
+    written_line (codes "bodies" ++ flat_map id_field (body_ids b)) ++ written_line (codes "policies" ++ flat_map id_field (policy_ids b))
+
+-- ---- bodies
+
+-- a static policy that constrains nothing
+abbrev pub static_body : List ℕ → Effect → BodyParts
+static_body i e = record { id = i; annotations = []; effect = e; principal = any; action = any_action; resource = any; clause = None }
+
+-- equal to the slot, where there is one
+abbrev pub slot_constraint : Bool → Constraint
+slot_constraint b = if b then equals to_slot else any
+
+-- a template that permits, with the slots that are named
+abbrev pub template_body : List ℕ → Bool → Bool → BodyParts
+template_body i p r =
+    record { id = i; annotations = []; effect = Permit; principal = slot_constraint p; action = any_action; resource = slot_constraint r; clause = None }
+
+-- ---- commands
+
+-- a call on the current board: the board of its step, or why that is refused
+abbrev pub Joins : Result Board Refusal → Boards → Boards → List ℕ → Type 0
+Joins (Ok b) old new out = (new ≡ with_current old b) × (out ≡ ok_line)
+Joins (Err r) old new out = (new ≡ old) × (out ≡ refused_line r)
+
+-- what an id is bound to is taken out of the current board, or that is refused
+abbrev pub TakesOut : Result Binding Refusal → List ℕ → Boards → Boards → List ℕ → Type 0
+TakesOut (Ok b) i old new out = (new ≡ with_current old (without old.current i)) × (out ≡ ok_line)
+TakesOut (Err r) i old new out = (new ≡ old) × (out ≡ refused_line r)
+
+-- the first id that conflicts is refused, where ids keep theirs
+abbrev pub IsRefusedMerge : Bool → Boards → Boards → List ℕ → Type 0
+IsRefusedMerge rename old new out =
+    (i : List ℕ) × (rest : List (List ℕ)) × (rename ≡ false) × (conflicts old.current old.aside ≡ i ∷ rest) × (new ≡ old) × (out ≡ refused_line (occupied i))
+
+-- else the board aside is merged into the current one, and each id that was renamed is written with its new one
+abbrev pub IsMerge : Bool → Boards → Boards → List ℕ → Type 0
+IsMerge rename old new out =
+    (r : List (List ℕ × List ℕ)) × IsRenaming old.current old.aside r × (rename ≡ false → conflicts old.current old.aside ≡ [])
+    × (new ≡ with_current old (merged old.current old.aside (new_id r))) × (out ≡ merged_line r)
+
+-- two boards that bind so many ids that the numbers for new ones run out stay as they are, and nothing is written. No
+-- memory holds such sets
+abbrev pub IsTooLarge : Bool → Boards → Boards → List ℕ → Type 0
+IsTooLarge rename old new out =
+    (rename ≡ true) × ((r : List (List ℕ × List ℕ)) → IsRenaming old.current old.aside r → ⊥) × (new ≡ old) × (out ≡ [])
+
+abbrev pub Merges : Bool → Boards → Boards → List ℕ → Type 0
+Merges rename old new out = IsRefusedMerge rename old new out ⊎ (IsMerge rename old new out ⊎ IsTooLarge rename old new out)
+
+-- the boards that a command leaves, and what it writes
+abbrev pub PolicyGives : PolicyCommand → Boards → Boards → List ℕ → Type 0
+PolicyGives (Static i e) old new out = Joins (add_static_step old.current (static_body i e)) old new out
+PolicyGives (Template i p r) old new out = Joins (add_template_step old.current (template_body i p r)) old new out
+PolicyGives (Link t l e) old new out = Joins (link_step old.current t l e) old new out
+PolicyGives (Unlink i) old new out = TakesOut (unlink_step old.current i) i old new out
+PolicyGives Other old new out = (new ≡ swapped old) × (out ≡ ok_line)
+PolicyGives (Merge rename) old new out = Merges rename old new out
+PolicyGives Ids old new out = (new ≡ old) × (out ≡ ids_lines old.current)

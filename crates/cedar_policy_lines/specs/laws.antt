@@ -1,0 +1,4 @@
+pub mod Lines
+pub mod Machines
+pub mod OneAnswer
+pub mod OneMerge

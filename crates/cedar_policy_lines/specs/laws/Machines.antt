@@ -1,0 +1,31 @@
+-- What the machine's parts add to what is written.
+use Rattle.std.specs.Prelude.{◌≡◌, ℕ, List, [], ◌∷◌, ◌++◌, Option, Some, None, Result, Ok, Err, codes}
+use Rattle.cedar_policy_set.specs.declared.err.PolicySetError.{PolicySetError}
+use Rattle.cedar_policy_set.specs.Refusals.{told_by_set}
+use Rattle.cedar_policy_set.specs.Steps.{Refusal}
+use Rattle.cedar_policy_lines.specs.Boards.{Boards}
+use Rattle.cedar_policy_lines.specs.PolicyCommand.{PolicyCommand}
+use Rattle.cedar_policy_lines.specs.PolicyOutput.{PolicyGives, written_line, ok_line, merged_line, refused_line}
+
+-- that a call was refused, by words and an id
+abbrev pub refused_with : List ℕ → List ℕ → List ℕ
+refused_with words id = written_line (codes "refused: " ++ (words ++ id))
+
+-- what a refusal adds. Want of memory ends the run, and adds nothing that is told
+abbrev pub SaidBy : Option Refusal → List ℕ → List ℕ → Type 0
+SaidBy None old new = ⊥
+SaidBy (Some r) old new = new ≡ old ++ refused_line r
+
+-- what an answer adds
+abbrev pub Said : {A E : Type 0} → (E → Option Refusal) → Result A E → List ℕ → List ℕ → Type 0
+Said told (Ok a) old new = new ≡ old ++ ok_line
+Said told (Err e) old new = SaidBy (told e) old new
+
+-- what merging adds: the ids that were renamed, or why it was refused
+abbrev pub SaidMerged : {A : Type 0} → (A → List (List ℕ × List ℕ)) → Result A PolicySetError → List ℕ → List ℕ → Type 0
+SaidMerged entries (Ok a) old new = new ≡ old ++ merged_line (entries a)
+SaidMerged entries (Err e) old new = SaidBy (told_by_set e) old new
+
+-- a command makes these boards of those, and adds what it writes
+abbrev pub Takes : PolicyCommand → Boards → Boards → List ℕ → List ℕ → Type 0
+Takes c old new before after = (text : List ℕ) × PolicyGives c old new text × (after ≡ before ++ text)

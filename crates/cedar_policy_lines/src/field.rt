@@ -1,0 +1,125 @@
+//! Reading one field of a line.
+ghost use Rattle.std.specs.Prelude.{◌≡◌, IfOk};
+ghost use Rattle.std.specs.Option.{option_map};
+ghost use Rattle.cedar_ids.specs.Escape.{is_ascii};
+ghost use Rattle.cedar_ids.specs.TextOf.{IsPrinted};
+ghost use Rattle.cedar_ids.specs.Uid.{UidParts};
+ghost use Rattle.cedar_ids.specs.UidOf.{uid_parts};
+ghost use Rattle.cedar_ids.specs.declared.entity.EntityUID.{EntityUID};
+ghost use Rattle.cedar_terms.specs.declared.slot.SlotId.{SlotId};
+ghost use Rattle.cedar_policy_lines.specs.PolicyCommand.{effect_of, slots_word, renaming_word, behind, uid_of, binding_of};
+ghost use Rattle.cedar_policy_lines.specs.Reads.{ReadsAs};
+
+use cedar_body::Effect;
+use cedar_ids::entity::EntityUID;
+use cedar_ids::err::ParseErrors;
+use cedar_terms::slot::SlotId;
+use std::alloc::{AllocError, Global};
+
+// Whether the eid of a uid is ASCII.
+fn has_ascii_eid(uid: &EntityUID) -> bool
+    ensures { result ≡ is_ascii (uid_parts uid.now).eid }
+{
+    uid.eid().as_ref().is_ascii()
+}
+
+/// The uid with an ASCII eid whose text a field is, if there is one. Takes memory for the uid, and is refused only where
+/// that is; its cost is linear in the field. It is this project's own.
+pub fn uid_field(alloc: Global, text: &str) -> Result<Option<EntityUID>, AllocError>
+    ensures { IfOk result (ReadsAs (λ (u : EntityUID). IsPrinted (uid_parts u) text.now) (λ u. u)) }
+{
+    match EntityUID::from_normalized_str(alloc, text) {
+        Ok(uid) => {
+            if has_ascii_eid(&uid) {
+                Ok(Some(uid))
+            } else {
+                Ok(None)
+            }
+        }
+        Err(ParseErrors::Memory) => Err(AllocError),
+        Err(ParseErrors::NotNormalized) => Ok(None),
+        Err(ParseErrors::InvalidName) => Ok(None),
+    }
+}
+
+// The effect that a word is.
+pub(crate) fn effect_of(word: &str) -> Option<Effect>
+    ensures { result ≡ effect_of word.now }
+{
+    if word == "permit" {
+        return Some(Effect::Permit);
+    }
+    if word == "forbid" {
+        return Some(Effect::Forbid);
+    }
+    None
+}
+
+// The slots that a word names: whether the principal's, and whether the resource's.
+pub(crate) fn slots_of(word: &str) -> Option<(bool, bool)>
+    ensures { result ≡ slots_word word.now }
+{
+    if word == "none" {
+        return Some((false, false));
+    }
+    if word == "principal" {
+        return Some((true, false));
+    }
+    if word == "resource" {
+        return Some((false, true));
+    }
+    if word == "both" {
+        return Some((true, true));
+    }
+    None
+}
+
+// Whether a word asks for renaming, if it is one of the two that say so.
+pub(crate) fn renaming_of(word: &str) -> Option<bool>
+    ensures { result ≡ renaming_word word.now }
+{
+    if word == "keep" {
+        return Some(false);
+    }
+    if word == "rename" {
+        return Some(true);
+    }
+    None
+}
+
+// What stands behind a mark, where the field starts with it.
+fn behind<'a>(field: &'a str, mark: &str) -> Option<&'a str>
+    ensures { option_map (λ x. x.now) result ≡ behind mark.now field.now }
+{
+    field.strip_prefix(mark)
+}
+
+// A slot with the uid whose text stands behind its mark.
+fn bound_as(
+    alloc: Global,
+    slot: SlotId,
+    text: &str,
+) -> Result<Option<(SlotId, EntityUID)>, AllocError>
+    ensures { IfOk result (λ o. option_map {U = SlotId × UidParts} (λ b. (b.0, uid_parts b.1)) o ≡ option_map {U = SlotId × UidParts} (λ u. (slot, u)) (uid_of text.now)) }
+{
+    match uid_field(alloc, text)? {
+        None => Ok(None),
+        Some(uid) => Ok(Some((slot, uid))),
+    }
+}
+
+// The binding that a field is.
+pub(crate) fn binding_of(
+    alloc: Global,
+    field: &str,
+) -> Result<Option<(SlotId, EntityUID)>, AllocError>
+    ensures { IfOk result (λ o. option_map {U = SlotId × UidParts} (λ b. (b.0, uid_parts b.1)) o ≡ binding_of field.now) }
+{
+    if let Some(text) = behind(field, "principal=") {
+        return bound_as(alloc, SlotId::Principal, text);
+    }
+    if let Some(text) = behind(field, "resource=") {
+        return bound_as(alloc, SlotId::Resource, text);
+    }
+    Ok(None)
+}

@@ -1,0 +1,153 @@
+//! The two policy sets of a run, and one function for each command on them.
+ghost use Rattle.std.specs.Prelude.{◌≡◌, OnOk};
+ghost use Rattle.cedar_binding.specs.Views.{env_of};
+ghost use Rattle.cedar_policy_lines.specs.Boards.{no_boards};
+ghost use Rattle.cedar_policy_lines.specs.PolicyCommand.{Static as static_command, Template as template_command, Link as link_command, Unlink as unlink_command, Other as other_command, Merge as merge_command, Ids as ids_command};
+ghost use Rattle.cedar_policy_lines.specs.laws.Lines.{command_of};
+ghost use Rattle.cedar_policy_lines.specs.laws.Machines.{Takes};
+
+use crate::lines::PolicyLine;
+use crate::making::{link, static_policy, template};
+use crate::writing::{
+    push_by_linking, push_by_merging, push_by_set, push_by_unlinking, push_ids, push_ok,
+};
+use cedar_body::Effect;
+use cedar_ids::policy_id::PolicyID;
+use cedar_policy::SlotEnv;
+use cedar_policy_set::PolicySet;
+use std::alloc::{AllocError, Global};
+use std::marker::Model;
+use std::mem;
+
+/// The two policy sets of a run: the current one, and the one aside. Contracts see their boards. It is this project's own.
+#[derive(Debug, Drop)]
+pub struct PolicySets {
+    current: PolicySet,
+    aside: PolicySet,
+}
+
+impl Model for PolicySets {
+    ghost use Rattle.cedar_policy_lines.specs.Boards.{Boards};
+    ghost use Rattle.cedar_policy_lines.specs.Codes.{boards_code};
+
+    ghost Value = { Boards };
+
+    ghost coded = { boards_code };
+
+    ghost view = { λ s. record { current = s.current; aside = s.aside } };
+}
+
+impl PolicySets {
+    /// Two sets without a binding. Takes no memory.
+    pub fn new(alloc: Global) -> PolicySets
+        ensures { result ≡ no_boards }
+    {
+        PolicySets {
+            current: PolicySet::new(alloc),
+            aside: PolicySet::new(alloc),
+        }
+    }
+
+    // A static policy joins.
+    fn add_static(
+        &mut self,
+        alloc: Global,
+        id: PolicyID,
+        effect: Effect,
+        out: &mut Vec<u8>,
+    ) -> Result<(), AllocError>
+        ensures { OnOk result (Takes (static_command id effect) self.old self.new out.old.items out.new.items) }
+    {
+        let policy = static_policy(alloc, id, effect)?;
+        let answer = self.current.add_static(alloc, policy);
+        push_by_set(alloc, out, answer)
+    }
+
+    // A template joins.
+    fn add_template(
+        &mut self,
+        alloc: Global,
+        id: PolicyID,
+        principal: bool,
+        resource: bool,
+        out: &mut Vec<u8>,
+    ) -> Result<(), AllocError>
+        ensures { OnOk result (Takes (template_command id principal resource) self.old self.new out.old.items out.new.items) }
+    {
+        let template = template(alloc, id, principal, resource)?;
+        let answer = self.current.add_template(alloc, template);
+        push_by_set(alloc, out, answer)
+    }
+
+    // A link joins.
+    fn link(
+        &mut self,
+        alloc: Global,
+        template_id: PolicyID,
+        new_id: PolicyID,
+        values: SlotEnv,
+        out: &mut Vec<u8>,
+    ) -> Result<(), AllocError>
+        ensures { OnOk result (Takes (link_command template_id new_id (env_of values)) self.old self.new out.old.items out.new.items) }
+    {
+        let answer = link(alloc, &mut self.current, template_id, new_id, values);
+        push_by_linking(alloc, out, answer)
+    }
+
+    // A link goes.
+    fn unlink(&mut self, alloc: Global, id: &PolicyID, out: &mut Vec<u8>) -> Result<(), AllocError>
+        ensures { OnOk result (Takes (unlink_command id.now) self.old self.new out.old.items out.new.items) }
+    {
+        let answer = self.current.unlink(id);
+        push_by_unlinking(alloc, out, answer)
+    }
+
+    // The set aside becomes the current one, and that one goes aside.
+    fn other(&mut self, out: &mut Vec<u8>) -> Result<(), AllocError>
+        ensures { OnOk result (Takes other_command self.old self.new out.old.items out.new.items) }
+    {
+        mem::swap(&mut self.current, &mut self.aside);
+        push_ok(out)
+    }
+
+    // The set aside is merged into the current one.
+    #[tactic(auto, using(crate::proofs::Merging::merge_takes))]
+    fn merge(&mut self, alloc: Global, rename: bool, out: &mut Vec<u8>) -> Result<(), AllocError>
+        ensures { OnOk result (Takes (merge_command rename) self.old self.new out.old.items out.new.items) }
+    {
+        let answer = self.current.merge_policyset(alloc, &self.aside, rename);
+        push_by_merging(alloc, out, answer)
+    }
+
+    // The ids of the current set are written.
+    fn ids(&self, alloc: Global, out: &mut Vec<u8>) -> Result<(), AllocError>
+        ensures { OnOk result (Takes ids_command self.now self.now out.old.items out.new.items) }
+    {
+        push_ids(alloc, out, &self.current)
+    }
+
+    /// Takes a command on the two sets, and adds what it writes.
+    ///
+    /// It is refused only where memory was, and then nothing is said of the sets and of what was added. Its cost is that of
+    /// the call on the set, and of what is written. It is this project's own.
+    pub fn take(
+        &mut self,
+        alloc: Global,
+        line: PolicyLine,
+        out: &mut Vec<u8>,
+    ) -> Result<(), AllocError>
+        ensures { OnOk result (Takes (command_of line) self.old self.new out.old.items out.new.items) }
+    {
+        match line {
+            PolicyLine::Static(id, effect) => self.add_static(alloc, id, effect, out),
+            PolicyLine::Template(id, principal, resource) => {
+                self.add_template(alloc, id, principal, resource, out)
+            }
+            PolicyLine::Link(template, id, values) => self.link(alloc, template, id, values, out),
+            PolicyLine::Unlink(id) => self.unlink(alloc, &id, out),
+            PolicyLine::Other => self.other(out),
+            PolicyLine::Merge(rename) => self.merge(alloc, rename, out),
+            PolicyLine::Ids => self.ids(alloc, out),
+        }
+    }
+}

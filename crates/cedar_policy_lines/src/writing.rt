@@ -1,0 +1,191 @@
+//! What the commands on policy sets write.
+ghost use Rattle.std.specs.Prelude.{◌≡◌, ◌++◌, ◌∷◌, OnOk, IfOk, map, codes, ℕ, List};
+ghost use Rattle.std.specs.List.{flat_map};
+ghost use Rattle.std.specs.String.{string_bytes};
+ghost use Rattle.cedar_policy_set.specs.Refusals.{told_by_set, told_by_linking, told_by_unlinking};
+ghost use Rattle.cedar_policy_set.specs.Merge.{body_ids, policy_ids};
+ghost use Rattle.cedar_policy_lines.specs.PolicyOutput.{written_line, ok_line, merged_line, id_text, id_field, renamed_fields, ids_lines};
+ghost use Rattle.cedar_policy_lines.specs.laws.Machines.{Said, SaidMerged, refused_with};
+
+use cedar_ids::policy_id::PolicyID;
+use cedar_policy::{LinkingError, Policy};
+use cedar_policy_set::{PolicySet, PolicySetError, PolicySetUnlinkError};
+use indexmap::IndexMap;
+use std::alloc::{AllocError, Global};
+
+// Adds a text and a line feed.
+fn push_line(out: &mut Vec<u8>, text: &str) -> Result<(), AllocError>
+    ensures { OnOk result (out.new.items ≡ out.old.items ++ written_line text.now) }
+{
+    out.extend_from_slice(text.as_bytes())?;
+    out.push(b'\n')?;
+    Ok(())
+}
+
+// Adds that a command was taken.
+pub(crate) fn push_ok(out: &mut Vec<u8>) -> Result<(), AllocError>
+    ensures { OnOk result (out.new.items ≡ out.old.items ++ ok_line) }
+{
+    push_line(out, "ok")
+}
+
+// The text of an id.
+fn id_text(alloc: Global, id: &PolicyID) -> Result<String, AllocError>
+    ensures { IfOk result (λ s. string_bytes s ≡ id_text id.now) }
+{
+    if id.as_ref().is_ascii() {
+        return id.to_string(alloc);
+    }
+    Ok(String::new(alloc))
+}
+
+// Adds a text and an id.
+fn push_id(alloc: Global, out: &mut Vec<u8>, before: &str, id: &PolicyID) -> Result<(), AllocError>
+    ensures { OnOk result (out.new.items ≡ out.old.items ++ (before.now ++ id_text id.now)) }
+{
+    out.extend_from_slice(before.as_bytes())?;
+    let text = id_text(alloc, id)?;
+    out.extend_from_slice(text.as_bytes())
+}
+
+// Adds that a call was refused, with an id.
+fn push_refused(
+    alloc: Global,
+    out: &mut Vec<u8>,
+    words: &str,
+    id: &PolicyID,
+) -> Result<(), AllocError>
+    ensures { OnOk result (out.new.items ≡ out.old.items ++ refused_with words.now (id_text id.now)) }
+{
+    out.extend_from_slice(b"refused: ")?;
+    push_id(alloc, out, words, id)?;
+    out.push(b'\n')?;
+    Ok(())
+}
+
+// Adds what joining answered.
+pub(crate) fn push_by_set(
+    alloc: Global,
+    out: &mut Vec<u8>,
+    answer: Result<(), PolicySetError>,
+) -> Result<(), AllocError>
+    ensures { OnOk result (Said told_by_set answer out.old.items out.new.items) }
+{
+    match answer {
+        Ok(()) => push_ok(out),
+        Err(PolicySetError::Occupied { id }) => push_refused(alloc, out, "occupied ", &id),
+        Err(PolicySetError::Memory) => Err(AllocError),
+    }
+}
+
+// Adds what linking answered.
+pub(crate) fn push_by_linking(
+    alloc: Global,
+    out: &mut Vec<u8>,
+    answer: Result<(), LinkingError>,
+) -> Result<(), AllocError>
+    ensures { OnOk result (Said told_by_linking answer out.old.items out.new.items) }
+{
+    match answer {
+        Ok(()) => push_ok(out),
+        Err(LinkingError::ArityError { .. }) => push_line(out, "refused: arity"),
+        Err(LinkingError::NoSuchTemplate { id }) => push_refused(alloc, out, "no template ", &id),
+        Err(LinkingError::PolicyIdConflict { id }) => push_refused(alloc, out, "occupied ", &id),
+        Err(LinkingError::Memory) => Err(AllocError),
+    }
+}
+
+// Adds what unlinking answered.
+pub(crate) fn push_by_unlinking(
+    alloc: Global,
+    out: &mut Vec<u8>,
+    answer: Result<Policy, PolicySetUnlinkError>,
+) -> Result<(), AllocError>
+    ensures { OnOk result (Said told_by_unlinking answer out.old.items out.new.items) }
+{
+    match answer {
+        Ok(_policy) => push_ok(out),
+        Err(PolicySetUnlinkError::UnlinkingError(id)) => push_refused(alloc, out, "no link ", &id),
+        Err(PolicySetUnlinkError::NotLinkError(id)) => {
+            push_refused(alloc, out, "not a link ", &id)
+        }
+        Err(PolicySetUnlinkError::Memory) => Err(AllocError),
+    }
+}
+
+// Adds the ids that were renamed, each with its new one.
+fn push_renamed(
+    alloc: Global,
+    out: &mut Vec<u8>,
+    renaming: &IndexMap<PolicyID, PolicyID>,
+) -> Result<(), AllocError>
+    ensures { OnOk result (out.new.items ≡ out.old.items ++ flat_map renamed_fields renaming.now.entries) }
+{
+    for (old, new) in renaming {
+        push_id(alloc, out, "\t", old)?;
+        push_id(alloc, out, "\t", new)?;
+    }
+    Ok(())
+}
+
+// Adds that the sets were merged.
+fn push_merged(
+    alloc: Global,
+    out: &mut Vec<u8>,
+    renaming: &IndexMap<PolicyID, PolicyID>,
+) -> Result<(), AllocError>
+    ensures { OnOk result (out.new.items
+        ≡ out.old.items ++ merged_line renaming.now.entries) }
+{
+    out.extend_from_slice(b"ok")?;
+    push_renamed(alloc, out, renaming)?;
+    out.push(b'\n')?;
+    Ok(())
+}
+
+// Adds what merging answered.
+pub(crate) fn push_by_merging(
+    alloc: Global,
+    out: &mut Vec<u8>,
+    answer: Result<IndexMap<PolicyID, PolicyID>, PolicySetError>,
+) -> Result<(), AllocError>
+    ensures { OnOk result (SaidMerged (λ r. r.entries) answer out.old.items out.new.items) }
+{
+    match answer {
+        Ok(renaming) => push_merged(alloc, out, &renaming),
+        Err(PolicySetError::Occupied { id }) => push_refused(alloc, out, "occupied ", &id),
+        Err(PolicySetError::Memory) => Err(AllocError),
+    }
+}
+
+// Adds the ids of all bodies.
+fn push_bodies(alloc: Global, out: &mut Vec<u8>, set: &PolicySet) -> Result<(), AllocError>
+    ensures { OnOk result (out.new.items ≡ out.old.items ++ flat_map id_field (body_ids set.now)) }
+{
+    for template in set.all_templates() {
+        push_id(alloc, out, "\t", template.id())?;
+    }
+    Ok(())
+}
+
+// Adds the ids of all policies.
+fn push_policies(alloc: Global, out: &mut Vec<u8>, set: &PolicySet) -> Result<(), AllocError>
+    ensures { OnOk result (out.new.items ≡ out.old.items ++ flat_map id_field (policy_ids set.now)) }
+{
+    for policy in set.policies() {
+        push_id(alloc, out, "\t", policy.id())?;
+    }
+    Ok(())
+}
+
+// Adds the two lines of a set's ids.
+pub(crate) fn push_ids(alloc: Global, out: &mut Vec<u8>, set: &PolicySet) -> Result<(), AllocError>
+    ensures { OnOk result (out.new.items ≡ out.old.items ++ ids_lines set.now) }
+{
+    out.extend_from_slice(b"bodies")?;
+    push_bodies(alloc, out, set)?;
+    out.extend_from_slice(b"\npolicies")?;
+    push_policies(alloc, out, set)?;
+    out.push(b'\n')?;
+    Ok(())
+}
