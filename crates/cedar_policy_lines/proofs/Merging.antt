@@ -1,5 +1,5 @@
 -- A merge of the board aside into the current one.
-use Rattle.std.specs.Prelude.{◌≡◌, ℕ, List, Bool, Result, Ok, Err}
+use Rattle.std.specs.Prelude.{ℕ, List, Bool, Result, Ok, Err}
 use Rattle.std.proofs.Common.{ap, refl, inl, inr}
 use Rattle.cedar_policy_set.specs.Boards.{Board}
 use Rattle.cedar_policy_set.specs.Merge as sets

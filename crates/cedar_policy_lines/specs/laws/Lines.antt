@@ -1,5 +1,5 @@
 -- What a line on policy sets holds, as the command that it is.
-use Rattle.std.specs.Prelude.{Option, Some}
+use Rattle.std.specs.Prelude.{Some}
 use Rattle.cedar_ids.specs.Uid.{UidParts}
 use Rattle.cedar_terms.specs.declared.slot.SlotId.{SlotId}
 use Rattle.cedar_terms.specs.declared.slot.SlotId.TheVariants.{Principal, Resource}

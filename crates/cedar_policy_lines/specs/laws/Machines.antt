@@ -1,5 +1,5 @@
 -- What the machine's parts add to what is written.
-use Rattle.std.specs.Prelude.{◌≡◌, ℕ, List, [], ◌∷◌, ◌++◌, Option, Some, None, Result, Ok, Err, codes}
+use Rattle.std.specs.Prelude.{◌≡◌, ℕ, List, ◌++◌, Option, Some, None, Result, Ok, Err, codes}
 use Rattle.cedar_policy_set.specs.declared.err.PolicySetError.{PolicySetError}
 use Rattle.cedar_policy_set.specs.Refusals.{told_by_set}
 use Rattle.cedar_policy_set.specs.Steps.{Refusal}
