@@ -114,11 +114,27 @@ fn equality_looks_at_no_place(rt: HostRuntime) -> Result<(), Fail> {
     Ok(())
 }
 
+// Whether a template differs from the one with another annotation.
+fn differs(alloc: Global, one: &Template) -> Result<bool, Fail> {
+    Ok(*one != free_at(alloc, 1, "w")?)
+}
+
+// Whether a static policy does.
+fn static_differs(alloc: Global, one: &StaticPolicy) -> Result<bool, Fail> {
+    Ok(*one != static_at(alloc, 1, "w")?)
+}
+
 #[test]
-fn equality_sees_annotations(rt: HostRuntime) -> Result<(), Fail> {
-    let alloc = rt.alloc();
-    assert!(rt; free_at(alloc, 1, "v")? != free_at(alloc, 1, "w")?);
-    assert!(rt; static_at(alloc, 1, "v")? != static_at(alloc, 1, "w")?);
+fn equality_of_templates_sees_annotations(rt: HostRuntime) -> Result<(), Fail> {
+    let one = free_at(rt.alloc(), 1, "v")?;
+    assert!(rt; differs(rt.alloc(), &one)?);
+    Ok(())
+}
+
+#[test]
+fn equality_of_static_policies_sees_annotations(rt: HostRuntime) -> Result<(), Fail> {
+    let one = static_at(rt.alloc(), 1, "v")?;
+    assert!(rt; static_differs(rt.alloc(), &one)?);
     Ok(())
 }
 
@@ -176,12 +192,22 @@ fn of_static_body(alloc: Global) -> Result<Template, Fail> {
     Ok(Template::from_body(alloc, TemplateBody::from(policy))?)
 }
 
+// Whether it is the template without slots.
+fn is_free(alloc: Global, found: &Template) -> Result<bool, Fail> {
+    Ok(*found == free_at(alloc, 1, "v")?)
+}
+
 #[test]
-fn the_body_of_a_template_or_a_static_policy_is_its_own(rt: HostRuntime) -> Result<(), Fail> {
-    let alloc = rt.alloc();
-    let want = free_at(alloc, 1, "v")?;
-    assert!(rt; of_body(alloc)? == want);
-    assert!(rt; of_static_body(alloc)? == want);
+fn the_body_of_a_template_is_its_own(rt: HostRuntime) -> Result<(), Fail> {
+    let found = of_body(rt.alloc())?;
+    assert!(rt; is_free(rt.alloc(), &found)?);
+    Ok(())
+}
+
+#[test]
+fn the_body_of_a_static_policy_is_its_own(rt: HostRuntime) -> Result<(), Fail> {
+    let found = of_static_body(rt.alloc())?;
+    assert!(rt; is_free(rt.alloc(), &found)?);
     Ok(())
 }
 
@@ -216,9 +242,15 @@ fn policy_gives_annotation(alloc: Global, policy: &Policy) -> Result<bool, Fail>
 
 #[test]
 fn the_annotation_at_a_key_is_given(rt: HostRuntime) -> Result<(), Fail> {
-    let alloc = rt.alloc();
-    assert!(rt; gives_annotation(alloc, &free_at(alloc, 1, "v")?)?);
-    assert!(rt; static_gives_annotation(alloc, &static_at(alloc, 1, "v")?)?);
+    let template = free_at(rt.alloc(), 1, "v")?;
+    assert!(rt; gives_annotation(rt.alloc(), &template)?);
+    Ok(())
+}
+
+#[test]
+fn the_annotation_of_a_static_policy_is_given(rt: HostRuntime) -> Result<(), Fail> {
+    let policy = static_at(rt.alloc(), 1, "v")?;
+    assert!(rt; static_gives_annotation(rt.alloc(), &policy)?);
     Ok(())
 }
 
