@@ -1,3 +1,3 @@
-mod Bodies
+mod Entries
 mod Told
 mod Written

@@ -2,17 +2,15 @@
 use Rattle.std.specs.Prelude.{◌≡◌, ◌↔◌, ℕ, List, [], ◌∷◌, Bool, true, false, not, Option, Some, None, IsTrue, is_some, refl}
 use Rattle.std.specs.declared.rc.Rc.{Rc}
 use Rattle.std.specs.declared.alloc.Global.{Global}
-use Rattle.std.proofs.Common.{sym, ap, ◌∙◌, Bor}
-use Rattle.std.specs.List.{flat_map, list_all, list_any, find}
-use Rattle.std.specs.Option.{unwrap_or, option_copied, option_map}
+use Rattle.std.proofs.Common.{sym}
+use Rattle.std.specs.List.{flat_map, list_all}
+use Rattle.std.specs.Option.{unwrap_or}
 use Rattle.std.proofs.lemmas.List.Folds.{flat_map-map, list_all-map}
 use Rattle.std.specs.Cmp.Lexicographic.{pointwise}
 use Rattle.std.specs.Cmp.Derive.Mapped.{pointwise-map}
 use Rattle.cedar_body.specs.Bodies.{BodyParts}
 use Rattle.cedar_body.specs.BodyEquality.{same_body}
 use Rattle.cedar_policy_set.specs.BoardTexts.{body_line, is_known_body}
-use Rattle.cedar_policy_set.specs.Boards.{is_body_at}
-use Rattle.cedar_policy_set.specs.laws.OnceLaws.{find-map, any-map}
 use Rattle.cedar_policy_set.specs.Views.{bodies_of}
 use Rattle.cedar_policy_set.specs.Validity.{is_slotless}
 use Rattle.cedar_terms.specs.declared.slot.SlotId.{SlotId}
@@ -45,11 +43,3 @@ lines_told ts = sym (flat_map-map body_line body ts)
 
 pub known_told : (ts : List (Rc BodyParts Global)) → list_all (λ t. is_known_body t.value) ts ≡ list_all is_known_body (bodies_of ts)
 known_told ts = sym (list_all-map is_known_body body ts)
-
-pub body_found : (o : Option (Bor (Rc BodyParts Global))) (i : List ℕ) (ts : List (Rc BodyParts Global)) →
-    option_copied o ≡ find (λ t. is_body_at i t.value) ts → option_map (λ t. t.now.value) o ≡ find (is_body_at i) (bodies_of ts)
-body_found None i ts e = ap (option_map body) e ∙ sym (find-map body (is_body_at i) ts)
-body_found (Some t) i ts e = ap (option_map body) e ∙ sym (find-map body (is_body_at i) ts)
-
-pub body_there : (i : List ℕ) (ts : List (Rc BodyParts Global)) → list_any (λ t. is_body_at i t.value) ts ≡ list_any (is_body_at i) (bodies_of ts)
-body_there i ts = sym (any-map body (is_body_at i) ts)

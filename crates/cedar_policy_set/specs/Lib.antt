@@ -4,6 +4,7 @@ pub mod Boards
 pub mod Codes
 pub mod Fresh
 pub mod Lists
+pub mod Maps
 pub mod Merge
 pub mod Refusals
 pub mod SetFaults

@@ -6,6 +6,8 @@ pub mod FreshLaws
 pub mod Joins
 pub mod LinkLaws
 pub mod ListSteps
+pub mod ListedLaws
+pub mod MapLaws
 pub mod MergeLaws
 pub mod MergeSteps
 pub mod OnceLaws

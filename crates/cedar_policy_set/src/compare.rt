@@ -7,7 +7,7 @@ ghost use Rattle.cedar_policy_set.specs.BoardEquality.{same_board};
 ghost use Rattle.cedar_policy_set.specs.Views.{bodies_of};
 ghost use Rattle.cedar_policy_set.specs.laws.EqualityLaws.{same_board_equiv};
 
-use crate::lists::copy_of_bodies;
+use crate::maps::{copy_of_bodies, copy_of_ids, copy_of_policies};
 use crate::policy_set::PolicySet;
 use cedar_policy::Template;
 use std::alloc::AllocError;
@@ -18,8 +18,9 @@ impl Clone for PolicySet {
 
     fn clone(&self) -> Result<PolicySet, AllocError> {
         Ok(PolicySet {
-            bodies: copy_of_bodies(&self.bodies)?,
-            policies: self.policies.clone()?,
+            templates: copy_of_bodies(&self.templates)?,
+            links: copy_of_policies(&self.links)?,
+            template_to_links_map: copy_of_ids(&self.template_to_links_map)?,
         })
     }
 }
@@ -30,7 +31,8 @@ impl PartialEq for PolicySet {
     ghost laws = { partial_equiv_from_equiv same_board_equiv };
 
     fn eq(&self, other: &PolicySet) -> bool {
-        same_bodies(&self.bodies, &other.bodies) && self.policies == other.policies
+        same_bodies(self.shared_bodies(), other.shared_bodies())
+            && self.all_policies() == other.all_policies()
     }
 }
 

@@ -63,7 +63,7 @@ fn size(set: &PolicySet) -> u128
     ensures size { result ≡ length set.now.policies + length set.now.bodies }
     ensures small { result < 2 ^ 65 }
 {
-    set.policies.len() as u128 + set.bodies.len() as u128
+    set.all_policies().len() as u128 + set.shared_bodies().len() as u128
 }
 
 // The free ids that some ids go to, in their order.

@@ -1,16 +1,18 @@
 //! The iterators of a policy set. Contracts see each as the list of what it has left.
-ghost use Rattle.std.specs.Prelude.{◌≡◌, not, is_some, map};
+ghost use Rattle.std.specs.Prelude.{◌≡◌};
 ghost use Rattle.std.specs.Iterator.{YieldsFirst, YieldsFirstBy, YieldsFirstRef, item_count};
+ghost use Rattle.std.specs.Map.{values_of};
 ghost use Rattle.std.specs.Slice.Iter.{iter_rest};
 ghost use Rattle.cedar_policy_set.specs.Views.{bodies_of};
-ghost use Rattle.cedar_policy_set.specs.Lists.{slotted_in, statics_in, ids_in};
+ghost use Rattle.cedar_policy_set.specs.Lists.{slotted_in, statics_in};
 
-use crate::lists::{has_no_slots, is_link, is_on};
+use crate::lists::{has_no_slots, is_link};
 use cedar_ids::policy_id::PolicyID;
 use cedar_policy::{Policy, Template};
+use indexmap::{IndexMap, IndexSet, map, set};
 use std::marker::Model;
 use std::rc::Rc;
-use std::{slice, vec};
+use std::slice;
 
 /// The policies of a set, static policies and links, in the order in which they joined.
 #[derive(Drop)]
@@ -57,7 +59,7 @@ impl<'a> Iterator for Policies<'a> {
 /// The policies of a set that was taken apart, in the order in which they joined.
 #[derive(Drop)]
 pub struct IntoPolicies {
-    inner: vec::IntoIter<Policy>,
+    inner: map::IntoValues<PolicyID, Policy>,
 }
 
 impl Model for IntoPolicies {
@@ -70,15 +72,15 @@ impl Model for IntoPolicies {
 
     ghost coded = { coded_list policy_code };
 
-    ghost view = { λ s. s.inner.rest.items };
+    ghost view = { λ s. s.inner };
 }
 
 impl IntoPolicies {
-    pub(crate) fn of(policies: Vec<Policy>) -> IntoPolicies
-        ensures { result ≡ policies.items }
+    pub(crate) fn of(links: IndexMap<PolicyID, Policy>) -> IntoPolicies
+        ensures { result ≡ values_of links.entries }
     {
         IntoPolicies {
-            inner: policies.into_iter(),
+            inner: links.into_values(),
         }
     }
 }
@@ -260,27 +262,22 @@ fn next_static<'a>(inner: &mut Policies<'a>) -> Option<&'a Policy>
 /// The ids of the policies on a body, in the order in which they joined.
 #[derive(Drop)]
 pub struct LinkedIds<'a> {
-    inner: Policies<'a>,
-    template: &'a PolicyID,
+    inner: set::Iter<'a, PolicyID>,
 }
 
 impl<'a> Model for LinkedIds<'a> {
     ghost use Rattle.std.specs.Prelude.{List, ℕ};
-    ghost use Rattle.cedar_policy_set.specs.Lists.{ids_in};
 
     ghost Value = { List (List ℕ) };
 
-    ghost view = { λ s. ids_in s.template.now s.inner };
+    ghost view = { λ s. s.inner };
 }
 
 impl<'a> LinkedIds<'a> {
-    pub(crate) fn of(policies: &'a [Policy], template: &'a PolicyID) -> LinkedIds<'a>
-        ensures { result ≡ ids_in template.now policies.now }
+    pub(crate) fn of(ids: &'a IndexSet<PolicyID>) -> LinkedIds<'a>
+        ensures { result ≡ ids.now.keys }
     {
-        LinkedIds {
-            inner: Policies::of(policies),
-            template,
-        }
+        LinkedIds { inner: ids.iter() }
     }
 }
 
@@ -292,22 +289,6 @@ impl<'a> Iterator for LinkedIds<'a> {
     ghost remaining = { item_count (λ s. s) };
 
     fn next(&mut self) -> Option<&'a PolicyID> {
-        next_on(&mut self.inner, self.template)
-    }
-}
-
-// The id of the next policy on a body.
-fn next_on<'a>(inner: &mut Policies<'a>, template: &PolicyID) -> Option<&'a PolicyID>
-    ensures { YieldsFirstBy (λ i. i.now) (ids_in template.now) inner.old result inner.new }
-{
-    loop {
-        match inner.next() {
-            None => return None,
-            Some(policy) => {
-                if is_on(policy, template) {
-                    return Some(policy.id());
-                }
-            }
-        }
+        self.inner.next()
     }
 }

@@ -3,15 +3,14 @@ ghost use Rattle.std.specs.Prelude.{◌≡◌, ◌&&◌, ◌++◌, ◌+◌, ◌�
 ghost use Rattle.std.specs.List.{list_any};
 ghost use Rattle.std.specs.Map.{values_of};
 ghost use Rattle.std.specs.Option.{option_copied};
-ghost use Rattle.cedar_policy_set.specs.Boards.{AreOnce, IsBoard};
+ghost use Rattle.cedar_policy_set.specs.Boards.{AreOnce};
 ghost use Rattle.cedar_policy_set.specs.Fresh.{is_bound_in_either};
 ghost use Rattle.cedar_policy_set.specs.Merge.{body_ids, policy_ids, is_same_at, stands_by, conflicting, gathered, conflicts, renamed_body, renamed_policy, joined_bodies, joined_policies, merged, new_id, Merges, AreBelow, bound_ids};
 ghost use Rattle.cedar_policy_set.specs.laws.MergeSteps.{Refuses, with_template_renamed};
-ghost use Rattle.cedar_policy_set.specs.Views.{bodies_of, board_of};
+ghost use Rattle.cedar_policy_set.specs.Views.{bodies_of};
 
 use crate::err::PolicySetError;
 use crate::fresh::fresh_ids;
-use crate::lists::{has_body, has_policy};
 use crate::policy_set::PolicySet;
 use cedar_ids::policy_id::PolicyID;
 use cedar_policy::{Policy, Template};
@@ -30,9 +29,9 @@ impl PolicySet {
     /// original moves those that both bind to the back, and takes a template without slots for an equal static policy. What
     /// both bind alike takes the other's value, which differs in locations alone.
     ///
-    /// Takes memory for both lists, what is renamed and the answer. A refused call, for memory too, leaves both orders as
-    /// they were: the result is built apart and put in at the end. It costs look-ups for each id of the other set, and a
-    /// walk of this one.
+    /// Takes memory for the three maps, what is renamed and the answer. A refused call, for memory too, leaves both orders
+    /// as they were: the result is built apart and put in at the end. It costs look-ups for each id of the two sets, and
+    /// a look at each of the ids `policyN` that are bound.
     #[tactic(auto, using(crate::specs::laws::RenamingLaws::once_free, crate::specs::laws::RenamingLaws::none_bound_of, crate::specs::laws::RenamingLaws::numbers_below))]
     pub fn merge_policyset(
         &mut self,
@@ -45,8 +44,8 @@ impl PolicySet {
         ensures unbound { IfOk result (λ r. list_any (is_bound_in_either self.old other.now) (values_of r.entries) ≡ false) }
         ensures below { IfOk result (λ r. AreBelow (length (bound_ids self.old other.now) + length r.entries) (values_of r.entries)) }
     {
-        let _ = &self.bodies;
-        let _ = &other.bodies;
+        let _ = &self.templates;
+        let _ = &other.templates;
         let ids = conflicting_ids(alloc, self, other)?;
         if let Some(id) = refused(&ids, rename_duplicates) {
             return Err(PolicySetError::Occupied { id: id.clone()? });
@@ -54,17 +53,8 @@ impl PolicySet {
         let renaming = fresh_ids(alloc, ids, self, other)?;
         let bodies = merged_bodies(alloc, self, other, &renaming)?;
         let policies = merged_policies(alloc, self, other, &renaming)?;
-        self.replace(bodies, policies);
+        self.replace(alloc, bodies, policies)?;
         Ok(renaming)
-    }
-
-    // Puts other lists in the place of both.
-    fn replace(&mut self, bodies: Vec<Rc<Template>>, policies: Vec<Policy>)
-        requires { IsBoard (board_of bodies.items policies.items) }
-        ensures { self.new ≡ board_of bodies.items policies.items }
-    {
-        self.bodies = bodies;
-        self.policies = policies;
     }
 }
 
@@ -153,9 +143,9 @@ fn stands(set: &PolicySet, id: &PolicyID, bodies: bool) -> bool
     ensures { result ≡ stands_by bodies set.now id.now }
 {
     if bodies {
-        return has_body(&set.bodies, id);
+        return set.has_body(id);
     }
-    has_policy(&set.policies, id)
+    set.has_policy(id)
 }
 
 // Whether an id is bound alike in both sets.
@@ -185,8 +175,8 @@ fn merged_bodies(
     ensures { IfOk result (λ v. bodies_of v.items ≡ (merged here.now other.now (new_id renaming.now.entries)).bodies) }
 {
     let mut bodies = Vec::new(alloc);
-    keep_bodies(&mut bodies, &here.bodies, other, renaming)?;
-    join_bodies(alloc, &mut bodies, here, &other.bodies, renaming)?;
+    keep_bodies(&mut bodies, here.shared_bodies(), other, renaming)?;
+    join_bodies(alloc, &mut bodies, here, other.shared_bodies(), renaming)?;
     Ok(bodies)
 }
 
@@ -305,8 +295,8 @@ fn merged_policies(
     ensures { IfOk result (λ v. v.items ≡ (merged here.now other.now (new_id renaming.now.entries)).policies) }
 {
     let mut policies = Vec::new(alloc);
-    keep_policies(&mut policies, &here.policies, other, renaming)?;
-    join_policies(alloc, &mut policies, here, &other.policies, renaming)?;
+    keep_policies(&mut policies, here.all_policies(), other, renaming)?;
+    join_policies(alloc, &mut policies, here, other.all_policies(), renaming)?;
     Ok(policies)
 }
 

@@ -17,13 +17,13 @@ impl PolicySet {
     /// Takes out the link with this id, and closes the order up.
     ///
     /// `UnlinkingError` comes where nothing is bound to the id, `NotLinkError` where it is a static policy's or a
-    /// template's. Takes memory only for the id that a refusal names; a refused call leaves both orders as they were. It
-    /// costs a walk of both lists. The original looks a link up in a further map, and ends the program where that is
-    /// missing.
+    /// template's. Takes memory only for the id that a refusal names; a refused call leaves both orders as they were. What
+    /// stands behind it moves up, in the map of policies and among its template's links; nothing is walked. The original
+    /// ends the program where its map of links lacks the template.
     pub fn unlink(&mut self, id: &PolicyID) -> Result<Policy, PolicySetUnlinkError>
         ensures { TakesOut told_by_unlinking policy_binding result self.old self.new id.now (unlink_step self.old id.now) }
     {
-        let _ = &self.bodies;
+        let _ = &self.templates;
         match self.found(id) {
             None => return Err(PolicySetUnlinkError::UnlinkingError(id.clone()?)),
             Some(Found::Template(_template)) => {
@@ -45,12 +45,12 @@ impl PolicySet {
     /// Takes out the static policy with this id and its body, and closes both orders up.
     ///
     /// `RemovePolicyNoLinkError` comes where no policy has the id, `RemovePolicyNoTemplateError` where it is a link's.
-    /// Takes memory only for the id that a refusal names; a refused call leaves both orders as they were. It costs a walk
-    /// of both lists. In the original a refused call moves the link to the back.
+    /// Takes memory only for the id that a refusal names; a refused call leaves both orders as they were. What stands
+    /// behind it in the maps moves up; nothing is walked. In the original a refused call moves the link to the back.
     pub fn remove_static(&mut self, id: &PolicyID) -> Result<Policy, PolicySetPolicyRemovalError>
         ensures { TakesOut told_by_removal policy_binding result self.old self.new id.now (remove_static_step self.old id.now) }
     {
-        let _ = &self.bodies;
+        let _ = &self.templates;
         match self.found(id) {
             None => return Err(PolicySetPolicyRemovalError::RemovePolicyNoLinkError(id.clone()?)),
             Some(Found::Template(_template)) => {
@@ -76,8 +76,8 @@ impl PolicySet {
     /// `NotTemplateError` comes where the id is a static policy's or a link's, `RemovePolicyNoTemplateError` where nothing
     /// is bound to it, `RemoveTemplateWithLinksError` where the template has links. Takes memory for a copy of the template,
     /// which may be shared elsewhere, and for the id that a refusal names; a refused call, for memory too, leaves both
-    /// orders as they were. It costs a walk of both lists. The original ends the program where its further map lacks the
-    /// template.
+    /// orders as they were. What stands behind it in the maps moves up; nothing is walked. The original ends the
+    /// program where its map of links lacks the template.
     pub fn remove_template(
         &mut self,
         id: &PolicyID,

@@ -16,7 +16,7 @@ impl fmt::Display for PolicySet {
     /// Writes all bodies and then all policies, each on lines of its own; of a set without a binding it says that. It takes
     /// no memory.
     fn fmt<W: fmt::Write>(&self, f: &mut fmt::Formatter<W>) -> fmt::Result {
-        write_orders(&self.bodies, &self.policies, f)
+        write_orders(self.shared_bodies(), self.all_policies(), f)
     }
 }
 

@@ -23,13 +23,13 @@ impl PolicySet {
     pub fn try_validate(self, alloc: Global) -> Result<PolicySet, PolicySetValidationError>
         ensures { ValidatesSet result self }
     {
-        if let Some(link) = first_slotless(&self.policies) {
+        if let Some(link) = first_slotless(self.all_policies()) {
             return Err(PolicySetValidationError::LinkToSlotlessTemplate {
                 link_id: link.id().clone()?,
                 template_id: link.template().id().clone()?,
             });
         }
-        validate_bodies(alloc, &self.bodies)?;
+        validate_bodies(alloc, self.shared_bodies())?;
         Ok(self)
     }
 }

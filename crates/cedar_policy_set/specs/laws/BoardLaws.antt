@@ -108,7 +108,7 @@ link_held (Some l) b q e h =
     let own : policy_id q ≡ l = ap (λ o. unwrap_or o q.template.id) (sym e) in
     (n, t.1, one_more_policy q.template.id b.policies q t.0 (ap (same_text q.template.id) own ∙ ids_apart b.bodies q.template.id l q.template t.1 n), h.2)
 
-free_link : (o : Option (List ℕ)) (b : Board) (q : PolicyParts) → o ≡ q.link → CanJoinBy o b q → is_bound b (policy_id q) ≡ false
+pub free_link : (o : Option (List ℕ)) (b : Board) (q : PolicyParts) → o ≡ q.link → CanJoinBy o b q → is_bound b (policy_id q) ≡ false
 free_link None b q e h = absurd h
 free_link (Some l) b q e h = ap (λ o. is_bound b (unwrap_or o q.template.id)) (sym e) ∙ h.0
 
@@ -129,7 +129,7 @@ found_last : (ts : List BodyParts) (t : BodyParts) → list_any (is_body_at t.id
 found_last [] t n = ap (λ v. cond v (Some t) None) (is_itself t.id)
 found_last (u ∷ us) t n = ap (λ v. cond v (Some u) (find (is_body_at t.id) (us ++ t ∷ []))) (or_parts _ _ n).0 ∙ found_last us t (or_parts _ _ n).1
 
-both_free : (o : Option (List ℕ)) (b : Board) (q : PolicyParts) → o ≡ q.link → is_bound b q.template.id ≡ false → CanJoinBothBy o b q → is_bound b (policy_id q) ≡ false
+pub both_free : (o : Option (List ℕ)) (b : Board) (q : PolicyParts) → o ≡ q.link → is_bound b q.template.id ≡ false → CanJoinBothBy o b q → is_bound b (policy_id q) ≡ false
 both_free None b q e n h = ap (λ o. is_bound b (unwrap_or o q.template.id)) (sym e) ∙ n
 both_free (Some l) b q e n h = ap (λ o. is_bound b (unwrap_or o q.template.id)) (sym e) ∙ h.0
 

@@ -1,6 +1,6 @@
 -- How many numbers of free ids there are below a number.
-use Rattle.std.specs.Prelude.{◌≡◌, ℕ, ◌+◌, ◌^◌, ◌<◌, List, [], ◌∷◌, ◌++◌, length, Bool, true, false, ◌||◌, Option, Some, None, if◌then◌else◌, refl, codes, suc, zero, map}
-use Rattle.std.proofs.Common.{◌≤◌, sym, ap, ◌∙◌, arith, inl, inr, add-zero, cond, subst}
+use Rattle.std.specs.Prelude.{◌≡◌, ℕ, ◌+◌, ◌^◌, ◌<◌, List, [], ◌∷◌, ◌++◌, length, Bool, true, false, ◌||◌, Option, Some, None, if◌then◌else◌, refl, codes, suc, zero}
+use Rattle.std.proofs.Common.{◌≤◌, sym, ap, ◌∙◌, arith, add-zero, cond, subst}
 use Rattle.std.specs.List.{list_any}
 use Rattle.std.specs.Map.{lookup, keys_of, values_of}
 use Rattle.std.specs.Fmt.{decimal}
@@ -11,7 +11,7 @@ use Rattle.std.proofs.lemmas.List.{append_cancel_left, append_assoc, length-appe
 use Rattle.std.proofs.lemmas.List.Folds.{list_any-append}
 use Rattle.cedar_ids.specs.Texts.{same_text, same_text_equiv, same_text_decides}
 use Rattle.cedar_body.specs.Bodies.{BodyParts}
-use Rattle.cedar_policy.specs.Policies.{PolicyParts, policy_id}
+use Rattle.cedar_policy.specs.Policies.{policy_id}
 use Rattle.cedar_policy_set.specs.Boards.{Board, AreOnce, is_bound}
 use Rattle.cedar_policy_set.specs.Fresh.{numbered, is_bound_in_either, free_below, IsFree, AreFree}
 use Rattle.cedar_policy_set.specs.Merge.{body_ids, policy_ids, ids_of}

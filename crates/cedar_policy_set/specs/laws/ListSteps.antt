@@ -24,7 +24,7 @@ pub refused_then : (o : Option Refusal) (b : Board) (p : PolicyParts) (ps : List
 refused_then None b p ps h = tt
 refused_then (Some r) b p ps h = refused_at r (add_step b p) ps h
 
-parted : (ts : List (Rc BodyParts Global)) (k : ℕ) (t : Rc BodyParts Global) → k < length ts → t ≡ get_or ts k t →
+pub parted : (ts : List (Rc BodyParts Global)) (k : ℕ) (t : Rc BodyParts Global) → k < length ts → t ≡ get_or ts k t →
     bodies_of ts ≡ bodies_of (take k ts) ++ t.value ∷ bodies_of (drop (suc k) ts)
 parted [] k t l e = absurd (omega arith)
 parted (u ∷ us) zero t l e = λ i. (sym e i).value ∷ bodies_of us

@@ -1,20 +1,20 @@
 -- That the board of a merge is a board.
 use Rattle.std.specs.Prelude.{◌≡◌, ℕ, List, [], ◌∷◌, ◌++◌, Bool, true, false, not, ◌||◌, ◌&&◌, Option, Some, None, refl, map}
-use Rattle.std.proofs.Common.{sym, ap, ◌∙◌, cond, subst, arith}
+use Rattle.std.proofs.Common.{sym, ap, ◌∙◌, cond, arith}
 use Rattle.std.specs.List.{filter, find, list_any}
 use Rattle.std.specs.Option.{option_eq, option_map, unwrap_or}
 use Rattle.std.proofs.lemmas.Bool.{false≢true, or_parts}
 use Rattle.std.proofs.lemmas.Grind.{common_steps}
-use Rattle.std.proofs.lemmas.List.Folds.{list_any-append, find-append}
+use Rattle.std.proofs.lemmas.List.Folds.{list_any-append}
 use Rattle.cedar_ids.specs.Texts.{same_text, same_text_equiv, same_text_decides}
-use Rattle.cedar_body.specs.Bodies.{BodyParts, body_slots}
+use Rattle.cedar_body.specs.Bodies.{BodyParts}
 use Rattle.cedar_body.specs.BodyEquality.{same_body}
 use Rattle.cedar_body.specs.laws.BodyLaws.{same_body_decides}
-use Rattle.cedar_policy.specs.Policies.{PolicyParts, policy_id, static_policy}
+use Rattle.cedar_policy.specs.Policies.{PolicyParts, policy_id}
 use Rattle.cedar_policy.specs.PolicyEquality.{same_policy}
 use Rattle.cedar_policy_set.specs.Boards.{Board, is_bound, is_body_at, is_policy_at, AreOnce, IsHeldBy, IsHeld, AreHeld, IsBoard}
 use Rattle.cedar_policy_set.specs.Merge.{has_body, has_policy, is_same_at, renamed_body, renamed_policy, joined_bodies, joined_policies, merged}
-use Rattle.cedar_policy_set.specs.laws.OnceLaws.{is_at, once-filter, none_is, find-unless, found_passes}
+use Rattle.cedar_policy_set.specs.laws.OnceLaws.{is_at, once-filter, none_is, find-unless}
 
 -- what a merge asks of a renaming: ids of the other board stay apart, and what goes to an id that is bound here keeps
 -- its id and is the same in both

@@ -87,7 +87,7 @@ renamed_by (Some l) c p i e q =
 pub renamed_whole : (c : List ℕ → List ℕ) (p : PolicyParts) (i : List ℕ) → i ≡ c (policy_id p) → with_policy_id i (with_template_renamed c p) ≡ renamed_policy c p
 renamed_whole c p i q = renamed_by p.link c p i refl q
 
-bodies_more : (ts : List (Rc BodyParts Global)) (k : ℕ) (t : Rc BodyParts Global) → k < length ts → t ≡ get_or ts k t → bodies_of (take (k + 1) ts) ≡ bodies_of (take k ts) ++ t.value ∷ []
+pub bodies_more : (ts : List (Rc BodyParts Global)) (k : ℕ) (t : Rc BodyParts Global) → k < length ts → t ≡ get_or ts k t → bodies_of (take (k + 1) ts) ≡ bodies_of (take k ts) ++ t.value ∷ []
 bodies_more ts k t l e =
     ap bodies_of (take_more ts k t l ∙ ap (λ x. take k ts ++ x ∷ []) (sym e)) ∙ map-append (λ (t : Rc BodyParts Global). t.value) (take k ts) (t ∷ [])
 
@@ -104,7 +104,7 @@ joined_body_step h c ts k t old now new l e n m =
     m ∙ ap (λ x. x ++ joined_bodies h c (t.value ∷ [])) n ∙ append_assoc old (joined_bodies h c (bodies_of (take k ts))) (joined_bodies h c (t.value ∷ []))
     ∙ ap (λ x. old ++ x) (sym (joined_body_more h c (bodies_of (take k ts)) t.value)) ∙ ap (λ x. old ++ joined_bodies h c x) (sym (bodies_more ts k t l e))
 
-policies_more : (ps : List PolicyParts) (k : ℕ) (p : PolicyParts) → k < length ps → p ≡ get_or ps k p → take (k + 1) ps ≡ take k ps ++ p ∷ []
+pub policies_more : (ps : List PolicyParts) (k : ℕ) (p : PolicyParts) → k < length ps → p ≡ get_or ps k p → take (k + 1) ps ≡ take k ps ++ p ∷ []
 policies_more ps k p l e = take_more ps k p l ∙ ap (λ x. take k ps ++ x ∷ []) (sym e)
 
 pub kept_policy_step : (ps : List PolicyParts) (k : ℕ) (p : PolicyParts) (old now new : List PolicyParts) → k < length ps → p ≡ get_or ps k p →

@@ -22,11 +22,11 @@ pub(super) struct Row {
     pub(super) resource: u8,
 }
 
-// Up to eight bodies and up to eight policies, each in their order.
+// Up to sixteen bodies and up to sixteen policies, each in their order.
 #[derive(Clone, Copy, Drop, PartialEq, Eq)]
 pub(super) struct Board {
-    pub(super) bodies: [Option<Body>; 8],
-    pub(super) policies: [Option<Row>; 8],
+    pub(super) bodies: [Option<Body>; 16],
+    pub(super) policies: [Option<Row>; 16],
 }
 
 // What an id is bound to.
@@ -39,8 +39,8 @@ enum Bound {
 
 pub(super) fn empty() -> Board {
     Board {
-        bodies: [None; 8],
-        policies: [None; 8],
+        bodies: [None; 16],
+        policies: [None; 16],
     }
 }
 

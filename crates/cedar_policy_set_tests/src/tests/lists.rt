@@ -147,7 +147,7 @@ fn draw(seed: &mut u64) -> u64 {
 }
 
 // A number below this one, which is not 0.
-fn below(seed: &mut u64, end: u8) -> u8 {
+pub(super) fn below(seed: &mut u64, end: u8) -> u8 {
     let [low, ..] = (draw(seed) % u64::from(end.max(1))).to_le_bytes();
     low
 }
@@ -213,7 +213,7 @@ fn drawn_template(seed: &mut u64) -> Row {
     unlinked(drawn_body(seed))
 }
 
-fn drawn_call(seed: &mut u64) -> Call {
+pub(super) fn drawn_call(seed: &mut u64) -> Call {
     let (verb, row) = match below(seed, 16) {
         0 | 1 => (Verb::Static, drawn_static(seed)),
         2 | 3 | 4 => (Verb::Template, drawn_template(seed)),

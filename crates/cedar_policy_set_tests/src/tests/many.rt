@@ -203,14 +203,33 @@ fn are_moved(
     Ok(true)
 }
 
-// Merges sets of so many policies; how many ids are renamed, whether each is moved by so much, and
-// how many policies there are then.
-fn merged(alloc: Global, here: u32, there: u32, by: u32) -> Result<(usize, bool, u32), Fail> {
+// Merges a set into another; how many ids are renamed, and whether each is moved by so much.
+fn renamed(
+    alloc: Global,
+    set: &mut PolicySet,
+    other: &PolicySet,
+    by: u32,
+) -> Result<(usize, bool), Fail> {
+    let renaming = set.merge_policyset(alloc, other, true)?;
+    Ok((renaming.len(), are_moved(alloc, &renaming, by)?))
+}
+
+// The same of a set of so many policies.
+fn renamed_of(
+    alloc: Global,
+    set: &mut PolicySet,
+    there: u32,
+    by: u32,
+) -> Result<(usize, bool), Fail> {
     let other = set_of_effect(alloc, there, Effect::Forbid)?;
+    renamed(alloc, set, &other, by)
+}
+
+// The same of two sets of so many, and how many policies there are then.
+fn merged(alloc: Global, here: u32, there: u32, by: u32) -> Result<(usize, bool, u32), Fail> {
     let mut set = set_of_effect(alloc, here, Effect::Permit)?;
-    let renaming = set.merge_policyset(alloc, &other, true)?;
-    let moved = are_moved(alloc, &renaming, by)?;
-    Ok((renaming.len(), moved, count(&set)))
+    let (many, moved) = renamed_of(alloc, &mut set, there, by)?;
+    Ok((many, moved, count(&set)))
 }
 
 #[test]
@@ -252,8 +271,10 @@ fn set_at(alloc: Global, start: usize) -> Result<PolicySet, Fail> {
     Ok(set)
 }
 
+type Starts = (Option<usize>, Option<usize>);
+
 // Where the body and the policy `t` begin.
-fn starts(alloc: Global, set: &PolicySet) -> Result<(Option<usize>, Option<usize>), Fail> {
+fn starts(alloc: Global, set: &PolicySet) -> Result<Starts, Fail> {
     let id = PolicyID::from_string(alloc, "t")?;
     let body = match set.get_template(&id) {
         Some(template) => template.loc().map(|loc| loc.start),
@@ -266,14 +287,36 @@ fn starts(alloc: Global, set: &PolicySet) -> Result<(Option<usize>, Option<usize
     Ok((body, policy))
 }
 
+// Whether merging a set into another renames nothing.
+fn keeps_ids(alloc: Global, set: &mut PolicySet, other: &PolicySet) -> Result<bool, Fail> {
+    Ok(set.merge_policyset(alloc, other, false)?.is_empty())
+}
+
+// The same of a set at a place, and where what it holds begins then.
+fn kept_of(alloc: Global, set: &mut PolicySet, start: usize) -> Result<(bool, Starts), Fail> {
+    let other = set_at(alloc, start)?;
+    let kept = keeps_ids(alloc, set, &other)?;
+    Ok((kept, starts(alloc, &other)?))
+}
+
+// Where what a set at a place holds begins, before that at another is merged into it and after, and
+// what is told of the other.
+fn merged_at(
+    alloc: Global,
+    start: usize,
+    other: usize,
+) -> Result<(Starts, (bool, Starts), Starts), Fail> {
+    let mut set = set_at(alloc, start)?;
+    let before = starts(alloc, &set)?;
+    let kept = kept_of(alloc, &mut set, other)?;
+    Ok((before, kept, starts(alloc, &set)?))
+}
+
 #[test]
 fn what_is_bound_alike_takes_the_others_place(rt: HostRuntime) -> Result<(), Fail> {
-    let alloc = rt.alloc();
-    let other = set_at(alloc, 7)?;
-    let mut set = set_at(alloc, 3)?;
-    assert_eq!(rt; starts(alloc, &set)?, (Some(3), Some(3)));
-    assert!(rt; set.merge_policyset(alloc, &other, false)?.is_empty());
-    assert_eq!(rt; starts(alloc, &set)?, (Some(7), Some(7)));
-    assert_eq!(rt; starts(alloc, &other)?, (Some(7), Some(7)));
+    let (before, kept, after) = merged_at(rt.alloc(), 3, 7)?;
+    assert_eq!(rt; before, (Some(3), Some(3)));
+    assert_eq!(rt; kept, (true, (Some(7), Some(7))));
+    assert_eq!(rt; after, (Some(7), Some(7)));
     Ok(())
 }

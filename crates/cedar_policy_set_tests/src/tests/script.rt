@@ -436,7 +436,7 @@ pub(super) fn done(alloc: Global, set: &mut PolicySet, call: &Call) -> Result<Sa
 }
 
 // Makes some calls on a set; what the last one answers.
-fn run(alloc: Global, set: &mut PolicySet, calls: &str) -> Result<Said, Fail> {
+pub(super) fn run(alloc: Global, set: &mut PolicySet, calls: &str) -> Result<Said, Fail> {
     let mut said = Said::Done;
     for text in calls.split(';') {
         if !text.trim().is_empty() {

@@ -1,5 +1,5 @@
 use Rattle.std.proofs.Common.{◌≡◌, List, ℕ, ◌++◌, ◌∷◌, sym, ap, ◌∙◌, subst}
-use Rattle.std.specs.Map.{keys_of, values_of}
+use Rattle.std.specs.Map.{keys_of}
 use Rattle.indexmap.proofs.CallerLemmas.{insert_entry-new}
 use Rattle.cedar_ids.specs.Texts.{same_text}
 use Rattle.cedar_policy_set.specs.Boards.{AreOnce}

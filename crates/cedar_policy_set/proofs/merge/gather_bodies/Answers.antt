@@ -1,4 +1,4 @@
-use Rattle.std.proofs.Common.{◌≡◌, [], ◌∷◌, List, map, sym, ap, ◌∙◌}
+use Rattle.std.proofs.Common.{[], ◌∷◌, List, map, sym, ap, ◌∙◌}
 use Rattle.cedar_body.specs.Bodies.{BodyParts}
 use Rattle.cedar_policy_set.specs.Merge.{stands_by, conflicting, gathered}
 use Rattle.cedar_policy_set.specs.laws.MergeSteps.{gathered_first}

@@ -1,5 +1,5 @@
 use Rattle.std.proofs.Common.{◌≡◌, List, ℕ, sym, ◌∙◌, subst}
-use Rattle.cedar_policy_set.specs.Boards.{AreOnce, IsBoard, Board}
+use Rattle.cedar_policy_set.specs.Boards.{AreOnce, IsBoard}
 use Rattle.cedar_policy_set.specs.Merge.{merged, new_id}
 use Rattle.cedar_policy_set.specs.Views.{board_of}
 use Rattle.cedar_policy_set.specs.laws.MergeLaws.{merged_is_board}
@@ -16,6 +16,6 @@ replace-requires c =
     let o = c.args.other.now in
     let r = c.in_ok-renaming.renaming.entries in
     let m = merged_is_board h o (new_id r) (renames h o r (c.in_ok-renaming.ensures.keys ∙ c.in_ok-ids.ensures, c.in_ok-renaming.ensures.free))
-    (subst IsBoard c.self.view_is c.self.invariant) (subst IsBoard c.other.view_is c.other.invariant) in
+    (subst IsBoard c.self.view_is c.self.invariant.board) (subst IsBoard c.other.view_is c.other.invariant.board) in
     let same : merged h o (new_id r) ≡ board_of c.in_ok-bodies.bodies.items c.in_ok-policies.policies.items = λ j. record { bodies = sym c.in_ok-bodies.ensures j; policies = sym c.in_ok-policies.ensures j } in
     subst IsBoard same m

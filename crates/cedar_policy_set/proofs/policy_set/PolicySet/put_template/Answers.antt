@@ -1,11 +1,33 @@
-use Rattle.std.specs.Prelude.{◌≡◌, false}
-use Rattle.std.proofs.Common.{sym, subst}
-use Rattle.cedar_policy_set.specs.Boards.{is_bound}
-use Rattle.cedar_policy_set.proofs.Bodies.{template_put}
+use Rattle.std.specs.Prelude.{◌≡◌, [], false}
+use Rattle.std.proofs.Common.{◌∙◌, ap, refl}
+use Rattle.cedar_body.specs.Bodies.{BodyParts}
+use Rattle.cedar_policy_set.specs.Boards.{Board, is_bound}
+use Rattle.cedar_policy_set.specs.Maps.{Maps, maps_of, board_in}
+use Rattle.cedar_policy_set.specs.laws.MapLaws.{template_kept}
+use Rattle.cedar_policy_set.proofs.Entries.{absent_body, absent_list, read_last}
 use Rattle.cedar_policy_set.proofs.policy_set.PolicySet.put_template.Goals as goal
+
+pub put_last-requires-clause-absent : goal.put_last-requires-clause-absent
+put_last-requires-clause-absent c =
+    let m : Maps = maps_of c.self.inside.templates.entries c.self.inside.links.entries c.self.inside.template_to_links_map.entries in
+    let n : is_bound (board_in m) c.args.template.value.id ≡ false = ap (λ (b : Board). is_bound b c.args.template.value.id) c.self.view_is ∙ c.requires in
+    let k : c.in_ok-id.id ≡ c.args.template.value.id = c.in_ok-id.ensures.cases ∙ c.id.ensures ∙ ap (λ (t : BodyParts). t.id) c.deref.ensures in
+    rw (k, c.in_ok-reserve.ensures.entries) (absent_body m c.self.inside.templates.entries c.args.template.value.id c.self.invariant refl n)
+
+pub put_last-requires-2-clause-absent : goal.put_last-requires-2-clause-absent
+put_last-requires-2-clause-absent c =
+    let m : Maps = maps_of c.self.inside.templates.entries c.self.inside.links.entries c.self.inside.template_to_links_map.entries in
+    let n : is_bound (board_in m) c.args.template.value.id ≡ false = ap (λ (b : Board). is_bound b c.args.template.value.id) c.self.view_is ∙ c.requires in
+    let k : c.in_ok-listed.listed ≡ c.args.template.value.id = c.in_ok-listed.ensures.cases ∙ c.id-2.ensures ∙ ap (λ (t : BodyParts). t.id) c.deref-2.ensures in
+    rw (k, c.in_ok-reserve-2.ensures.entries) (absent_list m c.self.inside.template_to_links_map.entries c.args.template.value.id c.self.invariant refl n)
 
 pub invariant_of-self-2 : goal.invariant_of-self-2
 invariant_of-self-2 c =
-    rw c.in_ok-push.ensures.items
-    (template_put c.self.inside.bodies.items c.self.inside.policies.items c.args.template c.self.invariant
-    (subst (λ b. is_bound b c.args.template.value.id ≡ false) (sym c.self.view_is) c.requires))
+    let m : Maps = maps_of c.self.inside.templates.entries c.self.inside.links.entries c.self.inside.template_to_links_map.entries in
+    let t = c.args.template.value in
+    let n : is_bound (board_in m) t.id ≡ false = ap (λ (b : Board). is_bound b t.id) c.self.view_is ∙ c.requires in
+    let k : c.in_ok-id.id ≡ t.id = c.in_ok-id.ensures.cases ∙ c.id.ensures ∙ ap (λ (t : BodyParts). t.id) c.deref.ensures in
+    let l : c.in_ok-listed.listed ≡ t.id = c.in_ok-listed.ensures.cases ∙ c.id-2.ensures ∙ ap (λ (t : BodyParts). t.id) c.deref-2.ensures in
+    (template_kept m t _ _ c.self.invariant n
+    (read_last (λ v. v.value) c.self.inside.templates.entries c.reserve.new.self.entries c.put_last.new.map.entries _ t.id c.args.template t c.in_ok-reserve.ensures.entries c.put_last.ensures k refl)
+    (read_last (λ v. v.keys) c.self.inside.template_to_links_map.entries c.reserve-2.new.self.entries c.put_last-2.new.map.entries _ t.id c.new-ids.result [] c.in_ok-reserve-2.ensures.entries c.put_last-2.ensures l c.new-ids.ensures.empty)).0

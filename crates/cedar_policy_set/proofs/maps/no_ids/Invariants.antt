@@ -1,0 +1,7 @@
+use Rattle.std.proofs.Common.{◌≡◌, [], take}
+use Rattle.cedar_policy_set.specs.Maps.{lists_of, ids_by_body}
+use Rattle.cedar_policy_set.specs.Views.{bodies_of}
+use Rattle.cedar_policy_set.proofs.maps.no_ids.Given as goal
+
+abbrev pub invariant-loop-template : goal.invariant-loop-template
+invariant-loop-template l = lists_of l.map.entries ≡ ids_by_body (bodies_of (take l.template-index l.bodies)) []

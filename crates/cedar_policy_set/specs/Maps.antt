@@ -1,0 +1,42 @@
+-- The three maps that a policy set is kept in, and how they agree.
+use Rattle.std.specs.Prelude.{◌≡◌, ℕ, List, map}
+use Rattle.std.specs.Map.{keys_of, values_of}
+use Rattle.std.specs.declared.rc.Rc.{Rc}
+use Rattle.std.specs.declared.alloc.Global.{Global}
+use Rattle.indexmap.specs.IndexSet.{IndexSet}
+use Rattle.cedar_body.specs.Bodies.{BodyParts}
+use Rattle.cedar_policy.specs.Policies.{PolicyParts, policy_id}
+use Rattle.cedar_policy_set.specs.Boards.{Board, IsBoard}
+use Rattle.cedar_policy_set.specs.Lists.{ids_in}
+
+-- bodies, policies and lists of ids, each under an id, in the order of its map
+pub record Maps : Type 0 where
+  pub bodies : List (List ℕ × BodyParts)
+  pub policies : List (List ℕ × PolicyParts)
+  pub listed : List (List ℕ × List (List ℕ))
+
+-- shared bodies, and sets of ids, as callers see them
+abbrev pub shared_of : List (List ℕ × Rc BodyParts Global) → List (List ℕ × BodyParts)
+shared_of es = map (λ e. (e.0, e.1.value)) es
+
+abbrev pub lists_of : {S : Type 0} → List (List ℕ × IndexSet (List ℕ) S) → List (List ℕ × List (List ℕ))
+lists_of es = map (λ e. (e.0, e.1.keys)) es
+
+abbrev pub maps_of : {S : Type 0} → List (List ℕ × Rc BodyParts Global) → List (List ℕ × PolicyParts) → List (List ℕ × IndexSet (List ℕ) S) → Maps
+maps_of ts ps ls = record { bodies = shared_of ts; policies = ps; listed = lists_of ls }
+
+-- the board that they state: what stands in the first two, in their orders
+abbrev pub board_in : Maps → Board
+board_in m = record { bodies = values_of m.bodies; policies = values_of m.policies }
+
+-- under the id of each body the ids of the policies on it
+abbrev pub ids_by_body : List BodyParts → List PolicyParts → List (List ℕ × List (List ℕ))
+ids_by_body ts ps = map (λ t. (t.id, ids_in t.id ps)) ts
+
+-- they state a board, bodies and policies stand under their own ids, and in the third map stand the ids of all bodies,
+-- in their order, with the ids of the policies on each, in theirs
+pub record DoAgree (m : Maps) : Type 0 where
+  pub board : IsBoard (board_in m)
+  pub bodies_by_id : keys_of m.bodies ≡ map (λ t. t.id) (values_of m.bodies)
+  pub policies_by_id : keys_of m.policies ≡ map policy_id (values_of m.policies)
+  pub all_listed : m.listed ≡ ids_by_body (values_of m.bodies) (values_of m.policies)

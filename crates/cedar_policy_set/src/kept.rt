@@ -1,0 +1,203 @@
+//! How a policy set is kept: what reads and changes its three maps.
+ghost use Rattle.std.specs.Prelude.{◌≡◌, OnOk, OnErr, Some, false, length, ◌<◌};
+ghost use Rattle.std.specs.List.{find, list_any};
+ghost use Rattle.std.specs.Option.{option_copied, option_map};
+ghost use Rattle.cedar_policy_set.specs.Boards.{bound_at, is_bound, is_body_at, is_policy_at, has_links, with_template, with_policy, with_both, without, last_policy, IsBoard};
+ghost use Rattle.cedar_policy_set.specs.Lists.{ids_in};
+ghost use Rattle.cedar_policy_set.specs.Views.{bodies_of, board_of};
+ghost use Rattle.cedar_policy_set.specs.laws.Founds.{found_binding};
+ghost use Rattle.cedar_policy_set.specs.laws.Joins.{CanJoin, CanJoinBoth};
+ghost use Rattle.cedar_policy_set.specs.laws.MapLaws.{has_other};
+
+use crate::found::Found;
+use crate::lists::{either, template_of};
+use crate::maps::{bodies_by_id, ids_by_body, list_id, policies_by_id, put_last, set_of, unlist};
+use crate::policy_set::PolicySet;
+use cedar_ids::policy_id::PolicyID;
+use cedar_policy::{Policy, Template};
+use indexmap::IndexSet;
+use std::alloc::{AllocError, Global};
+use std::rc::Rc;
+
+impl PolicySet {
+    // The bodies, in their order.
+    pub(crate) fn shared_bodies(&self) -> &[Rc<Template>]
+        ensures { bodies_of result.now ≡ self.now.bodies }
+    {
+        self.templates.values().as_slice()
+    }
+
+    // The policies, in their order.
+    pub(crate) fn all_policies(&self) -> &[Policy]
+        ensures { result.now ≡ self.now.policies }
+    {
+        self.links.values().as_slice()
+    }
+
+    // The body with this id, if there is one.
+    pub(crate) fn body_at(&self, id: &PolicyID) -> Option<&Rc<Template>>
+        ensures { option_map (λ t. t.now.value) result ≡ find (is_body_at id.now) self.now.bodies }
+    {
+        self.templates.get(id)
+    }
+
+    // The policy with this id, if there is one.
+    pub(crate) fn policy_at(&self, id: &PolicyID) -> Option<&Policy>
+        ensures { option_copied result ≡ find (is_policy_at id.now) self.now.policies }
+    {
+        self.links.get(id)
+    }
+
+    // Whether a body has this id.
+    pub(crate) fn has_body(&self, id: &PolicyID) -> bool
+        ensures { result ≡ list_any (is_body_at id.now) self.now.bodies }
+    {
+        self.templates.contains_key(id)
+    }
+
+    // Whether a policy has this id.
+    pub(crate) fn has_policy(&self, id: &PolicyID) -> bool
+        ensures { result ≡ list_any (is_policy_at id.now) self.now.policies }
+    {
+        self.links.contains_key(id)
+    }
+
+    // The ids of the policies on the body with this id, if there is one.
+    pub(crate) fn ids_on(&self, id: &PolicyID) -> Option<&IndexSet<PolicyID>>
+        ensures { option_map (λ s. s.now.keys) result ≡ option_map (λ t. ids_in t.id self.now.policies) (find (is_body_at id.now) self.now.bodies) }
+    {
+        self.template_to_links_map.get(id)
+    }
+
+    // What an id is bound to.
+    pub(crate) fn found(&self, id: &PolicyID) -> Option<Found<'_>>
+        ensures { option_map found_binding result ≡ bound_at self.now id.now }
+    {
+        match self.policy_at(id) {
+            Some(policy) => Some(Found::Policy(policy)),
+            None => match self.body_at(id) {
+                Some(template) => Some(Found::Template(template)),
+                None => None,
+            },
+        }
+    }
+
+    // Whether an id is bound.
+    pub(crate) fn is_bound(&self, id: &PolicyID) -> bool
+        ensures { result ≡ is_bound self.now id.now }
+    {
+        either(self.has_policy(id), self.has_body(id))
+    }
+
+    // Whether the template with this id has links. A static policy stands on its own body alone.
+    pub(crate) fn is_linked(&self, id: &PolicyID) -> bool
+        ensures { result ≡ has_links self.now id.now }
+    {
+        let _ = &self.templates;
+        match self.ids_on(id) {
+            None => false,
+            Some(ids) => is_other(ids, self.has_policy(id)),
+        }
+    }
+
+    // Puts a template last.
+    pub(crate) fn put_template(&mut self, template: Rc<Template>) -> Result<(), AllocError>
+        requires { is_bound self.old template.value.id ≡ false }
+        ensures ok { OnOk result (self.new ≡ with_template self.old template.value) }
+        ensures err { OnErr result (self.new ≡ self.old) }
+    {
+        let id = template.id().clone()?;
+        let listed = template.id().clone()?;
+        self.templates.reserve(1)?;
+        self.template_to_links_map.reserve(1)?;
+        let ids = IndexSet::new(*self.templates.allocator());
+        put_last(&mut self.templates, id, template);
+        put_last(&mut self.template_to_links_map, listed, ids);
+        Ok(())
+    }
+
+    // Puts a link of a template in the set last.
+    pub(crate) fn put_policy(&mut self, policy: Policy) -> Result<(), AllocError>
+        requires { CanJoin self.old policy }
+        ensures ok { OnOk result (self.new ≡ with_policy self.old policy) }
+        ensures err { OnErr result (self.new ≡ self.old) }
+    {
+        let id = policy.id().clone()?;
+        let listed = policy.id().clone()?;
+        self.links.reserve(1)?;
+        let body = policy.template().id();
+        list_id(&mut self.template_to_links_map, body, listed)?;
+        put_last(&mut self.links, id, policy);
+        Ok(())
+    }
+
+    // Puts a policy and its template last, each in its order.
+    pub(crate) fn put_both(&mut self, policy: Policy) -> Result<(), AllocError>
+        requires { CanJoinBoth self.old policy }
+        ensures ok { OnOk result (self.new ≡ with_both self.old policy.template policy) }
+        ensures err { OnErr result (self.new ≡ self.old) }
+    {
+        let template = template_of(&policy)?;
+        let body = template.id().clone()?;
+        let under = template.id().clone()?;
+        let own = policy.id().clone()?;
+        let ids = set_of(*self.templates.allocator(), policy.id().clone()?)?;
+        self.templates.reserve(1)?;
+        self.links.reserve(1)?;
+        self.template_to_links_map.reserve(1)?;
+        put_last(&mut self.templates, body, template);
+        put_last(&mut self.links, own, policy);
+        put_last(&mut self.template_to_links_map, under, ids);
+        Ok(())
+    }
+
+    // Takes out what an id is bound to, which has no links.
+    pub(crate) fn take(&mut self, id: &PolicyID) -> (Option<Rc<Template>>, Option<Policy>)
+        requires { has_links self.old id.now ≡ false }
+        ensures body { option_map (λ t. t.value) result.0 ≡ find (is_body_at id.now) self.old.bodies }
+        ensures policy { result.1 ≡ find (is_policy_at id.now) self.old.policies }
+        ensures taken { self.new ≡ without self.old id.now }
+    {
+        let template = self.templates.shift_remove(id);
+        let policy = self.links.shift_remove(id);
+        self.template_to_links_map.shift_remove(id);
+        unlist(&mut self.template_to_links_map, &policy, id);
+        (template, policy)
+    }
+
+    // The policy that went last.
+    pub(crate) fn last(&self) -> &Policy
+        requires { 0 < length self.now.policies }
+        ensures { Some result.now ≡ last_policy self.now }
+    {
+        let policies = self.all_policies();
+        &policies[policies.len() - 1]
+    }
+
+    // Puts other bodies and policies in the place of all.
+    pub(crate) fn replace(
+        &mut self,
+        alloc: Global,
+        bodies: Vec<Rc<Template>>,
+        policies: Vec<Policy>,
+    ) -> Result<(), AllocError>
+        requires { IsBoard (board_of bodies.items policies.items) }
+        ensures ok { OnOk result (self.new ≡ board_of bodies.items policies.items) }
+        ensures err { OnErr result (self.new ≡ self.old) }
+    {
+        let listed = ids_by_body(alloc, &bodies, &policies)?;
+        let templates = bodies_by_id(alloc, bodies)?;
+        let links = policies_by_id(alloc, policies)?;
+        self.templates = templates;
+        self.links = links;
+        self.template_to_links_map = listed;
+        Ok(())
+    }
+}
+
+// Whether there are ids, and no policy has the id that they stand under.
+fn is_other(ids: &IndexSet<PolicyID>, is_policy: bool) -> bool
+    ensures { result ≡ has_other (Some ids.now.keys) is_policy }
+{
+    !ids.is_empty() && !is_policy
+}

@@ -1,0 +1,127 @@
+// Lists of up to twelve calls with merges among them, each on a set and on the board that it stands for.
+use super::board::{Board, after, empty, merge};
+use super::lists::{below, drawn_call};
+use super::notation::{Said, Why};
+use super::script::{board_of, done, said_by_set};
+use cedar_ids::policy_id::PolicyID;
+use cedar_policy_set::{PolicySet, PolicySetError};
+use indexmap::IndexMap;
+use std::alloc::Global;
+use std::test::Fail;
+
+// One drawn call; whether the answers and both orders are the same.
+fn call(
+    alloc: Global,
+    set: &mut PolicySet,
+    board: &mut Board,
+    seed: &mut u64,
+) -> Result<bool, Fail> {
+    let call = drawn_call(seed);
+    let said = done(alloc, set, &call)?;
+    Ok(said == after(board, &call) && board_of(set) == *board)
+}
+
+// What merging answers, but for the ids that are renamed.
+fn said_by_merging(answer: Result<IndexMap<PolicyID, PolicyID>, PolicySetError>) -> Said {
+    match answer {
+        Ok(_renaming) => Said::Done,
+        Err(error) => said_by_set(Err(error)),
+    }
+}
+
+// The same of the plain model.
+fn merged(board: &mut Board, theirs: &Board, rename: bool) -> Said {
+    match merge(board, theirs, rename) {
+        Ok(_renaming) => Said::Done,
+        Err(id) => Said::Refused(Why::Occupied, id),
+    }
+}
+
+// Merges a set, which has this board; whether the answers and both orders are the same.
+fn merge_set(
+    alloc: Global,
+    set: &mut PolicySet,
+    board: &mut Board,
+    other: &PolicySet,
+    rename: bool,
+) -> bool {
+    let theirs = board_of(other);
+    let said = said_by_merging(set.merge_policyset(alloc, other, rename));
+    said == merged(board, &theirs, rename) && board_of(set) == *board
+}
+
+// Makes three drawn calls.
+fn three(alloc: Global, set: &mut PolicySet, seed: &mut u64) -> Result<(), Fail> {
+    for _call in 0..3 {
+        let _said = done(alloc, set, &drawn_call(seed))?;
+    }
+    Ok(())
+}
+
+// Merges a set that three drawn calls leave.
+fn merge_drawn(
+    alloc: Global,
+    set: &mut PolicySet,
+    board: &mut Board,
+    seed: &mut u64,
+) -> Result<bool, Fail> {
+    let mut other = PolicySet::new(alloc);
+    three(alloc, &mut other, seed)?;
+    let rename = below(seed, 4) != 0;
+    Ok(merge_set(alloc, set, board, &other, rename))
+}
+
+// A call, or each fourth time a merge.
+fn step(
+    alloc: Global,
+    set: &mut PolicySet,
+    board: &mut Board,
+    seed: &mut u64,
+    number: u8,
+) -> Result<bool, Fail> {
+    if number % 4 == 3 {
+        return merge_drawn(alloc, set, board, seed);
+    }
+    call(alloc, set, board, seed)
+}
+
+// Makes this many steps.
+fn steps(
+    alloc: Global,
+    set: &mut PolicySet,
+    board: &mut Board,
+    seed: &mut u64,
+    count: u8,
+) -> Result<bool, Fail> {
+    for number in 0..count {
+        if !step(alloc, set, board, seed, number)? {
+            return Ok(false);
+        }
+    }
+    Ok(true)
+}
+
+// One list of up to twelve.
+fn list(alloc: Global, seed: &mut u64) -> Result<bool, Fail> {
+    let mut set = PolicySet::new(alloc);
+    let mut board = empty();
+    let count = below(seed, 12).wrapping_add(1);
+    steps(alloc, &mut set, &mut board, seed, count)
+}
+
+// The number of the first list after which the set is another than the board, or this many.
+fn differing(alloc: Global, count: u16) -> Result<u16, Fail> {
+    let mut seed = 1_956;
+    for number in 0..count {
+        if !list(alloc, &mut seed)? {
+            return Ok(number);
+        }
+    }
+    Ok(count)
+}
+
+#[test]
+fn lists_of_calls_and_merges_leave_their_board(rt: HostRuntime) -> Result<(), Fail> {
+    assert_eq!(rt; differing(rt.alloc(), 3_000)?, 3_000);
+    Ok(())
+}

@@ -1,0 +1,252 @@
+// Sets that are made of their three maps as they stand.
+ghost use Rattle.std.specs.Prelude.{◌≡◌, ◌++◌, ◌∷◌, [], None, false, IfOk, OnOk};
+ghost use Rattle.indexmap.specs.IndexMap.{get};
+ghost use Rattle.cedar_ids.specs.Texts.{same_text};
+ghost use Rattle.cedar_policy.specs.Policies.{policy_id};
+ghost use Rattle.cedar_policy_set.specs.Boards.{empty_board};
+ghost use Rattle.cedar_policy_set.specs.Maps.{lists_of, shared_of};
+ghost use Rattle.cedar_policy_set.specs.laws.Joins.{CanJoinBoth, CanJoinBothBy};
+
+use super::notation::{row, told_text};
+use super::script::{board_of, policy_of, run, set_of};
+use cedar_ids::policy_id::PolicyID;
+use cedar_policy::{Policy, Template};
+use cedar_policy_set::PolicySet;
+use indexmap::{IndexMap, IndexSet};
+use std::alloc::Global;
+use std::rc::Rc;
+use std::test::Fail;
+
+// Puts a value under a new key last.
+fn put<V: Drop>(map: &mut IndexMap<PolicyID, V>, key: PolicyID, value: V) -> Result<(), Fail>
+    requires { get same_text map.old key ≡ None }
+    ensures { OnOk result (map.new.entries ≡ map.old.entries ++ (key, value) ∷ []) }
+{
+    map.reserve(1)?;
+    map.insert(key, value).unwrap();
+    Ok(())
+}
+
+// The set of the id of a policy.
+fn just(alloc: Global, policy: &Policy) -> Result<IndexSet<PolicyID>, Fail>
+    ensures { IfOk result (λ s. s.keys ≡ policy_id policy.now ∷ []) }
+{
+    let mut ids = IndexSet::with_capacity(alloc, 1)?;
+    ids.insert(own(policy)?).unwrap();
+    Ok(ids)
+}
+
+// The id of a policy.
+fn own(policy: &Policy) -> Result<PolicyID, Fail>
+    ensures { IfOk result (λ i. i ≡ policy_id policy.now) }
+{
+    Ok(policy.id().clone()?)
+}
+
+// The id of a policy's template.
+fn under(policy: &Policy) -> Result<PolicyID, Fail>
+    ensures { IfOk result (λ i. i ≡ policy.now.template.id) }
+{
+    Ok(policy.template().id().clone()?)
+}
+
+// A further share of a policy's template.
+fn shared(policy: &Policy) -> Result<Rc<Template>, Fail>
+    ensures { IfOk result (λ t. t.value ≡ policy.now.template) }
+{
+    Ok(policy.template_arc().clone()?)
+}
+
+// The list of the policies on a policy's template, itself alone.
+fn list_of(alloc: Global, policy: &Policy) -> Result<IndexMap<PolicyID, IndexSet<PolicyID>>, Fail>
+    ensures { IfOk result (λ m. lists_of m.entries ≡ (policy.now.template.id, policy_id policy.now ∷ []) ∷ []) }
+{
+    let mut lists = IndexMap::new(alloc);
+    put(&mut lists, under(policy)?, just(alloc, policy)?)?;
+    Ok(lists)
+}
+
+// The template of a policy under its id.
+fn template_of(alloc: Global, policy: &Policy) -> Result<IndexMap<PolicyID, Rc<Template>>, Fail>
+    ensures { IfOk result (λ m. shared_of m.entries ≡ (policy.now.template.id, policy.now.template) ∷ []) }
+{
+    let mut templates = IndexMap::new(alloc);
+    put(&mut templates, under(policy)?, shared(policy)?)?;
+    Ok(templates)
+}
+
+// A policy under its id.
+fn link_of(alloc: Global, policy: Policy) -> Result<IndexMap<PolicyID, Policy>, Fail>
+    ensures { IfOk result (λ m. m.entries ≡ (policy_id policy, policy) ∷ []) }
+{
+    let mut links = IndexMap::new(alloc);
+    put(&mut links, own(&policy)?, policy)?;
+    Ok(links)
+}
+
+// The set that is kept in maps of one policy and its template.
+fn raw_one(alloc: Global, policy: Policy) -> Result<PolicySet, Fail>
+    requires { CanJoinBoth empty_board policy }
+{
+    let lists = list_of(alloc, &policy)?;
+    let templates = template_of(alloc, &policy)?;
+    let links = link_of(alloc, policy)?;
+    Ok(PolicySet::from_raw_components(templates, links, lists))
+}
+
+// The same of a text; of a link with its template's id the empty set.
+fn raw(alloc: Global, text: &str) -> Result<PolicySet, Fail> {
+    let policy = policy_of(alloc, row(text))?;
+    if !policy.is_static() && policy.id() == policy.template().id() {
+        return Ok(PolicySet::new(alloc));
+    }
+    let _total = policy.env();
+    raw_one(alloc, policy)
+}
+
+// The lists of two policies.
+fn lists_of_two(
+    alloc: Global,
+    first: &Policy,
+    second: &Policy,
+) -> Result<IndexMap<PolicyID, IndexSet<PolicyID>>, Fail>
+    requires { same_text second.now.template.id first.now.template.id ≡ false }
+    ensures { IfOk result (λ m. lists_of m.entries ≡
+        (first.now.template.id, policy_id first.now ∷ []) ∷ (second.now.template.id, policy_id second.now ∷ []) ∷ []) }
+{
+    let mut lists = list_of(alloc, first)?;
+    put(&mut lists, under(second)?, just(alloc, second)?)?;
+    Ok(lists)
+}
+
+// The templates of two policies.
+fn templates_of_two(
+    alloc: Global,
+    first: &Policy,
+    second: &Policy,
+) -> Result<IndexMap<PolicyID, Rc<Template>>, Fail>
+    requires { same_text second.now.template.id first.now.template.id ≡ false }
+    ensures { IfOk result (λ m. shared_of m.entries ≡
+        (first.now.template.id, first.now.template) ∷ (second.now.template.id, second.now.template) ∷ []) }
+{
+    let mut templates = template_of(alloc, first)?;
+    put(&mut templates, under(second)?, shared(second)?)?;
+    Ok(templates)
+}
+
+// Two policies, the second first.
+fn links_turned(
+    alloc: Global,
+    first: Policy,
+    second: Policy,
+) -> Result<IndexMap<PolicyID, Policy>, Fail>
+    requires { same_text (policy_id first) (policy_id second) ≡ false }
+    ensures { IfOk result (λ m. m.entries ≡ (policy_id second, second) ∷ (policy_id first, first) ∷ []) }
+{
+    let mut links = link_of(alloc, second)?;
+    put(&mut links, own(&first)?, first)?;
+    Ok(links)
+}
+
+// The set of two static policies, its bodies in this order and its policies in the turned one.
+fn raw_crossed(alloc: Global, first: Policy, second: Policy) -> Result<PolicySet, Fail>
+    requires first { CanJoinBothBy None empty_board first }
+    requires second { CanJoinBothBy None empty_board second }
+    requires apart { same_text first.template.id second.template.id ≡ false }
+{
+    let lists = lists_of_two(alloc, &first, &second)?;
+    let templates = templates_of_two(alloc, &first, &second)?;
+    let links = links_turned(alloc, first, second)?;
+    Ok(PolicySet::from_raw_components(templates, links, lists))
+}
+
+// The same of two policies; where they are not static policies with other ids the empty set.
+fn crossed_of(alloc: Global, first: Policy, second: Policy) -> Result<PolicySet, Fail> {
+    if !first.is_static() {
+        return Ok(PolicySet::new(alloc));
+    }
+    if !second.is_static() {
+        return Ok(PolicySet::new(alloc));
+    }
+    if first.template().id() == second.template().id() {
+        return Ok(PolicySet::new(alloc));
+    }
+    raw_crossed(alloc, first, second)
+}
+
+// The same of texts.
+fn crossed(alloc: Global, first: &str, second: &str) -> Result<PolicySet, Fail> {
+    let first = policy_of(alloc, row(first))?;
+    let second = policy_of(alloc, row(second))?;
+    crossed_of(alloc, first, second)
+}
+
+// What the last of some calls answers on a set, and both orders after it.
+fn after(alloc: Global, set: &mut PolicySet, calls: &str) -> Result<String, Fail> {
+    let said = run(alloc, set, calls)?;
+    told_text(alloc, said, &board_of(set))
+}
+
+// Whether a set is the one that some calls make.
+fn is_made(alloc: Global, set: &PolicySet, calls: &str) -> Result<bool, Fail> {
+    Ok(*set == set_of(alloc, calls)?)
+}
+
+// Whether the set that is kept in maps of a text is the one that some calls make.
+fn is_raw(alloc: Global, text: &str, calls: &str) -> Result<bool, Fail> {
+    let set = raw(alloc, text)?;
+    is_made(alloc, &set, calls)
+}
+
+// What the last of some calls answers on that set, and both orders after it.
+fn told_raw(alloc: Global, text: &str, calls: &str) -> Result<String, Fail> {
+    let mut set = raw(alloc, text)?;
+    after(alloc, &mut set, calls)
+}
+
+#[test]
+fn maps_of_a_template_and_its_link_are_the_set_that_calls_make(
+    rt: HostRuntime,
+) -> Result<(), Fail> {
+    let alloc = rt.alloc();
+    assert!(rt; is_raw(alloc, "l=t1+1x", "template t1; link l=t+1x")?);
+    assert!(rt; is_raw(alloc, "a!", "static a!")?);
+    for (calls, want) in [
+        ("links t", "l | t1 | l=t1+1x"),
+        ("links t; unlink l", "l=t1+1x | t1 |"),
+        ("links t; unlink l; links t", " | t1 |"),
+        ("links t; unlink l; links t; remove_template t", "t1 | |"),
+    ] {
+        assert_eq!(rt; told_raw(alloc, "l=t1+1x", calls)?.as_str(), want);
+    }
+    Ok(())
+}
+
+// Whether the set of `a` and `b!`, its policies turned, is the one that some calls make.
+fn is_crossed(alloc: Global, calls: &str) -> Result<bool, Fail> {
+    let set = crossed(alloc, "a", "b!")?;
+    is_made(alloc, &set, calls)
+}
+
+// What the last of some calls answers on that set, and both orders after it.
+fn told_crossed(alloc: Global, calls: &str) -> Result<String, Fail> {
+    let mut set = crossed(alloc, "a", "b!")?;
+    after(alloc, &mut set, calls)
+}
+
+#[test]
+fn maps_keep_the_orders_that_they_have(rt: HostRuntime) -> Result<(), Fail> {
+    let alloc = rt.alloc();
+    assert!(rt; !is_crossed(alloc, "static a; static b!")?);
+    for (calls, want) in [
+        ("links b", "b | a b! | b! a"),
+        ("template t; link l=t; remove_static a", "a | b! t | b! l=t"),
+        (
+            "template t; link l=t; remove_static a; static a; links a",
+            "a | b! t a | b! l=t a",
+        ),
+    ] {
+        assert_eq!(rt; told_crossed(alloc, calls)?.as_str(), want);
+    }
+    Ok(())
+}
