@@ -1,3 +1,4 @@
+pub mod Arranged
 pub mod ComponentSteps
 pub mod Steps
 pub mod Fills

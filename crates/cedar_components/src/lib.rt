@@ -4,19 +4,24 @@
 //! to `to[k]`. Nothing here knows what the numbers stand for.
 //!
 //! [`reach`] does all. A depth-first search gives the order in which the numbers finish; searches
-//! against the arcs, in that order from its end, give each number its strong component; and each
-//! component gets one list of what its members reach, those below it first. The searches keep
-//! stacks of their own, so that none of them recurses, whatever the graph is.
+//! against the arcs, in that order from its end, give each number its strong component; each
+//! component gets one list of what its members reach, those below it first; and one pass over the
+//! entries of the lists brings each of them into one order. The searches keep stacks of their own,
+//! so that none of them recurses, whatever the graph is.
 #![tactic(auto)]
 
 ghost use Rattle.std.specs.Prelude.{◌≡◌, ℕ, IfOk};
+ghost use Rattle.std.specs.List.{range_with_len};
+ghost use Rattle.std.specs.List.Sorted.{IsPermutation};
 ghost use Rattle.cedar_components.specs.Reach.{AreArcs, HasArc, IsReach};
 
+mod arranging;
 mod component_lists;
 mod components;
 mod links;
 mod search;
 
+use crate::arranging::arrange;
 use crate::component_lists::{Lists, make_lists};
 use crate::components::make_components;
 use crate::links::make_links;
@@ -36,23 +41,28 @@ pub struct Reached {
 
 /// Finds what each of the numbers below `count` reaches over one or more arcs, where the arc at
 /// place `k` leads from `from[k]` to `to[k]`. A number reaches itself only where it lies on a
-/// cycle.
+/// cycle. Each list comes in the order that `order` has, which are the numbers below `count`, each
+/// once; no clause says so, and no member depends on it.
 ///
 /// Takes memory for lists in the number of numbers and arcs, and for the lists of what is reached;
-/// refused only where that is. Looks at each arc a few times, and copies the list of a component
-/// once for each arc that leads to it from another. Recurses nowhere.
+/// refused only where that is. Looks at each arc a few times, copies the list of a component once
+/// for each arc that leads to it from another, and visits each entry of the lists a few times to
+/// bring them into the order. Compares no numbers for that, and recurses nowhere.
 pub fn reach(
     alloc: Global,
     from: &[usize],
     to: &[usize],
     count: usize,
+    order: &[usize],
 ) -> Result<Reached, AllocError>
-    requires { AreArcs from.now to.now count }
+    requires arcs { AreArcs from.now to.now count }
+    requires order { IsPermutation (range_with_len 0 count) order.now }
     ensures { IfOk result (λ r. IsReach (HasArc from.now to.now) count
         r.component.items r.start.items r.lists.items) }
 {
     let forward = make_links(alloc, from, count)?;
-    let order = finish_order(alloc, from, to, &forward.head, &forward.link, count)?;
+    let finished = finish_order(alloc, from, to, &forward.head, &forward.link, count)?;
+    let last = finished.len();
     let backward = make_links(alloc, to, count)?;
     let component = make_components(
         alloc,
@@ -60,10 +70,10 @@ pub fn reach(
         to,
         &backward.head,
         &backward.link,
-        &order,
+        &finished,
         count,
     )?;
-    let Lists { start, lists } = make_lists(
+    let made = make_lists(
         alloc,
         count,
         &component,
@@ -71,8 +81,9 @@ pub fn reach(
         to,
         &forward.head,
         &forward.link,
-        order.len(),
+        last,
     )?;
+    let Lists { start, lists } = arrange(alloc, made, order, last + 1, count)?;
     Ok(Reached {
         component,
         start,

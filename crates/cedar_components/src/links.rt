@@ -18,7 +18,7 @@ pub(crate) fn make_links(alloc: Global, ends: &[usize], n: usize) -> Result<Link
     ensures { IfOk result (λ l. AreLinks ends.now l.head.items l.link.items n) }
 {
     let mut head = vec![in alloc; 0; n]?;
-    let mut link = Vec::new(alloc);
+    let mut link = Vec::with_capacity(alloc, ends.len())?;
     for k in 0..ends.len() {
         let a = ends[k];
         link.push(head[a])?;

@@ -1,6 +1,6 @@
 -- From what the closure calls say of the map to what is seen of it.
 use Rattle.std.specs.Prelude.{◌≡◌, Bool, true, false, Option, Some, None, Result, Ok, Err, IfErr}
-use Rattle.std.proofs.Common.{ap, sym, refl, subst, ◌∙◌}
+use Rattle.std.proofs.Common.{ap, sym, refl, subst, ◌∙◌, inl, inr}
 use Rattle.std.specs.Option.{option_map}
 use Rattle.std.specs.HashMap.{HashMap, get}
 use Rattle.cedar_graph.specs.Graph.{KeepsNodes, KeepsEdges, AddsOnlyReached, Reach, IsClosure, IsClosed, IsTrusted, HasNoCycleAt, HasNoLoop, graph_of, edge_at}
@@ -12,7 +12,7 @@ use Rattle.cedar_ids.specs.declared.entity.EntityUID.{EntityUID}
 use Rattle.cedar_entity.specs.declared.node.SharedEntity.{SharedEntity}
 use Rattle.std.specs.Result.{IsErrAnd}
 use Rattle.cedar_entity.specs.declared.err.EntitiesError.{EntitiesError}
-use Rattle.cedar_entity.specs.ClosureRefusals.{refusal_of}
+use Rattle.cedar_entity.specs.ClosureRefusals.{refusal_of, Tells}
 use Rattle.cedar_entities.specs.ClosureFaults.{IsClosureFault}
 use Rattle.cedar_entities.specs.Refusals.{MatchRefusal}
 use Rattle.cedar_entities.specs.laws.Held.{held_map, shared}
@@ -79,9 +79,10 @@ closed_told m t h = told (BreaksClosed (ancestry (held_map m))) (λ v. IsClosed 
     (subst (λ F. MatchFault t (BreaksClosed F) (λ v. IsClosed F × (F v v ≡ true))) (same_ancestry m) h)
 
 -- what is said of the refusal for a fault is said of the error that it became
-pub refused_as : {X : Type 0} (C : TcError EntityUID → Type 0) (r : Result X EntitiesError) (t : TcError EntityUID) → IsErrAnd r (λ e. e ≡ refusal_of t) → MatchRefusal (refusal_of t) (λ _. ⊥) C → IfErr r (λ e. MatchRefusal e (λ _. ⊥) C)
+pub refused_as : {X : Type 0} (C : TcError EntityUID → Type 0) (r : Result X EntitiesError) (t : TcError EntityUID) → IsErrAnd r (Tells t) → MatchRefusal (refusal_of t) (λ _. ⊥) C → IfErr r (λ e. MatchRefusal e (λ _. ⊥) C)
 refused_as C (Ok x) t h k = tt
-refused_as C (Err e) t h k = subst (λ f. MatchRefusal f (λ _. ⊥) C) (sym h) k
+refused_as C (Err e) t (inl h) k = subst (λ f. MatchRefusal f (λ _. ⊥) C) (sym h) k
+refused_as C (Err e) t (inr h) k = subst (λ f. MatchRefusal f (λ _. ⊥) C) (sym h) tt
 
 pub closed_seen : {S : Type 0} (m : HashMap EntityUID SharedEntity S) → IsClosed (graph_of same_uid node_edges m) × HasNoLoop (graph_of same_uid node_edges m) → IsClosed (ancestry (held_map m)) × HasNoLoop (ancestry (held_map m))
 closed_seen m h = subst (λ F. IsClosed F × HasNoLoop F) (same_ancestry m) h

@@ -1,7 +1,7 @@
 -- From what the steps of an edit leave of the map to what the edit makes of what is held.
-use Rattle.std.specs.Prelude.{◌≡◌, Bool, true, false, cond, not, ◌&&◌, ◌||◌, List, [], ◌∷◌, Option, Some, None, map, filter}
+use Rattle.std.specs.Prelude.{◌≡◌, Bool, true, false, cond, not, ◌&&◌, ◌||◌, List, [], Option, Some, None, map, filter}
 use Rattle.std.proofs.Common.{ap, sym, refl, subst, ◌∙◌}
-use Rattle.std.proofs.lemmas.Bool.{and_from, or_left}
+use Rattle.std.proofs.lemmas.Bool.{or_left}
 use Rattle.std.specs.Option.{option_map, option_or, is_some}
 use Rattle.std.specs.HashMap.{HashMap}
 use Rattle.std.specs.HashSet.{HashSet, contains}
@@ -9,7 +9,7 @@ use Rattle.std.specs.List.{AllByRecursion, list_any}
 use Rattle.std.specs.Set.{is_member}
 use Rattle.std.specs.FinSet as set
 use Rattle.std.specs.FinMap as finmap
-use Rattle.cedar_ids.specs.UidOf.{same_uid, uid_order, uid_order_total}
+use Rattle.cedar_ids.specs.UidOf.{same_uid, uid_order_total}
 use Rattle.cedar_ids.specs.declared.entity.EntityUID.{EntityUID}
 use Rattle.cedar_entity.specs.UidSets.{one_equal}
 use Rattle.cedar_entity.specs.laws.UidSets.{kept_in}

@@ -1,18 +1,18 @@
 -- What the readings of an edit's uids come to, over what is held.
-use Rattle.std.specs.Prelude.{◌≡◌, Bool, true, false, cond, not, ◌&&◌, ◌||◌, List, [], ◌∷◌, ◌++◌, Option, Some, None, map, filter}
-use Rattle.std.proofs.Common.{ap, sym, refl, subst, ◌∙◌}
+use Rattle.std.specs.Prelude.{◌≡◌, Bool, true, false, cond, not, ◌&&◌, ◌||◌, List, [], ◌∷◌, Option, Some, None, map, filter}
+use Rattle.std.proofs.Common.{ap, sym, refl, ◌∙◌}
 use Rattle.std.proofs.lemmas.Bool.{and_parts, both_ways, false_from_ne_true, or_parts, or_left, or_right}
 use Rattle.std.specs.List.{list_any, AllByRecursion}
-use Rattle.std.specs.Option.{option_map, option_or, is_some}
+use Rattle.std.specs.Option.{option_map, is_some}
 use Rattle.std.specs.Set.{is_member}
 use Rattle.std.specs.FinSet as set
 use Rattle.std.specs.FinMap as finmap
-use Rattle.cedar_ids.specs.UidOf.{same_uid, uid_order, uid_order_total, same_uid_decides}
+use Rattle.cedar_ids.specs.UidOf.{same_uid, uid_order_total, same_uid_decides}
 use Rattle.cedar_ids.specs.declared.entity.EntityUID.{EntityUID}
 use Rattle.cedar_entity.specs.UidSets.{UidSet, one_equal}
 use Rattle.cedar_entity.specs.laws.UidSets.{kept_in}
 use Rattle.cedar_entity.specs.View.{EntityView, has_ancestor}
-use Rattle.cedar_entities.specs.Edits.{goes_with, lessened, parted, stripped, leaves}
+use Rattle.cedar_entities.specs.Edits.{goes_with, lessened}
 use Rattle.cedar_entities.specs.Modes.{ancestry, is_ancestor_in}
 use Rattle.cedar_entities.specs.Plain.{Held}
 use Rattle.cedar_entities.specs.Touching.{is_touched}

@@ -1,20 +1,19 @@
 -- Removing, over any store and over the plain store of a world.
-use Rattle.std.specs.Prelude.{◌≡◌, ◌↔◌, ◌⊎◌, Bool, true, false, cond, not, ◌&&◌, ◌||◌, List, [], ◌∷◌, Option, Some, None, filter}
+use Rattle.std.specs.Prelude.{◌≡◌, ◌⊎◌, Bool, true, false, cond, not, ◌&&◌, ◌||◌, List, Option, Some, None}
 use Rattle.std.proofs.Common.{inl, inr, ap, sym, refl, subst, ◌∙◌}
 use Rattle.std.proofs.lemmas.Bool.{and_from, and_parts, both_ways, false_from_ne_true, or_cases, or_left, or_parts, or_right}
 use Rattle.std.proofs.lemmas.Map.Made.{is_member-filter}
-use Rattle.std.specs.Option.{option_map, IfSome, is_some}
+use Rattle.std.specs.Option.{option_map, IfSome}
 use Rattle.std.specs.List.{list_any}
 use Rattle.std.specs.Set.{is_member}
 use Rattle.std.specs.FinSet as set
 use Rattle.std.specs.FinMap as finmap
-use Rattle.cedar_graph.specs.Graph.{Reach, KeepsEdges, AddsOnlyReached, IsClosed, HasNoLoop}
+use Rattle.cedar_graph.specs.Graph.{Reach, KeepsEdges, AddsOnlyReached}
 use Rattle.cedar_graph.specs.ReachLaws.{reach_edge, reach_over_reach, reach_trans}
 use Rattle.cedar_graph.specs.declared.err.TcError.{TcError}
 use Rattle.cedar_graph.specs.declared.err.TcError.TheVariants as tc
-use Rattle.cedar_ids.specs.UidOf.{same_uid, uid_order, uid_order_total, same_uid_decides, same_uid_equiv}
+use Rattle.cedar_ids.specs.UidOf.{same_uid, same_uid_decides, same_uid_equiv}
 use Rattle.cedar_ids.specs.declared.entity.EntityUID.{EntityUID}
-use Rattle.cedar_entity.specs.UidSets.{UidSet, one_equal}
 use Rattle.cedar_entity.specs.laws.UidSets.{kept_in}
 use Rattle.cedar_entity.specs.View.{EntityView, has_ancestor}
 use Rattle.cedar_entity.specs.declared.err.EntitiesError.{EntitiesError}
@@ -22,16 +21,15 @@ use Rattle.cedar_entity.specs.declared.err.EntitiesError.TheVariants as errors
 use Rattle.cedar_entities.specs.Edits.{goes_with, leaves, lessened, parted, taken_out}
 use Rattle.cedar_entities.specs.Modes.{ancestry, is_ancestor_in, IsClosureRefused, IsSound}
 use Rattle.cedar_entities.specs.Plain.{StoreView, Held, IsPlainStore, IsKeyed, IsApart, parts_of}
-use Rattle.cedar_entities.specs.Refusals.{MatchRefusal, NamesCycle}
-use Rattle.cedar_entities.specs.Touching.{is_touched, removed_from, IsRepairOf, IsAcyclicAt, IsMended, IsMendRefused, StaysUntouched}
+use Rattle.cedar_entities.specs.Refusals.{MatchRefusal}
+use Rattle.cedar_entities.specs.Touching.{is_touched, removed_from, IsRepairOf, IsMended, IsMendRefused, StaysUntouched}
 use Rattle.cedar_entities.specs.World.{World, Parts, graph, is_parent_in, goes, without, deleted}
 use Rattle.cedar_entities.specs.declared.entities.TCComputation.{TCComputation}
 use Rattle.cedar_entities.specs.declared.entities.TCComputation.TheVariants as modes
 use Rattle.cedar_entities.specs.laws.Worlds.{get_reduced, get_deleted}
 use Rattle.cedar_entities.proofs.Adding.{reach_stays}
-use Rattle.cedar_entities.proofs.Editing.{retain_none}
-use Rattle.cedar_entities.proofs.Overwriting.{map_keyed, held_alike, reaches_held, goes_between}
-use Rattle.cedar_entities.proofs.PlainStores.{plain_from, cycle_in}
+use Rattle.cedar_entities.proofs.Overwriting.{map_keyed, held_alike, goes_between}
+use Rattle.cedar_entities.proofs.PlainStores.{plain_from}
 use Rattle.cedar_entities.proofs.Reaching.{kept_between}
 use Rattle.cedar_entities.proofs.Readings.{any_filter, any_less, any_member, none_retained}
 use Rattle.cedar_entities.proofs.Repaired.{ancestry_plain, repaired}

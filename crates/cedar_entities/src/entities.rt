@@ -28,7 +28,8 @@ use crate::dereference::Dereference;
 use crate::store_iters::{IntoIter, Iter};
 use crate::store_valid::check_each;
 use crate::touching::{
-    absent_uids, apply_each, copy_of, held_uids, note_all, read_each, touched_by_any, uids_in,
+    absent_uids, apply_each, held_uids, note_all, plain_copy_of, read_each, shared_copy_of,
+    touched_by_any, uids_in,
 };
 use cedar_entity::entity::Entity;
 use cedar_entity::err::EntitiesError;
@@ -36,6 +37,7 @@ use cedar_entity::node::SharedEntity;
 use cedar_graph::{enforce_tc_and_dag, repair_tc};
 use cedar_ids::entity::EntityUID;
 use cedar_terms::{Expr, StaticallyTyped, Unknown};
+use cedar_uid_sets::SharedUid;
 use std::alloc::{AllocError, Global};
 use std::collections::{HashMap, HashSet};
 use std::marker::Model;
@@ -59,7 +61,7 @@ pub enum TCComputation {
 /// Entities are shared: copying a store copies none of them.
 #[derive(Debug, Drop)]
 pub struct Entities {
-    entities: HashMap<EntityUID, SharedEntity>,
+    entities: HashMap<SharedUid, SharedEntity>,
     partial: bool,
 }
 
@@ -87,7 +89,8 @@ fn unknown_of(alloc: Global, uid: &EntityUID) -> Result<Expr, AllocError>
 
 // Puts in an entity whose uid is absent; one that is present has to be deeply equal.
 fn put_new(
-    entities: &mut HashMap<EntityUID, SharedEntity>,
+    alloc: Global,
+    entities: &mut HashMap<SharedUid, SharedEntity>,
     entity: Rc<Entity>,
 ) -> Result<(), EntitiesError>
     requires { UidsMatch entities.old }
@@ -102,18 +105,19 @@ fn put_new(
 {
     if let Some(present) = entities.get(entity.uid()) {
         if !present.0.deep_eq(&entity) {
-            return Err(EntitiesError::Duplicate(copy_of(entity.uid())?));
+            return Err(EntitiesError::Duplicate(plain_copy_of(entity.uid())?));
         }
         return Ok(());
     }
-    let uid = copy_of(entity.uid())?;
+    let uid = shared_copy_of(alloc, entity.uid())?;
     entities.insert(uid, SharedEntity(entity))?;
     Ok(())
 }
 
 // Puts in the entities in turn.
 fn put_all(
-    entities: &mut HashMap<EntityUID, SharedEntity>,
+    alloc: Global,
+    entities: &mut HashMap<SharedUid, SharedEntity>,
     list: Vec<Rc<Entity>>,
 ) -> Result<(), EntitiesError>
     requires { UidsMatch entities.old }
@@ -125,14 +129,15 @@ fn put_all(
         (FirstMismatch (held entities.old) (entities_in list.items)) (λ _. ⊥)) }
 {
     for entity in list {
-        put_new(entities, entity)?;
+        put_new(alloc, entities, entity)?;
     }
     Ok(())
 }
 
 // Puts in an entity, over one with its uid.
 fn put_over(
-    entities: &mut HashMap<EntityUID, SharedEntity>,
+    alloc: Global,
+    entities: &mut HashMap<SharedUid, SharedEntity>,
     entity: Rc<Entity>,
 ) -> Result<(), EntitiesError>
     requires { UidsMatch entities.old }
@@ -141,14 +146,15 @@ fn put_over(
         (cond (same_uid entity.value.uid q) (Some entity.value) None) (held entities.old q)) }
     ensures err { IfErr result (λ e. e ≡ Memory) }
 {
-    let key = copy_of(entity.uid())?;
+    let key = shared_copy_of(alloc, entity.uid())?;
     entities.insert(key, SharedEntity(entity))?;
     Ok(())
 }
 
 // Puts in the entities in turn, each over one with its uid.
 fn overwrite_all(
-    entities: &mut HashMap<EntityUID, SharedEntity>,
+    alloc: Global,
+    entities: &mut HashMap<SharedUid, SharedEntity>,
     list: Vec<Rc<Entity>>,
 ) -> Result<(), EntitiesError>
     requires { UidsMatch entities.old }
@@ -158,13 +164,13 @@ fn overwrite_all(
     ensures err { IfErr result (λ e. e ≡ Memory) }
 {
     for entity in list {
-        put_over(entities, entity)?;
+        put_over(alloc, entities, entity)?;
     }
     Ok(())
 }
 
 // Takes out the entity with a uid, if there is one.
-fn take_at(entities: &mut HashMap<EntityUID, SharedEntity>, uid: &EntityUID)
+fn take_at(entities: &mut HashMap<SharedUid, SharedEntity>, uid: &SharedUid)
     ensures { (q : EntityUID) → held entities.new q
         ≡ cond (same_uid uid.now q) None (held entities.old q) }
 {
@@ -172,7 +178,7 @@ fn take_at(entities: &mut HashMap<EntityUID, SharedEntity>, uid: &EntityUID)
 }
 
 // Takes out the entities with these uids.
-fn take_out(entities: &mut HashMap<EntityUID, SharedEntity>, gone: Vec<EntityUID>)
+fn take_out(entities: &mut HashMap<SharedUid, SharedEntity>, gone: Vec<SharedUid>)
     requires { UidsMatch entities.old }
     ensures keys { UidsMatch entities.new }
     ensures left { (q : EntityUID) → held entities.new q
@@ -195,7 +201,7 @@ fn shared_all(alloc: Global, list: Vec<Entity>) -> Result<Vec<Rc<Entity>>, Alloc
 }
 
 // Checks that the ancestors are closed and that no entity is its own.
-fn check(alloc: Global, entities: &HashMap<EntityUID, SharedEntity>) -> Result<(), EntitiesError>
+fn check(alloc: Global, entities: &HashMap<SharedUid, SharedEntity>) -> Result<(), EntitiesError>
     requires { UidsMatch entities.now }
     ensures ok { OnOk result ((held_map entities.now ≡ held_map entities.now)
         × IsSound (held_map entities.now)) }
@@ -209,8 +215,8 @@ fn check(alloc: Global, entities: &HashMap<EntityUID, SharedEntity>) -> Result<(
 // Gives the entities that are touched the ancestors that they reach.
 fn repair(
     alloc: Global,
-    entities: &mut HashMap<EntityUID, SharedEntity>,
-    touched: &HashSet<EntityUID>,
+    entities: &mut HashMap<SharedUid, SharedEntity>,
+    touched: &HashSet<SharedUid>,
     enforce_dag: bool,
 ) -> Result<(), EntitiesError>
     requires { UidsMatch entities.old }
@@ -229,8 +235,8 @@ fn repair(
 // Ends an adding or an overwriting, as the mode says.
 fn settle(
     alloc: Global,
-    entities: &mut HashMap<EntityUID, SharedEntity>,
-    touched: &HashSet<EntityUID>,
+    entities: &mut HashMap<SharedUid, SharedEntity>,
+    touched: &HashSet<SharedUid>,
     tc_computation: TCComputation,
 ) -> Result<(), EntitiesError>
     requires { UidsMatch entities.old }
@@ -250,8 +256,8 @@ fn settle(
 // Repairs what a removal touched, and ends that as the mode says.
 fn mend(
     alloc: Global,
-    entities: &mut HashMap<EntityUID, SharedEntity>,
-    touched: &HashSet<EntityUID>,
+    entities: &mut HashMap<SharedUid, SharedEntity>,
+    touched: &HashSet<SharedUid>,
     tc_computation: TCComputation,
 ) -> Result<(), EntitiesError>
     requires { UidsMatch entities.old }
@@ -274,8 +280,8 @@ fn mend(
 // Whether the map has a deeply equal entity at a uid.
 fn has_deep_equal_at(
     entity: &Entity,
-    uid: &EntityUID,
-    other: &HashMap<EntityUID, SharedEntity>,
+    uid: &SharedUid,
+    other: &HashMap<SharedUid, SharedEntity>,
 ) -> bool
     ensures { IsTrue result ↔ HasDeepEqual (Some entity.now) (held other.now uid.now) }
 {
@@ -287,8 +293,8 @@ fn has_deep_equal_at(
 
 // Whether the one map has each entity of the other, or a deeply equal one.
 fn have_deep_equals(
-    one: &HashMap<EntityUID, SharedEntity>,
-    other: &HashMap<EntityUID, SharedEntity>,
+    one: &HashMap<SharedUid, SharedEntity>,
+    other: &HashMap<SharedUid, SharedEntity>,
 ) -> bool
     ensures { IsTrue result ↔ ((q : EntityUID) →
         IfSome (held one.now q) (λ e. HasDeepEqual (Some e) (held other.now q))) }
@@ -303,8 +309,8 @@ fn have_deep_equals(
 
 // Whether the one map has each uid of the other.
 fn have_keys_of(
-    one: &HashMap<EntityUID, SharedEntity>,
-    other: &HashMap<EntityUID, SharedEntity>,
+    one: &HashMap<SharedUid, SharedEntity>,
+    other: &HashMap<SharedUid, SharedEntity>,
 ) -> bool
     ensures { IsTrue result ↔ ((q : EntityUID) →
         is_some (get same_uid other.now q) ≡ true → is_some (get same_uid one.now q) ≡ true) }
@@ -319,8 +325,8 @@ fn have_keys_of(
 
 // A copy of the map, with the same entities.
 fn copy_of_map(
-    entities: &HashMap<EntityUID, SharedEntity>,
-) -> Result<HashMap<EntityUID, SharedEntity>, AllocError>
+    entities: &HashMap<SharedUid, SharedEntity>,
+) -> Result<HashMap<SharedUid, SharedEntity>, AllocError>
     requires { UidsMatch entities.now }
     ensures held { IfOk result (λ copy. held_map copy ≡ held_map entities.now) }
     ensures keys { IfOk result (λ copy. UidsMatch copy) }
@@ -433,7 +439,7 @@ impl Entities {
         let mut touched = HashSet::new(alloc);
         note_all(&mut touched, fresh)?;
         let mut entities = self.entities;
-        put_all(&mut entities, list)?;
+        put_all(alloc, &mut entities, list)?;
         let by = touched_by_any(alloc, &entities, &touched)?;
         note_all(&mut touched, by)?;
         settle(alloc, &mut entities, &touched, tc_computation)?;
@@ -482,7 +488,7 @@ impl Entities {
         let mut entities = self.entities;
         let mut touched = HashSet::new(alloc);
         apply_each(&mut entities, read, &[], &mut touched)?;
-        overwrite_all(&mut entities, list)?;
+        overwrite_all(alloc, &mut entities, list)?;
         settle(alloc, &mut entities, &touched, tc_computation)?;
         Ok(Entities {
             entities,

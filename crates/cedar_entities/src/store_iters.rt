@@ -10,6 +10,7 @@ ghost use Rattle.cedar_entities.specs.laws.Held.{held_map, shared, UidsMatch};
 use cedar_entity::entity::Entity;
 use cedar_entity::node::SharedEntity;
 use cedar_ids::entity::EntityUID;
+use cedar_uid_sets::SharedUid;
 use std::alloc::AllocError;
 use std::collections::{HashMap, hash_map};
 use std::marker::Model;
@@ -18,7 +19,7 @@ use std::rc::Rc;
 /// The entities of a store, each once, in an order of their own.
 #[derive(Drop)]
 pub struct Iter<'a> {
-    inner: hash_map::Iter<'a, EntityUID, SharedEntity>,
+    inner: hash_map::Iter<'a, SharedUid, SharedEntity>,
 }
 
 impl<'a> Model for Iter<'a> {
@@ -36,7 +37,7 @@ impl<'a> Model for Iter<'a> {
 
 impl<'a> Iter<'a> {
     // The entities of a map.
-    pub(crate) fn of(entities: &'a HashMap<EntityUID, SharedEntity>) -> Iter<'a>
+    pub(crate) fn of(entities: &'a HashMap<SharedUid, SharedEntity>) -> Iter<'a>
         requires { UidsMatch entities.now }
         ensures { ListsHeld (held_map entities.now) result }
     {
@@ -63,7 +64,7 @@ impl<'a> Iterator for Iter<'a> {
 /// takes memory, and its item is a refusal where that is.
 #[derive(Drop)]
 pub struct IntoIter {
-    inner: hash_map::IntoIter<EntityUID, SharedEntity>,
+    inner: hash_map::IntoIter<SharedUid, SharedEntity>,
 }
 
 impl Model for IntoIter {
@@ -81,7 +82,7 @@ impl Model for IntoIter {
 
 impl IntoIter {
     // The entities of a map.
-    pub(crate) fn of(entities: HashMap<EntityUID, SharedEntity>) -> IntoIter
+    pub(crate) fn of(entities: HashMap<SharedUid, SharedEntity>) -> IntoIter
         requires { UidsMatch entities }
         ensures { ListsHeld (held_map entities) result }
     {

@@ -8,6 +8,7 @@ use cedar_entity::entity::Entity;
 use cedar_entity::err::EntitiesError;
 use cedar_entity::node::SharedEntity;
 use cedar_ids::entity::EntityUID;
+use cedar_uid_sets::SharedUid;
 use std::alloc::Global;
 use std::collections::HashMap;
 
@@ -31,7 +32,7 @@ fn lesser_faulty<'a>(entity: &'a Entity, least: Option<&'a Entity>) -> Option<&'
 }
 
 // Of the entities that are not valid the one with the least uid.
-fn first_faulty<'a>(entities: &'a HashMap<EntityUID, SharedEntity>) -> Option<&'a Entity>
+fn first_faulty<'a>(entities: &'a HashMap<SharedUid, SharedEntity>) -> Option<&'a Entity>
     requires { UidsMatch entities.now }
     ensures { MatchOption (option_copied result)
         (AreAllValid (held_map entities.now)) (IsFirstFaulty (held_map entities.now)) }
@@ -46,7 +47,7 @@ fn first_faulty<'a>(entities: &'a HashMap<EntityUID, SharedEntity>) -> Option<&'
 // Refuses a store of which an entity is not valid.
 pub(crate) fn check_each(
     alloc: Global,
-    entities: &HashMap<EntityUID, SharedEntity>,
+    entities: &HashMap<SharedUid, SharedEntity>,
 ) -> Result<(), EntitiesError>
     requires { UidsMatch entities.now }
     ensures ok { OnOk result (AreAllValid (held_map entities.now)) }

@@ -17,7 +17,9 @@ ghost use Rattle.cedar_entities.specs.laws.Readings.{IsReadingOf, goes_from, is_
 use cedar_entity::entity::Entity;
 use cedar_entity::err::EntitiesError;
 use cedar_entity::node::SharedEntity;
+use cedar_graph::TCNode;
 use cedar_ids::entity::EntityUID;
+use cedar_uid_sets::SharedUid;
 use std::alloc::{AllocError, Global};
 use std::collections::{HashMap, HashSet};
 use std::rc::Rc;
@@ -26,30 +28,45 @@ use std::rc::Rc;
 // ancestors, and what goes from these with it.
 #[derive(Drop)]
 pub(crate) struct Applied {
-    pub(crate) uid: EntityUID,
-    pub(crate) by: Vec<EntityUID>,
-    pub(crate) lost: Vec<EntityUID>,
+    pub(crate) uid: SharedUid,
+    pub(crate) by: Vec<SharedUid>,
+    pub(crate) lost: Vec<SharedUid>,
 }
 
-// A copy of a uid.
-pub(crate) fn copy_of(uid: &EntityUID) -> Result<EntityUID, AllocError>
+// The uid, shared once more.
+pub(crate) fn copy_of(uid: &SharedUid) -> Result<SharedUid, AllocError>
     ensures { IfOk result (λ copy. copy ≡ uid.now) }
 {
     uid.clone()
 }
 
+// A copy of a uid.
+pub(crate) fn plain_copy_of(uid: &EntityUID) -> Result<EntityUID, AllocError>
+    ensures { IfOk result (λ copy. copy ≡ uid.now) }
+{
+    uid.clone()
+}
+
+// A copy of a uid, to be shared.
+pub(crate) fn shared_copy_of(alloc: Global, uid: &EntityUID) -> Result<SharedUid, AllocError>
+    ensures { IfOk result (λ copy. copy ≡ uid.now) }
+{
+    let copy = uid.clone()?;
+    Ok(SharedUid::new(alloc, copy)?)
+}
+
 // Copies of the uids of the entities that have a uid among their ancestors.
 fn touched_by(
     alloc: Global,
-    entities: &HashMap<EntityUID, SharedEntity>,
-    uid: &EntityUID,
-) -> Result<Vec<EntityUID>, AllocError>
+    entities: &HashMap<SharedUid, SharedEntity>,
+    uid: &SharedUid,
+) -> Result<Vec<SharedUid>, AllocError>
     ensures { IfOk result (λ v. (q : EntityUID) →
         is_member same_uid v.items q ≡ is_ancestor_in (held entities.now q) uid.now) }
 {
     let mut copies = Vec::new(alloc);
     for (key, node) in entities {
-        if node.0.is_descendant_of(uid) {
+        if node.0.is_descendant_of(uid.uid()) {
             copies.push(copy_of(key)?)?;
         }
     }
@@ -57,11 +74,12 @@ fn touched_by(
 }
 
 // Copies of the ancestors of an entity.
-fn ancestors_of(alloc: Global, entity: &Entity) -> Result<Vec<EntityUID>, AllocError>
+fn ancestors_of(alloc: Global, entity: &Entity) -> Result<Vec<SharedUid>, AllocError>
     ensures { IfOk result (λ v. (q : EntityUID) → is_member same_uid v.items q ≡ has_ancestor entity.now q) }
 {
     let mut all = Vec::new(alloc);
-    for ancestor in entity.ancestors() {
+    let ancestors: Vec<&SharedUid> = entity.out_edges(alloc)?;
+    for ancestor in ancestors {
         all.push(copy_of(ancestor)?)?;
     }
     Ok(all)
@@ -70,9 +88,9 @@ fn ancestors_of(alloc: Global, entity: &Entity) -> Result<Vec<EntityUID>, AllocE
 // An entity's uid and its ancestors.
 fn with_ancestors(
     alloc: Global,
-    uid: &EntityUID,
+    uid: &SharedUid,
     entity: &Entity,
-) -> Result<Vec<EntityUID>, AllocError>
+) -> Result<Vec<SharedUid>, AllocError>
     ensures { IfOk result (λ v. (q : EntityUID) →
         is_member same_uid v.items q ≡ (same_uid uid.now q || has_ancestor entity.now q)) }
 {
@@ -84,9 +102,9 @@ fn with_ancestors(
 // The uid and its ancestors, where the map holds it, and else nothing.
 fn lost_with(
     alloc: Global,
-    entities: &HashMap<EntityUID, SharedEntity>,
-    uid: &EntityUID,
-) -> Result<Vec<EntityUID>, AllocError>
+    entities: &HashMap<SharedUid, SharedEntity>,
+    uid: &SharedUid,
+) -> Result<Vec<SharedUid>, AllocError>
     ensures { IfOk result (λ v. (q : EntityUID) → is_member same_uid v.items q
         ≡ (is_some (held entities.now uid.now)
         && (same_uid uid.now q || is_ancestor_in (held entities.now uid.now) q))) }
@@ -100,8 +118,8 @@ fn lost_with(
 // What is to be known of a uid before it is applied.
 fn reading_of(
     alloc: Global,
-    entities: &HashMap<EntityUID, SharedEntity>,
-    uid: &EntityUID,
+    entities: &HashMap<SharedUid, SharedEntity>,
+    uid: &SharedUid,
 ) -> Result<Applied, AllocError>
     ensures uid { IfOk result (λ a. a.uid ≡ uid.now) }
     ensures read { IfOk result (IsReadingOf (held entities.now)) }
@@ -115,8 +133,8 @@ fn reading_of(
 // What is to be known of each uid.
 pub(crate) fn read_each(
     alloc: Global,
-    entities: &HashMap<EntityUID, SharedEntity>,
-    uids: &[EntityUID],
+    entities: &HashMap<SharedUid, SharedEntity>,
+    uids: &[SharedUid],
 ) -> Result<Vec<Applied>, AllocError>
     ensures uids { IfOk result (λ v. map (λ a. a.uid) v.items ≡ uids.now) }
     ensures read { IfOk result (λ v. AllByRecursion (IsReadingOf (held entities.now)) v.items) }
@@ -129,25 +147,25 @@ pub(crate) fn read_each(
 }
 
 // Takes these uids from the indirect ancestors of an entity.
-fn lessen(entity: &mut Entity, lost: &[EntityUID])
+fn lessen(entity: &mut Entity, lost: &[SharedUid])
     ensures { entity.new ≡ stripped (is_member same_uid []) (is_member same_uid lost.now) entity.old }
 {
     for uid in lost {
-        entity.remove_indirect_ancestor(uid);
+        entity.remove_indirect_ancestor(uid.uid());
     }
 }
 
 // Takes these uids from the parents of an entity.
-fn part(entity: &mut Entity, gone: &[EntityUID])
+fn part(entity: &mut Entity, gone: &[SharedUid])
     ensures { entity.new ≡ parted (is_member same_uid gone.now) entity.old }
 {
     for uid in gone {
-        entity.remove_parent(uid);
+        entity.remove_parent(uid.uid());
     }
 }
 
 // Takes some uids from the parents and others from the indirect ancestors of an entity.
-fn strip(entity: &mut Entity, gone: &[EntityUID], lost: &[EntityUID])
+fn strip(entity: &mut Entity, gone: &[SharedUid], lost: &[SharedUid])
     ensures { entity.new ≡ stripped (is_member same_uid gone.now) (is_member same_uid lost.now) entity.old }
 {
     lessen(entity, lost);
@@ -156,10 +174,10 @@ fn strip(entity: &mut Entity, gone: &[EntityUID], lost: &[EntityUID])
 
 // Takes some uids from the parents and others from the indirect ancestors of the entity at a uid.
 fn strip_at(
-    entities: &mut HashMap<EntityUID, SharedEntity>,
-    uid: &EntityUID,
-    gone: &[EntityUID],
-    lost: &[EntityUID],
+    entities: &mut HashMap<SharedUid, SharedEntity>,
+    uid: &SharedUid,
+    gone: &[SharedUid],
+    lost: &[SharedUid],
 ) -> Result<(), EntitiesError>
     ensures ok { OnOk result ((q : EntityUID) → held entities.new q ≡ cond (same_uid uid.now q)
         (option_map (stripped (is_member same_uid gone.now) (is_member same_uid lost.now)) (held entities.old q))
@@ -174,10 +192,10 @@ fn strip_at(
 
 // Takes some uids from the parents and others from the indirect ancestors of the entities at a list of uids.
 fn strip_by(
-    entities: &mut HashMap<EntityUID, SharedEntity>,
-    by: &[EntityUID],
-    gone: &[EntityUID],
-    lost: &[EntityUID],
+    entities: &mut HashMap<SharedUid, SharedEntity>,
+    by: &[SharedUid],
+    gone: &[SharedUid],
+    lost: &[SharedUid],
 ) -> Result<(), EntitiesError>
     ensures ok { OnOk result ((q : EntityUID) → held entities.new q ≡ cond (is_member same_uid by.now q)
         (option_map (stripped (is_member same_uid gone.now) (is_member same_uid lost.now)) (held entities.old q))
@@ -192,8 +210,8 @@ fn strip_by(
 
 // Notes some uids.
 pub(crate) fn note_all(
-    noted: &mut HashSet<EntityUID>,
-    uids: Vec<EntityUID>,
+    noted: &mut HashSet<SharedUid>,
+    uids: Vec<SharedUid>,
 ) -> Result<(), EntitiesError>
     ensures ok { OnOk result ((q : EntityUID) → contains same_uid noted.new q
         ≡ (contains same_uid noted.old q || is_member same_uid uids.items q)) }
@@ -207,10 +225,10 @@ pub(crate) fn note_all(
 
 // Strips by one reading what it names, and notes that and the uid.
 fn apply(
-    entities: &mut HashMap<EntityUID, SharedEntity>,
+    entities: &mut HashMap<SharedUid, SharedEntity>,
     read: Applied,
-    gone: &[EntityUID],
-    touched: &mut HashSet<EntityUID>,
+    gone: &[SharedUid],
+    touched: &mut HashSet<SharedUid>,
 ) -> Result<(), EntitiesError>
     ensures ok { OnOk result ((q : EntityUID) → held entities.new q ≡ cond (is_member same_uid read.by.items q)
         (option_map (stripped (is_member same_uid gone.now) (is_member same_uid read.lost.items)) (held entities.old q))
@@ -227,10 +245,10 @@ fn apply(
 
 // Strips by each reading what it names, and notes that and the uids.
 pub(crate) fn apply_each(
-    entities: &mut HashMap<EntityUID, SharedEntity>,
+    entities: &mut HashMap<SharedUid, SharedEntity>,
     read: Vec<Applied>,
-    gone: &[EntityUID],
-    touched: &mut HashSet<EntityUID>,
+    gone: &[SharedUid],
+    touched: &mut HashSet<SharedUid>,
 ) -> Result<(), EntitiesError>
     ensures ok { OnOk result ((q : EntityUID) → held entities.new q ≡ option_map
         (stripped (λ p. is_below read.items q && is_member same_uid gone.now p) (goes_from read.items q))
@@ -246,28 +264,28 @@ pub(crate) fn apply_each(
 }
 
 // Copies of the uids of entities.
-pub(crate) fn uids_in(alloc: Global, list: &[Rc<Entity>]) -> Result<Vec<EntityUID>, AllocError>
+pub(crate) fn uids_in(alloc: Global, list: &[Rc<Entity>]) -> Result<Vec<SharedUid>, AllocError>
     ensures { IfOk result (λ v. v.items ≡ uids_of (entities_in list.now)) }
 {
     let mut uids = Vec::new(alloc);
     for entity in list {
-        uids.push(copy_of(entity.uid())?)?;
+        uids.push(shared_copy_of(alloc, entity.uid())?)?;
     }
     Ok(uids)
 }
 
-// The uids of a list that the map holds, in their order.
+// The uids of a list that the map holds, in their order, to be shared.
 pub(crate) fn held_uids(
     alloc: Global,
-    entities: &HashMap<EntityUID, SharedEntity>,
+    entities: &HashMap<SharedUid, SharedEntity>,
     list: Vec<EntityUID>,
-) -> Result<Vec<EntityUID>, AllocError>
+) -> Result<Vec<SharedUid>, AllocError>
     ensures { IfOk result (λ v. v.items ≡ filter (λ u. is_some (held entities.now u)) list.items) }
 {
     let mut kept = Vec::new(alloc);
     for uid in list {
         if entities.contains_key(&uid) {
-            kept.push(uid)?;
+            kept.push(SharedUid::new(alloc, uid)?)?;
         }
     }
     Ok(kept)
@@ -276,9 +294,9 @@ pub(crate) fn held_uids(
 // The uids of a list that the map does not hold, in their order.
 pub(crate) fn absent_uids(
     alloc: Global,
-    entities: &HashMap<EntityUID, SharedEntity>,
-    list: Vec<EntityUID>,
-) -> Result<Vec<EntityUID>, AllocError>
+    entities: &HashMap<SharedUid, SharedEntity>,
+    list: Vec<SharedUid>,
+) -> Result<Vec<SharedUid>, AllocError>
     ensures { IfOk result (λ v. v.items ≡ filter (λ u. not (is_some (held entities.now u))) list.items) }
 {
     let mut kept = Vec::new(alloc);
@@ -294,11 +312,11 @@ pub(crate) fn absent_uids(
 const FEW: usize = 16;
 
 // Whether an entity has one of some uids among its ancestors, by a look for each of these.
-fn has_any_of(entity: &Entity, uids: &HashSet<EntityUID>) -> bool
+fn has_any_of(entity: &Entity, uids: &HashSet<SharedUid>) -> bool
     ensures { result ≡ list_any (has_ancestor entity.now) uids.now.keys }
 {
     for uid in uids {
-        if entity.is_descendant_of(uid) {
+        if entity.is_descendant_of(uid.uid()) {
             return true;
         }
     }
@@ -306,7 +324,7 @@ fn has_any_of(entity: &Entity, uids: &HashSet<EntityUID>) -> bool
 }
 
 // Whether an entity has one of some uids among its ancestors, by a look for each ancestor.
-fn has_any_among(entity: &Entity, uids: &HashSet<EntityUID>) -> bool
+fn has_any_among(entity: &Entity, uids: &HashSet<SharedUid>) -> bool
     ensures { result ≡ list_any (has_ancestor entity.now) uids.now.keys }
 {
     for uid in entity.ancestors() {
@@ -318,7 +336,7 @@ fn has_any_among(entity: &Entity, uids: &HashSet<EntityUID>) -> bool
 }
 
 // Whether an entity has one of some uids among its ancestors.
-fn has_any(entity: &Entity, uids: &HashSet<EntityUID>) -> bool
+fn has_any(entity: &Entity, uids: &HashSet<SharedUid>) -> bool
     ensures { result ≡ list_any (has_ancestor entity.now) uids.now.keys }
 {
     if uids.len() <= FEW {
@@ -330,9 +348,9 @@ fn has_any(entity: &Entity, uids: &HashSet<EntityUID>) -> bool
 // Copies of the uids of the entities that have one of some uids among their ancestors.
 pub(crate) fn touched_by_any(
     alloc: Global,
-    entities: &HashMap<EntityUID, SharedEntity>,
-    uids: &HashSet<EntityUID>,
-) -> Result<Vec<EntityUID>, AllocError>
+    entities: &HashMap<SharedUid, SharedEntity>,
+    uids: &HashSet<SharedUid>,
+) -> Result<Vec<SharedUid>, AllocError>
     ensures { IfOk result (λ v. (q : EntityUID) →
         is_member same_uid v.items q ≡ list_any (is_ancestor_in (held entities.now q)) uids.now.keys) }
 {

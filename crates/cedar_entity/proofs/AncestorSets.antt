@@ -1,13 +1,14 @@
 -- What an entity's ancestors are, and what they are after a change.
-use Rattle.std.specs.Prelude.{◌≡◌, Bool, true, false, cond, List, All, ◌||◌, ◌&&◌, Result, Ok, Err, OnOk, OnErr}
+use Rattle.std.specs.Prelude.{◌≡◌, Bool, true, false, cond, List, not, ◌||◌, ◌&&◌, Result, Ok, Err, OnOk, OnErr}
 use Rattle.std.proofs.Common.{ap, sym, refl, ◌∙◌}
 use Rattle.std.specs.FinSet as set
 use Rattle.std.specs.Ordering.{eq_by_cmp}
+use Rattle.std.specs.Set.{is_member}
 use Rattle.cedar_ids.specs.UidOf.{same_uid, uid_order, uid_order_total, same_uid_decides, same_uid_equiv}
 use Rattle.cedar_ids.specs.declared.entity.EntityUID.{EntityUID}
 use Rattle.cedar_entity.specs.UidSets.{contains_listed, same_tests, one_equal}
+use Rattle.cedar_graph.specs.Graph.{Grows}
 use Rattle.cedar_entity.specs.View.{EntityView, has_ancestor, overlap}
-use Rattle.cedar_entity.proofs.UidSteps.{member_of_all, all_of_members}
 
 -- an entity with one ancestor more, unless it is a parent
 abbrev pub with_ancestor : EntityView → EntityUID → EntityView
@@ -17,7 +18,7 @@ or_true : (x : Bool) → (x || true) ≡ true
 or_true true = refl
 or_true false = refl
 
-or_false : (x : Bool) → x ≡ (x || false)
+pub or_false : (x : Bool) → x ≡ (x || false)
 or_false true = refl
 or_false false = refl
 
@@ -69,33 +70,58 @@ pub same_after : {T E X : Type 0} (f : EntityView → X) → ((e : EntityView) (
 same_after f same (Ok x) old new k h g = ap f h ∙ same old k
 same_after f same (Err x) old new k h g = ap f g
 
-either : (x y : Bool) {P : Type 0} → (x || y) ≡ true → (x ≡ true → P) → (y ≡ true → P) → P
-either true y h f g = f refl
-either false y h f g = g h
-
-left : (x y : Bool) → x ≡ true → (x || y) ≡ true
-left x y h = ap (λ b. b || y) h
-
-right : (x y : Bool) → y ≡ true → (x || y) ≡ true
-right x y h = ap (λ b. x || b) h ∙ or_true x
-
--- whether a uid is in one of two lists, taken as sets
-abbrev pub is_in_one : List EntityUID → List EntityUID → EntityUID → Bool
-is_in_one ps is q = set.contains (set.from_list {R = uid_order} ps) q || set.contains (set.from_list {R = uid_order} is) q
-
-pub has_all : (P : EntityUID → Type 0) (ps is : List EntityUID) → All P ps → All P is → (q : EntityUID) → is_in_one ps is q ≡ true → P q
-has_all P ps is a b q h = either (set.contains (set.from_list {R = uid_order} ps) q) _ h
-    (λ e. member_of_all P ps a q (sym (contains_listed ps q) ∙ e))
-    (λ e. member_of_all P is b q (sym (contains_listed is q) ∙ e))
-
-pub all_parents : (P : EntityUID → Type 0) (ps is : List EntityUID) → ((q : EntityUID) → is_in_one ps is q ≡ true → P q) → All P ps
-all_parents P ps is h = all_of_members P ps (λ q e. h q (left _ _ (contains_listed ps q ∙ e)))
-
-pub all_indirect : (P : EntityUID → Type 0) (ps is : List EntityUID) → ((q : EntityUID) → is_in_one ps is q ≡ true → P q) → All P is
-all_indirect P ps is h = all_of_members P is (λ q e. h q (right (set.contains (set.from_list {R = uid_order} ps) q) _ (contains_listed is q ∙ e)))
-
 -- two tests that pass alike are the same
 pub same_bool : (x y : Bool) → (x ≡ true → y ≡ true) → (y ≡ true → x ≡ true) → x ≡ y
 same_bool true y f g = sym (f refl)
 same_bool false true f g = g refl
 same_bool false false f g = refl
+
+left_out : (p i k : Bool) → (p || (i || (k && not p))) ≡ ((p || i) || k)
+left_out true i k = refl
+left_out false true k = refl
+left_out false false true = refl
+left_out false false false = refl
+
+none_common : (p i k : Bool) → (p && (i || (k && not p))) ≡ (p && i)
+none_common true true k = refl
+none_common true false true = refl
+none_common true false false = refl
+none_common false i k = refl
+
+-- an entity with a row of ancestors more, but for parents
+abbrev pub with_row : EntityView → List EntityUID → EntityView
+with_row e ks = record e { indirect = set.union e.indirect (set.difference (set.from_list ks) e.parents) }
+
+in_row : (e : EntityView) (ks : List EntityUID) (q : EntityUID) → set.contains (set.union e.indirect (set.difference (set.from_list ks) e.parents)) q ≡ (set.contains e.indirect q || (is_member same_uid ks q && not (set.contains e.parents q)))
+in_row e ks q =
+    set.contains-union uid_order_total e.indirect (set.difference (set.from_list ks) e.parents) q
+    ∙ ap (λ b. set.contains e.indirect q || b) (set.contains-difference uid_order_total (set.from_list ks) e.parents q ∙ ap (λ b. b && not (set.contains e.parents q)) (contains_listed ks q))
+
+-- the ancestors after a row more
+pub ancestors_with_row : (e : EntityView) (ks : List EntityUID) (q : EntityUID) → has_ancestor (with_row e ks) q ≡ (has_ancestor e q || is_member same_uid ks q)
+ancestors_with_row e ks q = ap (λ b. set.contains e.parents q || b) (in_row e ks q) ∙ left_out (set.contains e.parents q) (set.contains e.indirect q) (is_member same_uid ks q)
+
+-- a row more leaves the overlap
+pub overlap_with_row : (e : EntityView) (ks : List EntityUID) → overlap (with_row e ks) ≡ overlap e
+overlap_with_row e ks = set.same_set uid_order_total one_equal _ _ (λ q.
+    set.contains-intersection uid_order_total e.parents (set.union e.indirect (set.difference (set.from_list ks) e.parents)) q
+    ∙ ap (λ b. set.contains e.parents q && b) (in_row e ks q)
+    ∙ none_common (set.contains e.parents q) (set.contains e.indirect q) (is_member same_uid ks q)
+    ∙ sym (set.contains-intersection uid_order_total e.parents e.indirect q))
+
+held_of : (x y : Bool) → x ≡ true → (x || y) ≡ true
+held_of x y h = ap (λ b. b || y) h
+
+-- what a row leaves where it was added or refused
+pub grows_by_row : {T E : Type 0} (r : Result T E) (old new : EntityView) (ks : List EntityUID) → OnOk r (new ≡ with_row old ks) → OnErr r (new ≡ old) → Grows (has_ancestor old) (has_ancestor new) (is_member same_uid ks)
+grows_by_row (Ok x) old new ks h g =
+    let more = λ (q : EntityUID). ap (λ (e : EntityView). has_ancestor e q) h ∙ ancestors_with_row old ks q in
+    record { stays = λ q e. more q ∙ held_of (has_ancestor old q) (is_member same_uid ks q) e; only = λ q e. sym (more q) ∙ e }
+grows_by_row (Err x) old new ks h g =
+    record { stays = λ q e. ap (λ (e : EntityView). has_ancestor e q) g ∙ e; only = λ q e. held_of (has_ancestor old q) (is_member same_uid ks q) (sym (ap (λ (e : EntityView). has_ancestor e q) g) ∙ e) }
+
+-- what reads the same of an entity with a row more reads the same after it was added or refused
+pub same_after_row : {T E X : Type 0} (f : EntityView → X) → ((e : EntityView) (ks : List EntityUID) → f (with_row e ks) ≡ f e) → (r : Result T E) (old new : EntityView) (ks : List EntityUID)
+    → OnOk r (new ≡ with_row old ks) → OnErr r (new ≡ old) → f new ≡ f old
+same_after_row f same (Ok x) old new ks h g = ap f h ∙ same old ks
+same_after_row f same (Err x) old new ks h g = ap f g

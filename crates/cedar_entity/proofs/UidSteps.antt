@@ -1,62 +1,77 @@
 -- Lists and sets of uids.
-use Rattle.std.specs.Prelude.{◌≡◌, Bool, true, false, cond, List, All, ◌||◌, ◌&&◌, not}
-use Rattle.std.proofs.Common.{ap, sym, refl, ◌∙◌}
+use Rattle.std.specs.Prelude.{◌≡◌, Bool, true, false, List, [], ◌∷◌, ◌++◌, ◌||◌}
+use Rattle.std.proofs.Common.{ap, sym, refl, subst, ◌∙◌}
+use Rattle.std.proofs.lemmas.Bool.{false≢true}
+use Rattle.std.proofs.lemmas.Map.Keys.{IsDistinct-from_sorted}
 use Rattle.std.specs.FinSet as set
-use Rattle.std.specs.HashSet.{HashSet, hash_set_eq}
-use Rattle.std.proofs.lemmas.Map.Lookups.{hash_set_eq_decides}
-use Rattle.std.specs.Ordering.{eq_by_cmp}
+use Rattle.std.specs.List.{AllByRecursion, IsDistinct}
+use Rattle.std.specs.List.Sorted.{IsStrictlySortedBy}
 use Rattle.std.specs.Set.{is_member}
-use Rattle.std.specs.Bool.{Decides}
-use Rattle.std.proofs.lemmas.List.Elements.{All-contains, All-contains_itself}
-use Rattle.std.proofs.lemmas.Map.Made.{is_member-Decides}
-use Rattle.cedar_ids.specs.UidOf.{same_uid, uid_order, uid_order_total, same_uid_decides, same_uid_equiv}
+use Rattle.std.specs.declared.cmp.Ordering.TheVariants.{Less}
+use Rattle.cedar_ids.specs.UidOf.{same_uid, uid_order, uid_order_total, same_uid_decides}
 use Rattle.cedar_ids.specs.declared.entity.EntityUID.{EntityUID}
-use Rattle.std.specs.List.{IsDistinct}
+use Rattle.cedar_uid_sets.specs.UidSets.{Ascend}
 use Rattle.cedar_entity.specs.Listing.{Lists}
-use Rattle.cedar_entity.specs.UidSets.{UidSet, contains_listed, same_listed, same_tests, one_equal}
+use Rattle.cedar_entity.specs.laws.UidOrder.{irreflexive}
+use Rattle.cedar_entity.specs.UidSets.{UidSet, same_tests, contains_listed, is_member-append}
 
-turned : (b : Bool) (c : Bool) → (b || c) ≡ cond b true c
-turned true c = refl
-turned false c = refl
+-- a list that ascends and has the members of a set lists it
+pub lists_ascending : (s : UidSet) (us : List EntityUID) → ((q : EntityUID) → is_member same_uid us q ≡ set.contains s q) → Ascend us → Lists s us
+lists_ascending s us h a = record { members = h; once = subst (λ t. IsDistinct t us) same_tests (IsDistinct-from_sorted uid_order us a) }
 
--- a set after one more uid
-pub set_with : (ks ls : List EntityUID) (k : EntityUID) → ((q : EntityUID) → is_member same_uid ls q ≡ cond (same_uid k q) true (is_member same_uid ks q)) → set.from_list {R = uid_order} ls ≡ set.insert (set.from_list ks) k
-set_with ks ls k h = set.same_set uid_order_total one_equal _ _ (λ q.
-    contains_listed ls q ∙ h q ∙ sym (turned (same_uid k q) (is_member same_uid ks q))
-    ∙ ap (λ b. b || is_member same_uid ks q) (same_uid_equiv.symm k q ∙ ap (λ f. f q k) (sym same_tests))
-    ∙ ap (λ b. eq_by_cmp uid_order q k || b) (sym (contains_listed ks q))
-    ∙ sym (set.contains-insert uid_order_total (set.from_list ks) k q))
+-- what one of two tests says
+pub either : (x y : Bool) {P : Type 0} → (x || y) ≡ true → (x ≡ true → P) → (y ≡ true → P) → P
+either true y h f g = f refl
+either false y h f g = g h
 
--- two hashed sets are equal exactly where they make the same set
-pub same_set_iff : {S : Type 0} (s t : HashSet EntityUID S) → Decides (hash_set_eq same_uid s t) (set.from_list {R = uid_order} s.keys ≡ set.from_list t.keys)
-same_set_iff s t =
-    let d = hash_set_eq_decides same_uid_equiv s t in (
-      λ e. same_listed s.keys t.keys (d.0 e),
-      λ e. d.1 (λ q. sym (contains_listed s.keys q) ∙ ap (λ x. set.contains x q) e ∙ contains_listed t.keys q),
-    )
+-- each member stands above what all are above
+pub above_member : (u q : EntityUID) (us : List EntityUID) → AllByRecursion (λ y. uid_order u y ≡ Less) us → is_member same_uid us q ≡ true → uid_order u q ≡ Less
+above_member u q [] h m = absurd (cc)
+above_member u q (x ∷ xs) h m = either (same_uid q x) (is_member same_uid xs q) m
+    (λ e. subst (λ z. uid_order u z ≡ Less) (sym ((same_uid_decides q x).0 e)) h.0)
+    (λ k. above_member u q xs h.1 k)
 
-kept_in : (b : Bool) (c : Bool) → cond b false c ≡ (not b && c)
-kept_in true c = refl
-kept_in false c = refl
+same : (q k : EntityUID) → same_uid q k ≡ true → q ≡ k
+same q k = (same_uid_decides q k).0
 
--- a set without a uid
-pub set_without : (ks ls : List EntityUID) (k : EntityUID) → ((q : EntityUID) → is_member same_uid ls q ≡ cond (same_uid k q) false (is_member same_uid ks q)) → set.from_list {R = uid_order} ls ≡ set.remove (set.from_list ks) k
-set_without ks ls k h = set.same_set uid_order_total one_equal _ _ (λ q.
-    contains_listed ls q ∙ h q ∙ kept_in (same_uid k q) (is_member same_uid ks q)
-    ∙ ap (λ b. not b && is_member same_uid ks q) (same_uid_equiv.symm k q ∙ ap (λ f. f q k) (sym same_tests))
-    ∙ ap (λ b. not (eq_by_cmp uid_order q k) && b) (sym (contains_listed ks q))
-    ∙ sym (set.contains-remove uid_order_total (set.from_list ks) k q))
+itself : (k : EntityUID) → same_uid k k ≡ true
+itself k = (same_uid_decides k k).1 refl
 
--- what holds of all listed uids holds of each member, and the other way round
-pub member_of_all : (P : EntityUID → Type 0) (ks : List EntityUID) → All P ks → (q : EntityUID) → is_member same_uid ks q ≡ true → P q
-member_of_all P ks h q e = All-contains P ks q h ((is_member-Decides same_uid_decides ks q).0 e)
+absent : (u : EntityUID) (us : List EntityUID) (b : Bool) → is_member same_uid us u ≡ b → AllByRecursion (λ y. uid_order u y ≡ Less) us → b ≡ false
+absent u us true e a = absurd (irreflexive u (above_member u u us a e))
+absent u us false e a = refl
 
-pub all_of_members : (P : EntityUID → Type 0) (ks : List EntityUID) → ((q : EntityUID) → is_member same_uid ks q ≡ true → P q) → All P ks
-all_of_members P ks h k d l = h _ ((is_member-Decides same_uid_decides ks _).1 (All-contains_itself ks k d l))
+-- what is below all of a list is not in it
+not_in : (u : EntityUID) (us : List EntityUID) → AllByRecursion (λ y. uid_order u y ≡ Less) us → is_member same_uid us u ≡ false
+not_in u us a = absent u us (is_member same_uid us u) refl a
 
--- a list of a hashed set's uids lists the set that they make
-pub lists_keys : (ks us : List EntityUID) (s : UidSet) → us ≡ ks → IsDistinct same_uid us → set.from_list ks ≡ s → Lists s us
-lists_keys ks us s e once made = record {
-  members = λ q. ap (λ l. is_member same_uid l q) e ∙ sym (contains_listed ks q) ∙ ap (λ t. set.contains t q) made;
-  once = once;
-}
+heads : (u v : EntityUID) (us vs : List EntityUID) → AllByRecursion (λ y. uid_order u y ≡ Less) us → AllByRecursion (λ y. uid_order v y ≡ Less) vs → (same_uid u v || is_member same_uid vs u) ≡ true → (same_uid v u || is_member same_uid us v) ≡ true → u ≡ v
+heads u v us vs a b h g = either (same_uid u v) (is_member same_uid vs u) h
+    (λ e. same u v e)
+    (λ k. either (same_uid v u) (is_member same_uid us v) g
+    (λ e. sym (same v u e))
+    (λ l. absurd (irreflexive u (uid_order_total.trans u v u (above_member u v us a l) (above_member v u vs b k)))))
+
+tails : (x q : EntityUID) (us vs : List EntityUID) (b : Bool) → same_uid q x ≡ b → is_member same_uid us x ≡ false → is_member same_uid vs x ≡ false → (b || is_member same_uid us q) ≡ (b || is_member same_uid vs q) → is_member same_uid us q ≡ is_member same_uid vs q
+tails x q us vs true e f g h = ap (is_member same_uid us) (same q x e) ∙ f ∙ sym g ∙ ap (is_member same_uid vs) (sym (same q x e))
+tails x q us vs false e f g h = h
+
+first_in : (u : EntityUID) (us : List EntityUID) → (same_uid u u || is_member same_uid us u) ≡ true
+first_in u us = ap (λ b. b || is_member same_uid us u) (itself u)
+
+-- two lists that ascend and have the same members are the same
+pub same_ascending : (us vs : List EntityUID) → Ascend us → Ascend vs → ((q : EntityUID) → is_member same_uid us q ≡ is_member same_uid vs q) → us ≡ vs
+unfolding IsStrictlySortedBy
+same_ascending [] [] a b h = refl
+same_ascending [] (v ∷ vs) a b h = absurd (false≢true (h v ∙ first_in v vs))
+same_ascending (u ∷ us) [] a b h = absurd (false≢true (sym (h u) ∙ first_in u us))
+same_ascending (u ∷ us) (v ∷ vs) a b h =
+    let e : u ≡ v = heads u v us vs a.0 b.0 (sym (h u) ∙ first_in u us) (h v ∙ first_in v vs) in
+    let rest : us ≡ vs = same_ascending us vs a.1 b.1 (λ q. tails u q us vs (same_uid q u) refl (not_in u us a.0) (not_in u vs (subst (λ z. AllByRecursion (λ y. uid_order z y ≡ Less) vs) (sym e) b.0)) (h q ∙ ap (λ z. same_uid q z || is_member same_uid vs q) (sym e))) in
+    λ i. e i ∷ rest i
+
+-- two lists in turn have what their sets have
+pub both_listed : (ps is : List EntityUID) (s t : UidSet) → set.from_list ps ≡ s → set.from_list is ≡ t → (q : EntityUID) → is_member same_uid (ps ++ is) q ≡ (set.contains s q || set.contains t q)
+both_listed ps is s t f g q =
+    is_member-append ps is q
+    ∙ (λ i. (sym (contains_listed ps q) ∙ ap (λ v. set.contains v q) f) i || (sym (contains_listed is q) ∙ ap (λ v. set.contains v q) g) i)

@@ -1,11 +1,12 @@
 //! An entity: making, reading, changing, comparing and checking it.
-ghost use Rattle.std.specs.Prelude.{◌≡◌, Bool, true, All, IfOk, OnOk, IfErr, OnErr, MatchOption, None, IsTrue, ◌↔◌, [], length};
+ghost use Rattle.std.specs.Prelude.{◌≡◌, IfOk, OnOk, IfErr, OnErr, MatchOption, None, IsTrue, ◌↔◌, [], length};
 ghost use Rattle.std.specs.Option.{option_map, option_copied};
 ghost use Rattle.std.specs.FinSet as set;
 ghost use Rattle.std.specs.Set.{is_member};
-ghost use Rattle.std.specs.HashSet.{contains};
+ghost use Rattle.std.specs.Cmp.Lexicographic.{pointwise};
 ghost use Rattle.cedar_ids.specs.UidOf.{same_uid, uid_order};
 ghost use Rattle.cedar_ids.specs.declared.entity.EntityUID.{EntityUID};
+ghost use Rattle.cedar_uid_sets.specs.UidSets as uids;
 ghost use Rattle.cedar_entity.specs.Fields.{Fields, AreFieldsOf, Ascend, fields_of, field_at, field_keys};
 ghost use Rattle.cedar_entity.specs.Least.{LeastOf};
 ghost use Rattle.cedar_entity.specs.Listing.{Lists, ListsAncestors};
@@ -15,11 +16,12 @@ ghost use Rattle.cedar_entity.specs.View.{EntityView, has_ancestor, with_indirec
 
 use crate::err::EntitiesError;
 use crate::fault::Fault;
-use crate::iters::{Ancestors, Keys, Pairs, Uids};
+use crate::iters::{Ancestors, Keys, Pairs, Pointers};
 use crate::least::{least_common, least_non_action};
 use crate::reserved::in_fields;
 use cedar_ids::entity::EntityUID;
 use cedar_terms::{PartialValue, StaticType, StaticallyTyped};
+use cedar_uid_sets::{SharedUid, UidSet, Uids, Union};
 use std::alloc::{AllocError, Global};
 use std::collections::{BTreeMap, HashSet};
 use std::hash::{Hash, Hasher};
@@ -35,13 +37,12 @@ use std::marker::Model;
 pub struct Entity {
     uid: EntityUID,
     attrs: BTreeMap<String, PartialValue>,
-    indirect_ancestors: HashSet<EntityUID>,
-    parents: HashSet<EntityUID>,
+    indirect_ancestors: UidSet,
+    parents: UidSet,
     tags: BTreeMap<String, PartialValue>,
 }
 
 impl Model for Entity {
-    ghost use Rattle.std.specs.FinSet as set;
     ghost use Rattle.cedar_entity.specs.Fields.{fields_of};
     ghost use Rattle.cedar_entity.specs.View.{EntityView, view_code};
 
@@ -53,8 +54,8 @@ impl Model for Entity {
       uid = e.uid;
       attrs = fields_of e.attrs.entries;
       tags = fields_of e.tags.entries;
-      parents = set.from_list e.parents.keys;
-      indirect = set.from_list e.indirect_ancestors.keys;
+      parents = e.parents;
+      indirect = e.indirect_ancestors;
     } };
 }
 
@@ -118,7 +119,7 @@ impl StaticallyTyped for Entity {
 }
 
 // So many uids are looked through one by one.
-const FEW: usize = 3;
+const FEW: usize = 16;
 
 // A copy of a uid.
 fn copy_of(uid: &EntityUID) -> Result<EntityUID, AllocError>
@@ -150,21 +151,38 @@ fn are_equal(one: &EntityUID, other: &EntityUID) -> bool
     one.eid().as_ref() == other.eid().as_ref() && one == other
 }
 
-// Whether a uid is in a set. A set of few is gone through, which costs less than a hash.
-fn is_among(uids: &HashSet<EntityUID>, uid: &EntityUID) -> bool
-    ensures { result ≡ contains same_uid uids.now uid.now }
+// Whether a uid is one of these.
+fn is_listed(uids: &[SharedUid], uid: &EntityUID) -> bool
+    ensures { result ≡ is_member same_uid uids.now uid.now }
+{
+    uids.iter().any(|other| are_equal(uid, other.uid()))
+}
+
+// Whether a uid is in a set. A set of few is gone through, which costs less than a search.
+fn is_among(uids: &UidSet, uid: &EntityUID) -> bool
+    ensures { result ≡ set.contains uids.now uid.now }
 {
     if uids.len() > FEW {
         return uids.contains(uid);
     }
-    uids.iter().any(|other| are_equal(uid, other))
+    is_listed(uids.pointers(), uid)
 }
 
-// Whether each of these is an ancestor of the entity.
-fn are_ancestors(uids: &HashSet<EntityUID>, entity: &Entity) -> bool
-    ensures { IsTrue result ↔ All (λ q. IsTrue (has_ancestor entity.now q)) uids.now.keys }
+// Whether two walks give equal uids in turn.
+fn give_same(one: Union<'_>, mut other: Union<'_>) -> bool
+    ensures { result ≡ pointwise same_uid one.entry other.entry }
 {
-    uids.iter().all(|uid| entity.is_descendant_of(uid))
+    for uid in one {
+        match other.next() {
+            None => return false,
+            Some(next) => {
+                if !are_equal(uid, next) {
+                    return false;
+                }
+            }
+        }
+    }
+    other.next().is_none()
 }
 
 // The fields of some pairs, of which the last with a key counts.
@@ -192,7 +210,7 @@ impl Entity {
         uid: EntityUID,
         attrs: Vec<(String, PartialValue)>,
         indirect_ancestors: HashSet<EntityUID>,
-        mut parents: HashSet<EntityUID>,
+        parents: HashSet<EntityUID>,
         tags: Vec<(String, PartialValue)>,
     ) -> Result<Entity, AllocError>
         ensures uid { IfOk result (λ e. e.uid ≡ uid) }
@@ -203,12 +221,11 @@ impl Entity {
     {
         let attrs = fields(alloc, attrs)?;
         let tags = fields(alloc, tags)?;
-        parents.shrink_to_fit();
         Ok(Entity {
             uid,
             attrs,
-            indirect_ancestors,
-            parents,
+            indirect_ancestors: UidSet::from_set(alloc, indirect_ancestors)?,
+            parents: UidSet::from_set(alloc, parents)?,
             tags,
         })
     }
@@ -223,11 +240,11 @@ impl Entity {
           indirect = set.empty;
         } }
     {
-        let parents = HashSet::new(alloc);
+        let parents = UidSet::new(alloc);
         Entity {
             uid,
             attrs: BTreeMap::new(alloc),
-            indirect_ancestors: HashSet::new(alloc),
+            indirect_ancestors: UidSet::new(alloc),
             parents,
             tags: BTreeMap::new(alloc),
         }
@@ -280,7 +297,7 @@ impl Entity {
     pub fn is_indirect_descendant_of(&self, other: &EntityUID) -> bool
         ensures { result ≡ set.contains self.now.indirect other.now }
     {
-        self.indirect_ancestors.contains(other)
+        is_among(&self.indirect_ancestors, other)
     }
 
     /// Whether a uid is an ancestor: a parent or an indirect one. It takes no memory.
@@ -322,21 +339,23 @@ impl Entity {
         Pairs::of(&self.tags)
     }
 
-    /// The parents, each once, in an order of their own. It takes no memory.
+    /// The parents, each once, in the order of uids. It takes no memory.
     pub fn parents(&self) -> Uids<'_>
-        ensures { Lists self.now.parents result }
+        ensures lists { Lists self.now.parents result }
+        ensures ascending { uids.Ascend result }
     {
-        Uids::of(&self.parents)
+        self.parents.iter()
     }
 
-    /// The indirect ancestors, each once, in an order of their own. It takes no memory.
+    /// The indirect ancestors, each once, in the order of uids. It takes no memory.
     pub fn indirect_ancestors(&self) -> Uids<'_>
-        ensures { Lists self.now.indirect result }
+        ensures lists { Lists self.now.indirect result }
+        ensures ascending { uids.Ascend result }
     {
-        Uids::of(&self.indirect_ancestors)
+        self.indirect_ancestors.iter()
     }
 
-    /// The parents, then the indirect ancestors, in orders of their own; what is both comes twice. It takes
+    /// The parents, then the indirect ancestors, each in the order of uids; what is both comes twice. It takes
     /// no memory.
     pub fn ancestors(&self) -> Ancestors<'_>
         ensures { ListsAncestors self.now result }
@@ -344,19 +363,38 @@ impl Entity {
         Ancestors::of(&self.parents, &self.indirect_ancestors)
     }
 
-    // Whether each ancestor of the other is one of this.
-    fn has_all_of(&self, other: &Entity) -> bool
-        ensures { IsTrue result ↔
-            ((q : EntityUID) → has_ancestor other.now q ≡ true → has_ancestor self.now q ≡ true) }
+    // The parents' pointers.
+    pub(crate) fn parent_pointers(&self) -> Pointers<'_>
+        ensures { (q : EntityUID) → is_member same_uid result q ≡ set.contains self.now.parents q }
     {
-        if !are_ancestors(&other.parents, self) {
-            return false;
-        }
-        are_ancestors(&other.indirect_ancestors, self)
+        Pointers::of(self.parents.pointers(), &[])
+    }
+
+    // The pointers of the parents, then those of the indirect ancestors.
+    pub(crate) fn ancestor_pointers(&self) -> Pointers<'_>
+        ensures { (q : EntityUID) → is_member same_uid result q ≡ has_ancestor self.now q }
+    {
+        Pointers::of(self.parents.pointers(), self.indirect_ancestors.pointers())
+    }
+
+    // The parents and the indirect ancestors, each once, in the order of uids.
+    pub(crate) fn ancestors_in_order(&self) -> Union<'_>
+        ensures members { (q : EntityUID) → is_member same_uid result q ≡ has_ancestor self.now q }
+        ensures ascending { uids.Ascend result }
+    {
+        self.parents.union(&self.indirect_ancestors)
+    }
+
+    // Whether both have the same ancestors.
+    fn has_same_ancestors(&self, other: &Entity) -> bool
+        ensures { IsTrue result ↔
+            ((q : EntityUID) → has_ancestor self.now q ≡ has_ancestor other.now q) }
+    {
+        give_same(self.ancestors_in_order(), other.ancestors_in_order())
     }
 
     /// Whether both have the same uid, attributes, tags and ancestors. Which ancestors are parents is not
-    /// looked at. It takes no memory; it looks each ancestor of the one up in the other.
+    /// looked at. It takes no memory; it walks the ancestors of both once, in their order.
     pub fn deep_eq(&self, other: &Entity) -> bool
         ensures equal { IsTrue result ↔ IsDeepEqual self.now other.now }
         ensures equivalence { IsEquivalenceRelation IsDeepEqual }
@@ -371,26 +409,24 @@ impl Entity {
         if !same_fields(&self.tags, &other.tags) {
             return false;
         }
-        if !self.has_all_of(other) {
-            return false;
-        }
-        other.has_all_of(self)
+        self.has_same_ancestors(other)
     }
 
-    /// The uid, the attributes, the indirect ancestors, the parents and the tags. It takes no memory.
+    /// The uid, the attributes, the indirect ancestors, the parents and the tags. It takes no memory. The original gives
+    /// hashed sets.
     pub fn into_inner(
         self,
     ) -> (
         EntityUID,
         BTreeMap<String, PartialValue>,
-        HashSet<EntityUID>,
-        HashSet<EntityUID>,
+        UidSet,
+        UidSet,
         BTreeMap<String, PartialValue>,
     )
         ensures uid { result.0 ≡ self.uid }
         ensures attrs { fields_of result.1.entries ≡ self.attrs }
-        ensures indirect { set.from_list result.2.keys ≡ self.indirect }
-        ensures parents { set.from_list result.3.keys ≡ self.parents }
+        ensures indirect { result.2 ≡ self.indirect }
+        ensures parents { result.3 ≡ self.parents }
         ensures tags { fields_of result.4.entries ≡ self.tags }
     {
         let Entity {
@@ -530,6 +566,31 @@ impl Entity {
         Ok(self)
     }
 
+    // Takes in an indirect ancestor that is shared.
+    pub(crate) fn add_shared_ancestor(&mut self, shared: SharedUid) -> Result<(), AllocError>
+        ensures ok { OnOk result (self.new ≡ with_indirect_ancestor self.old shared) }
+        ensures err { OnErr result (self.new ≡ self.old) }
+    {
+        if self.is_child_of(shared.uid()) {
+            return Ok(());
+        }
+        self.indirect_ancestors.insert(shared)
+    }
+
+    // Takes in indirect ancestors that are shared, but for those that are parents.
+    pub(crate) fn add_shared_ancestors(&mut self, shared: Vec<SharedUid>) -> Result<(), AllocError>
+        ensures ok { OnOk result (self.new ≡ record self.old {
+          indirect = set.union self.old.indirect
+              (set.difference (set.from_list shared.items) self.old.parents);
+        }) }
+        ensures err { OnErr result (self.new ≡ self.old) }
+    {
+        let mut added = UidSet::from_pointers(shared)?;
+        added.difference(&self.parents);
+        self.indirect_ancestors
+            .extend_ascending(added.into_pointers())
+    }
+
     /// Takes in an indirect ancestor; a uid that is a parent or one already changes nothing.
     ///
     /// It takes memory, and where that is refused the entity stays as it was.
@@ -537,26 +598,8 @@ impl Entity {
         ensures ok { OnOk result (self.new ≡ with_indirect_ancestor self.old uid) }
         ensures err { OnErr result (self.new ≡ self.old) }
     {
-        if self.is_child_of(&uid) {
-            return Ok(());
-        }
-        self.indirect_ancestors.insert(uid)?;
-        Ok(())
-    }
-
-    // Makes room for so many further indirect ancestors.
-    pub(crate) fn reserve_indirect_ancestors(&mut self, additional: usize) -> Result<(), AllocError>
-        ensures { self.new ≡ self.old }
-    {
-        self.indirect_ancestors.reserve(additional)
-    }
-
-    // Gives back what room the indirect ancestors do not need, but for five: std would lay a smaller set
-    // out anew.
-    pub(crate) fn shrink_indirect_ancestors(&mut self)
-        ensures { self.new ≡ self.old }
-    {
-        self.indirect_ancestors.shrink_to(5);
+        let shared = SharedUid::new(self.indirect_ancestors.allocator(), uid)?;
+        self.add_shared_ancestor(shared)
     }
 
     /// Takes in a parent, which is then no indirect ancestor; a parent already changes nothing but that.
@@ -569,9 +612,10 @@ impl Entity {
         }) }
         ensures err { OnErr result (self.new ≡ self.old) }
     {
-        let copy = copy_of(&uid)?;
-        self.parents.insert(uid)?;
-        self.indirect_ancestors.remove(&copy);
+        let shared = SharedUid::new(self.parents.allocator(), uid)?;
+        let copy = shared.clone()?;
+        self.parents.insert(shared)?;
+        self.indirect_ancestors.remove(copy.uid());
         Ok(())
     }
 

@@ -2,7 +2,6 @@
 
 use crate::entity::Entity;
 use crate::iters::Pairs;
-use cedar_ids::entity::EntityUID;
 use std::fmt;
 
 impl fmt::Display for Entity {
@@ -10,8 +9,8 @@ impl fmt::Display for Entity {
     /// `key: value`, joined by `; `; `  ancestors:` and the ancestors in the order of uids, each once,
     /// joined by `, `. Keys are written as they are. Tags are not written.
     ///
-    /// It takes no memory: it looks through all ancestors for each one that it writes. The original writes
-    /// the ancestors in no order, and twice what is a parent and an indirect one.
+    /// It takes no memory, and walks the ancestors once. The original writes the ancestors in no order, and twice what
+    /// is a parent and an indirect one.
     fn fmt<W: fmt::Write>(&self, f: &mut fmt::Formatter<W>) -> fmt::Result {
         let uid = self.uid();
         write!(f, "{uid}:\n  attrs:")?;
@@ -36,25 +35,13 @@ fn show_pairs<W: fmt::Write>(pairs: Pairs<'_>, f: &mut fmt::Formatter<W>) -> fmt
 
 // Writes the ancestors in their order, joined by a comma and a blank.
 fn show_ancestors<W: fmt::Write>(entity: &Entity, f: &mut fmt::Formatter<W>) -> fmt::Result {
-    let mut last = None;
-    // There are as many turns as ancestors, so the last has been written by then.
-    for _turn in entity.ancestors() {
-        let Some(uid) = next_ancestor(entity, last) else {
-            return Ok(());
-        };
-        if last.is_some() {
+    let mut is_first = true;
+    for uid in entity.ancestors_in_order() {
+        if !is_first {
             f.write_str(", ")?;
         }
         write!(f, "{uid}")?;
-        last = Some(uid);
+        is_first = false;
     }
     Ok(())
-}
-
-// The least ancestor or, after one, the least of those behind it.
-fn next_ancestor<'a>(entity: &'a Entity, last: Option<&EntityUID>) -> Option<&'a EntityUID> {
-    match last {
-        None => entity.ancestors().min(),
-        Some(last) => entity.ancestors().filter(|uid| *uid > last).min(),
-    }
 }

@@ -1,10 +1,11 @@
 //! The refusals of entities and of their store.
-ghost use Rattle.std.specs.Prelude.{◌≡◌};
+ghost use Rattle.std.specs.Prelude.{◌≡◌, IfOk};
 ghost use Rattle.cedar_entity.specs.declared.err.EntitiesError.TheVariants.{Memory};
-ghost use Rattle.cedar_entity.specs.ClosureRefusals.{refusal_of};
+ghost use Rattle.cedar_entity.specs.ClosureRefusals.{refusal_of, Tells};
 
-use cedar_graph::TcError;
+use cedar_graph::{HasCycle, MissingTcEdge, TcError};
 use cedar_ids::entity::EntityUID;
+use cedar_uid_sets::SharedUid;
 use std::alloc::{AllocError, AllocFailed};
 use thiserror::Error;
 
@@ -78,6 +79,46 @@ impl From<TcError<EntityUID>> for EntitiesError {
                 EntitiesError::TransitiveClosureError(TcError::HasCycle(cycle))
             }
             TcError::Memory => EntitiesError::Memory,
+        }
+    }
+}
+
+// The fault with plain uids.
+fn unshared(fault: TcError<SharedUid>) -> Result<TcError<EntityUID>, AllocError>
+    ensures { IfOk result (λ t. t ≡ fault) }
+{
+    match fault {
+        TcError::MissingTcEdge(edge) => {
+            let MissingTcEdge {
+                child,
+                parent,
+                grandparent,
+            } = edge;
+            let child = child.into_uid()?;
+            let parent = parent.into_uid()?;
+            let grandparent = grandparent.into_uid()?;
+            Ok(TcError::MissingTcEdge(MissingTcEdge {
+                child,
+                parent,
+                grandparent,
+            }))
+        }
+        TcError::HasCycle(cycle) => {
+            let vertex = cycle.into_vertex().into_uid()?;
+            Ok(TcError::HasCycle(HasCycle::new(vertex)))
+        }
+        TcError::Memory => Ok(TcError::Memory),
+    }
+}
+
+/// As the same of plain uids. A uid that is still shared is copied: where memory is wanted for that, `Memory` is told.
+impl From<TcError<SharedUid>> for EntitiesError {
+    ghost from_gives = { λ t e. Tells t e };
+
+    fn from(error: TcError<SharedUid>) -> EntitiesError {
+        match unshared(error) {
+            Ok(fault) => EntitiesError::from(fault),
+            Err(_want) => EntitiesError::Memory,
         }
     }
 }

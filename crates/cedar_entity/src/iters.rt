@@ -1,15 +1,16 @@
 //! The iterators of an entity. Contracts see each as the list of what it has left.
 ghost use Rattle.std.specs.Prelude.{◌≡◌, ◌++◌, List, string_bytes, map};
-ghost use Rattle.std.specs.HashSet.{IsUnique};
 ghost use Rattle.std.specs.Iterator.{YieldsFirstRef, YieldsFirstBy, item_count};
-ghost use Rattle.std.specs.List.{IsDistinct};
-ghost use Rattle.cedar_ids.specs.UidOf.{same_uid};
 ghost use Rattle.cedar_entity.specs.Fields.{Ascend, fields_of, field_keys};
+ghost use Rattle.cedar_entity.specs.Listing.{ListsBoth};
 
 use cedar_ids::entity::EntityUID;
 use cedar_terms::PartialValue;
-use std::collections::{BTreeMap, HashSet, btree_map, hash_set};
+pub use cedar_uid_sets::Uids;
+use cedar_uid_sets::{SharedUid, UidSet};
+use std::collections::{BTreeMap, btree_map};
 use std::marker::Model;
+use std::slice;
 
 /// The keys of attributes or of tags, in byte order.
 #[derive(Drop)]
@@ -92,15 +93,17 @@ impl<'a> Iterator for Pairs<'a> {
     }
 }
 
-/// The uids of a set, each once, in an order of their own.
+// The shared uids of two lists in turn.
 #[derive(Drop)]
-pub struct Uids<'a> {
-    inner: hash_set::Iter<'a, EntityUID>,
+pub(crate) struct Pointers<'a> {
+    first: slice::Iter<'a, SharedUid>,
+    others: slice::Iter<'a, SharedUid>,
 }
 
-impl<'a> Model for Uids<'a> {
-    ghost use Rattle.std.specs.Prelude.{List};
+impl<'a> Model for Pointers<'a> {
+    ghost use Rattle.std.specs.Prelude.{List, ◌++◌};
     ghost use Rattle.std.specs.Coded.{coded_list};
+    ghost use Rattle.std.specs.Slice.Iter.{iter_rest};
     ghost use Rattle.cedar_ids.specs.declared.entity.EntityUID.{EntityUID};
     ghost use Rattle.cedar_ids.specs.Codes.{uid_code};
 
@@ -108,36 +111,41 @@ impl<'a> Model for Uids<'a> {
 
     ghost coded = { coded_list uid_code };
 
-    ghost view = { λ u. u.inner };
+    ghost view = { λ a. iter_rest a.first ++ iter_rest a.others };
 }
 
-impl<'a> Uids<'a> {
-    // The uids of a set.
-    pub(crate) fn of(uids: &'a HashSet<EntityUID>) -> Uids<'a>
-        ensures uids { result ≡ uids.now.keys }
-        ensures once { IsDistinct same_uid result }
+impl<'a> Pointers<'a> {
+    // Those of one list, then those of the other.
+    pub(crate) fn of(first: &'a [SharedUid], others: &'a [SharedUid]) -> Pointers<'a>
+        ensures { result ≡ first.now ++ others.now }
     {
-        Uids { inner: uids.iter() }
+        Pointers {
+            first: first.iter(),
+            others: others.iter(),
+        }
     }
 }
 
-impl<'a> Iterator for Uids<'a> {
-    type Item = &'a EntityUID;
+impl<'a> Iterator for Pointers<'a> {
+    type Item = &'a SharedUid;
 
     ghost next_gives = { YieldsFirstRef (λ s. s) };
 
     ghost remaining = { item_count (λ s. s) };
 
-    fn next(&mut self) -> Option<&'a EntityUID> {
-        self.inner.next()
+    fn next(&mut self) -> Option<&'a SharedUid> {
+        if let Some(uid) = self.first.next() {
+            return Some(uid);
+        }
+        self.others.next()
     }
 }
 
-/// The uids of one set, then those of another, each in an order of its own.
+/// The uids of one set, then those of another, each in the order of uids.
 #[derive(Drop)]
 pub struct Ancestors<'a> {
-    parents: hash_set::Iter<'a, EntityUID>,
-    indirect: hash_set::Iter<'a, EntityUID>,
+    parents: Uids<'a>,
+    indirect: Uids<'a>,
 }
 
 impl<'a> Model for Ancestors<'a> {
@@ -155,13 +163,8 @@ impl<'a> Model for Ancestors<'a> {
 
 impl<'a> Ancestors<'a> {
     // The uids of a set, then those of another.
-    pub(crate) fn of(
-        parents: &'a HashSet<EntityUID>,
-        indirect: &'a HashSet<EntityUID>,
-    ) -> Ancestors<'a>
-        ensures uids { result ≡ parents.now.keys ++ indirect.now.keys }
-        ensures parents { IsDistinct same_uid parents.now.keys }
-        ensures indirect { IsDistinct same_uid indirect.now.keys }
+    pub(crate) fn of(parents: &'a UidSet, indirect: &'a UidSet) -> Ancestors<'a>
+        ensures { ListsBoth parents.now indirect.now result }
     {
         Ancestors {
             parents: parents.iter(),

@@ -13,8 +13,10 @@ pub mod iters;
 mod least;
 pub mod node;
 mod reserved;
+mod shared_node;
 
+pub use cedar_uid_sets::{SharedUid, UidSet, Uids};
 pub use entity::Entity;
 pub use err::EntitiesError;
-pub use iters::{Ancestors, Keys, Pairs, Uids};
+pub use iters::{Ancestors, Keys, Pairs};
 pub use node::SharedEntity;

@@ -3,6 +3,8 @@ ghost use Rattle.std.specs.Prelude.{◌≡◌, IfOk, OnOk, OnErr, map};
 ghost use Rattle.std.specs.FinSet as set;
 ghost use Rattle.std.specs.Set.{is_member};
 ghost use Rattle.cedar_ids.specs.UidOf.{same_uid};
+ghost use Rattle.cedar_ids.specs.declared.entity.EntityUID.{EntityUID};
+ghost use Rattle.cedar_entity.specs.View.{has_ancestor};
 
 use crate::entity::Entity;
 use crate::iters::Ancestors;
@@ -16,6 +18,14 @@ fn listed<'a>(alloc: Global, uids: Ancestors<'a>) -> Result<Vec<&'a EntityUID>, 
     ensures { IfOk result (λ v. map (λ x. x.now) v.items ≡ uids.entry) }
 {
     uids.collect(alloc)
+}
+
+// Takes all indirect ancestors away.
+pub(crate) fn reset(entity: &mut Entity)
+    ensures exact { entity.new ≡ record entity.old { indirect = set.empty } }
+    ensures edges { (q : EntityUID) → has_ancestor entity.new q ≡ set.contains entity.old.parents q }
+{
+    entity.remove_all_indirect_ancestors();
 }
 
 impl TCNode<EntityUID> for Entity {
@@ -70,7 +80,7 @@ impl TCNode<EntityUID> for Entity {
         ensures key { self.new.uid ≡ self.old.uid }
         ensures rest { rest self.new ≡ rest self.old }
     {
-        self.remove_all_indirect_ancestors();
+        reset(self);
         Ok(())
     }
 
@@ -80,16 +90,6 @@ impl TCNode<EntityUID> for Entity {
             is_member same_uid (map (λ x. x.now) v.items) q ≡ set.contains self.now.parents q) }
     {
         self.parents().collect(alloc)
-    }
-
-    /// Makes room among the indirect ancestors. It takes memory, and is refused only where that is.
-    fn reserve_edges(&mut self, _alloc: Global, additional: usize) -> Result<(), AllocError> {
-        self.reserve_indirect_ancestors(additional)
-    }
-
-    /// Gives back what room the indirect ancestors do not need.
-    fn shrink_edges(&mut self) {
-        self.shrink_indirect_ancestors();
     }
 
     ghost respects_eq = { ancestors_respect };
@@ -146,7 +146,7 @@ impl TCNode<EntityUID> for SharedEntity {
     }
 
     /// As that of the entity, where it is shared on a copy of its own: that takes memory.
-    fn reset_edges(&mut self, alloc: Global) -> Result<(), AllocError>
+    fn reset_edges(&mut self, _alloc: Global) -> Result<(), AllocError>
         ensures exact { OnOk result
             (self.new.0.value ≡ record self.old.0.value { indirect = set.empty }) }
         ensures ok { OnOk result ((q : _) →
@@ -159,7 +159,8 @@ impl TCNode<EntityUID> for SharedEntity {
         ensures key { self.new.0.value.uid ≡ self.old.0.value.uid }
         ensures rest { rest self.new.0.value ≡ rest self.old.0.value }
     {
-        Rc::make_mut(&mut self.0)?.reset_edges(alloc)
+        reset(Rc::make_mut(&mut self.0)?);
+        Ok(())
     }
 
     /// The parents alone. It takes memory for the list, and is refused only where that is.
@@ -168,18 +169,6 @@ impl TCNode<EntityUID> for SharedEntity {
             ≡ set.contains self.now.0.value.parents q) }
     {
         self.0.direct_edges(alloc)
-    }
-
-    /// As that of the entity, where it is shared on a copy of its own.
-    fn reserve_edges(&mut self, alloc: Global, additional: usize) -> Result<(), AllocError> {
-        Rc::make_mut(&mut self.0)?.reserve_edges(alloc, additional)
-    }
-
-    /// As that of the entity, where it is not shared; else nothing.
-    fn shrink_edges(&mut self) {
-        if let Some(entity) = Rc::get_mut(&mut self.0) {
-            entity.shrink_edges();
-        }
     }
 
     ghost respects_eq = { λ n. ancestors_respect n.0.value };

@@ -1,6 +1,6 @@
 -- Keys that are put into a list of keys.
 use Rattle.std.specs.List.{slice_get, list_any}
-use Rattle.std.proofs.Common.{◌≡◌, Bool, true, false, if◌then◌else◌, ℕ, ◌≤◌, ◌+◌, ◌⊎◌, inl, inr, length, List, [], ◌∷◌, ◌++◌, Some, zero, suc, refl, sym, ap, ◌∙◌, arith, length-append}
+use Rattle.std.proofs.Common.{◌≡◌, Bool, true, false, if◌then◌else◌, ℕ, ◌≤◌, ◌+◌, ◌⊎◌, inl, inr, length, List, [], ◌∷◌, ◌++◌, Some, zero, suc, refl, arith, length-append}
 use Rattle.indexmap.specs.IndexSet.{insert_key}
 use Rattle.cedar_graph.specs.laws.Arcs.{IsPrefix}
 use Rattle.cedar_graph.proofs.Keyed.{prefix_refl}

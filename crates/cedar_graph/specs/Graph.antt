@@ -1,5 +1,5 @@
 -- A graph in a map of nodes, as a test on two keys.
-use Rattle.std.specs.Prelude.{◌≡◌, ◌↔◌, Bool, true, false, List, [], ◌∷◌, Option, Some, None}
+use Rattle.std.specs.Prelude.{◌≡◌, ◌↔◌, Bool, true, false, ◌||◌, List, [], ◌∷◌, Option, Some, None}
 use Rattle.std.specs.Option.{option_map, IfSome}
 use Rattle.std.specs.HashMap.{HashMap, get, keys}
 
@@ -36,6 +36,11 @@ HasNoCycle {K} G = (a : K) → Reach G a a → ⊥
 -- no key that passes lies on a cycle
 abbrev pub HasNoCycleAt : {K : Type 0} → (K → Bool) → (K → K → Bool) → Type 0
 HasNoCycleAt {K} passes G = (a : K) → passes a ≡ true → Reach G a a → ⊥
+
+-- the old set is in the new one, which has nothing beyond it and the extra keys
+pub record Grows {K : Type 0} (old new extra : K → Bool) : Type 0 where
+  pub stays : (q : K) → old q ≡ true → new q ≡ true
+  pub only : (q : K) → new q ≡ true → (old q || extra q) ≡ true
 
 -- each old edge is a new one
 abbrev pub KeepsEdges : {K : Type 0} → (old new : K → K → Bool) → Type 0

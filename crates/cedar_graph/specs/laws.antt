@@ -1,4 +1,3 @@
 -- What only the private contracts and the proofs cite, and laws with their proofs.
 pub mod Arcs
 pub mod Deciding
-pub mod Steps

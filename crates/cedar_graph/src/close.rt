@@ -16,7 +16,7 @@ ghost use Rattle.std.specs.Prelude.{
   IfOk,
   OnOk,
 };
-ghost use Rattle.std.specs.Set.{ClonesAreEqual};
+ghost use Rattle.std.specs.Set.{is_member, ClonesAreEqual};
 ghost use Rattle.std.specs.HashMap.{get, hash_map_len};
 ghost use Rattle.std.specs.HashSet.{contains, hash_set_len};
 ghost use Rattle.cedar_graph.specs.Graph.{
@@ -34,11 +34,11 @@ ghost use Rattle.cedar_graph.specs.Graph.{
 ghost use Rattle.cedar_graph.specs.laws.Arcs.{
   AreEdges,
   IsPicked,
+  IsMarked,
   ReachesKey,
   IsRowEdge,
   IsRowEdgeBelow,
 };
-ghost use Rattle.cedar_graph.specs.laws.Steps.{Grows};
 ghost use Rattle.cedar_components.specs.Reach.{HasArc, AreArcs, IsReach};
 
 use crate::arcs::{FixReading, read_arcs, read_fix};
@@ -48,63 +48,54 @@ use std::alloc::{AllocError, Global};
 use std::collections::{HashMap, HashSet};
 use std::hash::Hash;
 
-// Adds an edge to a key, unless the node is known to have it.
-fn add_unknown<K: Clone + Eq + Hash, V: TCNode<K>>(
-    alloc: Global,
-    node: &mut V,
-    target: &K,
-    known: bool,
-) -> Result<(), AllocError>
-    requires copies { ClonesAreEqual K.eq K.is_clone }
-    requires known { known ≡ true → V.edges node.old target.now ≡ true }
-    ensures grows { Grows (V.edges node.old) (V.edges node.new) (K.eq target.now) }
-    ensures ok { OnOk result ((q : K) → K.eq target.now q ≡ true → V.edges node.new q ≡ true) }
-    ensures key { V.key node.new ≡ V.key node.old }
-    ensures rest { V.rest node.new ≡ V.rest node.old }
-    ensures kept { V.kept node.new ≡ V.kept node.old }
+// Adds a copy of a key to a row, unless it is known.
+fn pick_key<K: Clone + Eq + Hash>(row: &mut Vec<K>, key: &K, known: bool) -> Result<(), AllocError>
+    requires { ClonesAreEqual K.eq K.is_clone }
+    ensures stays { (q : K) → is_member K.eq row.old.items q ≡ true → is_member K.eq row.new.items q ≡ true }
+    ensures only { OnOk result ((q : K) → is_member K.eq row.new.items q ≡ true →
+        (is_member K.eq row.old.items q ≡ true) ⊎ (K.eq q key.now ≡ true)) }
+    ensures ok { OnOk result ((q : K) → K.eq q key.now ≡ true →
+        (is_member K.eq row.new.items q ≡ true) ⊎ (known ≡ true)) }
 {
     if known {
         return Ok(());
     }
-    node.add_edge_to(alloc, target.clone()?)
+    row.push(key.clone()?)?;
+    Ok(())
 }
 
-// Adds an edge to the key of each number from place i up to j. The node has those to numbers with
-// this mark already.
-fn add_numbers<K: Clone + Eq + Hash, V: TCNode<K>>(
+// Copies of the keys of the numbers from place i up to j, in their order, but for those with this
+// mark, of which there are about so many.
+fn pick_row<K: Clone + Eq + Hash>(
     alloc: Global,
-    node: &mut V,
     keys: &[K],
     lists: &[usize],
     i: usize,
     j: usize,
     marks: &[usize],
     mark: usize,
-) -> Result<(), AllocError>
+    has: usize,
+) -> Result<Vec<K>, AllocError>
     requires copies { ClonesAreEqual K.eq K.is_clone }
     requires lists { (k : ℕ) → k < length lists.now → slice_index lists.now k < length keys.now }
     requires ordered { i ≤ j }
     requires within { j ≤ length lists.now }
     requires marks { length marks.now ≡ length keys.now }
-    requires known { (y : ℕ) (k : K) → slice_get keys.now y ≡ Some k
-        → slice_index marks.now y ≡ mark → V.edges node.old k ≡ true }
-    ensures stays { (q : K) → V.edges node.old q ≡ true → V.edges node.new q ≡ true }
-    ensures only { (q : K) → V.edges node.new q ≡ true →
-        (V.edges node.old q ≡ true) ⊎ IsPicked K.eq keys.now lists.now i j q }
-    ensures ok { OnOk result ((q : K) →
-        IsPicked K.eq keys.now lists.now i j q → V.edges node.new q ≡ true) }
-    ensures key { V.key node.new ≡ V.key node.old }
-    ensures rest { V.rest node.new ≡ V.rest node.old }
-    ensures kept { V.kept node.new ≡ V.kept node.old }
+    ensures only { IfOk result (λ v. (q : K) → is_member K.eq v.items q ≡ true
+        → IsPicked K.eq keys.now lists.now i j q) }
+    ensures all { IfOk result (λ v. (q : K) → IsPicked K.eq keys.now lists.now i j q
+        → (is_member K.eq v.items q ≡ true) ⊎ IsMarked K.eq keys.now marks.now mark q) }
 {
+    let mut row = Vec::with_capacity(alloc, (j - i).saturating_sub(has))?;
     for k in i..j {
         let y = lists[k];
-        add_unknown(alloc, node, &keys[y], marks[y] == mark)?;
+        pick_key(&mut row, &keys[y], marks[y] == mark)?;
     }
-    Ok(())
+    Ok(row)
 }
 
-// Does so with room made once for all of them, of which the node has so many already.
+// Adds an edge to the key of each number from place i up to j. The node has those to numbers with
+// this mark already, which are about so many.
 fn fill_node<K: Clone + Eq + Hash, V: TCNode<K>>(
     alloc: Global,
     node: &mut V,
@@ -132,10 +123,11 @@ fn fill_node<K: Clone + Eq + Hash, V: TCNode<K>>(
     ensures rest { V.rest node.new ≡ V.rest node.old }
     ensures kept { V.kept node.new ≡ V.kept node.old }
 {
-    node.reserve_edges(alloc, (j - i).saturating_sub(has))?;
-    add_numbers(alloc, node, keys, lists, i, j, marks, mark)?;
-    node.shrink_edges();
-    Ok(())
+    let mut row = pick_row(alloc, keys, lists, i, j, marks, mark, has)?;
+    if row.is_empty() {
+        return Ok(());
+    }
+    node.add_edges_to(alloc, &mut row)
 }
 
 // Adds to the node at a key an edge to the key of each number from place i up to j, and says how
@@ -348,7 +340,8 @@ fn close_read<K: Clone + Eq + Hash, V: TCNode<K>>(
     let keys = read.reading.keys.as_slice();
     let from = &read.reading.from;
     let to = &read.reading.to;
-    let reached = reach(alloc, from, to, keys.len())?;
+    let order = V::order(alloc, keys)?;
+    let reached = reach(alloc, from, to, keys.len(), &order)?;
     write_rows(
         alloc,
         nodes,

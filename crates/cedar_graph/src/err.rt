@@ -26,6 +26,20 @@ pub struct HasCycle<K> {
 }
 
 impl<K> HasCycle<K> {
+    /// The fault that names this key. Takes no memory. The original makes none outside its closure.
+    pub fn new(vertex: K) -> HasCycle<K>
+        ensures { vertex_of result ≡ vertex }
+    {
+        HasCycle { vertex }
+    }
+
+    /// The key that lies on a cycle, itself. Takes no memory.
+    pub fn into_vertex(self) -> K
+        ensures { result ≡ vertex_of self }
+    {
+        self.vertex
+    }
+
     /// The key that lies on a cycle. Takes no memory.
     pub fn vertex_with_loop(&self) -> &K
         ensures { result.now ≡ vertex_of self.now }

@@ -8,6 +8,7 @@ ghost use Rattle.std.specs.Prelude.{
   ◌||◌,
   ◌≤◌,
   ◌*◌,
+  length,
   is_some,
   IfOk,
   OnOk,
@@ -16,10 +17,12 @@ ghost use Rattle.std.specs.Prelude.{
   IsTrue,
   IsSome,
 };
+ghost use Rattle.std.specs.List.{range_with_len};
+ghost use Rattle.std.specs.List.Sorted.{IsPermutation};
 ghost use Rattle.std.specs.Set.{is_member, ClonesAreEqual};
 ghost use Rattle.std.specs.HashMap.{get, hash_map_len};
 ghost use Rattle.std.specs.HashSet.{contains, hash_set_len};
-ghost use Rattle.cedar_graph.specs.Graph.{graph_of, Reach, KeepsNodes, KeysMatch, KeepsEdges, AddsOnlyReached, ReachesSame, IsClosure, IsClosed, IsTrusted, HasNoLoop, HasNoCycle, HasNoCycleAt};
+ghost use Rattle.cedar_graph.specs.Graph.{graph_of, Reach, Grows, KeepsNodes, KeysMatch, KeepsEdges, AddsOnlyReached, ReachesSame, IsClosure, IsClosed, IsTrusted, HasNoLoop, HasNoCycle, HasNoCycleAt};
 ghost use Rattle.cedar_graph.specs.Faults.{MatchFault, UnlessMemory, BreaksClosed};
 
 use crate::checks::{enforce_no_loop, enforce_no_loop_for, enforce_tc};
@@ -29,6 +32,7 @@ use std::alloc::{AllocError, Global};
 use std::collections::{HashMap, HashSet};
 use std::fmt::{Debug, Display};
 use std::hash::Hash;
+use std::mem::replace;
 
 /// A node of a graph: it has a key, a set of edges to keys, and some of its edges are direct.
 ///
@@ -39,7 +43,7 @@ use std::hash::Hash;
 /// - `rest` is what else it holds, which no call changes;
 /// - `kept` is what adding an edge keeps beside that; resetting says nothing of it. A node that
 ///   has no such thing names the empty value.
-pub trait TCNode<K: Eq> {
+pub trait TCNode<K: Eq + Drop> {
     ghost Rest: { Type 0 };
 
     ghost Kept: { Type 0 };
@@ -131,6 +135,47 @@ pub trait TCNode<K: Eq> {
         ensures kept { kept self.new ≡ kept self.old }
     {}
 
+    /// The order in which the nodes like to be given edges to these keys: the numbers below
+    /// `keys.len()`, which are the keys' places, each once. The default is 0, 1, 2, .., as the keys
+    /// come. It asks no node, and no edge depends on it. Takes memory and may be refused it.
+    ///
+    /// The original has no such call.
+    fn order(alloc: Global, keys: &[K]) -> std::result::Result<Vec<usize>, AllocError>
+        ensures { IfOk result (λ v.
+            IsPermutation (range_with_len 0 (length keys.now)) v.items) }
+    {
+        (0..keys.len()).collect(alloc)
+    }
+
+    /// Adds an edge to each of the keys, which may be equal to one another and to keys that the
+    /// node has an edge to. It may take the keys out of the vector; what it leaves there is not
+    /// said. The default takes all of them, makes room, adds one after another as they come, and
+    /// gives back the room that is left. Key, rest and what adding keeps stay, whatever the answer.
+    /// May take memory; where it is refused, the former edges stay, and each further edge leads to
+    /// one of the keys. A closure calls it once for each node that lacks edges.
+    ///
+    /// The original has no such call.
+    fn add_edges_to(
+        &mut self,
+        alloc: Global,
+        keys: &mut Vec<K>,
+    ) -> std::result::Result<(), AllocError>
+        ensures ok { OnOk result ((q : K) →
+            edges self.new q ≡ (edges self.old q || is_member K.eq keys.old.items q)) }
+        ensures grows { Grows (edges self.old) (edges self.new) (is_member K.eq keys.old.items) }
+        ensures key { key self.new ≡ key self.old }
+        ensures rest { rest self.new ≡ rest self.old }
+        ensures kept { kept self.new ≡ kept self.old }
+    {
+        let row = replace(keys, Vec::new(alloc));
+        self.reserve_edges(alloc, row.len())?;
+        for key in row {
+            self.add_edge_to(alloc, key)?;
+        }
+        self.shrink_edges();
+        Ok(())
+    }
+
     // a node has an edge to both of two equal keys, or to none
     ghost respects_eq: { (n : Self) (x y : K) → K.eq x y ≡ true → edges n x ≡ edges n y };
 
@@ -160,7 +205,8 @@ pub struct Work {
 /// Takes memory for copies of keys, for numbers in the number of keys and edges, and for the lists
 /// of what each strong component of the graph reaches. Lists each node's edges once, and then costs
 /// what the keys, the edges read and the edges added cost, and nothing for a pair of keys without
-/// an edge. It does not recurse, whatever the graph is.
+/// an edge. Asks [`TCNode::order`] once, and hands each node what it lacks in one call of
+/// [`TCNode::add_edges_to`]. It does not recurse, whatever the graph is.
 ///
 /// Unlike the original it takes the allocator and may answer `TcError::Memory`.
 pub fn compute_tc<K: Clone + Eq + Hash + Debug + Display, V: TCNode<K>>(

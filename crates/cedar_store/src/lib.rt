@@ -14,8 +14,8 @@ mod program;
 mod replay;
 
 pub use cedar_entities::{
-    Ancestors, Dereference, Entities, EntitiesError, Entity, Keys, Pairs, SharedEntity,
-    TCComputation, Uids,
+    Ancestors, Dereference, Entities, EntitiesError, Entity, Keys, Pairs, SharedEntity, SharedUid,
+    TCComputation, UidSet, Uids,
 };
 pub use cedar_graph::{
     HasCycle, MissingTcEdge, TCNode, TcError, compute_tc, enforce_tc_and_dag, repair_tc,

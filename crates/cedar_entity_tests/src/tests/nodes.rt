@@ -8,6 +8,7 @@ use cedar_entity::entity::Entity;
 use cedar_entity::node::SharedEntity;
 use cedar_graph::{TCNode, compute_tc, enforce_tc_and_dag, repair_tc};
 use cedar_ids::entity::EntityUID;
+use cedar_uid_sets::SharedUid;
 use std::alloc::{AllocError, Global};
 use std::collections::HashMap;
 use std::rc::Rc;
@@ -20,7 +21,7 @@ fn put(alloc: Global, nodes: &mut Store, entity: Entity) -> Result<(), AllocErro
     requires { KeysMatch same_uid (λ n. n.0.value.uid) nodes.old }
     ensures { OnOk result (KeysMatch same_uid (λ n. n.0.value.uid) nodes.new) }
 {
-    let key = entity.get_key(alloc)?;
+    let key: EntityUID = entity.get_key(alloc)?;
     let shared = Rc::new(alloc, entity)?;
     drop(nodes.insert(key, SharedEntity(shared))?);
     Ok(())
@@ -133,30 +134,85 @@ fn a_loop_is_named(rt: HostRuntime) -> Result<(), Fail> {
     Ok(())
 }
 
+// How many edges a node has after two more, how many of them are direct, and how many it has after a reset.
+fn counts<K: Eq + Drop, V: TCNode<K>>(
+    alloc: Global,
+    node: &mut V,
+    one: K,
+    other: K,
+) -> Result<[usize; 3], Fail> {
+    node.add_edge_to(alloc, one)?;
+    node.add_edge_to(alloc, other)?;
+    let all = node.out_edges(alloc)?.len();
+    let direct = node.direct_edges(alloc)?.len();
+    node.reset_edges(alloc)?;
+    Ok([all, direct, node.out_edges(alloc)?.len()])
+}
+
+// The uid with this text, to be shared.
+fn shared(alloc: Global, text: &str) -> Result<SharedUid, Fail> {
+    Ok(SharedUid::new(alloc, uid(alloc, text)?)?)
+}
+
 #[test]
 fn a_plain_entity_is_a_node(rt: HostRuntime) -> Result<(), Fail> {
-    let mut entity = related(rt.alloc(), "A::\"a\"", "A::\"b\"", "A::\"c\"")?;
-    assert!(rt; entity.get_key(rt.alloc())? == *entity.uid());
-    entity.add_edge_to(rt.alloc(), uid(rt.alloc(), "A::\"d\"")?)?;
-    entity.add_edge_to(rt.alloc(), uid(rt.alloc(), "A::\"b\"")?)?;
-    assert_eq!(rt; entity.out_edges(rt.alloc())?.len(), 3);
-    assert_eq!(rt; entity.direct_edges(rt.alloc())?.len(), 1);
-    entity.reset_edges(rt.alloc())?;
-    assert_eq!(rt; entity.out_edges(rt.alloc())?.len(), 1);
+    let alloc = rt.alloc();
+    let mut entity = related(alloc, "A::\"a\"", "A::\"b\"", "A::\"c\"")?;
+    let found = counts(
+        alloc,
+        &mut entity,
+        uid(alloc, "A::\"d\"")?,
+        uid(alloc, "A::\"b\"")?,
+    )?;
+    assert!(rt; found == [3, 1, 1]);
+    Ok(())
+}
+
+#[test]
+fn a_plain_entity_is_a_node_of_shared_uids(rt: HostRuntime) -> Result<(), Fail> {
+    let alloc = rt.alloc();
+    let mut entity = related(alloc, "A::\"a\"", "A::\"b\"", "A::\"c\"")?;
+    let found = counts(
+        alloc,
+        &mut entity,
+        shared(alloc, "A::\"d\"")?,
+        shared(alloc, "A::\"b\"")?,
+    )?;
+    assert!(rt; found == [3, 1, 1]);
     Ok(())
 }
 
 #[test]
 fn a_shared_entity_is_a_node(rt: HostRuntime) -> Result<(), Fail> {
-    let entity = related(rt.alloc(), "A::\"a\"", "A::\"b\"", "A::\"c\"")?;
-    let mut node = SharedEntity(Rc::new(rt.alloc(), entity)?);
+    let alloc = rt.alloc();
+    let entity = related(alloc, "A::\"a\"", "A::\"b\"", "A::\"c\"")?;
+    let mut node = SharedEntity(Rc::new(alloc, entity)?);
     let other = node.clone()?;
-    node.add_edge_to(rt.alloc(), uid(rt.alloc(), "A::\"d\"")?)?;
-    assert_eq!(rt; node.out_edges(rt.alloc())?.len(), 3);
-    assert_eq!(rt; node.direct_edges(rt.alloc())?.len(), 1);
-    node.reset_edges(rt.alloc())?;
-    assert_eq!(rt; node.out_edges(rt.alloc())?.len(), 1);
-    assert_eq!(rt; other.out_edges(rt.alloc())?.len(), 2);
+    let found = counts(
+        alloc,
+        &mut node,
+        uid(alloc, "A::\"d\"")?,
+        uid(alloc, "A::\"b\"")?,
+    )?;
+    assert!(rt; found == [3, 1, 1]);
+    assert_eq!(rt; other.0.ancestors().count(), 2);
+    Ok(())
+}
+
+#[test]
+fn a_shared_entity_is_a_node_of_shared_uids(rt: HostRuntime) -> Result<(), Fail> {
+    let alloc = rt.alloc();
+    let entity = related(alloc, "A::\"a\"", "A::\"b\"", "A::\"c\"")?;
+    let mut node = SharedEntity(Rc::new(alloc, entity)?);
+    let other = node.clone()?;
+    let found = counts(
+        alloc,
+        &mut node,
+        shared(alloc, "A::\"d\"")?,
+        shared(alloc, "A::\"b\"")?,
+    )?;
+    assert!(rt; found == [3, 1, 1]);
+    assert_eq!(rt; other.0.ancestors().count(), 2);
     Ok(())
 }
 

@@ -51,6 +51,10 @@ HasNumberBelow {K} eq n keys q = (i : ℕ) × (k : K) × (i < n) × (slice_get k
 abbrev pub IsPicked : {K : Type 0} → (K → K → Bool) → List K → List ℕ → ℕ → ℕ → K → Type 0
 IsPicked {K} eq keys lists i j q = (y : ℕ) × (k : K) × IsWithin lists i j y × (slice_get keys y ≡ Some k) × (eq q k ≡ true)
 
+-- q is the key of a number with this mark
+abbrev pub IsMarked : {K : Type 0} → (K → K → Bool) → List K → List ℕ → ℕ → K → Type 0
+IsMarked {K} eq keys marks mark q = (y : ℕ) × (k : K) × (slice_get keys y ≡ Some k) × (slice_index marks y ≡ mark) × (eq q k ≡ true)
+
 -- q is the key of a number that number x reaches
 abbrev pub ReachesKey : {K : Type 0} → (K → K → Bool) → List K → (ℕ → ℕ → Type 0) → ℕ → K → Type 0
 ReachesKey {K} eq keys E x q = (y : ℕ) × (k : K) × Goes E x y × (slice_get keys y ≡ Some k) × (eq q k ≡ true)

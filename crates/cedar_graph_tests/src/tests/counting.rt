@@ -1,4 +1,4 @@
-// A node type with number keys that counts how often its edges are listed.
+// A node type with number keys that counts how often its edges are listed, and likes its edges in descending order.
 ghost use Rattle.std.specs.Prelude.{◌≡◌, ◌<◌, nat_eq, IfOk};
 ghost use Rattle.std.specs.HashSet.{contains};
 ghost use Rattle.cedar_graph.specs.Graph.{KeysMatch};
@@ -8,13 +8,30 @@ use cedar_graph::TCNode;
 use std::alloc::{AllocError, Global};
 use std::cell::Cell;
 use std::collections::{HashMap, HashSet};
+use std::mem::replace;
 
-/// A node that counts the calls that list its edges; no contract speaks of the count.
+/// A node that counts the calls that list its edges, and the rows of edges that it is given; and
+/// whether each row descended. No contract speaks of these.
 #[derive(Drop)]
 pub struct Counting {
     pub number: u64,
     pub targets: HashSet<u64>,
     pub listed: Cell<usize>,
+    pub rows: usize,
+    pub in_order: bool,
+}
+
+// A node of which nothing is counted yet.
+fn node(number: u64, targets: HashSet<u64>) -> Counting
+    ensures { result.number ≡ number }
+{
+    Counting {
+        number,
+        targets,
+        listed: Cell::new(0),
+        rows: 0,
+        in_order: true,
+    }
 }
 
 impl TCNode<u64> for Counting {
@@ -57,6 +74,21 @@ impl TCNode<u64> for Counting {
         Ok(())
     }
 
+    fn order(alloc: Global, keys: &[u64]) -> Result<Vec<usize>, AllocError> {
+        let mut numbers: Vec<usize> = (0..keys.len()).collect(alloc)?;
+        numbers.sort_by(|a, b| keys.get(*b).cmp(&keys.get(*a)))?;
+        Ok(numbers)
+    }
+
+    fn add_edges_to(&mut self, alloc: Global, keys: &mut Vec<u64>) -> Result<(), AllocError> {
+        self.rows = self.rows.saturating_add(1);
+        self.in_order = self.in_order && keys.is_sorted_by(|a, b| a > b);
+        for key in replace(keys, Vec::new(alloc)) {
+            self.add_edge_to(alloc, key)?;
+        }
+        Ok(())
+    }
+
     ghost respects_eq = { λ n x y h. contains_alike nat_eq_equiv x y h n.targets };
 
     ghost direct_are_edges = { λ n q h. h };
@@ -74,15 +106,7 @@ pub fn counting_graph(
     for key in keys {
         let number = *key;
         let targets = targets(alloc, edges, number)?;
-        let listed = Cell::new(0);
-        nodes.insert(
-            number,
-            Counting {
-                number,
-                targets,
-                listed,
-            },
-        )?;
+        nodes.insert(number, node(number, targets))?;
     }
     Ok(nodes)
 }
@@ -95,15 +119,7 @@ pub fn chain(alloc: Global, first: u64, end: u64) -> Result<HashMap<u64, Countin
     for number in first..end {
         let mut targets = HashSet::new(alloc);
         targets.insert(number + 1)?;
-        let listed = Cell::new(0);
-        nodes.insert(
-            number,
-            Counting {
-                number,
-                targets,
-                listed,
-            },
-        )?;
+        nodes.insert(number, node(number, targets))?;
     }
     Ok(nodes)
 }
@@ -122,15 +138,7 @@ pub fn put_counting(
     for target in row {
         targets.insert(*target)?;
     }
-    let listed = Cell::new(0);
-    nodes.insert(
-        number,
-        Counting {
-            number,
-            targets,
-            listed,
-        },
-    )?;
+    nodes.insert(number, node(number, targets))?;
     Ok(())
 }
 
@@ -168,4 +176,14 @@ pub fn edge_count(nodes: &HashMap<u64, Counting>) -> usize {
         all = all.saturating_add(node.targets.len());
     }
     all
+}
+
+/// Whether no node was given more than one row, and none that did not descend.
+pub fn rows_in_order(nodes: &HashMap<u64, Counting>) -> bool {
+    for node in nodes.values() {
+        if node.rows > 1 || !node.in_order {
+            return false;
+        }
+    }
+    true
 }

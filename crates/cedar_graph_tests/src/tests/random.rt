@@ -1,7 +1,7 @@
 // Many graphs on up to eight keys, some without nodes, beside a plain closure.
 ghost use Rattle.std.specs.Prelude.{◌<◌};
 
-use crate::tests::counting::{counting_graph, listed};
+use crate::tests::counting::{counting_graph, listed, rows_in_order};
 use crate::tests::nodes::{Edges, edges_of, set_of};
 use cedar_graph::{TcError, compute_tc, compute_tc_counted, repair_tc, repair_tc_counted};
 use std::alloc::{AllocError, Global};
@@ -132,6 +132,7 @@ fn check_closing(
         listed(&nodes) == (count, count.min(1)),
         "each node is read once",
     )?;
+    holds(rows_in_order(&nodes), "order of the closure's rows")?;
     holds(
         work.reads == count && work.closings == count,
         "counts of the closure",
@@ -171,6 +172,7 @@ fn check_repair(
         edges_of(alloc, &nodes)?.as_slice() == closure,
         "edges of the repair",
     )?;
+    holds(rows_in_order(&nodes), "order of the repair's rows")?;
     holds(work.reads == listed(&nodes).0, "reads of the repair")?;
     holds(work.closings == present, "closings of the repair")?;
     let has_cycle = closure.iter().any(|e| e.0 == e.1 && to_fix.contains(&e.0));

@@ -1,4 +1,4 @@
-use Rattle.std.proofs.Common.{◌≡◌, ℕ, ◌<◌, ◌≤◌, ◌-◌, arith, get_or, get_or-set_same, sym, ◌∙◌, length}
+use Rattle.std.proofs.Common.{◌<◌, ◌-◌, arith, get_or, get_or-set_same, length}
 use Rattle.std.proofs.lemmas.Grind.{common_steps}
 use Rattle.cedar_components.specs.Reach.{HasArc}
 use Rattle.cedar_components.proofs.ComponentSteps.{rooted, lowered}

@@ -1,4 +1,4 @@
-use Rattle.std.proofs.Common.{◌≡◌, ℕ, ◌+◌, ◌-◌, ◌*◌, ◌<◌, ◌≤◌, length, slice_index}
+use Rattle.std.proofs.Common.{◌+◌, ◌-◌, ◌*◌, ◌<◌, ◌≤◌, length, slice_index}
 use Rattle.std.specs.List.{sum_by}
 use Rattle.cedar_components.specs.Reach.{HasArc}
 use Rattle.cedar_components.specs.laws.Search.{AreComponentsFrom, is_zero}

@@ -1,7 +1,6 @@
-use Rattle.std.proofs.Common.{◌≡◌, ℕ, ◌<◌, ◌≤◌, ◌-◌, arith, get_or, sym, ◌∙◌, length, [], rules}
-use Rattle.std.proofs.lemmas.Grind.{common_steps, get_or_default_zero}
+use Rattle.std.proofs.Common.{◌≡◌, ℕ, ◌<◌, ◌-◌, arith, get_or, ◌∙◌, length, []}
+use Rattle.std.proofs.lemmas.Grind.{get_or_default_zero}
 use Rattle.cedar_components.specs.Reach.{HasArc}
-use Rattle.cedar_components.specs.laws.Search.{AreComponentsFrom}
 use Rattle.cedar_components.proofs.ComponentSteps.{components_from_all, lowered}
 use Rattle.cedar_components.proofs.components.make_components.Goals as goal
 use Rattle.cedar_components.proofs.components.make_components.Goals.{then-index-eq0+in_ok-gather, else-index-eq0}

@@ -1,4 +1,4 @@
-use Rattle.std.proofs.Common.{◌≡◌, ℕ, ◌+◌, ◌*◌, ◌<◌, ◌≤◌, length, slice_index, []}
+use Rattle.std.proofs.Common.{◌≡◌, ◌≤◌, length, []}
 use Rattle.cedar_components.specs.Reach.{HasArc}
 use Rattle.cedar_components.specs.laws.Search.{AreComponentsFrom}
 use Rattle.cedar_components.proofs.components.make_components.Given as goal

@@ -1,5 +1,5 @@
-use Rattle.std.proofs.Common.{◌≡◌, ℕ, ◌<◌, ◌≤◌, arith, get_or, sym, ◌∙◌, length}
-use Rattle.std.proofs.lemmas.Grind.{common_steps, get_or_default_zero}
+use Rattle.std.proofs.Common.{◌≡◌, arith, get_or}
+use Rattle.std.proofs.lemmas.Grind.{common_steps}
 use Rattle.cedar_components.specs.Reach.{HasArc}
 use Rattle.cedar_components.proofs.ComponentSteps.{joined_before}
 use Rattle.cedar_components.proofs.components.meet.Goals as goal

@@ -1,6 +1,5 @@
-use Rattle.std.proofs.Common.{◌≡◌, ℕ, ◌<◌, ◌+◌, arith, length, get_or, ◌++◌, ◌∷◌, [], set, sym, ◌∙◌, ap, refl}
-use Rattle.std.proofs.lemmas.Grind.{get_or_default_zero, common_steps}
-use Rattle.cedar_components.specs.laws.Search.{AreLinksTo}
+use Rattle.std.proofs.Common.{◌≡◌, ◌<◌, arith, length, get_or, ◌∙◌, refl}
+use Rattle.std.proofs.lemmas.Grind.{get_or_default_zero}
 use Rattle.cedar_components.proofs.Steps.{linked}
 use Rattle.cedar_components.proofs.links.make_links.Goals as goal
 

@@ -1,4 +1,4 @@
-use Rattle.std.proofs.Common.{◌≡◌, ℕ, ◌<◌, arith}
+use Rattle.std.proofs.Common.{arith}
 use Rattle.cedar_components.specs.Reach.{HasArc}
 use Rattle.cedar_components.proofs.Steps.{order_from_search}
 use Rattle.cedar_components.proofs.search.finish_order.Goals as goal

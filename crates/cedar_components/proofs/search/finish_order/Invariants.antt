@@ -1,4 +1,4 @@
-use Rattle.std.proofs.Common.{◌≡◌, ℕ, ◌+◌, ◌*◌, ◌<◌, length, slice_index, []}
+use Rattle.std.proofs.Common.{◌≡◌, ℕ, ◌<◌, length, slice_index, []}
 use Rattle.cedar_components.specs.Reach.{HasArc}
 use Rattle.cedar_components.specs.laws.Search.{AreRead, IsSearch}
 use Rattle.cedar_components.proofs.search.finish_order.Given as goal

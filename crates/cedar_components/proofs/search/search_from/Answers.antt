@@ -1,4 +1,4 @@
-use Rattle.std.proofs.Common.{◌≡◌, ℕ, ◌+◌, ◌-◌, ◌<◌, ◌≤◌, arith, length, get_or, set, refl, sym, ap, rules, [], ◌∷◌, ◌∙◌, length-set, get_or-set_same}
+use Rattle.std.proofs.Common.{◌+◌, arith, length, get_or-set_same}
 use Rattle.std.proofs.lemmas.Grind.{common_steps}
 use Rattle.cedar_components.specs.Reach.{HasArc}
 use Rattle.cedar_components.proofs.Steps.{opened_root, read_kept, positive_kept}

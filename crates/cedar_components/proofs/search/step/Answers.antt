@@ -1,5 +1,4 @@
-use Rattle.std.proofs.Common.{◌≡◌, ℕ, ◌+◌, ◌-◌, ◌<◌, ◌≤◌, arith, length, length-append, get_or, set, refl, sym, ap, rules, [], ◌∷◌, ◌∙◌, get_or-set_same, slice_index_or}
-use Rattle.std.specs.List.{sum}
+use Rattle.std.proofs.Common.{◌≡◌, ◌+◌, ◌-◌, ◌<◌, arith, length, length-append, get_or, set, sym, [], ◌∷◌, ◌∙◌, get_or-set_same}
 use Rattle.std.proofs.lemmas.Grind.{common_steps, get_or_default_zero}
 use Rattle.cedar_components.specs.Reach.{HasArc}
 use Rattle.cedar_components.proofs.Steps.{opened_next, finished_last, arc_inside, next_arc, all_seen, sum_less, read_next, positive_kept}

@@ -1,10 +1,10 @@
 use Rattle.std.proofs.Common.{ap}
 use Rattle.std.specs.FinMap as finmap
-use Rattle.cedar_entities.proofs.Alike.{copied, copied_match, uid_copied}
+use Rattle.cedar_entities.proofs.Alike.{copied, copied_match}
 use Rattle.cedar_entities.proofs.entities.copy_of_map.Goals as goal
 
 pub returns-clause-held : goal.returns-clause-held
-returns-clause-held c = ap (λ es. finmap.from_entries es) (copied _ (λ p q h. (uid_copied p.0 q.0 h.0, h.1)) c.args.entities.now.entries c.in_ok-copy.copy.entries c.in_ok-copy.ensures.cases)
+returns-clause-held c = ap (λ es. finmap.from_entries es) (copied _ (λ p q h. h) c.args.entities.now.entries c.in_ok-copy.copy.entries c.in_ok-copy.ensures.cases)
 
 pub returns-clause-keys : goal.returns-clause-keys
 returns-clause-keys c = copied_match c.args.entities.now c.in_ok-copy.copy (returns-clause-held c) c.requires

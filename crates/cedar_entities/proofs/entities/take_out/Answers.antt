@@ -8,9 +8,6 @@ use Rattle.cedar_entities.proofs.Versions.{map_same}
 use Rattle.cedar_entities.proofs.Editing.{out_push, left_match}
 use Rattle.cedar_entities.proofs.entities.take_out.Goals as goal
 
-pub loop-uid-preserved-in-Some : goal.loop-uid-preserved-in-Some
-loop-uid-preserved-in-Some c q = out_push (held c.args.entities.now q) (held c.loop-uid.entities q) (held c.take_at.new.entities q) c.loop-uid.yielded c.in-Some.uid q (c.loop-uid.invariant q) (c.take_at.ensures q)
-
 pub loop-uid-preserved : goal.loop-uid-preserved
 loop-uid-preserved c q = out_push (held c.args.entities.now q) (held c.loop-uid.entities q) (held c.take_at.new.entities q) c.loop-uid.yielded c.in-Some.uid q (c.loop-uid.invariant q) (c.take_at.ensures q)
 

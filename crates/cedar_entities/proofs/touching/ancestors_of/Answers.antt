@@ -1,10 +1,10 @@
-use Rattle.std.proofs.Common.{◌≡◌, ◌∙◌, ◌||◌, ap, sym, map}
+use Rattle.std.proofs.Common.{◌∙◌, ◌||◌, ap, sym, map}
 use Rattle.std.specs.Set.{is_member}
-use Rattle.std.proofs.lemmas.Iterator.Consumers.{YieldsList-from_first, YieldsList-end}
+use Rattle.std.proofs.lemmas.Iterator.Consumers.{YieldsList-end}
+use Rattle.std.proofs.lemmas.Iterator.Adapters.{YieldsList-from_vec}
 use Rattle.cedar_ids.specs.UidOf.{same_uid}
-use Rattle.cedar_entity.specs.Listing.{ancestors_listed}
 use Rattle.cedar_entities.proofs.Editing.{member_push}
-use Rattle.cedar_entities.proofs.Versions.{map_append_one}
+use Rattle.cedar_entities.proofs.Versions.{map_append_one, map_same}
 use Rattle.cedar_entities.proofs.touching.ancestors_of.Goals as goal
 
 pub loop-ancestor-preserved : goal.loop-ancestor-preserved
@@ -19,8 +19,8 @@ loop-ancestor-preserved c q =
 
 pub returns : goal.returns
 returns c q =
-    let us = c.ancestors-ancestor-items.result in
-    let whole = (YieldsList-end (YieldsList-from_first (λ x. x.now) (λ l. l) {s = c.into_iter-ancestor-iterator.result} us c.into_iter-ancestor-iterator.ensures.into_iter_gives) c.loop-ancestor.yielded c.loop-ancestor.ancestor-iterator c.loop-ancestor.yielded_by c.next.result c.next.new.self c.in-None.is c.next.ensures.steps).0 in
+    let gives = c.into_iter-ancestor-iterator.ensures.into_iter_gives in
+    let whole = sym (map_same c.loop-ancestor.yielded) ∙ (YieldsList-end (YieldsList-from_vec {s = c.into_iter-ancestor-iterator.result} c.in_ok-ancestors.ancestors.items gives.0 (gives.1 ∙ c.in_ok-ancestors.ancestors.ok.0)) c.loop-ancestor.yielded c.loop-ancestor.ancestor-iterator c.loop-ancestor.yielded_by c.next.result c.next.new.self c.in-None.is c.next.ensures.steps).0 in
     c.loop-ancestor.invariant q
-    ∙ ap (λ l. is_member same_uid l q) whole
-    ∙ ancestors_listed c.args.entity.now us c.ancestors-ancestor-items.ensures q
+    ∙ ap (λ l. is_member same_uid (map (λ x. x.now) l) q) whole
+    ∙ c.in_ok-ancestors.ensures q

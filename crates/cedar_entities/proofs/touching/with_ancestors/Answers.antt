@@ -1,4 +1,4 @@
-use Rattle.std.proofs.Common.{◌≡◌, ◌∙◌, ◌||◌, ap}
+use Rattle.std.proofs.Common.{◌∙◌, ◌||◌, ap}
 use Rattle.std.specs.Set.{is_member}
 use Rattle.cedar_ids.specs.UidOf.{same_uid}
 use Rattle.cedar_entity.specs.View.{has_ancestor}

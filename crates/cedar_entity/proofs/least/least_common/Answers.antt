@@ -1,8 +1,21 @@
-use Rattle.std.specs.HashSet.{contains}
-use Rattle.std.specs.Option.{option_copied}
+use Rattle.std.proofs.Common.{◌≡◌, ap, sym, subst, ◌∙◌}
+use Rattle.std.specs.FinSet as set
+use Rattle.std.specs.Set.{is_member}
 use Rattle.cedar_ids.specs.UidOf.{same_uid}
-use Rattle.cedar_entity.proofs.LeastUids.{least_at_end}
+use Rattle.cedar_ids.specs.declared.entity.EntityUID.{EntityUID}
+use Rattle.std.specs.Prelude.{Some, None, ◌&&◌}
+use Rattle.cedar_entity.specs.Least.{IsLeast}
+use Rattle.cedar_entity.specs.UidSets.{UidSet, contains_listed}
+use Rattle.cedar_entity.proofs.LeastUids.{first_least_of}
 use Rattle.cedar_entity.proofs.least.least_common.Goals as goal
 
-pub returns : goal.returns
-returns c = least_at_end (contains same_uid c.args.other.now) c.args.one.now.keys c.loop-uid.uid-iterator (option_copied c.loop-uid.least) c.in-None.ensures.steps.0 c.loop-uid.invariant
+pub returns-in-Some : goal.returns-in-Some
+returns-in-Some c =
+    let members : (q : EntityUID) → is_member same_uid c.pointers.result.now q ≡ set.contains c.args.one.now q = λ q. sym (contains_listed c.pointers.result.now q) ∙ ap (λ (s : UidSet). set.contains s q) c.pointers.ensures.all in
+    let least = first_least_of (set.contains c.args.other.now) c.args.one.now c.pointers.result.now (Some c.in-Some.shared.now) members c.pointers.ensures.ascending c.in-Some.ensures in
+    subst (λ u. IsLeast (λ q. set.contains c.args.one.now q && (set.contains c.args.other.now) q) u) (sym c.uid.ensures) least
+
+pub returns-in-None : goal.returns-in-None
+returns-in-None c =
+    let members : (q : EntityUID) → is_member same_uid c.pointers.result.now q ≡ set.contains c.args.one.now q = λ q. sym (contains_listed c.pointers.result.now q) ∙ ap (λ (s : UidSet). set.contains s q) c.pointers.ensures.all in
+    first_least_of (set.contains c.args.other.now) c.args.one.now c.pointers.result.now None members c.pointers.ensures.ascending c.in-None.ensures

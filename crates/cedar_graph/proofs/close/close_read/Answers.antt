@@ -10,11 +10,11 @@ returns-clause-only g c =
     let n = c.args.read.now.fixed in
     let keys = c.args.read.now.reading.keys.keys in
     let from = c.args.read.now.reading.from.items in
-    let from2 = c.deref-3.result.now in
-    let to2 = c.deref-4.result.now in
+    let from2 = c.deref-4.result.now in
+    let to2 = c.deref-5.result.now in
     λ a b h. elim (c.write_rows.ensures.only a b h) [
       | inl o ↦ inl o
-      | inr p ↦ inr (subst (λ v. IsRowEdgeBelow eq n keys (HasArc from v) a b) c.deref-4.ensures.value (subst (λ v. IsRowEdgeBelow eq n keys (HasArc v to2) a b) c.deref-3.ensures.value (subst (λ v. IsRowEdgeBelow eq n v (HasArc from2 to2) a b) c.as_slice-keys.ensures.keys p)))
+      | inr p ↦ inr (subst (λ v. IsRowEdgeBelow eq n keys (HasArc from v) a b) c.deref-5.ensures.value (subst (λ v. IsRowEdgeBelow eq n keys (HasArc v to2) a b) c.deref-4.ensures.value (subst (λ v. IsRowEdgeBelow eq n v (HasArc from2 to2) a b) c.as_slice-keys.ensures.keys p)))
     ]
 
 pub returns-clause-visits : goal.returns-clause-visits

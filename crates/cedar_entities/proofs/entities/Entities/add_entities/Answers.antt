@@ -4,7 +4,7 @@ use Rattle.std.proofs.lemmas.Result.{err_from_is_err_and}
 use Rattle.cedar_entities.specs.laws.Held.{held, held_map}
 use Rattle.cedar_entities.specs.Edits.{uids_of}
 use Rattle.cedar_entities.specs.Plain.{StoreView}
-use Rattle.cedar_entities.specs.Touching.{inserted_in, is_touched, IsSettled}
+use Rattle.cedar_entities.specs.Touching.{inserted_in, IsSettled}
 use Rattle.std.specs.HashSet.{contains}
 use Rattle.std.specs.List.{filter}
 use Rattle.std.specs.Set.{is_member}

@@ -8,7 +8,7 @@ use Rattle.cedar_entities.specs.laws.Held.{held_map}
 use Rattle.cedar_entities.specs.laws.Readings.{notes}
 use Rattle.cedar_entities.specs.Plain.{StoreView}
 use Rattle.cedar_entities.specs.Refusals.{MatchRefusal}
-use Rattle.cedar_entities.specs.Touching.{is_touched, removed_from, IsMended, IsMendRefused}
+use Rattle.cedar_entities.specs.Touching.{removed_from, IsMended, IsMendRefused}
 use Rattle.cedar_entities.proofs.Edited.{gone_all, noted_touched, taken_from}
 use Rattle.cedar_entities.proofs.Removing.{left_refused, mended_plain, mended_untouched, taken_untouched}
 use Rattle.cedar_entities.proofs.entities.Entities.remove_entities.Goals as goal

@@ -1,7 +1,8 @@
-use Rattle.std.proofs.Common.{ap}
+use Rattle.std.proofs.Common.{ap, ◌∙◌}
+use Rattle.std.specs.FinSet as set
 use Rattle.cedar_entity.specs.View.{EntityView}
-use Rattle.cedar_entity.proofs.UidSteps.{lists_keys}
+use Rattle.cedar_entity.proofs.UidSteps.{lists_ascending}
 use Rattle.cedar_entity.proofs.entity.Entity.indirect_ancestors.Goals as goal
 
-pub returns : goal.returns
-returns c = lists_keys c.self.inside.indirect_ancestors.keys c.of.result _ c.of.ensures.uids c.of.ensures.once (ap (λ (e : EntityView). e.indirect) c.self.view_is)
+pub returns-clause-lists : goal.returns-clause-lists
+returns-clause-lists c = lists_ascending c.args.self.now.indirect c.iter.result (λ q. c.iter.ensures.members q ∙ ap (λ (e : EntityView). set.contains e.indirect q) c.self.view_is) c.iter.ensures.ascending

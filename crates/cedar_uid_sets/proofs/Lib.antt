@@ -1,0 +1,9 @@
+mod Adjacent
+mod Edits
+mod Filtered
+mod Merging
+mod Orders
+mod Same
+mod Search
+mod Sorting
+mod Gathering

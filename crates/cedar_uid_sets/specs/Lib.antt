@@ -1,0 +1,2 @@
+pub mod UidSets
+pub mod laws

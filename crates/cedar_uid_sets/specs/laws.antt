@@ -1,0 +1,5 @@
+pub mod Codes
+pub mod Merged
+pub mod Places
+pub mod Sets
+pub mod Unions

@@ -1,0 +1,8 @@
+-- How a proof tells sets of uids apart.
+use Rattle.std.specs.Coded.{Coded}
+use Rattle.std.specs.FinSet as set
+use Rattle.cedar_ids.specs.Codes.{uid_code}
+use Rattle.cedar_uid_sets.specs.UidSets.{UidValues}
+
+abbrev pub uid_set_code : Coded UidValues
+uid_set_code = set.code uid_code

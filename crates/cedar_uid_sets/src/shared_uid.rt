@@ -1,0 +1,118 @@
+ghost use Rattle.std.specs.Prelude.{◌≡◌, IfOk, IfErr, ◌⊎◌};
+ghost use Rattle.cedar_ids.specs.UidOf.{same_uid, uid_order, same_uid_equiv, uid_order_total, uid_order_ties, uid_order_po, uid_hash, uid_hash_respects};
+ghost use Rattle.std.specs.Cmp.{partial_equiv_from_equiv};
+ghost use Rattle.std.specs.Ordering.{as_partial_cmp};
+ghost use Rattle.std.proofs.Common.{refl};
+ghost use Rattle.cedar_ids.specs.Printed.{uid_output};
+ghost use Rattle.cedar_ids.specs.UidOf.{uid_parts};
+
+use cedar_ids::entity::EntityUID;
+use std::alloc::{AllocError, Global};
+use std::cmp::Ordering;
+use std::fmt;
+use std::hash::{Hash, Hasher};
+use std::marker::Model;
+use std::rc::Rc;
+
+/// A uid that several sets share. Contracts see the uid.
+#[derive(Debug, Drop)]
+pub struct SharedUid(Rc<EntityUID>);
+
+impl Model for SharedUid {
+    ghost use Rattle.cedar_ids.specs.declared.entity.EntityUID.{EntityUID};
+    ghost use Rattle.cedar_ids.specs.Codes.{uid_code};
+
+    ghost Value = { EntityUID };
+
+    ghost coded = { uid_code };
+
+    ghost view = { λ s. s.0.value };
+}
+
+impl SharedUid {
+    /// The uid, to be shared. It takes memory.
+    pub fn new(alloc: Global, uid: EntityUID) -> Result<SharedUid, AllocError>
+        ensures { IfOk result (λ s. s ≡ uid) }
+    {
+        Ok(SharedUid(Rc::new(alloc, uid)?))
+    }
+
+    /// The uid. It takes no memory.
+    pub fn uid(&self) -> &EntityUID
+        ensures { result.now ≡ self.now }
+    {
+        &*self.0
+    }
+
+    /// The uid: a copy where it is still shared.
+    pub fn into_uid(self) -> Result<EntityUID, AllocError>
+        ensures { IfOk result (λ u. u ≡ self) }
+    {
+        Rc::unwrap_or_clone(self.0)
+    }
+}
+
+impl Clone for SharedUid {
+    ghost is_clone = { λ x y. y ≡ x };
+
+    fn clone(&self) -> Result<SharedUid, AllocError> {
+        Ok(SharedUid(self.0.clone()?))
+    }
+}
+
+impl PartialEq for SharedUid {
+    ghost eq = { same_uid };
+
+    ghost laws = { partial_equiv_from_equiv same_uid_equiv };
+
+    fn eq(&self, other: &SharedUid) -> bool {
+        self.uid() == other.uid()
+    }
+}
+
+impl Eq for SharedUid {
+    ghost laws = { same_uid_equiv };
+}
+
+impl PartialOrd for SharedUid {
+    ghost partial_cmp = { as_partial_cmp uid_order };
+
+    ghost laws = { uid_order_po };
+
+    fn partial_cmp(&self, other: &SharedUid) -> Option<Ordering> {
+        Some(self.cmp(other))
+    }
+}
+
+impl Ord for SharedUid {
+    ghost cmp = { uid_order };
+
+    ghost total = { uid_order_total };
+
+    ghost matches_partial_cmp = { λ x y. refl };
+
+    ghost matches_eq = { uid_order_ties };
+
+    fn cmp(&self, other: &SharedUid) -> Ordering {
+        self.uid().cmp(other.uid())
+    }
+}
+
+impl Hash for SharedUid {
+    ghost hash_input = { uid_hash };
+
+    ghost respects_eq = { uid_hash_respects };
+
+    fn hash<H: Hasher>(&self, state: &mut H) {
+        self.uid().hash(state);
+    }
+}
+
+impl fmt::Display for SharedUid {
+    ghost output = { λ u. uid_output (uid_parts u) };
+
+    fn fmt<W: fmt::Write>(&self, f: &mut fmt::Formatter<W>) -> fmt::Result {
+        let uid = self.uid();
+        write!(f, "{uid}")
+    }
+}
