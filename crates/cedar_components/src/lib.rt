@@ -6,8 +6,8 @@
 //! [`reach`] does all. A depth-first search gives the order in which the numbers finish; searches
 //! against the arcs, in that order from its end, give each number its strong component; each
 //! component gets one list of what its members reach, those below it first; and one pass over the
-//! entries of the lists brings each of them into one order. The searches keep stacks of their own,
-//! so that none of them recurses, whatever the graph is.
+//! entries of the lists, a batch of lists at a time, brings each of them into one order. The
+//! searches keep stacks of their own, so that none of them recurses, whatever the graph is.
 #![tactic(auto)]
 
 ghost use Rattle.std.specs.Prelude.{◌≡◌, ℕ, IfOk};
@@ -16,12 +16,13 @@ ghost use Rattle.std.specs.List.Sorted.{IsPermutation};
 ghost use Rattle.cedar_components.specs.Reach.{AreArcs, HasArc, IsReach};
 
 mod arranging;
+mod batches;
 mod component_lists;
 mod components;
 mod links;
 mod search;
 
-use crate::arranging::arrange;
+use crate::batches::arrange;
 use crate::component_lists::{Lists, make_lists};
 use crate::components::make_components;
 use crate::links::make_links;
