@@ -1,4 +1,5 @@
-// What the tests build entities with.
+// What the tests build entities with. Each helper lets go by a written drop what it holds, on each path: a drop that is
+// not written is dear to prove at a type as large as an entity.
 mod nodes;
 mod parts;
 mod texts;
@@ -9,7 +10,94 @@ use cedar_ids::entity::EntityUID;
 use cedar_terms::{Literal, PartialValue, Value, ValueKind};
 use std::alloc::Global;
 use std::collections::HashSet;
+use std::fmt::Display;
+use std::hash::Hash;
 use std::test::Fail;
+
+// What is asked of a value that is made for it.
+fn asked<T: Drop, R, F: FnOnce(&T) -> R>(made: Result<T, Fail>, ask: F) -> Result<R, Fail>
+    requires { F.IsAlwaysCallable ask }
+{
+    match made {
+        Ok(value) => {
+            let told = ask(&value);
+            drop(value);
+            Ok(told)
+        }
+        Err(fail) => Err(fail),
+    }
+}
+
+// The same of what takes memory or changes the value.
+fn tried<T: Drop, F: FnOnce(Global, &mut T) -> Result<bool, Fail>>(
+    alloc: Global,
+    made: Result<T, Fail>,
+    ask: F,
+) -> Result<bool, Fail>
+    requires { F.IsAlwaysCallable ask }
+{
+    match made {
+        Ok(value) => {
+            let mut value = value;
+            let told = ask(alloc, &mut value);
+            drop(value);
+            told
+        }
+        Err(fail) => Err(fail),
+    }
+}
+
+// A value and a further one.
+fn beside<A: Drop, B>(one: A, other: Result<B, Fail>) -> Result<(A, B), Fail> {
+    match other {
+        Ok(other) => Ok((one, other)),
+        Err(fail) => {
+            drop(one);
+            Err(fail)
+        }
+    }
+}
+
+// A value and a copy of it.
+fn twice<T: Clone + Drop>(value: T) -> Result<(T, T), Fail> {
+    match value.clone() {
+        Ok(copy) => Ok((value, copy)),
+        Err(error) => {
+            drop(value);
+            Err(Fail::from(error))
+        }
+    }
+}
+
+// A list with a further item.
+fn pushed<T: Drop>(list: Vec<T>, item: Result<T, Fail>) -> Result<Vec<T>, Fail> {
+    let mut list = list;
+    list.push(item?)?;
+    Ok(list)
+}
+
+// A set with a further item.
+fn joined<T: Eq + Hash + Drop>(set: HashSet<T>, item: Result<T, Fail>) -> Result<HashSet<T>, Fail> {
+    let mut set = set;
+    set.insert(item?)?;
+    Ok(set)
+}
+
+// A value at a key.
+fn keyed<V: Drop>(alloc: Global, key: &str, value: V) -> Result<(String, V), Fail> {
+    match owned(alloc, key) {
+        Ok(key) => Ok((key, value)),
+        Err(fail) => {
+            drop(value);
+            Err(fail)
+        }
+    }
+}
+
+// Whether this is the text.
+fn says<T: Display + Drop>(alloc: Global, told: T, want: &str) -> Result<bool, Fail> {
+    Ok(told.to_string(alloc)?.as_str() == want)
+}
 
 fn owned(alloc: Global, text: &str) -> Result<String, Fail> {
     Ok(String::from_str(alloc, text)?)
@@ -24,7 +112,7 @@ fn uid(alloc: Global, text: &str) -> Result<EntityUID, Fail> {
 fn uids(alloc: Global, texts: &str) -> Result<HashSet<EntityUID>, Fail> {
     let mut set = HashSet::new(alloc);
     for text in texts.split_whitespace() {
-        set.insert(uid(alloc, text)?)?;
+        set = joined(set, uid(alloc, text))?;
     }
     Ok(set)
 }
@@ -38,13 +126,50 @@ fn known(n: i64) -> PartialValue {
     PartialValue::Value(long(n))
 }
 
+type Fields = Vec<(String, PartialValue)>;
+
 // Numbers at keys.
-fn numbers(alloc: Global, pairs: &[(&str, i64)]) -> Result<Vec<(String, PartialValue)>, Fail> {
+fn numbers(alloc: Global, pairs: &[(&str, i64)]) -> Result<Fields, Fail> {
     let mut fields = Vec::new(alloc);
     for (key, n) in pairs {
-        fields.push((owned(alloc, key)?, known(*n)))?;
+        fields = pushed(fields, keyed(alloc, key, known(*n)))?;
     }
     Ok(fields)
+}
+
+// The parents and the indirect ancestors.
+fn edges(
+    alloc: Global,
+    parents: &str,
+    indirect: &str,
+) -> Result<(HashSet<EntityUID>, HashSet<EntityUID>), Fail> {
+    let parents = uids(alloc, parents)?;
+    beside(parents, uids(alloc, indirect))
+}
+
+// The attributes and the tags.
+fn fields(
+    alloc: Global,
+    attrs: &[(&str, i64)],
+    tags: &[(&str, i64)],
+) -> Result<(Fields, Fields), Fail> {
+    let attrs = numbers(alloc, attrs)?;
+    beside(attrs, numbers(alloc, tags))
+}
+
+// An entity with these attributes and tags.
+fn assembled(
+    alloc: Global,
+    name: &str,
+    fields: (Fields, Fields),
+    parents: &str,
+    indirect: &str,
+) -> Result<Entity, Fail> {
+    let (fields, edges) = beside(fields, edges(alloc, parents, indirect))?;
+    let ((fields, edges), name) = beside((fields, edges), uid(alloc, name))?;
+    let (attrs, tags) = fields;
+    let (parents, indirect) = edges;
+    Ok(Entity::new_with_attr_partial_value(alloc, name, attrs, indirect, parents, tags)?)
 }
 
 // An entity with numbers as attributes and tags.
@@ -56,12 +181,7 @@ fn built(
     parents: &str,
     indirect: &str,
 ) -> Result<Entity, Fail> {
-    let name = uid(alloc, name)?;
-    let attrs = numbers(alloc, attrs)?;
-    let tags = numbers(alloc, tags)?;
-    let parents = uids(alloc, parents)?;
-    let indirect = uids(alloc, indirect)?;
-    Ok(Entity::new_with_attr_partial_value(alloc, name, attrs, indirect, parents, tags)?)
+    assembled(alloc, name, fields(alloc, attrs, tags)?, parents, indirect)
 }
 
 // An entity without attributes and tags.

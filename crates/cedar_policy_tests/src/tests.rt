@@ -1,5 +1,6 @@
-// What the tests build templates and policies with, and how they look at them. A function here keeps few values
-// alive, since each step that may fail drops all of them.
+// What the tests build templates and policies with, and how they look at them. No function holds a template, a
+// policy, an expression or bindings over a step that may fail: what is at hand goes to `beside` or to a helper that
+// lets it go, or is let go by a written `drop`.
 mod equality;
 mod linking;
 mod statics;
@@ -11,7 +12,7 @@ mod validation;
 use cedar_ids::entity::{Eid, EntityType, EntityUID};
 use cedar_ids::name::Name;
 use cedar_ids::policy_id::PolicyID;
-use cedar_policy::{Effect, SlotEnv, Template};
+use cedar_policy::{Effect, Policy, SlotEnv, Template};
 use cedar_scope::{ActionConstraint, Annotations, PrincipalConstraint, ResourceConstraint};
 use cedar_terms::expr::Expr;
 use cedar_terms::literal::Literal;
@@ -22,6 +23,39 @@ use std::fmt::Display;
 use std::rc::Rc;
 use std::test::Fail;
 
+// Both of two things, where the other could be made too; else the one is let go.
+fn beside<A: Drop, B>(one: A, other: Result<B, Fail>) -> Result<(A, B), Fail> {
+    match other {
+        Ok(other) => Ok((one, other)),
+        Err(fail) => {
+            drop(one);
+            Err(fail)
+        }
+    }
+}
+
+// A thing, where what was done with it went well; else it is let go.
+fn kept<A: Drop, B: Drop>(one: A, done: Result<B, Fail>) -> Result<A, Fail> {
+    match done {
+        Ok(_) => Ok(one),
+        Err(fail) => {
+            drop(one);
+            Err(fail)
+        }
+    }
+}
+
+// Whether a thing and another one that could be made are equal.
+fn same<T: PartialEq + Drop>(one: T, other: Result<T, Fail>) -> Result<bool, Fail> {
+    match other {
+        Ok(other) => Ok(one == other),
+        Err(fail) => {
+            drop(one);
+            Err(fail)
+        }
+    }
+}
+
 fn id(alloc: Global, text: &str) -> Result<PolicyID, Fail> {
     Ok(PolicyID::from_string(alloc, text)?)
 }
@@ -31,10 +65,14 @@ fn shared_type(alloc: Global, text: &str) -> Result<Rc<EntityType>, Fail> {
     Ok(Rc::new(alloc, ty)?)
 }
 
+fn eid_of(alloc: Global, eid: &str) -> Result<Eid, Fail> {
+    Ok(Eid::new(String::from_str(alloc, eid)?))
+}
+
 fn uid(alloc: Global, ty: &str, eid: &str) -> Result<EntityUID, Fail> {
-    let eid = Eid::new(String::from_str(alloc, eid)?);
-    let ty = EntityType::EntityType(Name::from_normalized_str(alloc, ty)?);
-    Ok(EntityUID::from_components(ty, eid, None))
+    let name = Name::from_normalized_str(alloc, ty)?;
+    let (name, eid) = beside(name, eid_of(alloc, eid))?;
+    Ok(EntityUID::from_components(EntityType::EntityType(name), eid, None))
 }
 
 fn shared(alloc: Global, ty: &str, eid: &str) -> Result<Rc<EntityUID>, Fail> {
@@ -57,18 +95,29 @@ fn number(alloc: Global, n: i64) -> Result<Expr, Fail> {
 
 // `N == M`
 fn equal(alloc: Global, n: i64, m: i64) -> Result<Expr, Fail> {
-    let left = number(alloc, n)?;
-    let right = number(alloc, m)?;
+    let (left, right) = beside(number(alloc, n)?, number(alloc, m))?;
     Ok(Expr::is_eq(alloc, left, right)?)
+}
+
+// Binds a slot to the uid of type `A` of this eid.
+fn bind(alloc: Global, values: &mut SlotEnv, slot: SlotId, eid: &str) -> Result<(), Fail> {
+    let value = uid(alloc, "A", eid)?;
+    drop(values.insert(slot, value)?);
+    Ok(())
+}
+
+fn bind_all(alloc: Global, values: &mut SlotEnv, pairs: &[(SlotId, &str)]) -> Result<(), Fail> {
+    for (slot, eid) in pairs {
+        bind(alloc, values, *slot, eid)?;
+    }
+    Ok(())
 }
 
 // What bindings are made of: the slot, and the eid of a uid of type `A`.
 fn bindings(alloc: Global, pairs: &[(SlotId, &str)]) -> Result<SlotEnv, Fail> {
     let mut values = HashMap::new(alloc);
-    for (slot, eid) in pairs {
-        drop(values.insert(*slot, uid(alloc, "A", eid)?)?);
-    }
-    Ok(values)
+    let done = bind_all(alloc, &mut values, pairs);
+    kept(values, done)
 }
 
 // The three constraints of a template.
@@ -128,6 +177,19 @@ fn template(
 
 // The template `t` that permits, of these constraints and this clause.
 fn permits(alloc: Global, scope: Scope, clause: Option<Expr>) -> Result<Template, Fail> {
-    let t = id(alloc, "t")?;
+    let ((scope, clause), t) = beside((scope, clause), id(alloc, "t"))?;
     template(alloc, t, Effect::Permit, scope, clause)
+}
+
+// The link of this id of a template with these bindings.
+fn linked(
+    alloc: Global,
+    template: Template,
+    name: &str,
+    pairs: &[(SlotId, &str)],
+) -> Result<Policy, Fail> {
+    let template = Rc::new(alloc, template)?;
+    let (template, name) = beside(template, id(alloc, name))?;
+    let ((template, name), values) = beside((template, name), bindings(alloc, pairs))?;
+    Ok(Template::link(alloc, template, name, values)?)
 }

@@ -1,23 +1,39 @@
 // Readers, changes and comparisons of entities.
-use super::{built, known, long, owned, related, uid, uids, worked};
+use super::{
+    Fields, asked, beside, built, joined, keyed, known, owned, pushed, related, says, tried, twice,
+    uid, worked,
+};
 use cedar_entity::entity::Entity;
+use cedar_entity::iters::{Keys, Pairs};
 use cedar_ids::entity::{Eid, EntityType, EntityUID};
 use cedar_ids::loc::Loc;
 use cedar_ids::name::Name;
-use cedar_terms::{PartialValue, StaticType, StaticallyTyped, Value};
+use cedar_terms::{Literal, PartialValue, StaticType, StaticallyTyped, Value, ValueKind};
 use std::alloc::Global;
+use std::collections::HashSet;
 use std::hash::{DefaultHasher, Hash, Hasher};
 use std::rc::RcStr;
 use std::test::Fail;
 
+// Whether a value is there and is this number.
+fn is(value: Option<&PartialValue>, n: i64) -> bool {
+    let want = known(n);
+    let same = value == Some(&want);
+    drop(want);
+    same
+}
+
+fn has_the_last(entity: &Entity) -> bool {
+    entity.attrs_len() == 1
+        && entity.tags_len() == 0
+        && is(entity.get("k"), 1)
+        && entity.get("K").is_none()
+        && entity.get_tag("k").is_none()
+}
+
 #[test]
 fn the_last_of_a_key_counts(rt: HostRuntime) -> Result<(), Fail> {
-    let entity = worked(rt.alloc())?;
-    assert_eq!(rt; entity.attrs_len(), 1);
-    assert_eq!(rt; entity.tags_len(), 0);
-    assert!(rt; entity.get("k") == Some(&known(1)));
-    assert!(rt; entity.get("K").is_none());
-    assert!(rt; entity.get_tag("k").is_none());
+    assert!(rt; asked(worked(rt.alloc()), has_the_last)?);
     Ok(())
 }
 
@@ -35,135 +51,235 @@ fn filled(alloc: Global) -> Result<Entity, Fail> {
     )
 }
 
+// Whether these are the keys, in this order.
+fn are_keys(keys: Keys<'_>, want: &[&str]) -> bool {
+    let mut same = true;
+    let mut place = 0_usize;
+    for key in keys {
+        same = same && want.get(place) == Some(&key);
+        place = place.wrapping_add(1);
+    }
+    same && place == want.len()
+}
+
+fn has_its_keys(entity: &Entity) -> bool {
+    are_keys(entity.keys(), &["Z", "a", "b", "é"]) && are_keys(entity.tag_keys(), &["s", "t"])
+}
+
 #[test]
 fn keys_come_in_byte_order(rt: HostRuntime) -> Result<(), Fail> {
-    let entity = filled(rt.alloc())?;
-    assert_eq!(rt; entity.keys().count(), 4);
-    for (key, want) in entity.keys().zip(["Z", "a", "b", "é"]) {
-        assert_eq!(rt; key, want);
-    }
-    assert_eq!(rt; entity.tag_keys().count(), 2);
-    for (key, want) in entity.tag_keys().zip(["s", "t"]) {
-        assert_eq!(rt; key, want);
-    }
+    assert!(rt; asked(filled(rt.alloc()), has_its_keys)?);
     Ok(())
+}
+
+// Whether a pair is there, and is this key with this number.
+fn is_pair(pair: (&str, &PartialValue), want: Option<&(&str, i64)>) -> bool {
+    match want {
+        Some((key, n)) => pair.0 == *key && is(Some(pair.1), *n),
+        None => false,
+    }
+}
+
+// Whether these are the keys with their numbers, in this order.
+fn are_pairs(pairs: Pairs<'_>, want: &[(&str, i64)]) -> bool {
+    let mut same = true;
+    let mut place = 0_usize;
+    for pair in pairs {
+        same = same && is_pair(pair, want.get(place));
+        place = place.wrapping_add(1);
+    }
+    same && place == want.len()
+}
+
+fn has_its_pairs(entity: &Entity) -> bool {
+    are_pairs(entity.attrs(), &[("Z", 0), ("a", 1), ("b", 2), ("é", 3)])
+        && are_pairs(entity.tags(), &[("s", 2), ("t", 3)])
+        && is(entity.get_tag("t"), 3)
 }
 
 #[test]
 fn attributes_and_tags_come_with_their_values(rt: HostRuntime) -> Result<(), Fail> {
-    let entity = filled(rt.alloc())?;
-    assert_eq!(rt; entity.attrs().count(), 4);
-    for ((key, value), (want, n)) in entity.attrs().zip([("Z", 0), ("a", 1), ("b", 2), ("é", 3)]) {
-        assert_eq!(rt; key, want);
-        assert!(rt; *value == known(n));
-    }
-    assert_eq!(rt; entity.tags().count(), 2);
-    for ((key, value), (want, n)) in entity.tags().zip([("s", 2), ("t", 3)]) {
-        assert_eq!(rt; key, want);
-        assert!(rt; *value == known(n));
-    }
-    assert!(rt; entity.get_tag("t") == Some(&known(3)));
+    assert!(rt; asked(filled(rt.alloc()), has_its_pairs)?);
     Ok(())
+}
+
+// The entity that has a uid and nothing else.
+fn bare(alloc: Global, name: Result<EntityUID, Fail>) -> Result<Entity, Fail> {
+    Ok(Entity::with_uid(alloc, name?))
+}
+
+fn has_nothing_else(entity: &Entity) -> bool {
+    entity.uid().eid().as_ref() == "a"
+        && entity.attrs_len() == 0
+        && entity.tags_len() == 0
+        && entity.ancestors().count() == 0
 }
 
 #[test]
 fn an_entity_of_a_uid_has_nothing_else(rt: HostRuntime) -> Result<(), Fail> {
-    let entity = Entity::with_uid(rt.alloc(), uid(rt.alloc(), "A::\"a\"")?);
-    assert!(rt; entity.uid().eid().as_ref() == "a");
-    assert_eq!(rt; entity.attrs_len(), 0);
-    assert_eq!(rt; entity.tags_len(), 0);
-    assert_eq!(rt; entity.ancestors().count(), 0);
+    let alloc = rt.alloc();
+    assert!(rt; asked(bare(alloc, uid(alloc, "A::\"a\"")), has_nothing_else)?);
     Ok(())
+}
+
+// An entity with two parents and two indirect ancestors, of which one is a parent too.
+fn with_both(alloc: Global) -> Result<Entity, Fail> {
+    related(alloc, "A::\"a\"", "A::\"z\" A::\"b\"", "A::\"b\" A::\"c\"")
+}
+
+// Whether the first two ancestors are parents, and all after them indirect ones.
+fn is_ordered(entity: &Entity) -> bool {
+    let mut ordered = true;
+    let mut place = 0_usize;
+    for ancestor in entity.ancestors() {
+        let fits = match place {
+            0 | 1 => entity.is_child_of(ancestor),
+            _ => entity.is_indirect_descendant_of(ancestor),
+        };
+        ordered = ordered && fits;
+        place = place.wrapping_add(1);
+    }
+    ordered && place == 4
+}
+
+fn has_two_and_two(entity: &Entity) -> bool {
+    entity.ancestors().count() == 4
+        && entity.parents().count() == 2
+        && entity.indirect_ancestors().count() == 2
 }
 
 #[test]
 fn parents_come_before_indirect_ancestors(rt: HostRuntime) -> Result<(), Fail> {
-    let entity = related(
-        rt.alloc(),
-        "A::\"a\"",
-        "A::\"z\" A::\"b\"",
-        "A::\"b\" A::\"c\"",
-    )?;
-    assert_eq!(rt; entity.ancestors().count(), 4);
-    for (place, ancestor) in entity.ancestors().enumerate() {
-        if place < 2 {
-            assert!(rt; entity.is_child_of(ancestor));
-        } else {
-            assert!(rt; entity.is_indirect_descendant_of(ancestor));
-        }
-    }
-    assert_eq!(rt; entity.parents().count(), 2);
-    assert_eq!(rt; entity.indirect_ancestors().count(), 2);
+    assert!(rt; asked(with_both(rt.alloc()), is_ordered)?);
+    assert!(rt; asked(with_both(rt.alloc()), has_two_and_two)?);
     Ok(())
+}
+
+// Whether an entity has the uid with this text as a parent, and as an indirect ancestor.
+fn is_above(
+    alloc: Global,
+    entity: &Entity,
+    name: &str,
+    child: bool,
+    indirect: bool,
+) -> Result<bool, Fail> {
+    match uid(alloc, name) {
+        Ok(other) => {
+            let is_child = entity.is_child_of(&other);
+            let is_indirect = entity.is_indirect_descendant_of(&other);
+            let is_either = entity.is_descendant_of(&other);
+            drop(other);
+            Ok(is_child == child && is_indirect == indirect && is_either == (child || indirect))
+        }
+        Err(fail) => Err(fail),
+    }
+}
+
+fn has_both(alloc: Global, entity: &mut Entity) -> Result<bool, Fail> {
+    Ok(
+        is_above(alloc, entity, "A::\"z\"", true, false)?
+            && is_above(alloc, entity, "A::\"b\"", true, true)?
+            && is_above(alloc, entity, "A::\"c\"", false, true)?
+            && is_above(alloc, entity, "A::\"a\"", false, false)?,
+    )
 }
 
 #[test]
 fn ancestors_are_parents_or_indirect_ones(rt: HostRuntime) -> Result<(), Fail> {
-    let entity = related(
-        rt.alloc(),
-        "A::\"a\"",
-        "A::\"z\" A::\"b\"",
-        "A::\"b\" A::\"c\"",
-    )?;
-    for (text, child, indirect) in [
-        ("A::\"z\"", true, false),
-        ("A::\"b\"", true, true),
-        ("A::\"c\"", false, true),
-        ("A::\"a\"", false, false),
-    ] {
-        let other = uid(rt.alloc(), text)?;
-        assert_eq!(rt; entity.is_child_of(&other), child);
-        assert_eq!(rt; entity.is_indirect_descendant_of(&other), indirect);
-        assert_eq!(rt; entity.is_descendant_of(&other), child || indirect);
-    }
+    assert!(rt; tried(rt.alloc(), with_both(rt.alloc()), has_both)?);
     Ok(())
+}
+
+// Whether an entity has this many parents, and this many indirect ancestors.
+fn has_counts(entity: &Entity, parents: usize, indirect: usize) -> bool {
+    entity.parents().count() == parents && entity.indirect_ancestors().count() == indirect
+}
+
+// Adds the uid with this text to the indirect ancestors.
+fn add_indirect(alloc: Global, entity: &mut Entity, name: &str) -> Result<(), Fail> {
+    let name = uid(alloc, name)?;
+    match entity.add_indirect_ancestor(name) {
+        Ok(()) => Ok(()),
+        Err(error) => Err(Fail::from(error)),
+    }
+}
+
+fn takes_in_no_parent(alloc: Global, entity: &mut Entity) -> Result<bool, Fail> {
+    add_indirect(alloc, entity, "A::\"b\"")?;
+    let unchanged = has_counts(entity, 1, 1);
+    add_indirect(alloc, entity, "A::\"d\"")?;
+    Ok(unchanged && has_counts(entity, 1, 2))
 }
 
 #[test]
 fn an_indirect_ancestor_that_is_a_parent_changes_nothing(rt: HostRuntime) -> Result<(), Fail> {
-    let mut entity = worked(rt.alloc())?;
-    entity.add_indirect_ancestor(uid(rt.alloc(), "A::\"b\"")?)?;
-    assert_eq!(rt; entity.indirect_ancestors().count(), 1);
-    assert_eq!(rt; entity.parents().count(), 1);
-    entity.add_indirect_ancestor(uid(rt.alloc(), "A::\"d\"")?)?;
-    assert_eq!(rt; entity.indirect_ancestors().count(), 2);
+    assert!(rt; tried(rt.alloc(), worked(rt.alloc()), takes_in_no_parent)?);
     Ok(())
+}
+
+// Adds the uid with this text to the parents.
+fn add_parent(alloc: Global, entity: &mut Entity, name: &str) -> Result<(), Fail> {
+    let name = uid(alloc, name)?;
+    match entity.add_parent(name) {
+        Ok(()) => Ok(()),
+        Err(error) => Err(Fail::from(error)),
+    }
+}
+
+// Makes of the first of two like entities one with the indirect ancestor as a parent.
+fn takes_in_a_parent(alloc: Global, pair: &mut (Entity, Entity)) -> Result<bool, Fail> {
+    add_parent(alloc, &mut pair.0, "A::\"c\"")?;
+    Ok(has_counts(&pair.0, 2, 0) && pair.0.deep_eq(&pair.1))
 }
 
 #[test]
 fn a_new_parent_is_no_indirect_ancestor(rt: HostRuntime) -> Result<(), Fail> {
-    let before = worked(rt.alloc())?;
-    let mut entity = before.clone()?;
-    entity.add_parent(uid(rt.alloc(), "A::\"c\"")?)?;
-    assert_eq!(rt; entity.indirect_ancestors().count(), 0);
-    assert_eq!(rt; entity.parents().count(), 2);
-    assert!(rt; entity.deep_eq(&before));
+    let alloc = rt.alloc();
+    assert!(rt; tried(alloc, twice(worked(alloc)?), takes_in_a_parent)?);
     Ok(())
+}
+
+// Removes a uid, which is a parent and an indirect ancestor, from the one set and then from the other.
+fn loses(entity: &mut Entity, name: &EntityUID) -> bool {
+    entity.remove_parent(name);
+    let kept = entity.parents().count() == 1 && entity.is_indirect_descendant_of(name);
+    entity.remove_indirect_ancestor(name);
+    kept && entity.indirect_ancestors().count() == 2
+}
+
+fn loses_all(alloc: Global, entity: &mut Entity) -> Result<bool, Fail> {
+    match uid(alloc, "A::\"b\"") {
+        Ok(name) => {
+            let lost = loses(entity, &name);
+            drop(name);
+            entity.remove_all_indirect_ancestors();
+            Ok(lost && has_counts(entity, 1, 0))
+        }
+        Err(fail) => Err(fail),
+    }
 }
 
 #[test]
 fn what_is_removed_goes_from_its_set_alone(rt: HostRuntime) -> Result<(), Fail> {
-    let b = uid(rt.alloc(), "A::\"b\"")?;
-    let mut entity = related(
+    let entity = related(
         rt.alloc(),
         "A::\"a\"",
         "A::\"b\" A::\"c\"",
         "A::\"b\" A::\"d\" A::\"e\"",
-    )?;
-    entity.remove_parent(&b);
-    assert_eq!(rt; entity.parents().count(), 1);
-    assert!(rt; entity.is_indirect_descendant_of(&b));
-    entity.remove_indirect_ancestor(&b);
-    assert_eq!(rt; entity.indirect_ancestors().count(), 2);
-    entity.remove_all_indirect_ancestors();
-    assert_eq!(rt; entity.indirect_ancestors().count(), 0);
-    assert_eq!(rt; entity.parents().count(), 1);
+    );
+    assert!(rt; tried(rt.alloc(), entity, loses_all)?);
     Ok(())
 }
 
-// Whether an entity is deep equal to the one a with attribute and tag 1, parent b and indirect ancestor c,
-// the one way and the other.
-fn compared(alloc: Global, other: Entity) -> Result<(bool, bool), Fail> {
+// An entity with one attribute and one tag, beside the one a with attribute and tag 1, parent b and indirect ancestor c.
+fn beside_base(
+    alloc: Global,
+    name: &str,
+    numbers: (i64, i64),
+    parents: &str,
+    indirect: &str,
+) -> Result<(Entity, Entity), Fail> {
+    let (attr, tag) = numbers;
     let base = built(
         alloc,
         "A::\"a\"",
@@ -172,12 +288,25 @@ fn compared(alloc: Global, other: Entity) -> Result<(bool, bool), Fail> {
         "A::\"b\"",
         "A::\"c\"",
     )?;
-    Ok((base.deep_eq(&other), other.deep_eq(&base)))
+    let other = built(
+        alloc,
+        name,
+        &[("k", attr)],
+        &[("k", tag)],
+        parents,
+        indirect,
+    );
+    beside(base, other)
+}
+
+// Whether two entities are deep equal, the one way and the other.
+fn deep_equal(pair: &(Entity, Entity)) -> (bool, bool) {
+    (pair.0.deep_eq(&pair.1), pair.1.deep_eq(&pair.0))
 }
 
 #[test]
 fn deep_equality_looks_at_all_but_who_is_a_parent(rt: HostRuntime) -> Result<(), Fail> {
-    for (name, attr, tag, parents, indirect, want) in [
+    for (name, attr, tag, parents, indirect, want) in &[
         ("A::\"a\"", 1, 1, "A::\"b\"", "A::\"c\"", true),
         ("A::\"a\"", 1, 1, "A::\"c\"", "A::\"b\"", true),
         ("A::\"a\"", 1, 1, "A::\"b\" A::\"c\"", "", true),
@@ -195,15 +324,8 @@ fn deep_equality_looks_at_all_but_who_is_a_parent(rt: HostRuntime) -> Result<(),
         ("A::\"a\"", 1, 1, "A::\"b\"", "", false),
         ("A::\"a\"", 1, 1, "A::\"b\"", "A::\"d\"", false),
     ] {
-        let other = built(
-            rt.alloc(),
-            name,
-            &[("k", attr)],
-            &[("k", tag)],
-            parents,
-            indirect,
-        )?;
-        assert!(rt; compared(rt.alloc(), other)? == (want, want));
+        let pair = beside_base(rt.alloc(), name, (*attr, *tag), parents, indirect);
+        assert!(rt; asked(pair, deep_equal)? == (*want, *want));
     }
     Ok(())
 }
@@ -214,33 +336,55 @@ fn hash_of<T: Hash>(x: &T) -> u64 {
     state.finish()
 }
 
+// Whether two entities are equal, and hash alike.
+fn agree(pair: &(Entity, Entity)) -> bool {
+    pair.0 == pair.1 && hash_of(&pair.0) == hash_of(&pair.1)
+}
+
+fn differ(pair: &(Entity, Entity)) -> bool {
+    pair.0 != pair.1
+}
+
 #[test]
 fn equality_and_hash_look_at_the_uid_alone(rt: HostRuntime) -> Result<(), Fail> {
-    let entity = worked(rt.alloc())?;
-    let bare = related(rt.alloc(), "A::\"a\"", "", "")?;
-    let other = related(rt.alloc(), "A::\"b\"", "", "")?;
-    assert!(rt; entity == bare);
-    assert!(rt; entity != other);
-    assert_eq!(rt; hash_of(&entity), hash_of(&bare));
+    let alloc = rt.alloc();
+    let alike = beside(worked(alloc)?, related(alloc, "A::\"a\"", "", ""));
+    assert!(rt; asked(alike, agree)?);
+    let others = beside(worked(alloc)?, related(alloc, "A::\"b\"", "", ""));
+    assert!(rt; asked(others, differ)?);
     Ok(())
+}
+
+// Takes the entity a apart, and tells how much it has of each.
+fn taken_apart(entity: Entity) -> bool {
+    let (name, attrs, indirect, parents, tags) = entity.into_inner();
+    let is_a = name.eid().as_ref() == "a";
+    let lengths = [attrs.len(), indirect.len(), parents.len(), tags.len()];
+    drop(name);
+    drop(attrs);
+    drop(indirect);
+    drop(parents);
+    drop(tags);
+    is_a && lengths == [4, 2, 1, 2]
 }
 
 #[test]
 fn an_entity_is_taken_apart(rt: HostRuntime) -> Result<(), Fail> {
-    let (name, attrs, indirect, parents, tags) = filled(rt.alloc())?.into_inner();
-    assert!(rt; name.eid().as_ref() == "a");
-    assert_eq!(rt; attrs.len(), 4);
-    assert_eq!(rt; indirect.len(), 2);
-    assert_eq!(rt; parents.len(), 1);
-    assert_eq!(rt; tags.len(), 2);
+    assert!(rt; taken_apart(filled(rt.alloc())?));
     Ok(())
+}
+
+fn has_its_type(alloc: Global, entity: &mut Entity) -> Result<bool, Fail> {
+    match entity.type_of(alloc) {
+        Ok(StaticType::Entity { ty }) => says(alloc, ty, "N::T"),
+        Err(error) => Err(Fail::from(error)),
+    }
 }
 
 #[test]
 fn the_type_is_that_of_the_uid(rt: HostRuntime) -> Result<(), Fail> {
-    let entity = related(rt.alloc(), "N::T::\"a\"", "", "")?;
-    let StaticType::Entity { ty } = entity.type_of(rt.alloc())?;
-    assert_eq!(rt; ty.to_string(rt.alloc())?.as_str(), "N::T");
+    let alloc = rt.alloc();
+    assert!(rt; tried(alloc, related(alloc, "N::T::\"a\"", "", ""), has_its_type)?);
     Ok(())
 }
 
@@ -253,20 +397,44 @@ fn place(alloc: Global) -> Result<Option<Loc>, Fail> {
 // The uid a at a place.
 fn placed(alloc: Global) -> Result<EntityUID, Fail> {
     let name = Name::from_normalized_str(alloc, "A")?;
-    let eid = Eid::new(owned(alloc, "a")?);
-    Ok(EntityUID::from_components(EntityType::EntityType(name), eid, place(alloc)?))
+    let (name, eid) = beside(name, owned(alloc, "a"))?;
+    let ((name, eid), place) = beside((name, eid), place(alloc))?;
+    Ok(EntityUID::from_components(EntityType::EntityType(name), Eid::new(eid), place))
+}
+
+// Where a uid stands.
+fn start_of_uid(uid: &EntityUID) -> Option<usize> {
+    uid.loc().map(|loc| loc.start)
+}
+
+fn has_a_placed_uid(entity: &Entity) -> bool {
+    start_of_uid(entity.uid()) == Some(3)
+}
+
+// Whether the first of two entities has a uid at a place, and the second is no other.
+fn is_no_other(pair: &(Entity, Entity)) -> bool {
+    has_a_placed_uid(&pair.0) && pair.0.deep_eq(&pair.1) && agree(pair)
+}
+
+// The second of two.
+fn second<A: Drop, B: Drop>(both: Result<(A, B), Fail>) -> Result<B, Fail> {
+    let (one, other) = both?;
+    drop(one);
+    Ok(other)
 }
 
 #[test]
 fn locations_are_kept_and_not_looked_at(rt: HostRuntime) -> Result<(), Fail> {
-    let entity = Entity::with_uid(rt.alloc(), placed(rt.alloc())?);
-    let copy = entity.clone()?;
-    let bare = related(rt.alloc(), "A::\"a\"", "", "")?;
-    assert_eq!(rt; entity.uid().loc().map(|loc| loc.start), Some(3));
-    assert_eq!(rt; copy.uid().loc().map(|loc| loc.start), Some(3));
-    assert!(rt; entity == bare);
-    assert!(rt; entity.deep_eq(&bare));
-    assert_eq!(rt; hash_of(&entity), hash_of(&bare));
+    let alloc = rt.alloc();
+    let entity = bare(alloc, placed(alloc))?;
+    assert!(rt;
+        asked(
+            beside(entity, related(alloc, "A::\"a\"", "", "")),
+            is_no_other
+        )?
+    );
+    let entity = bare(alloc, placed(alloc))?;
+    assert!(rt; asked(second(twice(entity)), has_a_placed_uid)?);
     Ok(())
 }
 
@@ -279,27 +447,42 @@ fn start_of(value: Option<&PartialValue>) -> Option<usize> {
     }
 }
 
+// The number 1 at a place, at a key.
+fn placed_fields(alloc: Global) -> Result<Fields, Fail> {
+    let place = place(alloc)?;
+    let value = Value::new(ValueKind::Lit(Literal::Long(1)), place);
+    pushed(
+        Vec::new(alloc),
+        keyed(alloc, "k", PartialValue::Value(value)),
+    )
+}
+
 // An entity with 1 at a place as its one attribute, and the uid a at a place as its one parent.
 fn with_places(alloc: Global) -> Result<Entity, Fail> {
-    let value = Value::new(long(1).value, place(alloc)?);
-    let mut attrs = Vec::new(alloc);
-    attrs.push((owned(alloc, "k")?, PartialValue::Value(value)))?;
-    let name = uid(alloc, "A::\"b\"")?;
-    let none = uids(alloc, "")?;
-    let mut parents = uids(alloc, "")?;
-    parents.insert(placed(alloc)?)?;
+    let attrs = placed_fields(alloc)?;
+    let (attrs, name) = beside(attrs, uid(alloc, "A::\"b\""))?;
+    let parents = joined(HashSet::new(alloc), placed(alloc));
+    let ((attrs, name), parents) = beside((attrs, name), parents)?;
+    let none = HashSet::new(alloc);
     Ok(Entity::new_with_attr_partial_value(alloc, name, attrs, none, parents, Vec::new(alloc))?)
+}
+
+fn has_places(entity: &Entity) -> bool {
+    let mut kept = start_of(entity.get("k")) == Some(3);
+    for parent in entity.parents() {
+        kept = kept && start_of_uid(parent) == Some(3);
+    }
+    kept
+}
+
+fn has_one_parent(entity: &Entity) -> bool {
+    start_of(entity.get("k")) == Some(3) && entity.parents().count() == 1
 }
 
 #[test]
 fn attributes_and_parents_keep_their_locations(rt: HostRuntime) -> Result<(), Fail> {
-    let entity = with_places(rt.alloc())?;
-    assert_eq!(rt; start_of(entity.get("k")), Some(3));
-    for parent in entity.parents() {
-        assert_eq!(rt; parent.loc().map(|loc| loc.start), Some(3));
-    }
-    let copy = entity.clone()?;
-    assert_eq!(rt; start_of(copy.get("k")), Some(3));
-    assert_eq!(rt; copy.parents().count(), 1);
+    let alloc = rt.alloc();
+    assert!(rt; asked(with_places(alloc), has_places)?);
+    assert!(rt; asked(second(twice(with_places(alloc)?)), has_one_parent)?);
     Ok(())
 }

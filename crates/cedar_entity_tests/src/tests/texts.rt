@@ -1,19 +1,13 @@
 // The texts of entities and of refusals.
-use super::{numbers, owned, related, uid, uids, worked};
+use super::{assembled, beside, keyed, numbers, pushed, related, says, uid, worked};
 use cedar_entity::entity::Entity;
 use cedar_entity::err::EntitiesError;
 use cedar_graph::{MissingTcEdge, TcError};
 use cedar_ids::entity::EntityUID;
 use cedar_terms::{Expr, Literal, PartialValue};
 use std::alloc::Global;
-use std::fmt::Display;
 use std::rc::Rc;
 use std::test::Fail;
-
-// Whether this is the text.
-fn says<T: Display + Drop>(alloc: Global, told: T, want: &str) -> Result<bool, Fail> {
-    Ok(told.to_string(alloc)?.as_str() == want)
-}
 
 #[test]
 fn an_entity_is_written_on_three_lines(rt: HostRuntime) -> Result<(), Fail> {
@@ -44,12 +38,11 @@ fn not_known(alloc: Global) -> Result<PartialValue, Fail> {
 
 // An entity with an attribute that is left over.
 fn partly_known(alloc: Global) -> Result<Entity, Fail> {
-    let mut attrs = numbers(alloc, &[("z", -5), ("naïve \"é\"", 7)])?;
-    attrs.push((owned(alloc, "a")?, not_known(alloc)?))?;
-    let tags = numbers(alloc, &[("t", 1)])?;
-    let name = uid(alloc, "A::\"a\"")?;
-    let (none, nobody) = (uids(alloc, "")?, uids(alloc, "")?);
-    Ok(Entity::new_with_attr_partial_value(alloc, name, attrs, none, nobody, tags)?)
+    let attrs = numbers(alloc, &[("z", -5), ("naïve \"é\"", 7)])?;
+    let (attrs, value) = beside(attrs, not_known(alloc))?;
+    let attrs = pushed(attrs, keyed(alloc, "a", value))?;
+    let fields = beside(attrs, numbers(alloc, &[("t", 1)]))?;
+    assembled(alloc, "A::\"a\"", fields, "", "")
 }
 
 #[test]
@@ -71,10 +64,13 @@ fn refusals_of_stores_are_told(rt: HostRuntime) -> Result<(), Fail> {
 
 // That a store lacks the edge from a to c, which b stands between.
 fn missing(alloc: Global) -> Result<TcError<EntityUID>, Fail> {
+    let child = uid(alloc, "A::\"a\"")?;
+    let (child, parent) = beside(child, uid(alloc, "A::\"b\""))?;
+    let ((child, parent), grandparent) = beside((child, parent), uid(alloc, "A::\"c\""))?;
     Ok(TcError::MissingTcEdge(MissingTcEdge {
-        child: uid(alloc, "A::\"a\"")?,
-        parent: uid(alloc, "A::\"b\"")?,
-        grandparent: uid(alloc, "A::\"c\"")?,
+        child,
+        parent,
+        grandparent,
     }))
 }
 

@@ -1,22 +1,34 @@
 // Which entities are valid, and what is named where one is not.
-use super::{built, long, numbers, owned, related, uid, uids};
+use super::{Fields, assembled, beside, built, keyed, long, owned, pushed, related, says, tried};
 use cedar_entity::entity::Entity;
 use cedar_entity::err::EntitiesError;
 use cedar_terms::{Expr, Literal, PartialValue, Value, ValueKind};
 use std::alloc::Global;
 use std::test::Fail;
 
-// What `validate` says, as a text.
-fn verdict(alloc: Global, entity: Entity) -> Result<String, Fail> {
+// Whether `validate` says this; of a valid entity `valid`.
+fn is_told(alloc: Global, entity: &Entity, want: &str) -> Result<bool, Fail> {
     match entity.validate(alloc) {
-        Ok(()) => owned(alloc, "valid"),
-        Err(error) => Ok(error.to_string(alloc)?),
+        Ok(()) => Ok(want == "valid"),
+        Err(error) => says(alloc, error, want),
+    }
+}
+
+// The same of an entity that is made for it.
+fn judged(alloc: Global, made: Result<Entity, Fail>, want: &str) -> Result<bool, Fail> {
+    match made {
+        Ok(entity) => {
+            let told = is_told(alloc, &entity, want);
+            drop(entity);
+            told
+        }
+        Err(fail) => Err(fail),
     }
 }
 
 #[test]
 fn ancestors_are_looked_at(rt: HostRuntime) -> Result<(), Fail> {
-    for (name, parents, indirect, want) in [
+    for (name, parents, indirect, want) in &[
         (
             "T::\"self\"",
             "T::\"self\"",
@@ -55,15 +67,15 @@ fn ancestors_are_looked_at(rt: HostRuntime) -> Result<(), Fail> {
             "entity `Action::\"v\"` has `T::\"z\"` as parent and as indirect ancestor",
         ),
     ] {
-        let entity = related(rt.alloc(), name, parents, indirect)?;
-        assert_eq!(rt; verdict(rt.alloc(), entity)?.as_str(), want);
+        let entity = related(rt.alloc(), name, parents, indirect);
+        assert!(rt; judged(rt.alloc(), entity, want)?);
     }
     Ok(())
 }
 
 #[test]
 fn ancestors_of_actions_are_looked_at(rt: HostRuntime) -> Result<(), Fail> {
-    for (name, parents, indirect, want) in [
+    for (name, parents, indirect, want) in &[
         (
             "Action::\"view\"",
             "User::\"x\"",
@@ -90,125 +102,173 @@ fn ancestors_of_actions_are_looked_at(rt: HostRuntime) -> Result<(), Fail> {
             "action `N::Action::\"v\"` has the ancestor `S::\"z\"`, which is not an action",
         ),
     ] {
-        let entity = related(rt.alloc(), name, parents, indirect)?;
-        assert_eq!(rt; verdict(rt.alloc(), entity)?.as_str(), want);
+        let entity = related(rt.alloc(), name, parents, indirect);
+        assert!(rt; judged(rt.alloc(), entity, want)?);
     }
     Ok(())
 }
 
+// One value at a key.
+fn field<V: Drop>(alloc: Global, key: &str, value: V) -> Result<Vec<(String, V)>, Fail> {
+    pushed(Vec::new(alloc), keyed(alloc, key, value))
+}
+
 // A record of one key.
 fn record(alloc: Global, key: &str, value: Value) -> Result<Value, Fail> {
-    let mut pairs = Vec::new(alloc);
-    pairs.push((owned(alloc, key)?, value))?;
+    let pairs = field(alloc, key, value)?;
     Ok(Value::record(alloc, pairs, None)?)
 }
 
 // A set of one value.
 fn set(alloc: Global, value: Value) -> Result<Value, Fail> {
-    let mut values = Vec::new(alloc);
-    values.push(value)?;
+    let values = pushed(Vec::new(alloc), Ok(value))?;
     Ok(Value::set(alloc, values, None)?)
 }
 
-type Fields = Vec<(String, PartialValue)>;
-
-// One value at a key.
-fn field(alloc: Global, key: &str, value: PartialValue) -> Result<Fields, Fail> {
-    let mut pairs = Vec::new(alloc);
-    pairs.push((owned(alloc, key)?, value))?;
-    Ok(pairs)
+// The entity a with these attributes and tags.
+fn with_fields(alloc: Global, fields: (Fields, Fields)) -> Result<Entity, Fail> {
+    assembled(alloc, "T::\"a\"", fields, "", "")
 }
 
-// An entity with these attributes and tags.
-fn with_fields(alloc: Global, attrs: Fields, tags: Fields) -> Result<Entity, Fail> {
-    let (none, nobody) = (uids(alloc, "")?, uids(alloc, "")?);
-    let name = uid(alloc, "T::\"a\"")?;
-    Ok(Entity::new_with_attr_partial_value(alloc, name, attrs, none, nobody, tags)?)
+// An entity with this value as a tag.
+fn tagged(alloc: Global, value: Result<Value, Fail>) -> Result<Entity, Fail> {
+    let tags = field(alloc, "t", PartialValue::Value(value?))?;
+    with_fields(alloc, (Vec::new(alloc), tags))
 }
 
-// What `validate` says of a tag with this value.
-fn tagged(alloc: Global, value: Value) -> Result<String, Fail> {
-    let tags = field(alloc, "t", PartialValue::Value(value))?;
-    verdict(alloc, with_fields(alloc, Vec::new(alloc), tags)?)
+// The number 1 at a key.
+fn one_at(alloc: Global, key: &str) -> Result<Value, Fail> {
+    record(alloc, key, long(1))
+}
+
+// The same in a set in a set.
+fn in_sets(alloc: Global, key: &str) -> Result<Value, Fail> {
+    let inner = set(alloc, one_at(alloc, key)?)?;
+    set(alloc, inner)
 }
 
 #[test]
 fn reserved_keys_in_records_are_refused(rt: HostRuntime) -> Result<(), Fail> {
-    for (key, want) in [
+    let alloc = rt.alloc();
+    for (key, want) in &[
         ("__extn", "the key `__extn` is reserved"),
         ("__expr", "the key `__expr` is reserved"),
         ("__entity", "the key `__entity` is reserved"),
         ("ordinary", "valid"),
         ("__extn_", "valid"),
     ] {
-        let plain = record(rt.alloc(), key, long(1))?;
-        assert_eq!(rt; tagged(rt.alloc(), plain)?.as_str(), want);
-        let inner = set(rt.alloc(), record(rt.alloc(), key, long(1))?)?;
-        assert_eq!(rt; tagged(rt.alloc(), set(rt.alloc(), inner)?)?.as_str(), want);
+        assert!(rt; judged(alloc, tagged(alloc, one_at(alloc, key)), want)?);
+        assert!(rt; judged(alloc, tagged(alloc, in_sets(alloc, key)), want)?);
     }
     Ok(())
 }
 
+// A reserved key with a record that has another one.
+fn within(alloc: Global) -> Result<Value, Fail> {
+    let inner = one_at(alloc, "__entity")?;
+    record(alloc, "__expr", inner)
+}
+
 #[test]
 fn a_key_is_tested_before_its_value(rt: HostRuntime) -> Result<(), Fail> {
-    let inner = record(rt.alloc(), "__entity", long(1))?;
-    let value = record(rt.alloc(), "__expr", inner)?;
-    assert_eq!(rt;
-        tagged(rt.alloc(), value)?.as_str(),
-        "the key `__expr` is reserved"
-    );
+    let alloc = rt.alloc();
+    let want = "the key `__expr` is reserved";
+    assert!(rt; judged(alloc, tagged(alloc, within(alloc)), want)?);
     Ok(())
+}
+
+// A record with a reserved key, at a key.
+fn reserved_at(alloc: Global, key: &str, reserved: &str) -> Result<Fields, Fail> {
+    let value = one_at(alloc, reserved)?;
+    field(alloc, key, PartialValue::Value(value))
+}
+
+// An entity with a reserved key in an attribute, and with another one in a tag.
+fn reserved_in_both(alloc: Global) -> Result<Entity, Fail> {
+    let sooner = reserved_at(alloc, "z", "__extn")?;
+    let later = reserved_at(alloc, "a", "__entity");
+    with_fields(alloc, beside(sooner, later)?)
 }
 
 #[test]
 fn attributes_come_before_tags(rt: HostRuntime) -> Result<(), Fail> {
-    let sooner = PartialValue::Value(record(rt.alloc(), "__extn", long(1))?);
-    let attrs = field(rt.alloc(), "z", sooner)?;
-    let later = PartialValue::Value(record(rt.alloc(), "__entity", long(1))?);
-    let tags = field(rt.alloc(), "a", later)?;
-    let entity = with_fields(rt.alloc(), attrs, tags)?;
-    assert_eq!(rt;
-        verdict(rt.alloc(), entity)?.as_str(),
-        "the key `__extn` is reserved"
-    );
+    let alloc = rt.alloc();
+    let want = "the key `__extn` is reserved";
+    assert!(rt; judged(alloc, reserved_in_both(alloc), want)?);
     Ok(())
+}
+
+// An attribute with a reserved name that holds a text, which is one too.
+fn reserved_text(alloc: Global) -> Result<Fields, Fail> {
+    let text = Literal::String(owned(alloc, "__extn")?);
+    let value = Value::new(ValueKind::Lit(text), None);
+    field(alloc, "__extn", PartialValue::Value(value))
+}
+
+// The same of an expression.
+fn reserved_residual(alloc: Global) -> Result<Fields, Fail> {
+    let text = Literal::String(owned(alloc, "__expr")?);
+    let residual = Expr::val(alloc, text)?;
+    field(alloc, "__entity", PartialValue::Residual(residual))
+}
+
+fn named_so(alloc: Global) -> Result<Entity, Fail> {
+    let attrs = reserved_text(alloc)?;
+    with_fields(alloc, beside(attrs, reserved_residual(alloc))?)
 }
 
 #[test]
 fn own_names_and_residuals_are_not_looked_at(rt: HostRuntime) -> Result<(), Fail> {
-    let text = Literal::String(owned(rt.alloc(), "__extn")?);
-    let value = PartialValue::Value(Value::new(ValueKind::Lit(text), None));
-    let attrs = field(rt.alloc(), "__extn", value)?;
-    let text = Literal::String(owned(rt.alloc(), "__expr")?);
-    let residual = PartialValue::Residual(Expr::val(rt.alloc(), text)?);
-    let tags = field(rt.alloc(), "__entity", residual)?;
-    let entity = with_fields(rt.alloc(), attrs, tags)?;
-    assert!(rt; entity.validate(rt.alloc()).is_ok());
+    let alloc = rt.alloc();
+    assert!(rt; judged(alloc, named_so(alloc), "valid")?);
     Ok(())
 }
 
 // Its own parent, with a reserved key.
 fn wrong_twice(alloc: Global) -> Result<Entity, Fail> {
-    let attrs = field(
-        alloc,
-        "k",
-        PartialValue::Value(record(alloc, "__extn", long(1))?),
-    )?;
-    let parents = uids(alloc, "A::\"a\"")?;
-    let none = uids(alloc, "")?;
-    let name = uid(alloc, "A::\"a\"")?;
-    let tags = numbers(alloc, &[])?;
-    Ok(Entity::new_with_attr_partial_value(alloc, name, attrs, none, parents, tags)?)
+    let attrs = reserved_at(alloc, "k", "__extn")?;
+    let fields = (attrs, Vec::new(alloc));
+    assembled(alloc, "A::\"a\"", fields, "A::\"a\"", "")
+}
+
+// Whether an entity is refused as its own ancestor.
+fn is_above_itself(alloc: Global, entity: Entity) -> bool {
+    match entity.try_validate(alloc) {
+        Ok(entity) => {
+            drop(entity);
+            false
+        }
+        Err(error) => {
+            let said = matches!(&error, EntitiesError::SelfAncestor { .. });
+            drop(error);
+            said
+        }
+    }
 }
 
 #[test]
 fn the_first_fault_is_named(rt: HostRuntime) -> Result<(), Fail> {
-    let said = match wrong_twice(rt.alloc())?.try_validate(rt.alloc()) {
-        Ok(_entity) => false,
-        Err(error) => matches!(&error, EntitiesError::SelfAncestor { .. }),
-    };
-    assert!(rt; said);
+    assert!(rt; is_above_itself(rt.alloc(), wrong_twice(rt.alloc())?));
     Ok(())
+}
+
+// Whether the validation of a copy gives an entity that is deep equal.
+fn gives_back(alloc: Global, entity: &Entity, copy: Entity) -> Result<bool, Fail> {
+    match copy.try_validate(alloc) {
+        Ok(given) => {
+            let same = given.deep_eq(entity);
+            drop(given);
+            Ok(same)
+        }
+        Err(error) => Err(Fail::from(error)),
+    }
+}
+
+fn is_given_back(alloc: Global, entity: &mut Entity) -> Result<bool, Fail> {
+    match entity.clone() {
+        Ok(copy) => gives_back(alloc, entity, copy),
+        Err(error) => Err(Fail::from(error)),
+    }
 }
 
 #[test]
@@ -220,33 +280,37 @@ fn a_valid_entity_is_given_back(rt: HostRuntime) -> Result<(), Fail> {
         &[],
         "A::\"b\"",
         "A::\"c\"",
-    )?;
-    let copy = entity.clone()?;
-    assert!(rt; entity.try_validate(rt.alloc())?.deep_eq(&copy));
+    );
+    assert!(rt; tried(rt.alloc(), entity, is_given_back)?);
     Ok(())
 }
 
-// A record of two keys.
+// A record of two keys, given in this order.
 fn pair(alloc: Global, first: (&str, Value), second: (&str, Value)) -> Result<Value, Fail> {
-    let mut pairs = Vec::new(alloc);
-    pairs.push((owned(alloc, second.0)?, second.1))?;
-    pairs.push((owned(alloc, first.0)?, first.1))?;
+    let (key, value) = second;
+    let (value, pairs) = beside(value, field(alloc, first.0, first.1))?;
+    let pairs = pushed(pairs, keyed(alloc, key, value))?;
     Ok(Value::record(alloc, pairs, None)?)
+}
+
+// A reserved key, and before it in the order of keys one whose value has another.
+fn record_first(alloc: Global) -> Result<Value, Fail> {
+    let inner = one_at(alloc, "__extn")?;
+    pair(alloc, ("__expr", long(1)), ("A", inner))
+}
+
+// The same with the reserved key before the other.
+fn record_last(alloc: Global) -> Result<Value, Fail> {
+    let inner = one_at(alloc, "__extn")?;
+    pair(alloc, ("a", inner), ("__expr", long(1)))
 }
 
 #[test]
 fn a_value_is_walked_before_the_next_key(rt: HostRuntime) -> Result<(), Fail> {
-    let inner = record(rt.alloc(), "__extn", long(1))?;
-    let value = pair(rt.alloc(), ("A", inner), ("__expr", long(1)))?;
-    assert_eq!(rt;
-        tagged(rt.alloc(), value)?.as_str(),
-        "the key `__extn` is reserved"
-    );
-    let inner = record(rt.alloc(), "__extn", long(1))?;
-    let value = pair(rt.alloc(), ("__expr", long(1)), ("a", inner))?;
-    assert_eq!(rt;
-        tagged(rt.alloc(), value)?.as_str(),
-        "the key `__expr` is reserved"
-    );
+    let alloc = rt.alloc();
+    let want = "the key `__extn` is reserved";
+    assert!(rt; judged(alloc, tagged(alloc, record_first(alloc)), want)?);
+    let want = "the key `__expr` is reserved";
+    assert!(rt; judged(alloc, tagged(alloc, record_last(alloc)), want)?);
     Ok(())
 }

@@ -1,59 +1,59 @@
+use super::{is_no_name, is_written, shows, stand};
 use cedar_ids::entity::EntityType;
-use cedar_ids::err::ParseErrors;
 use cedar_ids::name::Name;
 use std::alloc::Global;
-use std::cmp::Ordering;
-use std::test::Fail;
 
-fn printed_name(alloc: Global, text: &str) -> Result<String, ParseErrors> {
-    let name = Name::from_normalized_str(alloc, text)?;
-    Ok(name.to_string(alloc)?)
+// Whether the last component of a name is written so.
+fn has_basename(alloc: Global, text: &str, want: &str) -> bool {
+    match Name::from_normalized_str(alloc, text) {
+        Ok(name) => {
+            let told = is_written(alloc, name.basename(), want);
+            drop(name);
+            told
+        }
+        Err(_) => false,
+    }
 }
 
-fn printed_type(alloc: Global, text: &str) -> Result<String, ParseErrors> {
-    let ty = EntityType::from_normalized_str(alloc, text)?;
-    Ok(ty.to_string(alloc)?)
+// Whether a name that goes into this namespace is written so.
+fn name_goes_to(alloc: Global, text: &str, namespace: Option<&Name>, want: &str) -> bool {
+    match Name::from_normalized_str(alloc, text) {
+        Ok(name) => {
+            let told = shows(alloc, name.qualify_with_name(alloc, namespace), want);
+            drop(name);
+            told
+        }
+        Err(_) => false,
+    }
 }
 
-fn basename_of(alloc: Global, text: &str) -> Result<String, ParseErrors> {
-    let name = Name::from_normalized_str(alloc, text)?;
-    Ok(name.basename().to_string(alloc)?)
+// The same of a type.
+fn type_goes_to(alloc: Global, text: &str, namespace: Option<&Name>, want: &str) -> bool {
+    match EntityType::from_normalized_str(alloc, text) {
+        Ok(ty) => {
+            let told = shows(alloc, ty.qualify_with(alloc, namespace), want);
+            drop(ty);
+            told
+        }
+        Err(_) => false,
+    }
 }
 
-fn qualified_name(
-    alloc: Global,
-    name: &str,
-    namespace: Option<&Name>,
-) -> Result<String, ParseErrors> {
-    let name = Name::from_normalized_str(alloc, name)?;
-    let qualified = name.qualify_with_name(alloc, namespace)?;
-    Ok(qualified.to_string(alloc)?)
-}
-
-fn qualified_type(
-    alloc: Global,
-    name: &str,
-    namespace: Option<&Name>,
-) -> Result<String, ParseErrors> {
-    let ty = EntityType::from_normalized_str(alloc, name)?;
-    let qualified = ty.qualify_with(alloc, namespace)?;
-    Ok(qualified.to_string(alloc)?)
-}
-
-fn compared_types(alloc: Global, left: &str, right: &str) -> Result<Ordering, ParseErrors> {
-    let left = EntityType::from_normalized_str(alloc, left)?;
-    let right = EntityType::from_normalized_str(alloc, right)?;
-    Ok(left.cmp(&right))
-}
-
-fn compared_names(alloc: Global, left: &str, right: &str) -> Result<Ordering, ParseErrors> {
-    let left = Name::from_normalized_str(alloc, left)?;
-    let right = Name::from_normalized_str(alloc, right)?;
-    Ok(left.cmp(&right))
+// Whether a name and a type of this text that go into this namespace are written so.
+fn both_go_to(alloc: Global, text: &str, namespace: &str, want: &str) -> bool {
+    match Name::from_normalized_str(alloc, namespace) {
+        Ok(namespace) => {
+            let told = name_goes_to(alloc, text, Some(&namespace), want)
+                && type_goes_to(alloc, text, Some(&namespace), want);
+            drop(namespace);
+            told
+        }
+        Err(_) => false,
+    }
 }
 
 #[test]
-fn a_name_is_read_and_printed(rt: HostRuntime) -> Result<(), Fail> {
+fn a_name_is_read_and_printed(rt: HostRuntime) {
     let alloc = rt.alloc();
     for (text, basename) in [
         ("A", "A"),
@@ -66,15 +66,20 @@ fn a_name_is_read_and_printed(rt: HostRuntime) -> Result<(), Fail> {
         ("__cedar2", "__cedar2"),
         ("a::b::c::d", "d"),
     ] {
-        assert_eq!(rt; printed_name(alloc, text)?.as_str(), text);
-        assert_eq!(rt; printed_type(alloc, text)?.as_str(), text);
-        assert_eq!(rt; basename_of(alloc, text)?.as_str(), basename);
+        assert!(rt;
+            shows(alloc, Name::from_normalized_str(alloc, text), text),
+            "{text}"
+        );
+        assert!(rt;
+            shows(alloc, EntityType::from_normalized_str(alloc, text), text),
+            "{text}"
+        );
+        assert!(rt; has_basename(alloc, text, basename), "{text}");
     }
-    Ok(())
 }
 
 #[test]
-fn what_is_no_name_is_refused(rt: HostRuntime) -> Result<(), Fail> {
+fn what_is_no_name_is_refused(rt: HostRuntime) {
     let alloc = rt.alloc();
     for text in [
         "",
@@ -107,38 +112,32 @@ fn what_is_no_name_is_refused(rt: HostRuntime) -> Result<(), Fail> {
         "`",
         "{",
     ] {
-        let name = Name::from_normalized_str(alloc, text).err();
         assert!(rt;
-            matches!(name, Some(ParseErrors::InvalidName)),
+            is_no_name(Name::from_normalized_str(alloc, text)),
             "the name {text:?}"
         );
-        let ty = EntityType::from_normalized_str(alloc, text).err();
         assert!(rt;
-            matches!(ty, Some(ParseErrors::InvalidName)),
+            is_no_name(EntityType::from_normalized_str(alloc, text)),
             "the type {text:?}"
         );
     }
-    Ok(())
 }
 
 #[test]
-fn an_unqualified_name_is_one_identifier(rt: HostRuntime) -> Result<(), Fail> {
+fn an_unqualified_name_is_one_identifier(rt: HostRuntime) {
     let alloc = rt.alloc();
-    let name = Name::parse_unqualified_name(alloc, "Unspecified")?;
-    assert_eq!(rt; name.to_string(alloc)?.as_str(), "Unspecified");
-    drop(name);
+    let name = Name::parse_unqualified_name(alloc, "Unspecified");
+    assert!(rt; shows(alloc, name, "Unspecified"));
     for text in ["A::B", "", "::", "A::", "if", "__cedar", " A", "A "] {
-        let error = Name::parse_unqualified_name(alloc, text).err();
         assert!(rt;
-            matches!(error, Some(ParseErrors::InvalidName)),
+            is_no_name(Name::parse_unqualified_name(alloc, text)),
             "the name {text:?}"
         );
     }
-    Ok(())
 }
 
 #[test]
-fn a_name_without_a_path_goes_into_the_namespace(rt: HostRuntime) -> Result<(), Fail> {
+fn a_name_without_a_path_goes_into_the_namespace(rt: HostRuntime) {
     let alloc = rt.alloc();
     for (name, namespace, want) in [
         ("A", "N", "N::A"),
@@ -148,59 +147,64 @@ fn a_name_without_a_path_goes_into_the_namespace(rt: HostRuntime) -> Result<(), 
         ("B::A", "N", "B::A"),
         ("C::B::A", "N::M", "C::B::A"),
     ] {
-        let namespace = Name::from_normalized_str(alloc, namespace)?;
-        let by_name = qualified_name(alloc, name, Some(&namespace))?;
-        assert_eq!(rt; by_name.as_str(), want);
-        let by_type = qualified_type(alloc, name, Some(&namespace))?;
-        assert_eq!(rt; by_type.as_str(), want);
+        assert!(rt;
+            both_go_to(alloc, name, namespace, want),
+            "{name} into {namespace}"
+        );
     }
-    Ok(())
 }
 
 #[test]
-fn a_name_stays_where_there_is_no_namespace(rt: HostRuntime) -> Result<(), Fail> {
+fn a_name_stays_where_there_is_no_namespace(rt: HostRuntime) {
     let alloc = rt.alloc();
     for name in ["A", "B::A"] {
-        assert_eq!(rt; qualified_name(alloc, name, None)?.as_str(), name);
-        assert_eq!(rt; qualified_type(alloc, name, None)?.as_str(), name);
+        assert!(rt; name_goes_to(alloc, name, None, name), "{name}");
+        assert!(rt; type_goes_to(alloc, name, None, name), "{name}");
     }
-    Ok(())
 }
 
-#[test]
-fn a_type_and_its_name_become_each_other(rt: HostRuntime) -> Result<(), Fail> {
-    let alloc = rt.alloc();
-    let name = Name::from_normalized_str(alloc, "A::B")?;
-    let ty = EntityType::from(name);
-    assert_eq!(rt; ty.name().basename().as_ref(), "B");
+// Whether a name that ends in `B` keeps that as a type, lent as a name too.
+fn keeps_as_a_type(ty: &EntityType) -> bool {
     let lent: &Name = ty.as_ref();
-    assert_eq!(rt; lent.basename().as_ref(), "B");
-    let name = Name::from(ty);
-    assert_eq!(rt; name.basename().as_ref(), "B");
-    let name = EntityType::EntityType(name).into_name();
-    assert_eq!(rt; name.to_string(alloc)?.as_str(), "A::B");
-    Ok(())
+    ty.name().basename().as_ref() == "B" && lent.basename().as_ref() == "B"
+}
+
+// Whether `A::B` stays what it is as a type and as a name again.
+fn goes_and_comes(alloc: Global) -> bool {
+    match Name::from_normalized_str(alloc, "A::B") {
+        Ok(name) => {
+            let ty = EntityType::from(name);
+            let kept = keeps_as_a_type(&ty);
+            let name = Name::from(ty);
+            let back = name.basename().as_ref() == "B";
+            let name = EntityType::EntityType(name).into_name();
+            let told = is_written(alloc, &name, "A::B");
+            drop(name);
+            kept && back && told
+        }
+        Err(_) => false,
+    }
 }
 
 #[test]
-fn names_are_ordered_by_basename_then_path(rt: HostRuntime) -> Result<(), Fail> {
+fn a_type_and_its_name_become_each_other(rt: HostRuntime) {
+    assert!(rt; goes_and_comes(rt.alloc()));
+}
+
+#[test]
+fn names_are_ordered_by_basename_then_path(rt: HostRuntime) {
     let alloc = rt.alloc();
     let ascending = [
         "Z::A", "B", "A::B", "A::A::B", "A::C::B", "B::B", "A::C", "_", "a",
     ];
     for (i, left) in ascending.iter().enumerate() {
         for (j, right) in ascending.iter().enumerate() {
-            assert_eq!(rt;
-                compared_types(alloc, left, right)?,
-                i.cmp(&j),
-                "{left} and {right}"
-            );
-            assert_eq!(rt;
-                compared_names(alloc, left, right)?,
-                i.cmp(&j),
-                "{left} and {right}"
-            );
+            let x = EntityType::from_normalized_str(alloc, left);
+            let y = EntityType::from_normalized_str(alloc, right);
+            assert!(rt; stand(x, y, i.cmp(&j)), "{left} and {right}");
+            let x = Name::from_normalized_str(alloc, left);
+            let y = Name::from_normalized_str(alloc, right);
+            assert!(rt; stand(x, y, i.cmp(&j)), "{left} and {right}");
         }
     }
-    Ok(())
 }

@@ -1,53 +1,59 @@
-use cedar_ids::entity::{ACTION_ENTITY_TYPE, Eid, EntityType, EntityUID};
+use super::{copies, is_equal, is_no_name, is_other, is_text, is_written, shows, stand};
+use cedar_ids::entity::{ACTION_ENTITY_TYPE, Eid, EntityType, EntityUID, EntityUIDImpl};
 use cedar_ids::err::ParseErrors;
 use cedar_ids::id::Id;
-use cedar_ids::name::Name;
 use std::alloc::{AllocError, Global};
-use std::cmp::Ordering;
 use std::collections::HashSet;
+use std::hash::Hash;
 use std::test::Fail;
 
+fn make_eid(alloc: Global, text: &str) -> Result<Eid, AllocError> {
+    let text = String::from_str(alloc, text)?;
+    Ok(Eid::new(text))
+}
+
 fn make_uid(alloc: Global, ty: &str, eid: &str) -> Result<EntityUID, ParseErrors> {
-    let ty = EntityType::from_normalized_str(alloc, ty)?;
-    let eid = Eid::new(String::from_str(alloc, eid)?);
-    Ok(EntityUID::from_components(ty, eid, None))
+    match make_eid(alloc, eid) {
+        Ok(eid) => match EntityType::from_normalized_str(alloc, ty) {
+            Ok(ty) => Ok(EntityUID::from_components(ty, eid, None)),
+            Err(error) => {
+                drop(eid);
+                Err(error)
+            }
+        },
+        Err(error) => Err(error.into()),
+    }
 }
 
 fn read_uid(alloc: Global, text: &str) -> Result<EntityUID, ParseErrors> {
     EntityUID::from_normalized_str(alloc, text)
 }
 
-fn printed_uid(alloc: Global, ty: &str, eid: &str) -> Result<String, ParseErrors> {
-    let uid = make_uid(alloc, ty, eid)?;
-    Ok(uid.to_string(alloc)?)
-}
-
-fn read_type(alloc: Global, text: &str) -> Result<String, ParseErrors> {
-    let uid = read_uid(alloc, text)?;
-    Ok(uid.entity_type().to_string(alloc)?)
-}
-
-fn compared_uids(alloc: Global, left: &str, right: &str) -> Result<Ordering, ParseErrors> {
-    let left = read_uid(alloc, left)?;
-    let right = read_uid(alloc, right)?;
-    Ok(left.cmp(&right))
-}
-
-fn escaped_eid(alloc: Global, eid: &str) -> Result<String, AllocError> {
-    let eid = Eid::new(String::from_str(alloc, eid)?);
-    eid.escaped(alloc)
-}
-
-// The text of the refusal.
-fn refusal(alloc: Global, text: &str) -> Result<String, ParseErrors> {
+// Whether the type of a uid is written so, and its eid is this one.
+fn has_parts(alloc: Global, text: &str, ty: &str, eid: &str) -> bool {
     match read_uid(alloc, text) {
-        Ok(_) => Ok(String::from_str(alloc, "none")?),
-        Err(error) => Ok(error.to_string(alloc)?),
+        Ok(uid) => {
+            let told = is_written(alloc, uid.entity_type(), ty) && uid.eid().as_ref() == eid;
+            drop(uid);
+            told
+        }
+        Err(_) => false,
+    }
+}
+
+// Whether reading is refused with this text.
+fn is_refused(alloc: Global, text: &str, want: &str) -> bool {
+    match read_uid(alloc, text) {
+        Ok(uid) => {
+            drop(uid);
+            false
+        }
+        Err(error) => is_text(error.to_string(alloc), want),
     }
 }
 
 #[test]
-fn a_uid_prints_its_name_and_its_escaped_eid(rt: HostRuntime) -> Result<(), Fail> {
+fn a_uid_prints_its_name_and_its_escaped_eid(rt: HostRuntime) {
     let alloc = rt.alloc();
     for (ty, eid, want) in [
         ("test_entity_type", "eid", "test_entity_type::\"eid\""),
@@ -63,13 +69,12 @@ fn a_uid_prints_its_name_and_its_escaped_eid(rt: HostRuntime) -> Result<(), Fail
         ("A", "\u{1f}\u{b}", "A::\"\\u{1f}\\u{b}\""),
         ("A", "A::B::\"quoted\"", "A::\"A::B::\\\"quoted\\\"\""),
     ] {
-        assert_eq!(rt; printed_uid(alloc, ty, eid)?.as_str(), want);
+        assert!(rt; shows(alloc, make_uid(alloc, ty, eid), want), "{want}");
     }
-    Ok(())
 }
 
 #[test]
-fn an_eid_past_ascii_prints_as_escape_debug_does(rt: HostRuntime) -> Result<(), Fail> {
+fn an_eid_past_ascii_prints_as_escape_debug_does(rt: HostRuntime) {
     let alloc = rt.alloc();
     for (eid, want) in [
         ("é", "A::\"é\""),
@@ -78,13 +83,12 @@ fn an_eid_past_ascii_prints_as_escape_debug_does(rt: HostRuntime) -> Result<(), 
         ("é\u{200b}", "A::\"é\\u{200b}\""),
         ("日本", "A::\"日本\""),
     ] {
-        assert_eq!(rt; printed_uid(alloc, "A", eid)?.as_str(), want);
+        assert!(rt; shows(alloc, make_uid(alloc, "A", eid), want), "{want}");
     }
-    Ok(())
 }
 
 #[test]
-fn a_printed_uid_is_read(rt: HostRuntime) -> Result<(), Fail> {
+fn a_printed_uid_is_read(rt: HostRuntime) {
     let alloc = rt.alloc();
     for (text, ty, eid) in [
         ("A::\"alice\"", "A", "alice"),
@@ -101,15 +105,12 @@ fn a_printed_uid_is_read(rt: HostRuntime) -> Result<(), Fail> {
         ("A::\"\\u{80}\"", "A", "\u{80}"),
         ("A::\"é\\u{200b}\"", "A", "é\u{200b}"),
     ] {
-        assert_eq!(rt; read_type(alloc, text)?.as_str(), ty, "the type of {text}");
-        let uid = read_uid(alloc, text)?;
-        assert_eq!(rt; uid.eid().as_ref(), eid, "the eid of {text}");
+        assert!(rt; has_parts(alloc, text, ty, eid), "reading {text}");
     }
-    Ok(())
 }
 
 #[test]
-fn the_first_check_that_fails_is_answered(rt: HostRuntime) -> Result<(), Fail> {
+fn the_first_check_that_fails_is_answered(rt: HostRuntime) {
     let alloc = rt.alloc();
     let not_normalized = "not a normalized entity uid";
     let invalid_name = "not a valid name";
@@ -149,48 +150,115 @@ fn the_first_check_that_fails_is_answered(rt: HostRuntime) -> Result<(), Fail> {
         ("A::\"a\nb\"", not_normalized),
         ("A::\"\\u{e9}\"", not_normalized),
     ] {
-        assert_eq!(rt; refusal(alloc, text)?.as_str(), want, "reading {text:?}");
+        assert!(rt; is_refused(alloc, text, want), "reading {text:?}");
     }
-    Ok(())
+}
+
+// Whether a uid is equal to itself, to the same made of parts, and differs in its type and in its eid.
+fn is_told_by_its_parts(alloc: Global) -> bool {
+    match EntityUID::with_eid_and_type(alloc, "test_entity_type", "foo") {
+        Ok(first) => {
+            let other_type = EntityUID::with_eid_and_type(alloc, "Unspecified", "foo");
+            let other_eid = EntityUID::with_eid_and_type(alloc, "test_entity_type", "Foo");
+            let told = first == first
+                && is_equal(make_uid(alloc, "test_entity_type", "foo"), &first)
+                && is_equal(first.clone(), &first);
+            let apart = is_other(other_type, &first);
+            let other = is_other(other_eid, &first);
+            drop(first);
+            told && apart && other
+        }
+        Err(_) => false,
+    }
+}
+
+// Whether a uid that is made of parts is equal to itself.
+fn is_itself(alloc: Global, ty: &str, eid: &str) -> bool {
+    match make_uid(alloc, ty, eid) {
+        Ok(uid) => {
+            let told = uid == uid;
+            drop(uid);
+            told
+        }
+        Err(_) => false,
+    }
 }
 
 #[test]
-fn equal_uids_have_equal_parts(rt: HostRuntime) -> Result<(), Fail> {
+fn equal_uids_have_equal_parts(rt: HostRuntime) {
     let alloc = rt.alloc();
-    let first = EntityUID::with_eid_and_type(alloc, "test_entity_type", "foo")?;
-    let second = make_uid(alloc, "test_entity_type", "foo")?;
-    assert!(rt; first == first);
-    assert!(rt; second == second);
-    assert!(rt; first == second);
-    let other_type = EntityUID::with_eid_and_type(alloc, "Unspecified", "foo")?;
-    assert!(rt; first != other_type);
-    drop(other_type);
-    let other_eid = EntityUID::with_eid_and_type(alloc, "test_entity_type", "Foo")?;
-    assert!(rt; first != other_eid);
-    drop(other_eid);
-    let copy = first.clone()?;
-    assert!(rt; copy == first);
-    Ok(())
+    assert!(rt; is_told_by_its_parts(alloc));
+    assert!(rt; is_itself(alloc, "test_entity_type", "foo"));
+}
+
+// Whether a set takes the first of two things, and the second no more.
+fn set_takes_one<T: Hash + Drop>(alloc: Global, first: T, second: T) -> bool {
+    let mut set = HashSet::new(alloc);
+    let taken = matches!(set.insert(first), Ok(true));
+    let again = matches!(set.insert(second), Ok(false));
+    let told = taken && again && set.len() == 1;
+    drop(set);
+    told
+}
+
+// Whether a uid that is read, `placed`, is the same as one without a location in each way of comparing.
+fn ignores_its_location(placed: &EntityUID, bare: &EntityUID) -> bool {
+    placed.loc().is_some() && bare.loc().is_none() && placed == bare && placed.cmp(bare).is_eq()
+}
+
+// The same of `A::"a"`, and of a set of both.
+fn set_ignores_locations(alloc: Global, placed: EntityUID) -> bool {
+    match make_uid(alloc, "A", "a") {
+        Ok(bare) => {
+            let told = ignores_its_location(&placed, &bare);
+            set_takes_one(alloc, placed, bare) && told
+        }
+        Err(_) => {
+            drop(placed);
+            false
+        }
+    }
+}
+
+// The same of the uid that is read.
+fn locations_are_ignored(alloc: Global) -> bool {
+    match read_uid(alloc, "A::\"a\"") {
+        Ok(placed) => set_ignores_locations(alloc, placed),
+        Err(_) => false,
+    }
 }
 
 #[test]
-fn equality_order_and_hash_ignore_the_location(rt: HostRuntime) -> Result<(), Fail> {
-    let alloc = rt.alloc();
-    let placed = read_uid(alloc, "A::\"a\"")?;
-    let bare = make_uid(alloc, "A", "a")?;
-    assert!(rt; placed.loc().is_some());
-    assert!(rt; bare.loc().is_none());
-    assert!(rt; placed == bare);
-    assert!(rt; placed.cmp(&bare).is_eq());
-    let mut uids = HashSet::new(alloc);
-    assert!(rt; uids.insert(placed)?);
-    assert!(rt; !uids.insert(bare)?);
-    assert_eq!(rt; uids.len(), 1);
-    Ok(())
+fn equality_order_and_hash_ignore_the_location(rt: HostRuntime) {
+    assert!(rt; locations_are_ignored(rt.alloc()));
+}
+
+// Whether a uid and its type are said to be an action's, or not to be.
+fn is_action(alloc: Global, text: &str, want: bool) -> bool {
+    match read_uid(alloc, text) {
+        Ok(uid) => {
+            let told = uid.is_action() == want && uid.entity_type().is_action() == want;
+            drop(uid);
+            told
+        }
+        Err(_) => false,
+    }
+}
+
+// Whether the last component of the types of actions is the identifier `Action`.
+fn ends_in_action(alloc: Global) -> bool {
+    match Id::from_normalized_str(alloc, ACTION_ENTITY_TYPE) {
+        Ok(action) => {
+            let told = action.as_ref() == "Action";
+            drop(action);
+            told
+        }
+        Err(_) => false,
+    }
 }
 
 #[test]
-fn an_action_has_a_type_whose_last_component_is_action(rt: HostRuntime) -> Result<(), Fail> {
+fn an_action_has_a_type_whose_last_component_is_action(rt: HostRuntime) {
     let alloc = rt.alloc();
     for (text, want) in [
         ("Action::\"view\"", true),
@@ -201,45 +269,57 @@ fn an_action_has_a_type_whose_last_component_is_action(rt: HostRuntime) -> Resul
         ("action::\"view\"", false),
         ("Actions::\"view\"", false),
     ] {
-        let uid = read_uid(alloc, text)?;
-        assert_eq!(rt; uid.is_action(), want, "the uid {text}");
-        assert_eq!(rt; uid.entity_type().is_action(), want, "the type of {text}");
+        assert!(rt; is_action(alloc, text, want), "the uid {text}");
     }
-    let action = Id::from_normalized_str(alloc, ACTION_ENTITY_TYPE)?;
-    assert_eq!(rt; action.as_ref(), "Action");
-    Ok(())
+    assert!(rt; ends_in_action(alloc));
+}
+
+// Whether a uid and its type are written so.
+fn is_written_with_its_type(alloc: Global, text: &str, ty: &str) -> bool {
+    match read_uid(alloc, text) {
+        Ok(uid) => {
+            let told = is_written(alloc, &uid, text) && is_written(alloc, uid.entity_type(), ty);
+            drop(uid);
+            told
+        }
+        Err(_) => false,
+    }
 }
 
 #[test]
-fn actions_and_their_types_are_written(rt: HostRuntime) -> Result<(), Fail> {
+fn actions_and_their_types_are_written(rt: HostRuntime) {
     let alloc = rt.alloc();
     for (text, ty) in [
         ("Action::\"view\"", "Action"),
         ("Foo::Action::\"view\"", "Foo::Action"),
     ] {
-        let uid = read_uid(alloc, text)?;
-        assert_eq!(rt; uid.to_string(alloc)?.as_str(), text);
-        assert_eq!(rt; uid.entity_type().to_string(alloc)?.as_str(), ty);
+        assert!(rt; is_written_with_its_type(alloc, text, ty), "the uid {text}");
     }
-    Ok(())
+}
+
+// Whether a text is refused as not the text of a uid that is printed.
+fn is_not_normalized(alloc: Global, text: &str) -> bool {
+    match read_uid(alloc, text) {
+        Ok(uid) => {
+            drop(uid);
+            false
+        }
+        Err(ParseErrors::NotNormalized) => true,
+        Err(ParseErrors::InvalidName | ParseErrors::Memory) => false,
+    }
 }
 
 #[test]
-fn past_ascii_only_the_escape_that_is_written_is_read(rt: HostRuntime) -> Result<(), Fail> {
+fn past_ascii_only_the_escape_that_is_written_is_read(rt: HostRuntime) {
     let alloc = rt.alloc();
     let written = "A::\"\\u{200b}\"";
-    assert_eq!(rt;
-        read_uid(alloc, written)?.to_string(alloc)?.as_str(),
-        written
-    );
+    assert!(rt; shows(alloc, read_uid(alloc, written), written));
     // As long, and with the same meaning, but in other letters.
-    let other = "A::\"\\u{200B}\"";
-    assert!(rt; matches!(read_uid(alloc, other), Err(ParseErrors::NotNormalized)));
-    Ok(())
+    assert!(rt; is_not_normalized(alloc, "A::\"\\u{200B}\""));
 }
 
 #[test]
-fn uids_are_ordered_by_basename_then_path_then_eid(rt: HostRuntime) -> Result<(), Fail> {
+fn uids_are_ordered_by_basename_then_path_then_eid(rt: HostRuntime) {
     let alloc = rt.alloc();
     let ascending = [
         "AA::\"aaa\"",
@@ -254,49 +334,113 @@ fn uids_are_ordered_by_basename_then_path_then_eid(rt: HostRuntime) -> Result<()
     ];
     for (i, left) in ascending.iter().enumerate() {
         for (j, right) in ascending.iter().enumerate() {
-            assert_eq!(rt;
-                compared_uids(alloc, left, right)?,
-                i.cmp(&j),
-                "{left} and {right}"
-            );
+            let x = read_uid(alloc, left);
+            let y = read_uid(alloc, right);
+            assert!(rt; stand(x, y, i.cmp(&j)), "{left} and {right}");
         }
     }
-    Ok(())
 }
 
-#[test]
-fn a_typename_is_one_identifier_and_the_eid_stands_as_it_is(rt: HostRuntime) -> Result<(), Fail> {
-    let alloc = rt.alloc();
-    let uid = EntityUID::with_eid_and_type(alloc, "User", "it's \\n")?;
-    assert_eq!(rt; uid.to_string(alloc)?.as_str(), "User::\"it\\'s \\\\n\"");
-    assert_eq!(rt; uid.eid().as_ref(), "it's \\n");
-    for typename in ["A::B", "", " A", "A ", "if", "__cedar", "1", "A::"] {
-        let error = EntityUID::with_eid_and_type(alloc, typename, "a").err();
-        assert!(rt;
-            matches!(error, Some(ParseErrors::InvalidName)),
-            "the type {typename:?}"
-        );
+// Whether the uid of the type `User` and this eid is written so, and keeps the eid as it is.
+fn keeps_its_eid(alloc: Global, eid: &str, want: &str) -> bool {
+    match EntityUID::with_eid_and_type(alloc, "User", eid) {
+        Ok(uid) => {
+            let told = is_written(alloc, &uid, want) && uid.eid().as_ref() == eid;
+            drop(uid);
+            told
+        }
+        Err(_) => false,
     }
-    Ok(())
 }
 
 #[test]
-fn a_uid_is_taken_apart(rt: HostRuntime) -> Result<(), Fail> {
+fn a_typename_is_one_identifier_and_the_eid_stands_as_it_is(rt: HostRuntime) {
     let alloc = rt.alloc();
-    let (ty, eid) = read_uid(alloc, "A::B::\"x\"")?.components();
-    assert_eq!(rt; ty.to_string(alloc)?.as_str(), "A::B");
-    assert_eq!(rt; eid.as_ref(), "x");
-    assert_eq!(rt; eid.into_smolstr().as_str(), "x");
-    let EntityUID::EntityUID(inner) = read_uid(alloc, "A::\"x\"")?;
-    let copy = inner.clone()?;
-    assert!(rt; copy == inner);
-    assert!(rt; copy.cmp(&inner).is_eq());
-    assert!(rt; copy.loc() == inner.loc());
-    Ok(())
+    assert!(rt; keeps_its_eid(alloc, "it's \\n", "User::\"it\\'s \\\\n\""));
+    for typename in ["A::B", "", " A", "A ", "if", "__cedar", "1", "A::"] {
+        let made = EntityUID::with_eid_and_type(alloc, typename, "a");
+        assert!(rt; is_no_name(made), "the type {typename:?}");
+    }
+}
+
+// Whether a type is written so.
+fn type_shows(alloc: Global, ty: EntityType, want: &str) -> bool {
+    let told = is_written(alloc, &ty, want);
+    drop(ty);
+    told
+}
+
+// Whether an eid has this text, and hands it out.
+fn eid_gives(eid: Eid, want: &str) -> bool {
+    let told = eid.as_ref() == want;
+    let own = eid.into_smolstr();
+    let same = own.as_str() == want;
+    drop(own);
+    told && same
+}
+
+// Whether a uid is taken apart into this type and this eid.
+fn comes_apart(alloc: Global, text: &str, ty: &str, eid: &str) -> bool {
+    match read_uid(alloc, text) {
+        Ok(uid) => {
+            let (its_type, its_eid) = uid.components();
+            let told = type_shows(alloc, its_type, ty);
+            eid_gives(its_eid, eid) && told
+        }
+        Err(_) => false,
+    }
+}
+
+// Whether a copy of what a uid holds is the same in each way of comparing, and lies where that lies.
+fn is_copy(copy: &EntityUIDImpl, inner: &EntityUIDImpl) -> bool {
+    copy == inner && copy.cmp(inner).is_eq() && copy.loc() == inner.loc()
+}
+
+// Whether a copy of what a uid holds can be made, and is one.
+fn is_copied(inner: &EntityUIDImpl) -> bool {
+    match inner.clone() {
+        Ok(copy) => {
+            let told = is_copy(&copy, inner);
+            drop(copy);
+            told
+        }
+        Err(_) => false,
+    }
+}
+
+// The same of what the uid of a text holds.
+fn inner_is_copied(alloc: Global, text: &str) -> bool {
+    match read_uid(alloc, text) {
+        Ok(EntityUID::EntityUID(inner)) => {
+            let told = is_copied(&inner);
+            drop(inner);
+            told
+        }
+        Err(_) => false,
+    }
 }
 
 #[test]
-fn an_eid_is_escaped_with_no_quotes(rt: HostRuntime) -> Result<(), Fail> {
+fn a_uid_is_taken_apart(rt: HostRuntime) {
+    let alloc = rt.alloc();
+    assert!(rt; comes_apart(alloc, "A::B::\"x\"", "A::B", "x"));
+    assert!(rt; inner_is_copied(alloc, "A::\"x\""));
+}
+
+// Whether an eid is escaped so.
+fn is_escaped(alloc: Global, eid: &str, want: &str) -> bool {
+    match make_eid(alloc, eid) {
+        Ok(eid) => {
+            let told = is_text(eid.escaped(alloc), want);
+            drop(eid);
+            told
+        }
+        Err(_) => false,
+    }
+}
+
+#[test]
+fn an_eid_is_escaped_with_no_quotes(rt: HostRuntime) {
     let alloc = rt.alloc();
     for (eid, want) in [
         ("plain", "plain"),
@@ -306,44 +450,52 @@ fn an_eid_is_escaped_with_no_quotes(rt: HostRuntime) -> Result<(), Fail> {
         ("é", "é"),
         ("é\n", "é\\n"),
     ] {
-        assert_eq!(rt; escaped_eid(alloc, eid)?.as_str(), want);
+        assert!(rt; is_escaped(alloc, eid, want), "{want}");
     }
-    Ok(())
+}
+
+// Whether the first of two eids is below the second, and differs from it.
+fn is_below(small: Eid, large: Eid) -> bool {
+    let told = small < large && small != large;
+    drop(small);
+    drop(large);
+    told
+}
+
+// The same of two texts.
+fn eid_is_below(alloc: Global, small: &str, large: &str) -> bool {
+    match make_eid(alloc, small) {
+        Ok(small) => match make_eid(alloc, large) {
+            Ok(large) => is_below(small, large),
+            Err(_) => {
+                drop(small);
+                false
+            }
+        },
+        Err(_) => false,
+    }
 }
 
 #[test]
-fn eids_are_compared_by_their_bytes(rt: HostRuntime) -> Result<(), Fail> {
+fn eids_are_compared_by_their_bytes(rt: HostRuntime) {
     let alloc = rt.alloc();
-    let small = Eid::new(String::from_str(alloc, "a")?);
-    let large = Eid::new(String::from_str(alloc, "b")?);
-    assert!(rt; small < large);
-    assert!(rt; small != large);
-    let copy = small.clone()?;
-    assert!(rt; copy == small);
-    Ok(())
+    assert!(rt; eid_is_below(alloc, "a", "b"));
+    assert!(rt; copies(make_eid(alloc, "a")));
 }
 
 #[test]
-fn refusals_have_their_texts(rt: HostRuntime) -> Result<(), Fail> {
+fn refusals_have_their_texts(rt: HostRuntime) {
     let alloc = rt.alloc();
-    assert_eq!(rt;
-        ParseErrors::NotNormalized.to_string(alloc)?.as_str(),
-        "not a normalized entity uid"
-    );
-    assert_eq!(rt;
-        ParseErrors::InvalidName.to_string(alloc)?.as_str(),
-        "not a valid name"
-    );
-    assert_eq!(rt;
-        ParseErrors::Memory.to_string(alloc)?.as_str(),
-        "out of memory"
-    );
-    Ok(())
+    let not_normalized = ParseErrors::NotNormalized.to_string(alloc);
+    assert!(rt; is_text(not_normalized, "not a normalized entity uid"));
+    let invalid_name = ParseErrors::InvalidName.to_string(alloc);
+    assert!(rt; is_text(invalid_name, "not a valid name"));
+    let memory = ParseErrors::Memory.to_string(alloc);
+    assert!(rt; is_text(memory, "out of memory"));
 }
 
-#[test]
-fn a_long_uid_is_read(rt: HostRuntime) -> Result<(), Fail> {
-    let alloc = rt.alloc();
+// A uid of a thousand names and a thousand escapes.
+fn long_text(alloc: Global) -> Result<String, AllocError> {
     let mut text = String::new(alloc);
     for _ in 0..1000 {
         text.push_str("A::")?;
@@ -353,9 +505,25 @@ fn a_long_uid_is_read(rt: HostRuntime) -> Result<(), Fail> {
         text.push_str("\\u{1f}x")?;
     }
     text.push_str("\"")?;
-    let uid = read_uid(alloc, text.as_str())?;
-    assert_eq!(rt; uid.eid().as_ref().len(), 2000);
-    let again = uid.to_string(alloc)?;
-    assert!(rt; again.as_str() == text.as_str());
+    Ok(text)
+}
+
+// Whether the uid of a text has an eid of so many bytes, and is written as the text.
+fn reads_with_length(alloc: Global, text: &str, length: usize) -> bool {
+    match read_uid(alloc, text) {
+        Ok(uid) => {
+            let told = uid.eid().as_ref().len() == length && is_written(alloc, &uid, text);
+            drop(uid);
+            told
+        }
+        Err(_) => false,
+    }
+}
+
+#[test]
+fn a_long_uid_is_read(rt: HostRuntime) -> Result<(), Fail> {
+    let alloc = rt.alloc();
+    let text = long_text(alloc)?;
+    assert!(rt; reads_with_length(alloc, text.as_str(), 2000));
     Ok(())
 }

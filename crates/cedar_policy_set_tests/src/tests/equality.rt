@@ -1,4 +1,5 @@
 // When sets are equal, and what a copy is.
+use super::beside;
 use super::notation::call_of;
 use super::script::{board_of, done, set_of};
 use cedar_policy_set::PolicySet;
@@ -7,14 +8,12 @@ use std::test::Fail;
 
 // Whether the sets that these calls leave are equal, seen from both sides.
 fn are_equal(alloc: Global, one: &str, other: &str) -> Result<Option<bool>, Fail> {
-    let one = set_of(alloc, one)?;
-    let other = set_of(alloc, other)?;
+    let (one, other) = beside(set_of(alloc, one)?, set_of(alloc, other))?;
     let equal = one == other;
-    Ok(if equal == (other == one) {
-        Some(equal)
-    } else {
-        None
-    })
+    let turned = other == one;
+    drop(one);
+    drop(other);
+    Ok(if equal == turned { Some(equal) } else { None })
 }
 
 #[test]
@@ -31,7 +30,7 @@ fn sets_of_equal_orders_are_equal(rt: HostRuntime) -> Result<(), Fail> {
         ),
     ];
     for (one, other) in table {
-        assert_eq!(rt; are_equal(alloc, one, other)?, Some(true));
+        assert!(rt; are_equal(alloc, one, other)? == Some(true));
     }
     Ok(())
 }
@@ -54,7 +53,7 @@ fn sets_of_other_orders_or_values_are_not(rt: HostRuntime) -> Result<(), Fail> {
         ("add l=t", "template t"),
     ];
     for (one, other) in table {
-        assert_eq!(rt; are_equal(alloc, one, other)?, Some(false));
+        assert!(rt; are_equal(alloc, one, other)? == Some(false));
     }
     Ok(())
 }
@@ -64,16 +63,33 @@ fn is_copied(alloc: Global, set: &mut PolicySet, call: &str) -> Result<bool, Fai
     let copy = set.clone()?;
     let equal = copy == *set;
     let before = board_of(set);
-    done(alloc, set, &call_of(call))?;
-    Ok(equal && board_of(&copy) == before && board_of(set) != before)
+    let done = done(alloc, set, &call_of(call));
+    let stays = board_of(&copy) == before && board_of(set) != before;
+    drop(copy);
+    done?;
+    Ok(equal && stays)
+}
+
+// Whether it does so at three calls, one after another.
+fn is_copied_thrice(alloc: Global, set: &mut PolicySet) -> Result<bool, Fail> {
+    Ok(
+        is_copied(alloc, set, "unlink l")?
+            && is_copied(alloc, set, "remove_template t")?
+            && is_copied(alloc, set, "add m=u")?,
+    )
+}
+
+// The same of the set that some calls leave.
+fn copies_stand_apart(alloc: Global, calls: &str) -> Result<bool, Fail> {
+    let mut set = set_of(alloc, calls)?;
+    let told = is_copied_thrice(alloc, &mut set);
+    drop(set);
+    told
 }
 
 #[test]
 fn a_copy_is_equal_and_stands_apart(rt: HostRuntime) -> Result<(), Fail> {
-    let alloc = rt.alloc();
-    let mut set = set_of(alloc, "static a; template t1; link l=t+1x; template u")?;
-    assert!(rt; is_copied(alloc, &mut set, "unlink l")?);
-    assert!(rt; is_copied(alloc, &mut set, "remove_template t")?);
-    assert!(rt; is_copied(alloc, &mut set, "add m=u")?);
+    let calls = "static a; template t1; link l=t+1x; template u";
+    assert!(rt; copies_stand_apart(rt.alloc(), calls)?);
     Ok(())
 }

@@ -1,6 +1,6 @@
 // What each call does where its id is free, a static policy's, a template's without slots or with
 // one, or a link's.
-use super::script::wrong;
+use super::script::tells;
 use std::test::Fail;
 
 #[test]
@@ -14,8 +14,7 @@ fn a_static_policy_asks_for_a_free_id(rt: HostRuntime) -> Result<(), Fail> {
         ("template a1; static a", "occupied a | a1 |"),
         ("add a=t1+1x; static a", "occupied a | t1 | a=t1+1x"),
     ];
-    assert_eq!(rt; wrong(alloc, &table)?.as_str(), "");
-    Ok(())
+    tells(alloc, &table)
 }
 
 #[test]
@@ -33,8 +32,7 @@ fn a_template_asks_for_a_free_id(rt: HostRuntime) -> Result<(), Fail> {
         ("add a=t1+1x; template a", "occupied a | t1 | a=t1+1x"),
         ("add a=t1+1x; template a1", "occupied a | t1 | a=t1+1x"),
     ];
-    assert_eq!(rt; wrong(alloc, &table)?.as_str(), "");
-    Ok(())
+    tells(alloc, &table)
 }
 
 #[test]
@@ -48,8 +46,7 @@ fn a_static_policy_that_is_added_asks_for_a_free_id(rt: HostRuntime) -> Result<(
         ("template a1; add a", "occupied a | a1 |"),
         ("add a=t1+1x; add a", "occupied a | t1 | a=t1+1x"),
     ];
-    assert_eq!(rt; wrong(alloc, &table)?.as_str(), "");
-    Ok(())
+    tells(alloc, &table)
 }
 
 // The template of the link has the id.
@@ -69,8 +66,7 @@ fn a_link_that_is_added_asks_for_an_equal_template(rt: HostRuntime) -> Result<()
         ("add a=t1+1x; add l=a", "occupied a | t1 | a=t1+1x"),
         ("add a=t1+1x; add l=a1+1x", "occupied a | t1 | a=t1+1x"),
     ];
-    assert_eq!(rt; wrong(alloc, &table)?.as_str(), "");
-    Ok(())
+    tells(alloc, &table)
 }
 
 // The link itself has the id; its template is missing, or there, or another's.
@@ -89,8 +85,7 @@ fn a_link_that_is_added_asks_for_a_free_id(rt: HostRuntime) -> Result<(), Fail> 
         ("static t; static a; add a=t", "occupied t | t a | t a"),
         ("static t; add a=u; add a=t", "occupied t | t u | t a=u"),
     ];
-    assert_eq!(rt; wrong(alloc, &table)?.as_str(), "");
-    Ok(())
+    tells(alloc, &table)
 }
 
 #[test]
@@ -104,8 +99,7 @@ fn linking_asks_for_a_template(rt: HostRuntime) -> Result<(), Fail> {
         ("add a=t; link l=a", "no such template a | t | a=t"),
         ("add a=t; link a=a", "no such template a | t | a=t"),
     ];
-    assert_eq!(rt; wrong(alloc, &table)?.as_str(), "");
-    Ok(())
+    tells(alloc, &table)
 }
 
 #[test]
@@ -122,8 +116,7 @@ fn linking_asks_for_a_free_id(rt: HostRuntime) -> Result<(), Fail> {
             "conflict a | u1 t | a=u1+1x",
         ),
     ];
-    assert_eq!(rt; wrong(alloc, &table)?.as_str(), "");
-    Ok(())
+    tells(alloc, &table)
 }
 
 #[test]
@@ -143,6 +136,5 @@ fn each_kind_is_taken_out_by_its_own_call(rt: HostRuntime) -> Result<(), Fail> {
         ("template a1; remove_template a", "a1 | |"),
         ("add a=t; remove_template a", "not a template a | t | a=t"),
     ];
-    assert_eq!(rt; wrong(alloc, &table)?.as_str(), "");
-    Ok(())
+    tells(alloc, &table)
 }

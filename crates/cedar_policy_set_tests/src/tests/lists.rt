@@ -1,5 +1,6 @@
 // Many lists of calls, each on a set and on the board that it stands for.
 use super::board::{Body, Row, after, empty};
+use super::kept;
 use super::notation::{Call, Said, Verb, call_of, unlinked};
 use super::script::{board_of, done};
 use cedar_policy_set::PolicySet;
@@ -44,18 +45,29 @@ fn tell(tally: &mut Tally, said: Said, held: bool) {
     }
 }
 
-// Makes calls on the empty set and on the empty board; after each the answers and both orders have
-// to be the same.
-fn compare(alloc: Global, tally: &mut Tally, calls: &[Call]) -> Result<(), Fail> {
-    more(&mut tally.lists);
-    let mut set = PolicySet::new(alloc);
+// Makes calls on the empty set, which is given, and on the empty board; after each the answers and
+// both orders have to be the same.
+fn compare_on(
+    alloc: Global,
+    set: &mut PolicySet,
+    tally: &mut Tally,
+    calls: &[Call],
+) -> Result<(), Fail> {
     let mut board = empty();
     for call in calls {
-        let said = done(alloc, &mut set, call)?;
-        let held = said == after(&mut board, call) && board_of(&set) == board;
+        let said = done(alloc, set, call)?;
+        let held = said == after(&mut board, call) && board_of(set) == board;
         tell(tally, said, held);
     }
     Ok(())
+}
+
+fn compare(alloc: Global, tally: &mut Tally, calls: &[Call]) -> Result<(), Fail> {
+    more(&mut tally.lists);
+    let mut set = PolicySet::new(alloc);
+    let done = compare_on(alloc, &mut set, tally, calls);
+    drop(set);
+    done
 }
 
 // Calls over two ids of each kind, one of which, `a`, all kinds share.
@@ -87,13 +99,18 @@ const CALLS: [&str; 25] = [
     "links t",
 ];
 
-// Those calls.
-fn calls(alloc: Global) -> Result<Vec<Call>, Fail> {
-    let mut calls = Vec::new(alloc);
+fn put_calls(calls: &mut Vec<Call>) -> Result<(), Fail> {
     for text in CALLS {
         calls.push(call_of(text))?;
     }
-    Ok(calls)
+    Ok(())
+}
+
+// Those calls.
+fn calls(alloc: Global) -> Result<Vec<Call>, Fail> {
+    let mut calls = Vec::new(alloc);
+    let done = put_calls(&mut calls);
+    kept(calls, done)
 }
 
 // Each list of three calls that begins with these two.
@@ -126,15 +143,25 @@ fn all_of_three(alloc: Global, all: &[Call]) -> Result<Tally, Fail> {
     Ok(tally)
 }
 
+fn all_of_calls(alloc: Global) -> Result<Tally, Fail> {
+    let all = calls(alloc)?;
+    let tally = all_of_three(alloc, &all);
+    drop(all);
+    tally
+}
+
+// Whether the tally of that is as it should be.
+fn is_all_of_calls(tally: &Tally) -> bool {
+    tally.differs == 0
+        && tally.lists == 15_625
+        && tally.calls == 46_875
+        && tally.refused > 10_000
+        && tally.refused < 35_000
+}
+
 #[test]
 fn each_list_of_three_calls_leaves_its_board(rt: HostRuntime) -> Result<(), Fail> {
-    let alloc = rt.alloc();
-    let all = calls(alloc)?;
-    let tally = all_of_three(alloc, &all)?;
-    assert_eq!(rt; tally.differs, 0);
-    assert_eq!(rt; tally.lists, 15_625);
-    assert_eq!(rt; tally.calls, 46_875);
-    assert!(rt; tally.refused > 10_000 && tally.refused < 35_000);
+    assert!(rt; is_all_of_calls(&all_of_calls(rt.alloc())?));
     Ok(())
 }
 
@@ -227,14 +254,26 @@ pub(super) fn drawn_call(seed: &mut u64) -> Call {
     Call { verb, row }
 }
 
-// Up to eight calls.
-fn drawn_calls(alloc: Global, seed: &mut u64) -> Result<Vec<Call>, Fail> {
-    let mut calls = Vec::new(alloc);
+fn put_drawn(calls: &mut Vec<Call>, seed: &mut u64) -> Result<(), Fail> {
     let count = below(seed, 8).wrapping_add(1);
     for _call in 0..count {
         calls.push(drawn_call(seed))?;
     }
-    Ok(calls)
+    Ok(())
+}
+
+// Up to eight calls.
+fn drawn_calls(alloc: Global, seed: &mut u64) -> Result<Vec<Call>, Fail> {
+    let mut calls = Vec::new(alloc);
+    let done = put_drawn(&mut calls, seed);
+    kept(calls, done)
+}
+
+fn compare_drawn(alloc: Global, tally: &mut Tally, seed: &mut u64) -> Result<(), Fail> {
+    let calls = drawn_calls(alloc, seed)?;
+    let done = compare(alloc, tally, &calls);
+    drop(calls);
+    done
 }
 
 // This many lists.
@@ -242,18 +281,23 @@ fn all_drawn(alloc: Global, count: u16) -> Result<Tally, Fail> {
     let mut tally = nothing();
     let mut seed = 2_026;
     for _list in 0..count {
-        let calls = drawn_calls(alloc, &mut seed)?;
-        compare(alloc, &mut tally, &calls)?;
+        compare_drawn(alloc, &mut tally, &mut seed)?;
     }
     Ok(tally)
 }
 
+// Whether the tally of 20,000 lists is as it should be.
+fn is_all_drawn(tally: &Tally) -> bool {
+    tally.differs == 0
+        && tally.lists == 20_000
+        && tally.calls > 80_000
+        && tally.calls < 100_000
+        && tally.refused > 20_000
+        && tally.refused < 70_000
+}
+
 #[test]
 fn longer_lists_of_calls_leave_their_board(rt: HostRuntime) -> Result<(), Fail> {
-    let tally = all_drawn(rt.alloc(), 20_000)?;
-    assert_eq!(rt; tally.differs, 0);
-    assert_eq!(rt; tally.lists, 20_000);
-    assert!(rt; tally.calls > 80_000 && tally.calls < 100_000);
-    assert!(rt; tally.refused > 20_000 && tally.refused < 70_000);
+    assert!(rt; is_all_drawn(&all_drawn(rt.alloc(), 20_000)?));
     Ok(())
 }

@@ -1,68 +1,81 @@
 // Merging: each pair of kinds under one id, the order in which ids are renamed, and sets of two ids
 // beside the plain model.
 use super::board::{Board, Renaming, after, empty, merge};
-use super::notation::{Said, Why, call_of, told_text};
-use super::script::{board_of, letter_of, set_of};
+use super::notation::{Said, Why, call_of, put_letter, put_told, put_word};
+use super::script::{board_of, letter_of, said_by_set, set_of};
+use super::{beside, is_told, kept};
 use cedar_ids::policy_id::PolicyID;
 use cedar_policy_set::{PolicySet, PolicySetError};
 use indexmap::IndexMap;
 use std::alloc::Global;
 use std::test::Fail;
 
-// Renamed ids and their new ones: `aP bQ `.
-fn renamed_text(alloc: Global, renaming: &IndexMap<PolicyID, PolicyID>) -> Result<String, Fail> {
-    let mut text = String::new(alloc);
+// Writes renamed ids and their new ones: `aP bQ `.
+fn put_renamed(text: &mut String, renaming: &IndexMap<PolicyID, PolicyID>) -> Result<(), Fail> {
     for (old, new) in renaming {
-        text.push(char::from(letter_of(old)))?;
-        text.push(char::from(letter_of(new)))?;
-        text.push(' ')?;
+        put_letter(text, letter_of(old))?;
+        put_letter(text, letter_of(new))?;
+        put_letter(text, b' ')?;
     }
-    Ok(text)
+    Ok(())
 }
 
-// What merging answers, renamed ids before it.
+// What merging answers; renamed ids are written.
 fn answer(
-    alloc: Global,
+    text: &mut String,
     answer: Result<IndexMap<PolicyID, PolicyID>, PolicySetError>,
-) -> Result<(String, Said), Fail> {
+) -> Result<Said, Fail> {
     match answer {
-        Ok(renaming) => Ok((renamed_text(alloc, &renaming)?, Said::Done)),
-        Err(PolicySetError::Occupied { id }) => {
-            let said = Said::Refused(Why::Occupied, letter_of(&id));
-            Ok((String::new(alloc), said))
+        Ok(renaming) => {
+            let done = put_renamed(text, &renaming);
+            drop(renaming);
+            done?;
+            Ok(Said::Done)
         }
-        Err(PolicySetError::Memory) => Ok((String::new(alloc), Said::Memory)),
+        Err(error) => Ok(said_by_set(Err(error))),
     }
 }
 
-// What merging a set into another answers, and both orders after it.
+// Writes what merging a set into another answers, renamed ids before it, and both orders after it.
+fn put_merged(
+    alloc: Global,
+    text: &mut String,
+    set: &mut PolicySet,
+    other: &PolicySet,
+    rename: bool,
+) -> Result<(), Fail> {
+    let said = answer(text, set.merge_policyset(alloc, other, rename))?;
+    put_told(alloc, text, said, &board_of(set))
+}
+
+// That as a text.
 fn merged(
     alloc: Global,
     set: &mut PolicySet,
     other: &PolicySet,
     rename: bool,
 ) -> Result<String, Fail> {
-    let (renamed, said) = answer(alloc, set.merge_policyset(alloc, other, rename))?;
-    let told = told_text(alloc, said, &board_of(set))?;
-    Ok(format!(in alloc; "{renamed}{told}")?)
+    let mut text = String::new(alloc);
+    let done = put_merged(alloc, &mut text, set, other, rename);
+    kept(text, done)
 }
 
 // The same of the sets that some calls leave.
 fn told(alloc: Global, here: &str, other: &str, rename: bool) -> Result<String, Fail> {
-    let other = set_of(alloc, other)?;
-    let mut set = set_of(alloc, here)?;
-    merged(alloc, &mut set, &other, rename)
+    let (other, mut set) = beside(set_of(alloc, other)?, set_of(alloc, here))?;
+    let told = merged(alloc, &mut set, &other, rename);
+    drop(set);
+    drop(other);
+    told
 }
 
-// The first of these pairs of sets of which another thing is told than stands beside it, or nothing.
-fn wrong(alloc: Global, rename: bool, table: &[(&str, &str, &str)]) -> Result<String, Fail> {
+// Fails with the first of these pairs of sets of which another thing is told than stands beside it.
+fn tells(alloc: Global, rename: bool, table: &[(&str, &str, &str)]) -> Result<(), Fail> {
     for (here, other, want) in table {
-        let told = told(alloc, here, other, rename)?;
-        if told.as_str() != *want {
-            return Ok(format!(in alloc; "{here} / {other}: {told}")?);
-        }
+        let told = told(alloc, here, other, rename);
+        is_told(format_args!("{here} / {other}"), told, want)?;
     }
-    Ok(String::new(alloc))
+    Ok(())
 }
 
 #[test]
@@ -112,8 +125,7 @@ fn ids_that_conflict_are_renamed(rt: HostRuntime) -> Result<(), Fail> {
         ),
         ("static a", "static a!; static P", "aQ ok | a Q! P | a Q! P"),
     ];
-    assert_eq!(rt; wrong(alloc, true, &table)?.as_str(), "");
-    Ok(())
+    tells(alloc, true, &table)
 }
 
 #[test]
@@ -147,8 +159,7 @@ fn the_first_conflict_is_refused_where_ids_keep_theirs(rt: HostRuntime) -> Resul
             "occupied a | b a | b a",
         ),
     ];
-    assert_eq!(rt; wrong(alloc, false, &table)?.as_str(), "");
-    Ok(())
+    tells(alloc, false, &table)
 }
 
 #[test]
@@ -174,9 +185,8 @@ fn what_is_bound_alike_stays_and_the_rest_joins(rt: HostRuntime) -> Result<(), F
             "ok | t1 | l=t1+1x m=t1+1y",
         ),
     ];
-    assert_eq!(rt; wrong(alloc, false, &table)?.as_str(), "");
-    assert_eq!(rt; wrong(alloc, true, &table)?.as_str(), "");
-    Ok(())
+    tells(alloc, false, &table)?;
+    tells(alloc, true, &table)
 }
 
 #[test]
@@ -187,31 +197,45 @@ fn ids_are_renamed_group_after_group(rt: HostRuntime) -> Result<(), Fail> {
         "template u1; link t=u+1x; template b2; static c; static a!",
         "aP cQ bR tS ok | a t1 u1 R2 Q P! | a b=t1+1x c=t1+1x S=u1+1x Q P!",
     )];
-    assert_eq!(rt; wrong(alloc, true, &table)?.as_str(), "");
-    Ok(())
+    tells(alloc, true, &table)
 }
 
-// What merging a set into another answers, and both orders after it, twice in turn.
-fn told_twice(alloc: Global, set: &mut PolicySet, other: &str) -> Result<String, Fail> {
-    let other = set_of(alloc, other)?;
-    let once = merged(alloc, set, &other, true)?;
-    let again = merged(alloc, set, &other, true)?;
-    Ok(format!(in alloc; "{once}, {again}")?)
+// Writes what merging a set into another answers, and both orders after it, twice in turn.
+fn put_twice(
+    alloc: Global,
+    text: &mut String,
+    set: &mut PolicySet,
+    other: &PolicySet,
+) -> Result<(), Fail> {
+    put_merged(alloc, text, set, other, true)?;
+    put_word(text, ", ")?;
+    put_merged(alloc, text, set, other, true)
+}
+
+// That as a text.
+fn told_twice(alloc: Global, set: &mut PolicySet, other: &PolicySet) -> Result<String, Fail> {
+    let mut text = String::new(alloc);
+    let done = put_twice(alloc, &mut text, set, other);
+    kept(text, done)
 }
 
 // The same of the sets that some calls leave.
 fn told_again(alloc: Global, here: &str, other: &str) -> Result<String, Fail> {
-    let mut set = set_of(alloc, here)?;
-    told_twice(alloc, &mut set, other)
+    let (other, mut set) = beside(set_of(alloc, other)?, set_of(alloc, here))?;
+    let told = told_twice(alloc, &mut set, &other);
+    drop(set);
+    drop(other);
+    told
 }
 
 #[test]
 fn a_merged_set_is_merged_again(rt: HostRuntime) -> Result<(), Fail> {
-    assert_eq!(rt;
-        told_again(rt.alloc(), "static a", "static a!; static b")?.as_str(),
-        "aP ok | a P! b | a P! b, aQ ok | a P! b Q! | a P! b Q!"
-    );
-    Ok(())
+    let told = told_again(rt.alloc(), "static a", "static a!; static b");
+    is_told(
+        "merged twice",
+        told,
+        "aP ok | a P! b | a P! b, aQ ok | a P! b Q! | a P! b Q!",
+    )
 }
 
 // The call for what `a` is bound to, by a number, and what `b` is.
@@ -243,11 +267,19 @@ fn call_for(number: usize, second: bool) -> &'static str {
     }
 }
 
-// The calls for a set of a template and of two ids, by a number below 49.
+// Writes the calls for a set of a template and of two ids, by a number below 49.
+fn put_calls(text: &mut String, number: usize) -> Result<(), Fail> {
+    put_word(text, "template t1; ")?;
+    put_word(text, call_for(number / 7, false))?;
+    put_word(text, "; ")?;
+    put_word(text, call_for(number % 7, true))
+}
+
+// That as a text.
 fn calls_of(alloc: Global, number: usize) -> Result<String, Fail> {
-    let one = call_for(number / 7, false);
-    let other = call_for(number % 7, true);
-    Ok(format!(in alloc; "template t1; {one}; {other}")?)
+    let mut text = String::new(alloc);
+    let done = put_calls(&mut text, number);
+    kept(text, done)
 }
 
 // The board that some calls leave.
@@ -261,49 +293,62 @@ fn made(calls: &str) -> Board {
     board
 }
 
-// The same of the plain model.
-fn plain_renamed(alloc: Global, renaming: &Renaming) -> Result<String, Fail> {
-    let mut text = String::new(alloc);
+// Writes the same of the plain model.
+fn put_plain_renamed(text: &mut String, renaming: &Renaming) -> Result<(), Fail> {
     for (old, new) in renaming.pairs.iter().flatten() {
-        text.push(char::from(*old))?;
-        text.push(char::from(*new))?;
-        text.push(' ')?;
+        put_letter(text, *old)?;
+        put_letter(text, *new)?;
+        put_letter(text, b' ')?;
     }
-    Ok(text)
+    Ok(())
 }
 
-fn plain_told(alloc: Global, here: &str, other: &str, rename: bool) -> Result<String, Fail> {
+fn put_plain(
+    alloc: Global,
+    text: &mut String,
+    here: &str,
+    other: &str,
+    rename: bool,
+) -> Result<(), Fail> {
     let mut board = made(here);
     match merge(&mut board, &made(other), rename) {
         Ok(renaming) => {
-            let renamed = plain_renamed(alloc, &renaming)?;
-            let told = told_text(alloc, Said::Done, &board)?;
-            Ok(format!(in alloc; "{renamed}{told}")?)
+            put_plain_renamed(text, &renaming)?;
+            put_told(alloc, text, Said::Done, &board)
         }
-        Err(id) => told_text(alloc, Said::Refused(Why::Occupied, id), &board),
+        Err(id) => put_told(alloc, text, Said::Refused(Why::Occupied, id), &board),
     }
 }
 
-// The first pair of sets with a number for the first of which merging is not as the model says, or
-// nothing.
-fn differing(alloc: Global, number: usize, rename: bool) -> Result<String, Fail> {
+fn plain_told(alloc: Global, here: &str, other: &str, rename: bool) -> Result<String, Fail> {
+    let mut text = String::new(alloc);
+    let done = put_plain(alloc, &mut text, here, other, rename);
+    kept(text, done)
+}
+
+// Fails where merging these two is not as the model says.
+fn agrees(alloc: Global, here: &str, other: &str, rename: bool) -> Result<(), Fail> {
+    let want = plain_told(alloc, here, other, rename)?;
+    let told = told(alloc, here, other, rename);
+    is_told(format_args!("{here} / {other}"), told, want.as_str())
+}
+
+// Fails with the first pair of sets with a number for the first of which merging is not as the model says.
+fn all_agree(alloc: Global, number: usize, rename: bool) -> Result<(), Fail> {
     let here = calls_of(alloc, number)?;
     for second in 0..49 {
         let other = calls_of(alloc, second)?;
-        let told = told(alloc, here.as_str(), other.as_str(), rename)?;
-        if told != plain_told(alloc, here.as_str(), other.as_str(), rename)? {
-            return Ok(format!(in alloc; "{here} / {other}: {told}")?);
-        }
+        agrees(alloc, here.as_str(), other.as_str(), rename)?;
     }
-    Ok(String::new(alloc))
+    Ok(())
 }
 
 #[test]
 fn merging_is_as_the_model_says(rt: HostRuntime) -> Result<(), Fail> {
     let alloc = rt.alloc();
     for number in 0..49 {
-        assert_eq!(rt; differing(alloc, number, true)?.as_str(), "");
-        assert_eq!(rt; differing(alloc, number, false)?.as_str(), "");
+        all_agree(alloc, number, true)?;
+        all_agree(alloc, number, false)?;
     }
     Ok(())
 }
@@ -317,8 +362,7 @@ fn sets_with_one_policy_in_common_merge(rt: HostRuntime) -> Result<(), Fail> {
         "static P; static R%",
         "ok | P Q! R% | P Q! R%",
     )];
-    assert_eq!(rt; wrong(alloc, false, &table)?.as_str(), "");
-    Ok(())
+    tells(alloc, false, &table)
 }
 
 // The original's test: the one id that conflicts is refused, and then renamed alone.
@@ -330,12 +374,11 @@ fn the_one_conflict_is_refused_or_renamed(rt: HostRuntime) -> Result<(), Fail> {
         "static Q; static R%",
         "occupied Q | P Q! | P Q!",
     )];
-    assert_eq!(rt; wrong(alloc, false, &keep)?.as_str(), "");
+    tells(alloc, false, &keep)?;
     let rename = [(
         "static P; static Q!",
         "static Q; static R%",
         "QS ok | P Q! S R% | P Q! S R%",
     )];
-    assert_eq!(rt; wrong(alloc, true, &rename)?.as_str(), "");
-    Ok(())
+    tells(alloc, true, &rename)
 }

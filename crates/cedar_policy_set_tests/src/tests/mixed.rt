@@ -1,5 +1,6 @@
 // Lists of up to twelve calls with merges among them, each on a set and on the board that it stands for.
 use super::board::{Board, after, empty, merge};
+use super::kept;
 use super::lists::{below, drawn_call};
 use super::notation::{Said, Why};
 use super::script::{board_of, done, said_by_set};
@@ -24,7 +25,10 @@ fn call(
 // What merging answers, but for the ids that are renamed.
 fn said_by_merging(answer: Result<IndexMap<PolicyID, PolicyID>, PolicySetError>) -> Said {
     match answer {
-        Ok(_renaming) => Said::Done,
+        Ok(renaming) => {
+            drop(renaming);
+            Said::Done
+        }
         Err(error) => said_by_set(Err(error)),
     }
 }
@@ -58,17 +62,25 @@ fn three(alloc: Global, set: &mut PolicySet, seed: &mut u64) -> Result<(), Fail>
     Ok(())
 }
 
-// Merges a set that three drawn calls leave.
+// The set that three drawn calls leave.
+fn drawn_set(alloc: Global, seed: &mut u64) -> Result<PolicySet, Fail> {
+    let mut set = PolicySet::new(alloc);
+    let done = three(alloc, &mut set, seed);
+    kept(set, done)
+}
+
+// Merges such a set.
 fn merge_drawn(
     alloc: Global,
     set: &mut PolicySet,
     board: &mut Board,
     seed: &mut u64,
 ) -> Result<bool, Fail> {
-    let mut other = PolicySet::new(alloc);
-    three(alloc, &mut other, seed)?;
+    let other = drawn_set(alloc, seed)?;
     let rename = below(seed, 4) != 0;
-    Ok(merge_set(alloc, set, board, &other, rename))
+    let held = merge_set(alloc, set, board, &other, rename);
+    drop(other);
+    Ok(held)
 }
 
 // A call, or each fourth time a merge.
@@ -106,7 +118,9 @@ fn list(alloc: Global, seed: &mut u64) -> Result<bool, Fail> {
     let mut set = PolicySet::new(alloc);
     let mut board = empty();
     let count = below(seed, 12).wrapping_add(1);
-    steps(alloc, &mut set, &mut board, seed, count)
+    let told = steps(alloc, &mut set, &mut board, seed, count);
+    drop(set);
+    told
 }
 
 // The number of the first list after which the set is another than the board, or this many.
@@ -122,6 +136,6 @@ fn differing(alloc: Global, count: u16) -> Result<u16, Fail> {
 
 #[test]
 fn lists_of_calls_and_merges_leave_their_board(rt: HostRuntime) -> Result<(), Fail> {
-    assert_eq!(rt; differing(rt.alloc(), 3_000)?, 3_000);
+    assert!(rt; differing(rt.alloc(), 3_000)? == 3_000);
     Ok(())
 }

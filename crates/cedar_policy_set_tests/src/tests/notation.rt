@@ -10,6 +10,7 @@
 // A call is a word and a policy: `static a`, `template t1`, `add a`, `add l=t1+1x`, `link l=t+1x`,
 // `unlink l`, `remove_static a`, `remove_template t`, `links t`. Calls are parted by semicolons.
 use super::board::{Board, Body, Row};
+use super::kept;
 use std::alloc::Global;
 use std::test::Fail;
 
@@ -166,38 +167,56 @@ pub(super) fn call_of(text: &str) -> Call {
     }
 }
 
-// The text of a body.
-pub(super) fn body_text(alloc: Global, body: Body) -> Result<String, Fail> {
-    let id = char::from(body.id);
-    let mut text = String::new(alloc);
-    text.push(id)?;
+// Writes a number.
+pub(super) fn put_number(alloc: Global, text: &mut String, number: u32) -> Result<(), Fail> {
+    let digits = number.to_string(alloc)?;
+    text.push_str(digits.as_str())?;
+    Ok(())
+}
+
+// Writes a letter.
+pub(super) fn put_letter(text: &mut String, letter: u8) -> Result<(), Fail> {
+    text.push(char::from(letter))?;
+    Ok(())
+}
+
+// Writes a word.
+pub(super) fn put_word(text: &mut String, word: &str) -> Result<(), Fail> {
+    text.push_str(word)?;
+    Ok(())
+}
+
+// Writes a body.
+fn put_body(alloc: Global, text: &mut String, body: Body) -> Result<(), Fail> {
+    put_letter(text, body.id)?;
     if body.slots != 0 {
-        text.push_str(format!(in alloc; "{}", body.slots)?.as_str())?;
+        put_number(alloc, text, body.slots)?;
     }
     if body.mark != 0 {
-        text.push(char::from(body.mark))?;
+        put_letter(text, body.mark)?;
     }
-    Ok(text)
+    Ok(())
 }
 
-// The text of a bound slot, or nothing.
-fn bound_text(alloc: Global, slot: char, eid: u8) -> Result<String, Fail> {
+// Writes a bound slot, or nothing.
+fn put_bound(text: &mut String, slot: &str, eid: u8) -> Result<(), Fail> {
     if eid == 0 {
-        return Ok(String::new(alloc));
+        return Ok(());
     }
-    Ok(format!(in alloc; "+{slot}{}", char::from(eid))?)
+    put_word(text, slot)?;
+    put_letter(text, eid)
 }
 
-// The text of a policy.
-pub(super) fn row_text(alloc: Global, row: Row) -> Result<String, Fail> {
-    let body = body_text(alloc, row.body)?;
+// Writes a policy.
+fn put_row(alloc: Global, text: &mut String, row: Row) -> Result<(), Fail> {
     if !row.link {
-        return Ok(body);
+        return put_body(alloc, text, row.body);
     }
-    let id = char::from(row.id);
-    let principal = bound_text(alloc, '1', row.principal)?;
-    let resource = bound_text(alloc, '2', row.resource)?;
-    Ok(format!(in alloc; "{id}={body}{principal}{resource}")?)
+    put_letter(text, row.id)?;
+    put_letter(text, b'=')?;
+    put_body(alloc, text, row.body)?;
+    put_bound(text, "+1", row.principal)?;
+    put_bound(text, "+2", row.resource)
 }
 
 // The word for why a call is refused.
@@ -222,54 +241,79 @@ pub(super) fn joined(letters: u64, letter: u8) -> u64 {
     letters.wrapping_mul(256).wrapping_add(u64::from(letter))
 }
 
-// The text of letters.
-fn letters_text(alloc: Global, letters: u64) -> Result<String, Fail> {
-    let mut text = String::new(alloc);
+// Writes letters.
+fn put_letters(text: &mut String, letters: u64) -> Result<(), Fail> {
     for letter in letters.to_be_bytes() {
         if letter != 0 {
-            text.push(char::from(letter))?;
+            put_letter(text, letter)?;
         }
     }
-    Ok(text)
+    Ok(())
 }
 
-// The text of an answer: `ok`, what was taken out or linked, or a word and the id.
-pub(super) fn said_text(alloc: Global, said: Said) -> Result<String, Fail> {
+// Writes a refusal: a word and the id.
+fn put_refusal(text: &mut String, why: Why, id: u8) -> Result<(), Fail> {
+    put_word(text, word(why))?;
+    put_letter(text, b' ')?;
+    put_letter(text, id)
+}
+
+// Writes the slots that are left over.
+fn put_arity(alloc: Global, text: &mut String, unbound: u32, extra: u32) -> Result<(), Fail> {
+    put_word(text, "unbound ")?;
+    put_number(alloc, text, unbound)?;
+    put_word(text, " extra ")?;
+    put_number(alloc, text, extra)
+}
+
+// Writes an answer: `ok`, what was taken out or linked, or a word and the id.
+fn put_said(alloc: Global, text: &mut String, said: Said) -> Result<(), Fail> {
     match said {
-        Said::Done => Ok(String::from_str(alloc, "ok")?),
-        Said::Policy(row) => row_text(alloc, row),
-        Said::Template(body) => body_text(alloc, body),
-        Said::Refused(why, id) => Ok(format!(in alloc; "{} {}", word(why), char::from(id))?),
-        Said::Arity(unbound, extra) => { Ok(format!(in alloc; "unbound {unbound} extra {extra}")?) }
-        Said::Listed(letters) => letters_text(alloc, letters),
-        Said::Memory => Ok(String::from_str(alloc, "out of memory")?),
+        Said::Done => put_word(text, "ok"),
+        Said::Policy(row) => put_row(alloc, text, row),
+        Said::Template(body) => put_body(alloc, text, body),
+        Said::Refused(why, id) => put_refusal(text, why, id),
+        Said::Arity(unbound, extra) => put_arity(alloc, text, unbound, extra),
+        Said::Listed(letters) => put_letters(text, letters),
+        Said::Memory => put_word(text, "out of memory"),
     }
 }
 
-// The texts of bodies in their order, each behind a blank.
-fn bodies_text(alloc: Global, board: &Board) -> Result<String, Fail> {
-    let mut whole = String::new(alloc);
+// Writes bodies in their order, each behind a blank.
+fn put_bodies(alloc: Global, text: &mut String, board: &Board) -> Result<(), Fail> {
     for body in board.bodies.iter().flatten() {
-        whole.push_str(" ")?;
-        whole.push_str(body_text(alloc, *body)?.as_str())?;
+        put_letter(text, b' ')?;
+        put_body(alloc, text, *body)?;
     }
-    Ok(whole)
+    Ok(())
 }
 
-// The texts of policies in their order, each behind a blank.
-fn policies_text(alloc: Global, board: &Board) -> Result<String, Fail> {
-    let mut whole = String::new(alloc);
+// Writes policies in their order, each behind a blank.
+fn put_rows(alloc: Global, text: &mut String, board: &Board) -> Result<(), Fail> {
     for row in board.policies.iter().flatten() {
-        whole.push_str(" ")?;
-        whole.push_str(row_text(alloc, *row)?.as_str())?;
+        put_letter(text, b' ')?;
+        put_row(alloc, text, *row)?;
     }
-    Ok(whole)
+    Ok(())
 }
 
-// The text of an answer and of both orders: `ok | a t1 | a l=t1+1x`.
+// Writes an answer and both orders: `ok | a t1 | a l=t1+1x`.
+pub(super) fn put_told(
+    alloc: Global,
+    text: &mut String,
+    said: Said,
+    board: &Board,
+) -> Result<(), Fail> {
+    put_said(alloc, text, said)?;
+    put_word(text, " |")?;
+    put_bodies(alloc, text, board)?;
+    put_word(text, " |")?;
+    put_rows(alloc, text, board)
+}
+
+// That as a text.
 pub(super) fn told_text(alloc: Global, said: Said, board: &Board) -> Result<String, Fail> {
-    let said = said_text(alloc, said)?;
-    let bodies = bodies_text(alloc, board)?;
-    let policies = policies_text(alloc, board)?;
-    Ok(format!(in alloc; "{said} |{bodies} |{policies}")?)
+    let mut text = String::new(alloc);
+    let done = put_told(alloc, &mut text, said, board);
+    kept(text, done)
 }

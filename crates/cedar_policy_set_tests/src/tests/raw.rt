@@ -7,8 +7,9 @@ ghost use Rattle.cedar_policy_set.specs.Boards.{empty_board};
 ghost use Rattle.cedar_policy_set.specs.Maps.{lists_of, shared_of};
 ghost use Rattle.cedar_policy_set.specs.laws.Joins.{CanJoinBoth, CanJoinBothBy};
 
-use super::notation::{row, told_text};
-use super::script::{board_of, policy_of, run, set_of};
+use super::notation::row;
+use super::script::{policy_of, set_of, told_on};
+use super::{beside, is_told};
 use cedar_ids::policy_id::PolicyID;
 use cedar_policy::{Policy, Template};
 use cedar_policy_set::PolicySet;
@@ -98,6 +99,7 @@ fn raw_one(alloc: Global, policy: Policy) -> Result<PolicySet, Fail>
 fn raw(alloc: Global, text: &str) -> Result<PolicySet, Fail> {
     let policy = policy_of(alloc, row(text))?;
     if !policy.is_static() && policy.id() == policy.template().id() {
+        drop(policy);
         return Ok(PolicySet::new(alloc));
     }
     let _total = policy.env();
@@ -163,12 +165,18 @@ fn raw_crossed(alloc: Global, first: Policy, second: Policy) -> Result<PolicySet
 // The same of two policies; where they are not static policies with other ids the empty set.
 fn crossed_of(alloc: Global, first: Policy, second: Policy) -> Result<PolicySet, Fail> {
     if !first.is_static() {
+        drop(first);
+        drop(second);
         return Ok(PolicySet::new(alloc));
     }
     if !second.is_static() {
+        drop(first);
+        drop(second);
         return Ok(PolicySet::new(alloc));
     }
     if first.template().id() == second.template().id() {
+        drop(first);
+        drop(second);
         return Ok(PolicySet::new(alloc));
     }
     raw_crossed(alloc, first, second)
@@ -176,32 +184,32 @@ fn crossed_of(alloc: Global, first: Policy, second: Policy) -> Result<PolicySet,
 
 // The same of texts.
 fn crossed(alloc: Global, first: &str, second: &str) -> Result<PolicySet, Fail> {
-    let first = policy_of(alloc, row(first))?;
-    let second = policy_of(alloc, row(second))?;
+    let (first, second) = beside(policy_of(alloc, row(first))?, policy_of(alloc, row(second)))?;
     crossed_of(alloc, first, second)
-}
-
-// What the last of some calls answers on a set, and both orders after it.
-fn after(alloc: Global, set: &mut PolicySet, calls: &str) -> Result<String, Fail> {
-    let said = run(alloc, set, calls)?;
-    told_text(alloc, said, &board_of(set))
 }
 
 // Whether a set is the one that some calls make.
 fn is_made(alloc: Global, set: &PolicySet, calls: &str) -> Result<bool, Fail> {
-    Ok(*set == set_of(alloc, calls)?)
+    let made = set_of(alloc, calls)?;
+    let same = *set == made;
+    drop(made);
+    Ok(same)
 }
 
 // Whether the set that is kept in maps of a text is the one that some calls make.
 fn is_raw(alloc: Global, text: &str, calls: &str) -> Result<bool, Fail> {
     let set = raw(alloc, text)?;
-    is_made(alloc, &set, calls)
+    let same = is_made(alloc, &set, calls);
+    drop(set);
+    same
 }
 
 // What the last of some calls answers on that set, and both orders after it.
 fn told_raw(alloc: Global, text: &str, calls: &str) -> Result<String, Fail> {
     let mut set = raw(alloc, text)?;
-    after(alloc, &mut set, calls)
+    let told = told_on(alloc, &mut set, calls);
+    drop(set);
+    told
 }
 
 #[test]
@@ -209,15 +217,16 @@ fn maps_of_a_template_and_its_link_are_the_set_that_calls_make(
     rt: HostRuntime,
 ) -> Result<(), Fail> {
     let alloc = rt.alloc();
-    assert!(rt; is_raw(alloc, "l=t1+1x", "template t1; link l=t+1x")?);
-    assert!(rt; is_raw(alloc, "a!", "static a!")?);
+    for (text, calls) in [("l=t1+1x", "template t1; link l=t+1x"), ("a!", "static a!")] {
+        assert!(rt; is_raw(alloc, text, calls)?);
+    }
     for (calls, want) in [
         ("links t", "l | t1 | l=t1+1x"),
         ("links t; unlink l", "l=t1+1x | t1 |"),
         ("links t; unlink l; links t", " | t1 |"),
         ("links t; unlink l; links t; remove_template t", "t1 | |"),
     ] {
-        assert_eq!(rt; told_raw(alloc, "l=t1+1x", calls)?.as_str(), want);
+        is_told(calls, told_raw(alloc, "l=t1+1x", calls), want)?;
     }
     Ok(())
 }
@@ -225,13 +234,17 @@ fn maps_of_a_template_and_its_link_are_the_set_that_calls_make(
 // Whether the set of `a` and `b!`, its policies turned, is the one that some calls make.
 fn is_crossed(alloc: Global, calls: &str) -> Result<bool, Fail> {
     let set = crossed(alloc, "a", "b!")?;
-    is_made(alloc, &set, calls)
+    let same = is_made(alloc, &set, calls);
+    drop(set);
+    same
 }
 
 // What the last of some calls answers on that set, and both orders after it.
 fn told_crossed(alloc: Global, calls: &str) -> Result<String, Fail> {
     let mut set = crossed(alloc, "a", "b!")?;
-    after(alloc, &mut set, calls)
+    let told = told_on(alloc, &mut set, calls);
+    drop(set);
+    told
 }
 
 #[test]
@@ -246,7 +259,7 @@ fn maps_keep_the_orders_that_they_have(rt: HostRuntime) -> Result<(), Fail> {
             "a | b! t a | b! l=t a",
         ),
     ] {
-        assert_eq!(rt; told_crossed(alloc, calls)?.as_str(), want);
+        is_told(calls, told_crossed(alloc, calls), want)?;
     }
     Ok(())
 }

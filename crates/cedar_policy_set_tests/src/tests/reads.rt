@@ -2,6 +2,7 @@
 use super::board::{Board, empty, put_body, put_row};
 use super::notation::{Said, told_text};
 use super::script::{body_of, id_of, row_of, set_of};
+use super::{beside, is_told};
 use cedar_ids::policy_id::PolicyID;
 use cedar_policy_set::{IntoPolicies, PolicySet};
 use std::alloc::Global;
@@ -30,7 +31,9 @@ fn filtered(set: &PolicySet) -> Board {
 // Those of the set that some calls leave.
 fn filtered_text(alloc: Global, calls: &str) -> Result<String, Fail> {
     let set = set_of(alloc, calls)?;
-    told_text(alloc, Said::Done, &filtered(&set))
+    let told = told_text(alloc, Said::Done, &filtered(&set));
+    drop(set);
+    told
 }
 
 #[test]
@@ -47,7 +50,7 @@ fn templates_have_slots_and_static_policies_no_link(rt: HostRuntime) -> Result<(
         ("template t1?", "ok | t1? |"),
     ];
     for (calls, want) in table {
-        assert_eq!(rt; filtered_text(alloc, calls)?.as_str(), want);
+        is_told(calls, filtered_text(alloc, calls), want)?;
     }
     Ok(())
 }
@@ -57,6 +60,7 @@ fn all_of(policies: IntoPolicies) -> Board {
     let mut board = empty();
     for policy in policies {
         put_row(&mut board, row_of(&policy));
+        drop(policy);
     }
     board
 }
@@ -78,7 +82,7 @@ fn a_set_falls_apart_into_its_policies(rt: HostRuntime) -> Result<(), Fail> {
         ),
     ];
     for (calls, want) in table {
-        assert_eq!(rt; apart_text(alloc, calls)?.as_str(), want);
+        is_told(calls, apart_text(alloc, calls), want)?;
     }
     Ok(())
 }
@@ -104,15 +108,22 @@ fn is_shared(set: &PolicySet, id: &PolicyID, board: &Board) -> bool {
     }
 }
 
-// What is found with a letter in the set that some calls leave.
-fn found_text(alloc: Global, calls: &str, letter: u8) -> Result<String, Fail> {
-    let id = id_of(alloc, letter)?;
-    let set = set_of(alloc, calls)?;
-    let board = found(&set, &id);
-    if !is_shared(&set, &id, &board) {
+// What is found with an id.
+fn found_in(alloc: Global, set: &PolicySet, id: &PolicyID) -> Result<String, Fail> {
+    let board = found(set, id);
+    if !is_shared(set, id, &board) {
         return Ok(String::from_str(alloc, "another is shared")?);
     }
     told_text(alloc, Said::Done, &board)
+}
+
+// What is found with a letter in the set that some calls leave.
+fn found_text(alloc: Global, calls: &str, letter: u8) -> Result<String, Fail> {
+    let (id, set) = beside(id_of(alloc, letter)?, set_of(alloc, calls))?;
+    let told = found_in(alloc, &set, &id);
+    drop(set);
+    drop(id);
+    told
 }
 
 #[test]
@@ -129,22 +140,30 @@ fn an_id_finds_its_policy_and_its_body(rt: HostRuntime) -> Result<(), Fail> {
         (b'n', "ok | |"),
     ];
     for (letter, want) in table {
-        assert_eq!(rt; found_text(alloc, calls, letter)?.as_str(), want);
+        is_told(char::from(letter), found_text(alloc, calls, letter), want)?;
     }
     Ok(())
 }
 
 fn is_empty(alloc: Global, calls: &str) -> Result<bool, Fail> {
-    Ok(set_of(alloc, calls)?.is_empty())
+    let set = set_of(alloc, calls)?;
+    let is_empty = set.is_empty();
+    drop(set);
+    Ok(is_empty)
 }
 
 #[test]
 fn a_set_without_a_binding_is_empty(rt: HostRuntime) -> Result<(), Fail> {
     let alloc = rt.alloc();
-    assert!(rt; is_empty(alloc, "")?);
-    assert!(rt; is_empty(alloc, "static a; remove_static a")?);
-    assert!(rt; !is_empty(alloc, "static a")?);
-    assert!(rt; !is_empty(alloc, "template a")?);
-    assert!(rt; !is_empty(alloc, "add l=t; unlink l")?);
+    let table = [
+        ("", true),
+        ("static a; remove_static a", true),
+        ("static a", false),
+        ("template a", false),
+        ("add l=t; unlink l", false),
+    ];
+    for (calls, want) in table {
+        assert!(rt; is_empty(alloc, calls)? == want);
+    }
     Ok(())
 }

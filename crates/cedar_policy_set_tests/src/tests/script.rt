@@ -1,7 +1,7 @@
 // Calls on a policy set, by the short texts of `notation`.
 use super::board::{Board, Body, Row, empty, put_body, put_row};
 use super::notation::{Call, Said, Verb, Why, behind, call_of, joined, told_text};
-use super::uid;
+use super::{beside, is_told, kept, uid};
 use cedar_ids::entity::EntityUID;
 use cedar_ids::name::Name;
 use cedar_ids::policy_id::PolicyID;
@@ -105,9 +105,8 @@ fn clause_of(alloc: Global, body: Body) -> Result<Option<Expr>, Fail> {
 
 // The template that a body is.
 pub(super) fn template_of(alloc: Global, body: Body) -> Result<Template, Fail> {
-    let id = id_of(alloc, body.id)?;
-    let action = action_of(alloc, body)?;
-    let clause = clause_of(alloc, body)?;
+    let named = beside(id_of(alloc, body.id)?, action_of(alloc, body))?;
+    let ((id, action), clause) = beside(named, clause_of(alloc, body))?;
     let template = Template::new(
         alloc,
         id,
@@ -138,19 +137,24 @@ fn bind(alloc: Global, values: &mut SlotEnv, slot: SlotId, letter: u8) -> Result
     Ok(())
 }
 
+// Binds the slots of a link.
+fn bind_both(alloc: Global, values: &mut SlotEnv, row: Row) -> Result<(), Fail> {
+    bind(alloc, values, SlotId::Principal, row.principal)?;
+    bind(alloc, values, SlotId::Resource, row.resource)
+}
+
 // The bindings of a link.
 fn values_of(alloc: Global, row: Row) -> Result<SlotEnv, Fail> {
     let mut values = HashMap::new(alloc);
-    bind(alloc, &mut values, SlotId::Principal, row.principal)?;
-    bind(alloc, &mut values, SlotId::Resource, row.resource)?;
-    Ok(values)
+    let done = bind_both(alloc, &mut values, row);
+    kept(values, done)
 }
 
 // The link that a row is.
 fn link_of(alloc: Global, row: Row) -> Result<Policy, Fail> {
     let template = Rc::new(alloc, template_of(alloc, row.body)?)?;
-    let id = id_of(alloc, row.id)?;
-    let values = values_of(alloc, row)?;
+    let named = beside(template, id_of(alloc, row.id))?;
+    let ((template, id), values) = beside(named, values_of(alloc, row))?;
     Ok(Template::link(alloc, template, id, values)?)
 }
 
@@ -270,13 +274,42 @@ pub(super) fn board_of(set: &PolicySet) -> Board {
     board
 }
 
+// A refusal with an id, which is let go.
+fn refused(why: Why, id: PolicyID) -> Said {
+    let said = Said::Refused(why, letter_of(&id));
+    drop(id);
+    said
+}
+
+// A policy that was taken out, which is let go.
+fn policy_out(policy: Policy) -> Said {
+    let said = Said::Policy(row_of(&policy));
+    drop(policy);
+    said
+}
+
+// The same of a template.
+fn template_out(template: Template) -> Said {
+    let said = Said::Template(body_of(&template));
+    drop(template);
+    said
+}
+
 // What joining answers.
 pub(super) fn said_by_set(answer: Result<(), PolicySetError>) -> Said {
     match answer {
         Ok(()) => Said::Done,
-        Err(PolicySetError::Occupied { id }) => Said::Refused(Why::Occupied, letter_of(&id)),
+        Err(PolicySetError::Occupied { id }) => refused(Why::Occupied, id),
         Err(PolicySetError::Memory) => Said::Memory,
     }
+}
+
+// The slots that are left over, in two lists.
+fn left_over(unbound: Vec<SlotId>, extra: Vec<SlotId>) -> Said {
+    let said = Said::Arity(digits_of(&unbound), digits_of(&extra));
+    drop(unbound);
+    drop(extra);
+    said
 }
 
 fn said_by_linking(error: LinkingError) -> Said {
@@ -284,30 +317,28 @@ fn said_by_linking(error: LinkingError) -> Said {
         LinkingError::ArityError {
             unbound_values,
             extra_values,
-        } => Said::Arity(digits_of(&unbound_values), digits_of(&extra_values)),
-        LinkingError::NoSuchTemplate { id } => Said::Refused(Why::NoSuchTemplate, letter_of(&id)),
-        LinkingError::PolicyIdConflict { id } => Said::Refused(Why::IdConflict, letter_of(&id)),
+        } => left_over(unbound_values, extra_values),
+        LinkingError::NoSuchTemplate { id } => refused(Why::NoSuchTemplate, id),
+        LinkingError::PolicyIdConflict { id } => refused(Why::IdConflict, id),
         LinkingError::Memory => Said::Memory,
     }
 }
 
 fn said_by_unlinking(answer: Result<Policy, PolicySetUnlinkError>) -> Said {
     match answer {
-        Ok(policy) => Said::Policy(row_of(&policy)),
-        Err(PolicySetUnlinkError::UnlinkingError(id)) => Said::Refused(Why::NoLink, letter_of(&id)),
-        Err(PolicySetUnlinkError::NotLinkError(id)) => Said::Refused(Why::NotLink, letter_of(&id)),
+        Ok(policy) => policy_out(policy),
+        Err(PolicySetUnlinkError::UnlinkingError(id)) => refused(Why::NoLink, id),
+        Err(PolicySetUnlinkError::NotLinkError(id)) => refused(Why::NotLink, id),
         Err(PolicySetUnlinkError::Memory) => Said::Memory,
     }
 }
 
 fn said_by_removal(answer: Result<Policy, PolicySetPolicyRemovalError>) -> Said {
     match answer {
-        Ok(policy) => Said::Policy(row_of(&policy)),
-        Err(PolicySetPolicyRemovalError::RemovePolicyNoLinkError(id)) => {
-            Said::Refused(Why::NoStatic, letter_of(&id))
-        }
+        Ok(policy) => policy_out(policy),
+        Err(PolicySetPolicyRemovalError::RemovePolicyNoLinkError(id)) => refused(Why::NoStatic, id),
         Err(PolicySetPolicyRemovalError::RemovePolicyNoTemplateError(id)) => {
-            Said::Refused(Why::NotStatic, letter_of(&id))
+            refused(Why::NotStatic, id)
         }
         Err(PolicySetPolicyRemovalError::Memory) => Said::Memory,
     }
@@ -315,16 +346,14 @@ fn said_by_removal(answer: Result<Policy, PolicySetPolicyRemovalError>) -> Said 
 
 fn said_by_template_removal(answer: Result<Template, PolicySetTemplateRemovalError>) -> Said {
     match answer {
-        Ok(template) => Said::Template(body_of(&template)),
+        Ok(template) => template_out(template),
         Err(PolicySetTemplateRemovalError::RemovePolicyNoTemplateError(id)) => {
-            Said::Refused(Why::NoTemplate, letter_of(&id))
+            refused(Why::NoTemplate, id)
         }
         Err(PolicySetTemplateRemovalError::RemoveTemplateWithLinksError(id)) => {
-            Said::Refused(Why::WithLinks, letter_of(&id))
+            refused(Why::WithLinks, id)
         }
-        Err(PolicySetTemplateRemovalError::NotTemplateError(id)) => {
-            Said::Refused(Why::NotTemplate, letter_of(&id))
-        }
+        Err(PolicySetTemplateRemovalError::NotTemplateError(id)) => refused(Why::NotTemplate, id),
         Err(PolicySetTemplateRemovalError::Memory) => Said::Memory,
     }
 }
@@ -353,9 +382,8 @@ struct Linking {
 }
 
 fn linking_of(alloc: Global, row: Row) -> Result<Linking, Fail> {
-    let template = id_of(alloc, row.body.id)?;
-    let id = id_of(alloc, row.id)?;
-    let values = values_of(alloc, row)?;
+    let named = beside(id_of(alloc, row.body.id)?, id_of(alloc, row.id))?;
+    let ((template, id), values) = beside(named, values_of(alloc, row))?;
     Ok(Linking {
         template,
         id,
@@ -383,17 +411,23 @@ fn link(alloc: Global, set: &mut PolicySet, row: Row) -> Result<Said, Fail> {
 
 fn unlink(alloc: Global, set: &mut PolicySet, row: Row) -> Result<Said, Fail> {
     let id = id_of(alloc, row.id)?;
-    Ok(said_by_unlinking(set.unlink(&id)))
+    let said = said_by_unlinking(set.unlink(&id));
+    drop(id);
+    Ok(said)
 }
 
 fn remove_static(alloc: Global, set: &mut PolicySet, row: Row) -> Result<Said, Fail> {
     let id = id_of(alloc, row.id)?;
-    Ok(said_by_removal(set.remove_static(&id)))
+    let said = said_by_removal(set.remove_static(&id));
+    drop(id);
+    Ok(said)
 }
 
 fn remove_template(alloc: Global, set: &mut PolicySet, row: Row) -> Result<Said, Fail> {
     let id = id_of(alloc, row.id)?;
-    Ok(said_by_template_removal(set.remove_template(&id)))
+    let said = said_by_template_removal(set.remove_template(&id));
+    drop(id);
+    Ok(said)
 }
 
 // The letters of ids.
@@ -408,16 +442,16 @@ fn letters_of(ids: LinkedIds<'_>) -> u64 {
 fn said_by_listing(answer: Result<LinkedIds<'_>, PolicySetGetLinksError>) -> Said {
     match answer {
         Ok(ids) => Said::Listed(letters_of(ids)),
-        Err(PolicySetGetLinksError::MissingTemplate(id)) => {
-            Said::Refused(Why::NoBody, letter_of(&id))
-        }
+        Err(PolicySetGetLinksError::MissingTemplate(id)) => refused(Why::NoBody, id),
         Err(PolicySetGetLinksError::Memory) => Said::Memory,
     }
 }
 
 fn links(alloc: Global, set: &PolicySet, row: Row) -> Result<Said, Fail> {
     let id = id_of(alloc, row.id)?;
-    Ok(said_by_listing(set.get_linked_policies(&id)))
+    let said = said_by_listing(set.get_linked_policies(&id));
+    drop(id);
+    Ok(said)
 }
 
 // One call on a set, and what it answers.
@@ -449,25 +483,28 @@ pub(super) fn run(alloc: Global, set: &mut PolicySet, calls: &str) -> Result<Sai
 // The set that some calls leave.
 pub(super) fn set_of(alloc: Global, calls: &str) -> Result<PolicySet, Fail> {
     let mut set = PolicySet::new(alloc);
-    run(alloc, &mut set, calls)?;
-    Ok(set)
+    let done = run(alloc, &mut set, calls);
+    kept(set, done)
 }
 
-// What the last of some calls answers, and both orders after it.
-pub(super) fn told(alloc: Global, calls: &str) -> Result<String, Fail> {
+// What the last of some calls answers on a set, and both orders after it.
+pub(super) fn told_on(alloc: Global, set: &mut PolicySet, calls: &str) -> Result<String, Fail> {
+    let said = run(alloc, set, calls)?;
+    told_text(alloc, said, &board_of(set))
+}
+
+// The same on the empty set.
+fn told(alloc: Global, calls: &str) -> Result<String, Fail> {
     let mut set = PolicySet::new(alloc);
-    let said = run(alloc, &mut set, calls)?;
-    told_text(alloc, said, &board_of(&set))
+    let told = told_on(alloc, &mut set, calls);
+    drop(set);
+    told
 }
 
-// The first of these lists of calls of which another thing is told than stands beside it, or
-// nothing.
-pub(super) fn wrong(alloc: Global, table: &[(&str, &str)]) -> Result<String, Fail> {
+// Fails with the first of these lists of calls of which another thing is told than stands beside it.
+pub(super) fn tells(alloc: Global, table: &[(&str, &str)]) -> Result<(), Fail> {
     for (calls, want) in table {
-        let told = told(alloc, calls)?;
-        if told.as_str() != *want {
-            return Ok(format!(in alloc; "{calls}: {told}")?);
-        }
+        is_told(*calls, told(alloc, calls), want)?;
     }
-    Ok(String::new(alloc))
+    Ok(())
 }

@@ -1,5 +1,6 @@
 // How sets and refusals are written.
 use super::script::set_of;
+use super::{beside, is_told, written};
 use cedar_ids::policy_id::PolicyID;
 use cedar_policy::TemplateValidationError;
 use cedar_policy_set::{
@@ -10,10 +11,9 @@ use std::alloc::Global;
 use std::fmt::Display;
 use std::test::Fail;
 
-// Whether a thing is written so.
-fn shows<T: Display + Drop>(alloc: Global, thing: T, want: &str) -> Result<bool, Fail> {
-    let text = thing.to_string(alloc)?;
-    Ok(text.as_str() == want)
+// Fails where a thing is not written so.
+fn shows<T: Display + Drop>(alloc: Global, thing: T, want: &str) -> Result<(), Fail> {
+    is_told("written", written(alloc, thing), want)
 }
 
 const EMPTY: &str = "<empty policyset>";
@@ -41,7 +41,7 @@ fn a_set_is_written_by_its_two_orders(rt: HostRuntime) -> Result<(), Fail> {
         ("static a!; add l=t2+2y", BOTH),
     ];
     for (calls, want) in table {
-        assert!(rt; shows(alloc, set_of(alloc, calls)?, want)?);
+        shows(alloc, set_of(alloc, calls)?, want)?;
     }
     Ok(())
 }
@@ -54,12 +54,11 @@ fn i(alloc: Global) -> Result<PolicyID, Fail> {
 fn refusals_of_joining_and_listing_have_their_texts(rt: HostRuntime) -> Result<(), Fail> {
     let alloc = rt.alloc();
     let occupied = PolicySetError::Occupied { id: i(alloc)? };
-    assert!(rt; shows(alloc, occupied, "duplicate template or policy id `i\\\"j`")?);
-    assert!(rt; shows(alloc, PolicySetError::Memory, "out of memory")?);
+    shows(alloc, occupied, "duplicate template or policy id `i\\\"j`")?;
+    shows(alloc, PolicySetError::Memory, "out of memory")?;
     let missing = PolicySetGetLinksError::MissingTemplate(i(alloc)?);
-    assert!(rt; shows(alloc, missing, "No template `i\\\"j`")?);
-    assert!(rt; shows(alloc, PolicySetGetLinksError::Memory, "out of memory")?);
-    Ok(())
+    shows(alloc, missing, "No template `i\\\"j`")?;
+    shows(alloc, PolicySetGetLinksError::Memory, "out of memory")
 }
 
 #[test]
@@ -67,12 +66,11 @@ fn refusals_of_unlinking_have_their_texts(rt: HostRuntime) -> Result<(), Fail> {
     let alloc = rt.alloc();
     let unbound = PolicySetUnlinkError::UnlinkingError(i(alloc)?);
     let want = "unable to unlink policy id `i\\\"j` because it does not exist";
-    assert!(rt; shows(alloc, unbound, want)?);
+    shows(alloc, unbound, want)?;
     let other = PolicySetUnlinkError::NotLinkError(i(alloc)?);
     let want = "unable to remove link with policy id `i\\\"j` because it is a static policy";
-    assert!(rt; shows(alloc, other, want)?);
-    assert!(rt; shows(alloc, PolicySetUnlinkError::Memory, "out of memory")?);
-    Ok(())
+    shows(alloc, other, want)?;
+    shows(alloc, PolicySetUnlinkError::Memory, "out of memory")
 }
 
 #[test]
@@ -80,22 +78,19 @@ fn refusals_of_a_templates_removal_have_their_texts(rt: HostRuntime) -> Result<(
     let alloc = rt.alloc();
     let unbound = PolicySetTemplateRemovalError::RemovePolicyNoTemplateError(i(alloc)?);
     let want = "unable to remove template id `i\\\"j` from template list because it does not exist";
-    assert!(rt; shows(alloc, unbound, want)?);
+    shows(alloc, unbound, want)?;
     let linked = PolicySetTemplateRemovalError::RemoveTemplateWithLinksError(i(alloc)?);
     let want =
         "unable to remove template id `i\\\"j` from template list because it still has active links";
-    assert!(rt; shows(alloc, linked, want)?);
+    shows(alloc, linked, want)?;
     let other = PolicySetTemplateRemovalError::NotTemplateError(i(alloc)?);
     let want = "unable to remove template with policy id `i\\\"j` because it is a static policy";
-    assert!(rt; shows(alloc, other, want)?);
-    assert!(rt;
-        shows(
-            alloc,
-            PolicySetTemplateRemovalError::Memory,
-            "out of memory"
-        )?
-    );
-    Ok(())
+    shows(alloc, other, want)?;
+    shows(
+        alloc,
+        PolicySetTemplateRemovalError::Memory,
+        "out of memory",
+    )
 }
 
 #[test]
@@ -104,19 +99,18 @@ fn refusals_of_a_policys_removal_have_their_texts(rt: HostRuntime) -> Result<(),
     let unbound = PolicySetPolicyRemovalError::RemovePolicyNoLinkError(i(alloc)?);
     let want =
         "unable to remove static policy id `i\\\"j` from link list because it does not exist";
-    assert!(rt; shows(alloc, unbound, want)?);
+    shows(alloc, unbound, want)?;
     let link = PolicySetPolicyRemovalError::RemovePolicyNoTemplateError(i(alloc)?);
     let want =
         "unable to remove static policy id `i\\\"j` from template list because it does not exist";
-    assert!(rt; shows(alloc, link, want)?);
-    assert!(rt; shows(alloc, PolicySetPolicyRemovalError::Memory, "out of memory")?);
-    Ok(())
+    shows(alloc, link, want)?;
+    shows(alloc, PolicySetPolicyRemovalError::Memory, "out of memory")
 }
 
 // The refusal of a link of a template without slots.
 fn slotless(alloc: Global) -> Result<PolicySetValidationError, Fail> {
     let link_id = PolicyID::from_string(alloc, "l")?;
-    let template_id = i(alloc)?;
+    let (link_id, template_id) = beside(link_id, i(alloc))?;
     Ok(PolicySetValidationError::LinkToSlotlessTemplate {
         link_id,
         template_id,
@@ -127,14 +121,13 @@ fn slotless(alloc: Global) -> Result<PolicySetValidationError, Fail> {
 fn refusals_of_validation_have_their_texts(rt: HostRuntime) -> Result<(), Fail> {
     let alloc = rt.alloc();
     let want = "link `l` references template `i\\\"j` which has no slots";
-    assert!(rt; shows(alloc, slotless(alloc)?, want)?);
+    shows(alloc, slotless(alloc)?, want)?;
     let cache = PolicySetValidationError::InvalidTemplate {
         id: i(alloc)?,
         error: TemplateValidationError::SlotCacheMismatch,
     };
     let want =
         "invalid template `i\\\"j`: template slot cache is inconsistent with condition expression";
-    assert!(rt; shows(alloc, cache, want)?);
-    assert!(rt; shows(alloc, PolicySetValidationError::Memory, "out of memory")?);
-    Ok(())
+    shows(alloc, cache, want)?;
+    shows(alloc, PolicySetValidationError::Memory, "out of memory")
 }

@@ -2,7 +2,7 @@
 ghost use Rattle.std.specs.Prelude.{◌≡◌, [], IfOk};
 ghost use Rattle.cedar_terms.specs.Walk.{slots_of};
 
-use super::{Scope, equal, free, id, on_both, on_principal, permits};
+use super::{Scope, beside, equal, free, id, on_both, on_principal, permits, shows};
 use cedar_ids::loc::Loc;
 use cedar_ids::policy_id::PolicyID;
 use cedar_policy::{Effect, LinkingError, Policy, StaticPolicy, Template, UnexpectedSlotError};
@@ -60,8 +60,15 @@ type Found = Option<(SlotId, Option<usize>)>;
 
 fn found(answer: Result<StaticPolicy, UnexpectedSlotError>) -> Found {
     match answer {
-        Ok(_) => None,
-        Err(UnexpectedSlotError::FoundSlot(slot)) => Some((slot.id, start_of(slot.loc.as_ref()))),
+        Ok(policy) => {
+            drop(policy);
+            None
+        }
+        Err(UnexpectedSlotError::FoundSlot(slot)) => {
+            let told = Some((slot.id, start_of(slot.loc.as_ref())));
+            drop(slot);
+            told
+        }
         Err(UnexpectedSlotError::Memory) => None,
     }
 }
@@ -85,8 +92,7 @@ fn resource_at_place(alloc: Global) -> Result<ResourceConstraint, Fail> {
 
 // Both.
 fn slots_at_places(alloc: Global) -> Result<Scope, Fail> {
-    let principal = principal_at_place(alloc)?;
-    let resource = resource_at_place(alloc)?;
+    let (principal, resource) = beside(principal_at_place(alloc)?, resource_at_place(alloc))?;
     Ok(Scope {
         principal,
         action: ActionConstraint::any(),
@@ -97,19 +103,19 @@ fn slots_at_places(alloc: Global) -> Result<Scope, Fail> {
 // `?principal`, at the place 7.
 fn slot_at_place(alloc: Global) -> Result<Expr, Fail> {
     let slot = Expr::slot(alloc, SlotId::Principal)?;
-    Ok(slot.with_maybe_source_loc(place(alloc, 7)?))
+    let (slot, loc) = beside(slot, place(alloc, 7))?;
+    Ok(slot.with_maybe_source_loc(loc))
 }
 
 // What a static policy of these constraints and this clause is refused for.
 fn refusal(alloc: Global, scope: Scope, clause: Option<Expr>) -> Result<Found, Fail> {
-    let name = id(alloc, "p")?;
+    let ((scope, clause), name) = beside((scope, clause), id(alloc, "p"))?;
     Ok(found(made(alloc, name, None, scope, clause)))
 }
 
 // The same, of the clause with a slot.
 fn refusal_with_clause(alloc: Global) -> Result<Found, Fail> {
-    let clause = slot_at_place(alloc)?;
-    let scope = slots_at_places(alloc)?;
+    let (clause, scope) = beside(slot_at_place(alloc)?, slots_at_places(alloc))?;
     refusal(alloc, scope, Some(clause))
 }
 
@@ -141,33 +147,38 @@ fn a_template_with_a_slot_is_no_static_policy(rt: HostRuntime) -> Result<(), Fai
 
 // The static policy `p` that forbids where `1 == 2`, at the place 9.
 fn at_place(alloc: Global) -> Result<StaticPolicy, Fail> {
-    let clause = equal(alloc, 1, 2)?;
-    let loc = place(alloc, 9)?;
-    let name = id(alloc, "p")?;
+    let (clause, loc) = beside(equal(alloc, 1, 2)?, place(alloc, 9))?;
+    let ((clause, loc), name) = beside((clause, loc), id(alloc, "p"))?;
     Ok(made(alloc, name, loc, free(), Some(clause))?)
+}
+
+// Whether a policy, which is let go, forbids under this id, at the place 9, where a clause says so.
+fn is_at_place(policy: StaticPolicy, name: &str) -> bool {
+    let told = policy.id().as_ref() == name
+        && policy.effect() == Effect::Forbid
+        && start_of(policy.loc()) == Some(9)
+        && policy.non_scope_constraints().is_some();
+    drop(policy);
+    told
 }
 
 #[test]
 fn a_static_policy_is_made_of_its_parts(rt: HostRuntime) -> Result<(), Fail> {
-    let alloc = rt.alloc();
-    let policy = at_place(alloc)?;
-    assert!(rt; policy.id().as_ref() == "p" && policy.effect() == Effect::Forbid);
-    assert!(rt; start_of(policy.loc()) == Some(9));
-    assert!(rt; policy.non_scope_constraints().is_some());
+    assert!(rt; is_at_place(at_place(rt.alloc())?, "p"));
     Ok(())
 }
 
 // The same policy under the id `q`.
 fn renamed(alloc: Global) -> Result<StaticPolicy, Fail> {
-    let policy = at_place(alloc)?;
-    Ok(policy.new_id(id(alloc, "q")?)?)
+    let (policy, name) = beside(at_place(alloc)?, id(alloc, "q"))?;
+    let made = policy.new_id(name);
+    drop(policy);
+    Ok(made?)
 }
 
 #[test]
 fn a_static_policy_takes_another_id(rt: HostRuntime) -> Result<(), Fail> {
-    let alloc = rt.alloc();
-    let policy = renamed(alloc)?;
-    assert!(rt; policy.id().as_ref() == "q" && start_of(policy.loc()) == Some(9));
+    assert!(rt; is_at_place(renamed(rt.alloc())?, "q"));
     Ok(())
 }
 
@@ -183,14 +194,22 @@ fn starts(alloc: Global, expr: &Expr, count: usize) -> Result<Vec<Option<usize>>
 // The condition of the policy at the place 9.
 fn condition_at_place(alloc: Global) -> Result<Expr, Fail> {
     let policy = Policy::from_static(alloc, at_place(alloc)?)?;
-    Ok(policy.condition(alloc)?)
+    let condition = policy.condition(alloc);
+    drop(policy);
+    Ok(condition?)
+}
+
+fn starts_of_condition(alloc: Global) -> Result<Vec<Option<usize>>, Fail> {
+    let condition = condition_at_place(alloc)?;
+    let found = starts(alloc, &condition, 4);
+    drop(condition);
+    found
 }
 
 #[test]
 fn the_three_nodes_of_a_condition_stand_where_the_policy_does(rt: HostRuntime) -> Result<(), Fail> {
     let alloc = rt.alloc();
-    let condition = condition_at_place(alloc)?;
-    let found = starts(alloc, &condition, 4)?;
+    let found = starts_of_condition(alloc)?;
     assert!(rt; found.as_slice() == [Some(9), Some(9), Some(9), None].as_slice());
     Ok(())
 }
@@ -206,26 +225,43 @@ fn slot_starts(alloc: Global, template: &Template) -> Result<Vec<Option<usize>>,
 
 // The template with three slots, each at a place.
 fn placed_template(alloc: Global) -> Result<Template, Fail> {
-    let clause = slot_at_place(alloc)?;
-    let scope = slots_at_places(alloc)?;
+    let (clause, scope) = beside(slot_at_place(alloc)?, slots_at_places(alloc))?;
     permits(alloc, scope, Some(clause))
+}
+
+fn starts_of_slots(alloc: Global) -> Result<Vec<Option<usize>>, Fail> {
+    let template = placed_template(alloc)?;
+    let found = slot_starts(alloc, &template);
+    drop(template);
+    found
 }
 
 #[test]
 fn the_slots_of_a_template_stand_where_their_references_do(rt: HostRuntime) -> Result<(), Fail> {
     let alloc = rt.alloc();
-    let template = placed_template(alloc)?;
-    let found = slot_starts(alloc, &template)?;
+    let found = starts_of_slots(alloc)?;
     assert!(rt; found.as_slice() == [Some(7), Some(5), Some(3)].as_slice());
     Ok(())
 }
 
-// How many slots a refusal says are not bound.
+// How many slots a refusal, which is let go, says are not bound.
+fn unbound_in(error: LinkingError) -> usize {
+    let count = match &error {
+        LinkingError::ArityError { unbound_values, .. } => unbound_values.len(),
+        _ => 0,
+    };
+    drop(error);
+    count
+}
+
+// The same of an answer.
 fn count_unbound(answer: Result<Policy, LinkingError>) -> Option<usize> {
     match answer {
-        Ok(_) => None,
-        Err(LinkingError::ArityError { unbound_values, .. }) => Some(unbound_values.len()),
-        Err(_) => Some(0),
+        Ok(policy) => {
+            drop(policy);
+            None
+        }
+        Err(error) => Some(unbound_in(error)),
     }
 }
 
@@ -238,9 +274,11 @@ fn unbound(alloc: Global, scope: Scope) -> Result<Option<usize>, Fail> {
 #[test]
 fn a_template_without_slots_is_a_policy(rt: HostRuntime) -> Result<(), Fail> {
     let alloc = rt.alloc();
-    assert!(rt; unbound(alloc, free())?.is_none());
-    assert!(rt; unbound(alloc, on_principal())? == Some(1));
-    assert!(rt; unbound(alloc, on_both())? == Some(2));
+    assert!(rt;
+        unbound(alloc, free())?.is_none()
+            && unbound(alloc, on_principal())? == Some(1)
+            && unbound(alloc, on_both())? == Some(2)
+    );
     Ok(())
 }
 
@@ -253,11 +291,17 @@ fn are_one(template: &Template, policy: &Policy, name: &str) -> bool {
         && *policy.template() == *template
 }
 
+fn links_under_its_id(alloc: Global) -> Result<bool, Fail> {
+    let (template, policy) = Template::link_static_policy(alloc, at_place(alloc)?)?;
+    let told = are_one(&template, &policy, "p");
+    drop(template);
+    drop(policy);
+    Ok(told)
+}
+
 #[test]
 fn a_static_policy_is_linked_under_its_id(rt: HostRuntime) -> Result<(), Fail> {
-    let alloc = rt.alloc();
-    let (template, policy) = Template::link_static_policy(alloc, at_place(alloc)?)?;
-    assert!(rt; are_one(&template, &policy, "p"));
+    assert!(rt; links_under_its_id(rt.alloc())?);
     Ok(())
 }
 
@@ -268,25 +312,33 @@ fn policy_at_place(alloc: Global) -> Result<Policy, Fail> {
 
 // The same policy under the id `q`.
 fn renamed_policy(alloc: Global) -> Result<Policy, Fail> {
-    let policy = policy_at_place(alloc)?;
-    let name = id(alloc, "q")?;
-    Ok(policy.new_id(alloc, name)?)
+    let (policy, name) = beside(policy_at_place(alloc)?, id(alloc, "q"))?;
+    let made = policy.new_id(alloc, name);
+    drop(policy);
+    Ok(made?)
 }
 
 // Whether its template takes no other id.
 fn keeps_its_template(alloc: Global) -> Result<bool, Fail> {
-    let policy = policy_at_place(alloc)?;
-    let name = id(alloc, "q")?;
-    Ok(policy.new_template_id(alloc, name)?.is_none())
+    let (policy, name) = beside(policy_at_place(alloc)?, id(alloc, "q"))?;
+    let moved = policy.new_template_id(alloc, name)?;
+    let keeps = moved.is_none();
+    drop(moved);
+    Ok(keeps)
+}
+
+// Whether the policy under the id `q` has it, with its template, and its place.
+fn is_renamed(alloc: Global) -> Result<bool, Fail> {
+    let policy = renamed_policy(alloc)?;
+    let told = are_one(policy.template(), &policy, "q") && start_of(policy.loc()) == Some(9);
+    drop(policy);
+    Ok(told)
 }
 
 #[test]
 fn another_id_of_a_static_policy_is_its_templates(rt: HostRuntime) -> Result<(), Fail> {
     let alloc = rt.alloc();
-    let policy = renamed_policy(alloc)?;
-    assert!(rt; are_one(policy.template(), &policy, "q"));
-    assert!(rt; start_of(policy.loc()) == Some(9));
-    assert!(rt; keeps_its_template(alloc)?);
+    assert!(rt; is_renamed(alloc)? && keeps_its_template(alloc)?);
     Ok(())
 }
 
@@ -299,20 +351,37 @@ fn truth(alloc: Global) -> Result<Expr, Fail>
 
 // The policy `w` that forbids all.
 fn from_clause(alloc: Global) -> Result<Policy, Fail> {
-    let when = truth(alloc)?;
-    let name = id(alloc, "w")?;
-    let loc = place(alloc, 4)?;
+    let (name, loc) = beside(id(alloc, "w")?, place(alloc, 4))?;
+    let when = match truth(alloc) {
+        Ok(when) => when,
+        Err(fail) => {
+            drop(name);
+            drop(loc);
+            return Err(fail);
+        }
+    };
     Ok(Policy::from_when_clause(alloc, Effect::Forbid, when, name, loc)?)
+}
+
+const FORBIDS: &str = "forbid(\n  principal,\n  action,\n  resource\n) when {\n  true\n};";
+
+// Whether that policy is static and has its id, its place and no annotation.
+fn is_from_clause(policy: &Policy) -> bool {
+    policy.is_static()
+        && policy.id().as_ref() == "w"
+        && start_of(policy.loc()) == Some(4)
+        && policy.annotations_arc().is_empty()
+}
+
+// The same, and whether it is written so.
+fn reads_from_clause(alloc: Global) -> Result<bool, Fail> {
+    let policy = from_clause(alloc)?;
+    let told = is_from_clause(&policy);
+    Ok(shows(alloc, Ok(policy), FORBIDS)? && told)
 }
 
 #[test]
 fn a_clause_makes_a_policy(rt: HostRuntime) -> Result<(), Fail> {
-    let alloc = rt.alloc();
-    let policy = from_clause(alloc)?;
-    let text = policy.to_string(alloc)?;
-    let want = "forbid(\n  principal,\n  action,\n  resource\n) when {\n  true\n};";
-    assert!(rt; text.as_str() == want && policy.is_static());
-    assert!(rt; policy.id().as_ref() == "w" && start_of(policy.loc()) == Some(4));
-    assert!(rt; policy.annotations_arc().is_empty());
+    assert!(rt; reads_from_clause(rt.alloc())?);
     Ok(())
 }

@@ -1,8 +1,9 @@
 // The two hundred templates: principal and resource each free, equal to or in a uid or a slot; the action free,
 // equal to a uid, or in one or two of them; both effects.
-use super::{Scope, id, shared, template, uid};
+use super::{Scope, beside, bind, id, kept, same, shared, template, uid};
+use cedar_ids::entity::EntityUID;
 use cedar_ids::policy_id::PolicyID;
-use cedar_policy::{Effect, SlotEnv, StaticPolicy, Template, UnexpectedSlotError};
+use cedar_policy::{Effect, Policy, SlotEnv, StaticPolicy, Template, UnexpectedSlotError};
 use cedar_scope::{
     ActionConstraint, Annotations, PrincipalConstraint, PrincipalOrResourceConstraint,
     ResourceConstraint,
@@ -30,10 +31,15 @@ fn constraint(alloc: Global, k: usize) -> Result<PrincipalOrResourceConstraint, 
 // In an action as often as that.
 fn in_actions(alloc: Global, count: usize) -> Result<ActionConstraint, Fail> {
     let mut uids = Vec::new(alloc);
+    let done = put_actions(alloc, &mut uids, count);
+    Ok(ActionConstraint::is_in(alloc, kept(uids, done)?)?)
+}
+
+fn put_actions(alloc: Global, uids: &mut Vec<EntityUID>, count: usize) -> Result<(), Fail> {
     for _ in 0..count {
         uids.push(uid(alloc, "Action", "test")?)?;
     }
-    Ok(ActionConstraint::is_in(alloc, uids)?)
+    Ok(())
 }
 
 // The four constraints of an action.
@@ -48,13 +54,12 @@ fn action(alloc: Global, k: usize) -> Result<ActionConstraint, Fail> {
 
 // The constraints of the template at a place.
 fn scope(alloc: Global, n: usize) -> Result<Scope, Fail> {
-    let principal = PrincipalConstraint::new(constraint(alloc, n % 5)?);
-    let resource = ResourceConstraint::new(constraint(alloc, n / 5 % 5)?);
-    let action = action(alloc, n / 25 % 4)?;
+    let two = beside(constraint(alloc, n % 5)?, constraint(alloc, n / 5 % 5))?;
+    let ((principal, resource), action) = beside(two, action(alloc, n / 25 % 4))?;
     Ok(Scope {
-        principal,
+        principal: PrincipalConstraint::new(principal),
         action,
-        resource,
+        resource: ResourceConstraint::new(resource),
     })
 }
 
@@ -75,27 +80,40 @@ fn effect(n: usize) -> Effect {
 
 // The template at a place.
 fn nth(alloc: Global, n: usize) -> Result<Template, Fail> {
-    let name = name(alloc, n)?;
-    let scope = scope(alloc, n)?;
+    let (name, scope) = beside(name(alloc, n)?, scope(alloc, n))?;
     template(alloc, name, effect(n), scope, None)
+}
+
+fn bind_slots(alloc: Global, values: &mut SlotEnv, template: &Template) -> Result<(), Fail> {
+    for slot in template.slots() {
+        bind(alloc, values, slot.id, "eid")?;
+    }
+    Ok(())
 }
 
 // A uid for each of its slots.
 fn bound(alloc: Global, template: &Template) -> Result<SlotEnv, Fail> {
     let mut values = HashMap::new(alloc);
-    for slot in template.slots() {
-        drop(values.insert(slot.id, uid(alloc, "A", "eid")?)?);
-    }
-    Ok(values)
+    let done = bind_slots(alloc, &mut values, template);
+    kept(values, done)
+}
+
+// The template at a place with its slots bound.
+fn nth_linked(alloc: Global, n: usize) -> Result<Policy, Fail> {
+    let template = Rc::new(alloc, nth(alloc, n)?)?;
+    template.check_invariant();
+    let values = bound(alloc, &template);
+    let (template, values) = beside(template, values)?;
+    let ((template, values), name) = beside((template, values), id(alloc, "id"))?;
+    Ok(Template::link(alloc, template, name, values)?)
 }
 
 // Whether it links with its slots bound.
 fn links(alloc: Global, n: usize) -> Result<bool, Fail> {
-    let template = Rc::new(alloc, nth(alloc, n)?)?;
-    template.check_invariant();
-    let values = bound(alloc, &template)?;
-    let link = Template::link(alloc, template, id(alloc, "id")?, values)?;
-    Ok(!link.is_static())
+    let link = nth_linked(alloc, n)?;
+    let is_static = link.is_static();
+    drop(link);
+    Ok(!is_static)
 }
 
 #[test]
@@ -115,11 +133,15 @@ fn copy_of_clause(clause: Option<&Expr>) -> Result<Option<Expr>, Fail> {
     }
 }
 
+fn copy_of<T: Clone>(one: &T) -> Result<T, Fail> {
+    Ok(one.clone()?)
+}
+
 // Copies of the constraints of a template.
 fn scope_of(template: &Template) -> Result<Scope, Fail> {
     let principal = template.principal_constraint().clone()?;
-    let resource = template.resource_constraint().clone()?;
-    let action = template.action_constraint().clone()?;
+    let two = beside(principal, copy_of(template.resource_constraint()))?;
+    let ((principal, resource), action) = beside(two, copy_of(template.action_constraint()))?;
     Ok(Scope {
         principal,
         action,
@@ -130,22 +152,22 @@ fn scope_of(template: &Template) -> Result<Scope, Fail> {
 // The template that is built anew from what it gives.
 fn rebuilt(alloc: Global, one: &Template) -> Result<Template, Fail> {
     let name = one.id().clone()?;
-    let clause = copy_of_clause(one.non_scope_constraints())?;
-    let scope = scope_of(one)?;
+    let (name, clause) = beside(name, copy_of_clause(one.non_scope_constraints()))?;
+    let ((name, clause), scope) = beside((name, clause), scope_of(one))?;
     template(alloc, name, one.effect(), scope, clause)
 }
 
 // Whether that is equal.
-fn is_rebuilt(alloc: Global, one: &Template) -> Result<bool, Fail> {
-    let other = rebuilt(alloc, one)?;
-    Ok(*one == other)
+fn is_rebuilt(alloc: Global, one: Template) -> Result<bool, Fail> {
+    let other = rebuilt(alloc, &one);
+    same(one, other)
 }
 
 #[test]
 fn each_template_is_equal_to_one_built_of_its_parts(rt: HostRuntime) -> Result<(), Fail> {
     let alloc = rt.alloc();
     for n in 0..TEMPLATES {
-        assert!(rt; is_rebuilt(alloc, &nth(alloc, n)?)?);
+        assert!(rt; is_rebuilt(alloc, nth(alloc, n)?)?);
     }
     Ok(())
 }
@@ -155,8 +177,14 @@ fn is_static_without_slots(template: Template) -> bool {
     let count = template.slots().count();
     let is_static = template.is_static();
     match StaticPolicy::try_from(template) {
-        Ok(_) => count == 0 && is_static,
-        Err(UnexpectedSlotError::FoundSlot(_)) => count > 0 && !is_static,
+        Ok(policy) => {
+            drop(policy);
+            count == 0 && is_static
+        }
+        Err(UnexpectedSlotError::FoundSlot(slot)) => {
+            drop(slot);
+            count > 0 && !is_static
+        }
         Err(UnexpectedSlotError::Memory) => false,
     }
 }
@@ -174,7 +202,10 @@ fn a_template_is_static_exactly_without_slots(rt: HostRuntime) -> Result<(), Fai
 fn nth_static(alloc: Global, n: usize) -> Result<Option<StaticPolicy>, Fail> {
     match StaticPolicy::try_from(nth(alloc, n)?) {
         Ok(policy) => Ok(Some(policy)),
-        Err(_) => Ok(None),
+        Err(error) => {
+            drop(error);
+            Ok(None)
+        }
     }
 }
 
@@ -184,29 +215,58 @@ const STATICS: usize = 72;
 // Whether a static policy has the condition and the effect of its template.
 fn says_the_same(alloc: Global, policy: &StaticPolicy, template: &Template) -> Result<bool, Fail> {
     let one = policy.condition(alloc)?;
-    let other = template.condition(alloc)?;
-    Ok(one == other && policy.effect() == template.effect())
+    let alike = same(one, condition(alloc, template))?;
+    Ok(alike && policy.effect() == template.effect())
+}
+
+fn condition(alloc: Global, template: &Template) -> Result<Expr, Fail> {
+    Ok(template.condition(alloc)?)
+}
+
+// Whether a static policy has the condition and the effect of the template at a place.
+fn says_the_same_as(alloc: Global, policy: StaticPolicy, n: usize) -> Result<bool, Fail> {
+    let (policy, template) = beside(policy, nth(alloc, n))?;
+    let told = says_the_same(alloc, &policy, &template);
+    drop(policy);
+    drop(template);
+    told
+}
+
+// Whether the static policies have, if there are so many.
+fn all_say_the_same(alloc: Global) -> Result<bool, Fail> {
+    let mut count: usize = 0;
+    for n in 0..TEMPLATES {
+        if let Some(policy) = nth_static(alloc, n)? {
+            if !says_the_same_as(alloc, policy, n)? {
+                return Ok(false);
+            }
+            count = count.saturating_add(1);
+        }
+    }
+    Ok(count == STATICS)
 }
 
 #[test]
 fn a_static_policy_has_its_templates_condition_and_effect(rt: HostRuntime) -> Result<(), Fail> {
-    let alloc = rt.alloc();
-    let mut count: usize = 0;
-    for n in 0..TEMPLATES {
-        if let Some(policy) = nth_static(alloc, n)? {
-            assert!(rt; says_the_same(alloc, &policy, &nth(alloc, n)?)?);
-            count = count.saturating_add(1);
-        }
-    }
-    assert!(rt; count == STATICS);
+    assert!(rt; all_say_the_same(rt.alloc())?);
     Ok(())
 }
 
 // Whether the template of a static policy is this one, and the policy has its id.
 fn gives_back(alloc: Global, policy: StaticPolicy, want: &Template) -> Result<bool, Fail> {
     let (template, policy) = Template::link_static_policy(alloc, policy)?;
-    let template: &Template = &template;
-    Ok(*template == *want && policy.is_static() && *policy.id() == *want.id())
+    let told = *template == *want && policy.is_static() && *policy.id() == *want.id();
+    drop(template);
+    drop(policy);
+    Ok(told)
+}
+
+// The same of the template at a place.
+fn gives_nth_back(alloc: Global, policy: StaticPolicy, n: usize) -> Result<bool, Fail> {
+    let (policy, want) = beside(policy, nth(alloc, n))?;
+    let told = gives_back(alloc, policy, &want);
+    drop(want);
+    told
 }
 
 #[test]
@@ -214,7 +274,7 @@ fn a_static_policy_gives_its_template_back(rt: HostRuntime) -> Result<(), Fail> 
     let alloc = rt.alloc();
     for n in 0..TEMPLATES {
         if let Some(policy) = nth_static(alloc, n)? {
-            assert!(rt; gives_back(alloc, policy, &nth(alloc, n)?)?);
+            assert!(rt; gives_nth_back(alloc, policy, n)?);
         }
     }
     Ok(())
@@ -242,8 +302,8 @@ fn made(
 // Copies of the constraints of a static policy.
 fn scope_of_static(policy: &StaticPolicy) -> Result<Scope, Fail> {
     let principal = policy.principal_constraint().clone()?;
-    let resource = policy.resource_constraint().clone()?;
-    let action = policy.action_constraint().clone()?;
+    let two = beside(principal, copy_of(policy.resource_constraint()))?;
+    let ((principal, resource), action) = beside(two, copy_of(policy.action_constraint()))?;
     Ok(Scope {
         principal,
         action,
@@ -254,15 +314,15 @@ fn scope_of_static(policy: &StaticPolicy) -> Result<Scope, Fail> {
 // The static policy that is built anew from what it gives.
 fn rebuilt_static(alloc: Global, one: &StaticPolicy) -> Result<StaticPolicy, Fail> {
     let name = one.id().clone()?;
-    let clause = copy_of_clause(one.non_scope_constraints())?;
-    let scope = scope_of_static(one)?;
+    let (name, clause) = beside(name, copy_of_clause(one.non_scope_constraints()))?;
+    let ((name, clause), scope) = beside((name, clause), scope_of_static(one))?;
     Ok(made(alloc, name, one.effect(), scope, clause)?)
 }
 
 // Whether that is equal.
-fn is_static_rebuilt(alloc: Global, one: &StaticPolicy) -> Result<bool, Fail> {
-    let other = rebuilt_static(alloc, one)?;
-    Ok(*one == other)
+fn is_static_rebuilt(alloc: Global, one: StaticPolicy) -> Result<bool, Fail> {
+    let other = rebuilt_static(alloc, &one);
+    same(one, other)
 }
 
 #[test]
@@ -270,7 +330,7 @@ fn each_static_policy_is_equal_to_one_built_of_its_parts(rt: HostRuntime) -> Res
     let alloc = rt.alloc();
     for n in 0..TEMPLATES {
         if let Some(policy) = nth_static(alloc, n)? {
-            assert!(rt; is_static_rebuilt(alloc, &policy)?);
+            assert!(rt; is_static_rebuilt(alloc, policy)?);
         }
     }
     Ok(())

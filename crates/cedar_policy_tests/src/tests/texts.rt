@@ -1,7 +1,7 @@
 // How templates and policies are written.
 use super::{
-    Scope, bindings, equal, free, id, on_both, on_principal, permits, shared_type, shows, template,
-    uid,
+    Scope, beside, equal, free, id, kept, linked, on_both, on_principal, permits, shared_type,
+    shows, template, uid,
 };
 use cedar_policy::{Effect, Policy, SlotEnv, StaticPolicy, Template};
 use cedar_scope::{ActionConstraint, PrincipalConstraint, ResourceConstraint};
@@ -27,16 +27,17 @@ fn policy(alloc: Global, scope: Scope, clause: Option<Expr>) -> Result<Policy, F
 #[test]
 fn a_policy_without_constraints_takes_five_lines(rt: HostRuntime) -> Result<(), Fail> {
     let alloc = rt.alloc();
-    assert!(rt; shows(alloc, permits(alloc, free(), None), PLAIN)?);
-    assert!(rt; shows(alloc, static_policy(alloc, free(), None), PLAIN)?);
-    assert!(rt; shows(alloc, policy(alloc, free(), None), PLAIN)?);
+    assert!(rt;
+        shows(alloc, permits(alloc, free(), None), PLAIN)?
+            && shows(alloc, static_policy(alloc, free(), None), PLAIN)?
+            && shows(alloc, policy(alloc, free(), None), PLAIN)?
+    );
     Ok(())
 }
 
 // `principal is A` and `resource is B`
 fn typed(alloc: Global) -> Result<Scope, Fail> {
-    let principal = shared_type(alloc, "A")?;
-    let resource = shared_type(alloc, "B")?;
+    let (principal, resource) = beside(shared_type(alloc, "A")?, shared_type(alloc, "B"))?;
     Ok(Scope {
         principal: PrincipalConstraint::is_entity_type(principal),
         action: ActionConstraint::any(),
@@ -45,8 +46,11 @@ fn typed(alloc: Global) -> Result<Scope, Fail> {
 }
 
 fn condition(alloc: Global, clause: Option<Expr>) -> Result<Expr, Fail> {
-    let policy = policy(alloc, typed(alloc)?, clause)?;
-    Ok(policy.condition(alloc)?)
+    let (clause, scope) = beside(clause, typed(alloc))?;
+    let policy = policy(alloc, scope, clause)?;
+    let condition = policy.condition(alloc);
+    drop(policy);
+    Ok(condition?)
 }
 
 #[test]
@@ -59,13 +63,24 @@ fn the_condition_of_a_static_policy_is_written(rt: HostRuntime) -> Result<(), Fa
     Ok(())
 }
 
+// `!(N == M)`
+fn unequal(alloc: Global, n: i64, m: i64) -> Result<Expr, Fail> {
+    Ok(Expr::not(alloc, equal(alloc, n, m)?)?)
+}
+
+// One expression and another, if that could be made.
+fn and(alloc: Global, one: Expr, other: Result<Expr, Fail>) -> Result<Expr, Fail> {
+    let (one, other) = beside(one, other)?;
+    Ok(Expr::and(alloc, one, other)?)
+}
+
 // `when { 1 == 2 } unless { 2 == 1 }`, and the same of 3 and 4
 fn whens_and_unlesses(alloc: Global) -> Result<Expr, Fail> {
-    let last = Expr::not(alloc, equal(alloc, 4, 3)?)?;
-    let last = Expr::and(alloc, equal(alloc, 3, 4)?, last)?;
-    let second = Expr::not(alloc, equal(alloc, 2, 1)?)?;
-    let second = Expr::and(alloc, second, last)?;
-    Ok(Expr::and(alloc, equal(alloc, 1, 2)?, second)?)
+    let last = and(alloc, equal(alloc, 3, 4)?, unequal(alloc, 4, 3))?;
+    let (last, second) = beside(last, unequal(alloc, 2, 1))?;
+    let last = Expr::and(alloc, second, last)?;
+    let (last, first) = beside(last, equal(alloc, 1, 2))?;
+    Ok(Expr::and(alloc, first, last)?)
 }
 
 #[test]
@@ -78,12 +93,17 @@ fn the_condition_has_every_when_and_unless(rt: HostRuntime) -> Result<(), Fail> 
     Ok(())
 }
 
+fn bind_principal(alloc: Global, values: &mut SlotEnv, ty: &str, eid: &str) -> Result<(), Fail> {
+    let uid = uid(alloc, ty, eid)?;
+    drop(values.insert(SlotId::Principal, uid)?);
+    Ok(())
+}
+
 // The binding of the principal's slot to this uid.
 fn one_binding(alloc: Global, ty: &str, eid: &str) -> Result<SlotEnv, Fail> {
-    let uid = uid(alloc, ty, eid)?;
     let mut values = HashMap::new(alloc);
-    drop(values.insert(SlotId::Principal, uid)?);
-    Ok(values)
+    let done = bind_principal(alloc, &mut values, ty, eid);
+    kept(values, done)
 }
 
 // The template of this id with the principal's slot.
@@ -95,9 +115,8 @@ fn slotted(alloc: Global, name: &str) -> Result<Rc<Template>, Fail> {
 
 // The link `l` of that template, bound to this uid.
 fn link(alloc: Global, name: &str, ty: &str, eid: &str) -> Result<Policy, Fail> {
-    let l = id(alloc, "l")?;
-    let template = slotted(alloc, name)?;
-    let values = one_binding(alloc, ty, eid)?;
+    let named = beside(id(alloc, "l")?, slotted(alloc, name))?;
+    let ((l, template), values) = beside(named, one_binding(alloc, ty, eid))?;
     Ok(Template::link(alloc, template, l, values)?)
 }
 
@@ -115,10 +134,7 @@ fn a_link_is_written_by_its_template_and_its_bindings(rt: HostRuntime) -> Result
 
 // The link of a template with both slots, bound in this order.
 fn both(alloc: Global, pairs: &[(SlotId, &str)]) -> Result<Policy, Fail> {
-    let l = id(alloc, "l")?;
-    let template = Rc::new(alloc, permits(alloc, on_both(), None)?)?;
-    let values = bindings(alloc, pairs)?;
-    Ok(Template::link(alloc, template, l, values)?)
+    linked(alloc, permits(alloc, on_both(), None)?, "l", pairs)
 }
 
 #[test]

@@ -1,12 +1,13 @@
 // The entities that the unknowns of a policy name.
-use super::{free, permits, uid};
-use cedar_ids::entity::EntityType;
+use super::{free, kept, permits, uid};
+use cedar_ids::entity::{EntityType, EntityUID};
 use cedar_ids::name::Name;
 use cedar_policy::{Policy, StaticPolicy};
 use cedar_terms::expr::Expr;
 use cedar_terms::static_type::StaticType;
 use cedar_terms::unknown::Unknown;
 use std::alloc::Global;
+use std::collections::HashSet;
 use std::test::Fail;
 
 // The unknown of this name and this type, or of none where the type is empty.
@@ -22,10 +23,15 @@ fn unknown(alloc: Global, name: &str, ty: &str) -> Result<Unknown, Fail> {
 // The set of these unknowns.
 fn set_of(alloc: Global, unknowns: &[(&str, &str)]) -> Result<Expr, Fail> {
     let mut all = Vec::new(alloc);
+    let done = put_all(alloc, &mut all, unknowns);
+    Ok(Expr::set(alloc, kept(all, done)?)?)
+}
+
+fn put_all(alloc: Global, all: &mut Vec<Expr>, unknowns: &[(&str, &str)]) -> Result<(), Fail> {
     for (name, ty) in unknowns {
         all.push(Expr::unknown(alloc, unknown(alloc, name, ty)?)?)?;
     }
-    Ok(Expr::set(alloc, all)?)
+    Ok(())
 }
 
 // The static policy whose clause is the set of these unknowns.
@@ -37,13 +43,30 @@ fn policy(alloc: Global, unknowns: &[(&str, &str)]) -> Result<Policy, Fail> {
 
 // Whether these unknowns name exactly the uids of type `A` with these eids.
 fn name(alloc: Global, unknowns: &[(&str, &str)], eids: &[&str]) -> Result<bool, Fail> {
-    let found = policy(alloc, unknowns)?.unknown_entities(alloc)?;
+    let policy = policy(alloc, unknowns)?;
+    let found = policy.unknown_entities(alloc);
+    drop(policy);
+    let found = found?;
+    let told = holds_all(alloc, &found, eids);
+    drop(found);
+    told
+}
+
+// Whether these are the uids of type `A` with these eids.
+fn holds_all(alloc: Global, found: &HashSet<EntityUID>, eids: &[&str]) -> Result<bool, Fail> {
     for eid in eids {
-        if !found.contains(&uid(alloc, "A", eid)?) {
+        if !holds(alloc, found, eid)? {
             return Ok(false);
         }
     }
     Ok(found.len() == eids.len())
+}
+
+fn holds(alloc: Global, found: &HashSet<EntityUID>, eid: &str) -> Result<bool, Fail> {
+    let uid = uid(alloc, "A", eid)?;
+    let told = found.contains(&uid);
+    drop(uid);
+    Ok(told)
 }
 
 #[test]

@@ -1,5 +1,6 @@
 // What validating a template finds, in its order, and the texts of the refusals.
-use super::{Scope, free, on_principal, permits, shared, uid};
+use super::{Scope, beside, free, kept, on_principal, permits, shared, shows, uid};
+use cedar_ids::entity::EntityUID;
 use cedar_ids::name::Name;
 use cedar_ids::non_empty::NonEmpty;
 use cedar_policy::{Template, TemplateValidationError, UnexpectedSlotError};
@@ -8,6 +9,7 @@ use cedar_terms::err::ExprValidationError;
 use cedar_terms::expr::Expr;
 use cedar_terms::slot::{Slot, SlotId};
 use std::alloc::Global;
+use std::rc::Rc;
 use std::test::Fail;
 
 // What is expected of validating.
@@ -61,15 +63,34 @@ fn came(
     want: Want<'_>,
 ) -> bool {
     match answer {
-        Ok(same) => matches!(want, Want::Valid) && same == *template,
-        Err(error) => names(&error, want),
+        Ok(same) => {
+            let told = matches!(want, Want::Valid) && same == *template;
+            drop(same);
+            told
+        }
+        Err(error) => {
+            let told = names(&error, want);
+            drop(error);
+            told
+        }
     }
+}
+
+fn copy_of<T: Clone>(one: &T) -> Result<T, Fail> {
+    Ok(one.clone()?)
 }
 
 // Whether validating a template gives that.
 fn gives(alloc: Global, template: Template, want: Want<'_>) -> Result<bool, Fail> {
-    let copy = template.clone()?;
-    Ok(came(template.try_validate(alloc), &copy, want))
+    let copy = copy_of(&template);
+    let (template, copy) = beside(template, copy)?;
+    let told = came(template.try_validate(alloc), &copy, want);
+    drop(copy);
+    Ok(told)
+}
+
+fn is_action(alloc: Global, ty: &str, eid: &str) -> Result<ActionConstraint, Fail> {
+    Ok(ActionConstraint::is_eq(alloc, uid(alloc, ty, eid)?)?)
 }
 
 // `action == T::"E"`, and this constraint of the principal
@@ -79,7 +100,7 @@ fn acting(
     ty: &str,
     eid: &str,
 ) -> Result<Scope, Fail> {
-    let action = ActionConstraint::is_eq(alloc, uid(alloc, ty, eid)?)?;
+    let (principal, action) = beside(principal, is_action(alloc, ty, eid))?;
     Ok(Scope {
         principal,
         action,
@@ -96,7 +117,8 @@ fn called(alloc: Global, name: &str) -> Result<Expr, Fail> {
 // The template `action == T::"E"` with the clause `NAME()`.
 fn calling(alloc: Global, ty: &str, eid: &str, name: &str) -> Result<Template, Fail> {
     let clause = called(alloc, name)?;
-    let scope = acting(alloc, PrincipalConstraint::any(), ty, eid)?;
+    let scope = acting(alloc, PrincipalConstraint::any(), ty, eid);
+    let (clause, scope) = beside(clause, scope)?;
     permits(alloc, scope, Some(clause))
 }
 
@@ -119,7 +141,8 @@ fn a_template_of_actions_is_valid(rt: HostRuntime) -> Result<(), Fail> {
 // The template `principal == ?principal`, `action == T::"E"` with the clause `?principal`.
 fn slotted(alloc: Global, ty: &str, eid: &str) -> Result<Template, Fail> {
     let clause = Expr::slot(alloc, SlotId::Principal)?;
-    let scope = acting(alloc, PrincipalConstraint::is_eq_slot(), ty, eid)?;
+    let scope = acting(alloc, PrincipalConstraint::is_eq_slot(), ty, eid);
+    let (clause, scope) = beside(clause, scope)?;
     permits(alloc, scope, Some(clause))
 }
 
@@ -132,10 +155,14 @@ fn a_slot_in_the_clause_comes_first(rt: HostRuntime) -> Result<(), Fail> {
     Ok(())
 }
 
+fn slot(alloc: Global, id: SlotId) -> Result<Expr, Fail> {
+    Ok(Expr::slot(alloc, id)?)
+}
+
 // The template with the clause `?principal == ?resource`: the walk meets the last first.
 fn two_slots(alloc: Global) -> Result<Template, Fail> {
-    let left = Expr::slot(alloc, SlotId::Principal)?;
-    let right = Expr::slot(alloc, SlotId::Resource)?;
+    let left = slot(alloc, SlotId::Principal)?;
+    let (left, right) = beside(left, slot(alloc, SlotId::Resource))?;
     let clause = Expr::is_eq(alloc, left, right)?;
     permits(alloc, free(), Some(clause))
 }
@@ -150,9 +177,14 @@ fn the_slot_that_the_walk_meets_first_is_named(rt: HostRuntime) -> Result<(), Fa
 // `action in [Action::"view", User::"alice"]`
 fn in_two(alloc: Global) -> Result<ActionConstraint, Fail> {
     let mut uids = Vec::new(alloc);
+    let done = put_two(alloc, &mut uids);
+    Ok(ActionConstraint::is_in(alloc, kept(uids, done)?)?)
+}
+
+fn put_two(alloc: Global, uids: &mut Vec<EntityUID>) -> Result<(), Fail> {
     uids.push(uid(alloc, "Action", "view")?)?;
     uids.push(uid(alloc, "User", "alice")?)?;
-    Ok(ActionConstraint::is_in(alloc, uids)?)
+    Ok(())
 }
 
 // The template of that.
@@ -189,10 +221,10 @@ fn a_function_that_is_not_known_comes_last(rt: HostRuntime) -> Result<(), Fail> 
 
 // Whether a refusal and its copy are written so.
 fn reads(alloc: Global, error: TemplateValidationError, want: &str) -> Result<bool, Fail> {
-    let copy = error.clone()?;
-    let one = error.to_string(alloc)?;
-    let other = copy.to_string(alloc)?;
-    Ok(one.as_str() == want && other.as_str() == want)
+    let copy = copy_of(&error);
+    let (error, copy) = beside(error, copy)?;
+    let (copy, told) = beside(copy, shows(alloc, Ok(error), want))?;
+    Ok(shows(alloc, Ok(copy), want)? && told)
 }
 
 fn nowhere(id: SlotId) -> Slot {
@@ -216,11 +248,16 @@ fn refusals_of_a_template_have_their_texts(rt: HostRuntime) -> Result<(), Fail> 
     Ok(())
 }
 
+fn put_shared(alloc: Global, uids: &mut Vec<Rc<EntityUID>>, eid: &str) -> Result<(), Fail> {
+    uids.push(shared(alloc, "User", eid)?)?;
+    Ok(())
+}
+
 // Whether the refusal of two uids is written so.
 fn reads_uids(alloc: Global, want: &str) -> Result<bool, Fail> {
     let mut tail = Vec::new(alloc);
-    tail.push(shared(alloc, "User", "y")?)?;
-    let head = shared(alloc, "User", "x")?;
+    let done = put_shared(alloc, &mut tail, "y");
+    let (tail, head) = beside(kept(tail, done)?, shared(alloc, "User", "x"))?;
     let error = TemplateValidationError::InvalidActionType(NonEmpty { head, tail });
     reads(alloc, error, want)
 }
@@ -247,9 +284,21 @@ fn refusals_of_uids_and_functions_name_them(rt: HostRuntime) -> Result<(), Fail>
 
 // Whether a refusal of a slot and its copy are equal and written so.
 fn reads_slot(alloc: Global, error: UnexpectedSlotError, want: &str) -> Result<bool, Fail> {
-    let copy = error.clone()?;
-    let text = copy.to_string(alloc)?;
-    Ok(copy == error && text.as_str() == want)
+    let copy = copy_of(&error);
+    let (error, copy) = beside(error, copy)?;
+    let same = copy == error;
+    drop(error);
+    Ok(shows(alloc, Ok(copy), want)? && same)
+}
+
+// Whether refusals of two slots differ.
+fn other_slots_differ() -> bool {
+    let one = UnexpectedSlotError::FoundSlot(nowhere(SlotId::Principal));
+    let other = UnexpectedSlotError::FoundSlot(nowhere(SlotId::Resource));
+    let told = one != other;
+    drop(one);
+    drop(other);
+    told
 }
 
 #[test]
@@ -259,8 +308,6 @@ fn refusals_of_a_static_policy_have_their_texts(rt: HostRuntime) -> Result<(), F
     let want = "found slot `?principal` where slots are not allowed";
     assert!(rt; reads_slot(alloc, found, want)?);
     assert!(rt; reads_slot(alloc, UnexpectedSlotError::Memory, "out of memory")?);
-    let one = UnexpectedSlotError::FoundSlot(nowhere(SlotId::Principal));
-    let other = UnexpectedSlotError::FoundSlot(nowhere(SlotId::Resource));
-    assert!(rt; one != other);
+    assert!(rt; other_slots_differ());
     Ok(())
 }

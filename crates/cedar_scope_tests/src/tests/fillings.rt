@@ -1,8 +1,9 @@
 // Filling the slot of a constraint.
-use super::{CONSTRAINTS, is_type_in, nth, shared, shows};
+use super::{CONSTRAINTS, both, is_type_in, nth, on_principal, on_resource, same, shared, shows};
+use cedar_ids::entity::EntityUID;
 use cedar_scope::{PrincipalConstraint, ResourceConstraint};
 use std::alloc::Global;
-use std::test::Fail;
+use std::rc::Rc;
 
 // How each constraint is written once it is filled with `B::"u"`.
 const FILLED: [&str; 8] = [
@@ -27,42 +28,57 @@ const FILLED_RESOURCE: [&str; 8] = [
     "resource is T in B::\"u\"",
 ];
 
-fn filled(alloc: Global, place: usize, ty: &str) -> Result<PrincipalConstraint, Fail> {
-    let made = PrincipalConstraint::new(nth(alloc, place)?);
-    Ok(made.with_filled_slot(shared(alloc, ty, "u")?))
+fn fill(
+    made: Option<PrincipalConstraint>,
+    euid: Option<Rc<EntityUID>>,
+) -> Option<PrincipalConstraint> {
+    match both(made, euid) {
+        Some((made, euid)) => Some(made.with_filled_slot(euid)),
+        None => None,
+    }
 }
 
-fn filled_resource(alloc: Global, place: usize, ty: &str) -> Result<ResourceConstraint, Fail> {
-    let made = ResourceConstraint::new(nth(alloc, place)?);
-    Ok(made.with_filled_slot(shared(alloc, ty, "u")?))
+fn fill_resource(
+    made: Option<ResourceConstraint>,
+    euid: Option<Rc<EntityUID>>,
+) -> Option<ResourceConstraint> {
+    match both(made, euid) {
+        Some((made, euid)) => Some(made.with_filled_slot(euid)),
+        None => None,
+    }
+}
+
+fn filled(alloc: Global, place: usize, ty: &str) -> Option<PrincipalConstraint> {
+    fill(on_principal(nth(alloc, place)), shared(alloc, ty, "u"))
+}
+
+fn filled_resource(alloc: Global, place: usize, ty: &str) -> Option<ResourceConstraint> {
+    fill_resource(on_resource(nth(alloc, place)), shared(alloc, ty, "u"))
 }
 
 #[test]
-fn a_slot_becomes_the_uid_and_all_else_stays(rt: HostRuntime) -> Result<(), Fail> {
+fn a_slot_becomes_the_uid_and_all_else_stays(rt: HostRuntime) {
     let alloc = rt.alloc();
     for i in 0..CONSTRAINTS {
-        assert!(rt; shows(alloc, filled(alloc, i, "B"), FILLED[i])?);
-        assert!(rt; shows(alloc, filled_resource(alloc, i, "B"), FILLED_RESOURCE[i])?);
+        assert!(rt; shows(alloc, filled(alloc, i, "B"), FILLED[i]));
+        assert!(rt; shows(alloc, filled_resource(alloc, i, "B"), FILLED_RESOURCE[i]));
     }
-    Ok(())
 }
 
 #[test]
-fn filling_once_more_changes_nothing(rt: HostRuntime) -> Result<(), Fail> {
+fn filling_once_more_changes_nothing(rt: HostRuntime) {
     let alloc = rt.alloc();
     for i in 0..CONSTRAINTS {
-        let twice = filled(alloc, i, "B")?.with_filled_slot(shared(alloc, "C", "v")?);
-        assert!(rt; twice == filled(alloc, i, "B")?);
-        let twice = filled_resource(alloc, i, "B")?.with_filled_slot(shared(alloc, "C", "v")?);
-        assert!(rt; twice == filled_resource(alloc, i, "B")?);
+        let twice = fill(filled(alloc, i, "B"), shared(alloc, "C", "v"));
+        assert!(rt; same(twice, filled(alloc, i, "B")));
+        let twice = fill_resource(filled_resource(alloc, i, "B"), shared(alloc, "C", "v"));
+        assert!(rt; same(twice, filled_resource(alloc, i, "B")));
     }
-    Ok(())
 }
 
 #[test]
-fn a_filled_constraint_keeps_its_type(rt: HostRuntime) -> Result<(), Fail> {
+fn a_filled_constraint_keeps_its_type(rt: HostRuntime) {
     let alloc = rt.alloc();
-    let want = PrincipalConstraint::new(is_type_in(alloc, "T", "B", "u")?);
-    assert!(rt; filled(alloc, 7, "B")? == want);
-    Ok(())
+    let want = on_principal(is_type_in(alloc, "T", "B", "u"));
+    assert!(rt; same(filled(alloc, 7, "B"), want));
 }

@@ -1,74 +1,117 @@
 // References and the variables that have constraints of one form.
-use super::{PRINCIPAL, RESOURCE, agree, copies, hash_of, place, reference, shared, shows, uid};
+use super::{
+    PRINCIPAL, RESOURCE, agree, bare_slot, below, both, copies, copy_of, differ, hash_of,
+    reference, same, shared, shows, slot_at, uid,
+};
 use cedar_scope::{EntityReference, PrincipalOrResource};
 use cedar_terms::expr::Expr;
 use cedar_terms::literal::Literal;
 use cedar_terms::slot::SlotId;
 use cedar_terms::var::Var;
 use std::alloc::Global;
-use std::test::Fail;
 
-fn expr_of_uid(alloc: Global, ty: &str, eid: &str) -> Result<Expr, Fail> {
-    Ok(Expr::val(alloc, Literal::EntityUID(shared(alloc, ty, eid)?))?)
+fn expr_of_uid(alloc: Global, ty: &str, eid: &str) -> Option<Expr> {
+    match shared(alloc, ty, eid) {
+        Some(euid) => Expr::val(alloc, Literal::EntityUID(euid)).ok(),
+        None => None,
+    }
+}
+
+fn expr_of_slot(alloc: Global, id: SlotId) -> Option<Expr> {
+    Expr::slot(alloc, id).ok()
+}
+
+// The expression of a reference that could be made.
+fn expr_of(alloc: Global, made: Option<EntityReference>, slot: SlotId) -> Option<Expr> {
+    match made {
+        Some(reference) => {
+            let expr = reference.into_expr(alloc, slot);
+            drop(reference);
+            expr.ok()
+        }
+        None => None,
+    }
 }
 
 // The original's `euid_into_expr`.
 #[test]
-fn a_reference_becomes_its_slot_or_its_uid(rt: HostRuntime) -> Result<(), Fail> {
+fn a_reference_becomes_its_slot_or_its_uid(rt: HostRuntime) {
     let alloc = rt.alloc();
-    let slot = EntityReference::Slot(None);
-    assert!(rt;
-        slot.into_expr(alloc, SlotId::principal())? == Expr::slot(alloc, SlotId::principal())?
-    );
-    assert!(rt;
-        slot.into_expr(alloc, SlotId::resource())? == Expr::slot(alloc, SlotId::resource())?
-    );
-    let euid = reference(alloc, "test_entity_type", "eid")?;
-    let want = expr_of_uid(alloc, "test_entity_type", "eid")?;
-    assert!(rt; euid.into_expr(alloc, SlotId::principal())? == want);
-    Ok(())
+    let (p, r) = (SlotId::principal(), SlotId::resource());
+    assert!(rt; same(expr_of(alloc, bare_slot(), p), expr_of_slot(alloc, p)));
+    assert!(rt; same(expr_of(alloc, bare_slot(), r), expr_of_slot(alloc, r)));
+    let euid = reference(alloc, "test_entity_type", "eid");
+    let want = expr_of_uid(alloc, "test_entity_type", "eid");
+    assert!(rt; same(expr_of(alloc, euid, p), want));
+}
+
+// A reference to a uid that is not shared yet.
+fn from_uid(alloc: Global, ty: &str, eid: &str) -> Option<EntityReference> {
+    match uid(alloc, ty, eid) {
+        Some(uid) => EntityReference::from_uid(alloc, uid).ok(),
+        None => None,
+    }
 }
 
 #[test]
-fn a_reference_is_made_of_a_uid(rt: HostRuntime) -> Result<(), Fail> {
+fn a_reference_is_made_of_a_uid(rt: HostRuntime) {
     let alloc = rt.alloc();
-    let made = EntityReference::from_uid(alloc, uid(alloc, "N::T", "x")?)?;
-    assert!(rt; agree(made, reference(alloc, "N::T", "x")?));
-    Ok(())
+    assert!(rt; agree(from_uid(alloc, "N::T", "x"), reference(alloc, "N::T", "x")));
 }
 
 #[test]
-fn every_uid_stands_before_the_slot(rt: HostRuntime) -> Result<(), Fail> {
+fn every_uid_stands_before_the_slot(rt: HostRuntime) {
     let alloc = rt.alloc();
-    let (first, last) = (reference(alloc, "A", "z")?, reference(alloc, "Z", "a")?);
-    assert!(rt; first < last);
-    assert!(rt; last < EntityReference::Slot(None));
-    assert!(rt; reference(alloc, "A", "y")? < first);
-    Ok(())
+    assert!(rt; below(reference(alloc, "A", "z"), reference(alloc, "Z", "a")));
+    assert!(rt; below(reference(alloc, "Z", "a"), bare_slot()));
+    assert!(rt; below(reference(alloc, "A", "y"), reference(alloc, "A", "z")));
+}
+
+// Whether the first of two references is not above the second.
+fn not_above(first: Option<EntityReference>, second: Option<EntityReference>) -> bool {
+    match both(first, second) {
+        Some((first, second)) => {
+            let told = first <= second;
+            drop(first);
+            drop(second);
+            told
+        }
+        None => false,
+    }
+}
+
+// Whether the first of two references is not below the second.
+fn not_below(first: Option<EntityReference>, second: Option<EntityReference>) -> bool {
+    match both(first, second) {
+        Some((first, second)) => {
+            let told = first >= second;
+            drop(first);
+            drop(second);
+            told
+        }
+        None => false,
+    }
 }
 
 #[test]
-fn slots_are_equal_wherever_they_stand(rt: HostRuntime) -> Result<(), Fail> {
+fn slots_are_equal_wherever_they_stand(rt: HostRuntime) {
     let alloc = rt.alloc();
-    let there = EntityReference::Slot(place(alloc, 3)?);
-    assert!(rt; agree(there.clone()?, EntityReference::Slot(None)));
-    assert!(rt; there <= EntityReference::Slot(None));
-    assert!(rt; there >= EntityReference::Slot(place(alloc, 1)?));
-    assert!(rt; there != reference(alloc, "A", "a")?);
-    assert!(rt; copies(reference(alloc, "A", "é"))?);
-    assert!(rt; copies(Ok(there))?);
-    Ok(())
+    assert!(rt; agree(copy_of(slot_at(alloc, 3)), bare_slot()));
+    assert!(rt; not_above(slot_at(alloc, 3), bare_slot()));
+    assert!(rt; not_below(slot_at(alloc, 3), slot_at(alloc, 1)));
+    assert!(rt; differ(slot_at(alloc, 3), reference(alloc, "A", "a")));
+    assert!(rt; copies(reference(alloc, "A", "é")));
+    assert!(rt; copies(slot_at(alloc, 3)));
 }
 
 #[test]
-fn the_variables_are_written_in_lower_case(rt: HostRuntime) -> Result<(), Fail> {
+fn the_variables_are_written_in_lower_case(rt: HostRuntime) {
     let alloc = rt.alloc();
-    assert!(rt; shows(alloc, Ok(PRINCIPAL), "principal")?);
-    assert!(rt; shows(alloc, Ok(RESOURCE), "resource")?);
+    assert!(rt; shows(alloc, Some(PRINCIPAL), "principal"));
+    assert!(rt; shows(alloc, Some(RESOURCE), "resource"));
     assert!(rt; PRINCIPAL == PrincipalOrResource::Principal);
     assert!(rt; PRINCIPAL != RESOURCE);
     assert!(rt; hash_of(&RESOURCE) == hash_of(&PrincipalOrResource::Resource));
-    Ok(())
 }
 
 #[test]

@@ -67,10 +67,15 @@ fn shown(alloc: Global, store: &Entities) -> Result<String, Fail> {
 // What calls leave, or the number of those before the refused one and why it is.
 fn left(alloc: Global, calls: &str) -> Result<String, Fail> {
     match replay_entities(alloc, calls_of(alloc, calls)?) {
-        Ok(store) => shown(alloc, &store),
+        Ok(store) => {
+            let text = shown(alloc, &store);
+            drop(store);
+            text
+        }
         Err((done, error)) => {
-            let why = refusal_of(alloc, &error)?;
-            Ok(format!(in alloc; "{done} {why}")?)
+            let why = refusal_of(alloc, &error);
+            drop(error);
+            Ok(format!(in alloc; "{done} {}", why?)?)
         }
     }
 }
@@ -137,11 +142,16 @@ fn a_store_starts_anew_and_becomes_partial(rt: HostRuntime) -> Result<(), Fail> 
     Ok(())
 }
 
+// Whether no call leaves the store without entities, which is not partial.
+fn leaves_nothing(alloc: Global) -> Result<bool, Fail> {
+    let store = replay_entities(alloc, Vec::new(alloc)).map_err(|fault| fault.1)?;
+    let answer = store.is_empty() && !store.is_partial();
+    drop(store);
+    Ok(answer)
+}
+
 #[test]
 fn no_call_leaves_the_empty_store(rt: HostRuntime) -> Result<(), Fail> {
-    let alloc = rt.alloc();
-    let store = replay_entities(alloc, Vec::new(alloc)).map_err(|fault| fault.1)?;
-    assert!(rt; store.is_empty());
-    assert!(rt; !store.is_partial());
+    assert!(rt; leaves_nothing(rt.alloc())?);
     Ok(())
 }

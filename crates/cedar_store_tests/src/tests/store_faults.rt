@@ -1,5 +1,5 @@
 // Which stores are valid, and what is told of one that is not.
-use super::store_script::{long, named, owned, refusal_of, store_of, texts_of};
+use super::store_script::{beside, long, named, owned, pushed, refusal_of, store_of, texts_of};
 use cedar_entities::entities::{Entities, TCComputation};
 use cedar_entity::entity::Entity;
 use cedar_terms::{PartialValue, Value};
@@ -10,8 +10,16 @@ use std::test::Fail;
 // What `try_validate` gives of a store, as a text.
 fn judged(alloc: Global, store: Entities) -> Result<String, Fail> {
     match store.try_validate(alloc) {
-        Ok(valid) => texts_of(alloc, &valid),
-        Err(error) => refusal_of(alloc, &error),
+        Ok(valid) => {
+            let text = texts_of(alloc, &valid);
+            drop(valid);
+            text
+        }
+        Err(error) => {
+            let text = refusal_of(alloc, &error);
+            drop(error);
+            text
+        }
     }
 }
 
@@ -73,14 +81,19 @@ fn the_fault_of_the_least_uid_is_told(rt: HostRuntime) -> Result<(), Fail> {
     Ok(())
 }
 
+// A list of one thing.
+fn one_of<T: Drop>(alloc: Global, thing: T) -> Result<Vec<T>, Fail> {
+    let mut list = Vec::new(alloc);
+    list.push(thing)?;
+    Ok(list)
+}
+
 // An entity with a record of one key as attribute.
 fn with_record(alloc: Global, name: &str, key: &str) -> Result<Entity, Fail> {
-    let mut pairs = Vec::new(alloc);
-    pairs.push((owned(alloc, key)?, long(1)))?;
+    let pairs = one_of(alloc, (owned(alloc, key)?, long(1)))?;
     let record = PartialValue::Value(Value::record(alloc, pairs, None)?);
-    let mut attrs = Vec::new(alloc);
-    attrs.push((owned(alloc, "k")?, record))?;
-    let uid = named(alloc, name)?;
+    let (record, place) = beside(record, owned(alloc, "k"))?;
+    let (attrs, uid) = beside(one_of(alloc, (place, record))?, named(alloc, name))?;
     let (none, nobody) = (HashSet::new(alloc), HashSet::new(alloc));
     let tags = Vec::new(alloc);
     Ok(Entity::new_with_attr_partial_value(alloc, uid, attrs, none, nobody, tags)?)
@@ -90,7 +103,7 @@ fn with_record(alloc: Global, name: &str, key: &str) -> Result<Entity, Fail> {
 fn with_records(alloc: Global, pairs: &[(&str, &str)]) -> Result<Entities, Fail> {
     let mut list = Vec::new(alloc);
     for (name, key) in pairs {
-        list.push(with_record(alloc, name, key)?)?;
+        list = pushed(list, with_record(alloc, name, key))?;
     }
     Ok(Entities::from_entities(alloc, list, TCComputation::ComputeNow)?)
 }

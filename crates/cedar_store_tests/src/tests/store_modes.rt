@@ -71,10 +71,16 @@ fn what_was_taken_as_it_is_can_be_computed_later(rt: HostRuntime) -> Result<(), 
 
 // The full text of the refusal that ends these calls, or nothing.
 fn refused(alloc: Global, calls: &str) -> Result<String, Fail> {
-    let outcome = run(alloc, calls)?;
-    match &outcome {
-        Ok(_store) => Ok(String::new(alloc)),
-        Err(error) => Ok(error.to_string(alloc)?),
+    match run(alloc, calls)? {
+        Ok(store) => {
+            drop(store);
+            Ok(String::new(alloc))
+        }
+        Err(error) => {
+            let text = error.to_string(alloc);
+            drop(error);
+            Ok(text?)
+        }
     }
 }
 

@@ -1,8 +1,11 @@
 // Look-ups, comparisons, copies and texts of stores.
-use super::store_script::{entity_of, named, store_of, text_of, texts_of};
+use super::store_script::{
+    beside, entity_of, named, pushed, shared_of, store_of, text_of, texts_of, uids_of,
+};
 use cedar_entities::dereference::Dereference;
 use cedar_entities::entities::{Entities, TCComputation};
 use cedar_entity::entity::Entity;
+use cedar_ids::entity::EntityUID;
 use cedar_terms::{Expr, StaticType};
 use std::alloc::Global;
 use std::rc::Rc;
@@ -17,20 +20,41 @@ fn looked_up(alloc: Global, found: &Dereference<'_, Entity>) -> Result<String, F
     }
 }
 
+// What an answer of a store has.
+fn answered(alloc: Global, store: &Entities, uid: &EntityUID) -> Result<String, Fail> {
+    let answer = store.entity(alloc, uid)?;
+    let text = looked_up(alloc, &answer);
+    drop(answer);
+    text
+}
+
 // What a store that these calls leave has with a name.
 fn found(alloc: Global, calls: &str, name: &str) -> Result<String, Fail> {
-    let store = store_of(alloc, calls)?;
-    let uid = named(alloc, name)?;
-    let answer = store.entity(alloc, &uid)?;
-    looked_up(alloc, &answer)
+    let (store, uid) = beside(store_of(alloc, calls)?, named(alloc, name))?;
+    let text = answered(alloc, &store, &uid);
+    drop(uid);
+    drop(store);
+    text
+}
+
+// What the copy of an answer of a store has.
+fn answered_again(alloc: Global, store: &Entities, uid: &EntityUID) -> Result<String, Fail> {
+    let answer = store.entity(alloc, uid)?;
+    let copy: Result<_, _> = answer.clone();
+    drop(answer);
+    let copy = copy?;
+    let text = looked_up(alloc, &copy);
+    drop(copy);
+    text
 }
 
 // What a copy of the answer has, of a store that these calls leave and a name.
 fn found_again(alloc: Global, calls: &str, name: &str) -> Result<String, Fail> {
-    let store = store_of(alloc, calls)?;
-    let uid = named(alloc, name)?;
-    let copy = store.entity(alloc, &uid)?.clone()?;
-    looked_up(alloc, &copy)
+    let (store, uid) = beside(store_of(alloc, calls)?, named(alloc, name))?;
+    let text = answered_again(alloc, &store, &uid);
+    drop(uid);
+    drop(store);
+    text
 }
 
 #[test]
@@ -78,13 +102,28 @@ fn type_in(alloc: Global, expr: &Expr) -> Result<String, Fail> {
     Ok(String::new(alloc))
 }
 
+// The type of the unknown that a store answers, as a text.
+fn type_answered(alloc: Global, store: &Entities, uid: &EntityUID) -> Result<String, Fail> {
+    match store.entity(alloc, uid)? {
+        Dereference::Residual(expr) => {
+            let text = type_in(alloc, &expr);
+            drop(expr);
+            text
+        }
+        other => {
+            drop(other);
+            Ok(String::new(alloc))
+        }
+    }
+}
+
 // The type of what a partial store has with a name.
 fn type_found(alloc: Global, name: &str) -> Result<String, Fail> {
-    let store = Entities::new(alloc).partial();
-    match store.entity(alloc, &named(alloc, name)?)? {
-        Dereference::Residual(expr) => type_in(alloc, &expr),
-        _ => Ok(String::new(alloc)),
-    }
+    let (store, uid) = beside(Entities::new(alloc).partial(), named(alloc, name))?;
+    let text = type_answered(alloc, &store, &uid);
+    drop(uid);
+    drop(store);
+    text
 }
 
 #[test]
@@ -94,16 +133,28 @@ fn an_unknown_entity_is_typed(rt: HostRuntime) -> Result<(), Fail> {
     Ok(())
 }
 
-// Whether what is found can be taken out, both ways.
+// Whether what a store answers can be taken out, both ways.
+fn is_handed_out(alloc: Global, store: &Entities, uid: &EntityUID) -> Result<bool, Fail> {
+    match store.entity(alloc, uid)? {
+        Dereference::Data(entity) => {
+            let one = Dereference::Data(entity).unwrap();
+            let other = Dereference::Data(entity).expect("it was found");
+            Ok(one.uid() == uid && other.uid() == uid)
+        }
+        other => {
+            drop(other);
+            Ok(false)
+        }
+    }
+}
+
+// Whether what these calls leave with a name can be taken out, both ways.
 fn is_taken(alloc: Global, calls: &str, name: &str) -> Result<bool, Fail> {
-    let store = store_of(alloc, calls)?;
-    let uid = named(alloc, name)?;
-    let Dereference::Data(entity) = store.entity(alloc, &uid)? else {
-        return Ok(false);
-    };
-    let one = Dereference::Data(entity).unwrap();
-    let other = Dereference::Data(entity).expect("it was found");
-    Ok(*one.uid() == uid && *other.uid() == uid)
+    let (store, uid) = beside(store_of(alloc, calls)?, named(alloc, name))?;
+    let taken = is_handed_out(alloc, &store, &uid);
+    drop(uid);
+    drop(store);
+    taken
 }
 
 #[test]
@@ -115,14 +166,16 @@ fn what_was_found_is_taken_out(rt: HostRuntime) -> Result<(), Fail> {
 
 // Whether two stores are deeply equal and whether they are equal, the one way and the other.
 fn compared(alloc: Global, one: &str, other: &str) -> Result<[bool; 4], Fail> {
-    let one = store_of(alloc, one)?;
-    let other = store_of(alloc, other)?;
-    Ok([
+    let (one, other) = beside(store_of(alloc, one)?, store_of(alloc, other))?;
+    let answers = [
         one.deep_eq(&other),
         other.deep_eq(&one),
         one == other,
         other == one,
-    ])
+    ];
+    drop(one);
+    drop(other);
+    Ok(answers)
 }
 
 #[test]
@@ -156,12 +209,14 @@ fn stores_are_compared(rt: HostRuntime) -> Result<(), Fail> {
 // is partial.
 fn measured(alloc: Global, calls: &str) -> Result<(usize, usize, bool, bool), Fail> {
     let store = store_of(alloc, calls)?;
-    Ok((
+    let answers = (
         store.len(),
         store.iter().count(),
         store.is_empty(),
         store.is_partial(),
-    ))
+    );
+    drop(store);
+    Ok(answers)
 }
 
 #[test]
@@ -185,17 +240,38 @@ fn stores_are_counted_and_keep_their_mode(rt: HostRuntime) -> Result<(), Fail> {
     Ok(())
 }
 
+// A store and its copy.
+fn with_copy(store: Entities) -> Result<(Entities, Entities), Fail> {
+    let copy: Result<_, _> = store.clone();
+    beside(store, copy.map_err(Fail::from))
+}
+
+// The texts of what a store has without `A::"b"`.
+fn without_b(alloc: Global, store: Entities) -> Result<String, Fail> {
+    let (store, gone) = beside(store, uids_of(alloc, "b"))?;
+    let left = store.remove_entities(alloc, gone, TCComputation::ComputeNow)?;
+    let text = texts_of(alloc, &left);
+    drop(left);
+    text
+}
+
+// What a store was, is without `A::"b"`, and a copy of it then is.
+fn before_and_after(alloc: Global, store: Entities, copy: Entities) -> Result<[String; 3], Fail> {
+    let was = texts_of(alloc, &store);
+    let ((store, copy), was) = beside((store, copy), was)?;
+    let ((was, copy), changed) = beside((was, copy), without_b(alloc, store))?;
+    let is = texts_of(alloc, &copy);
+    drop(copy);
+    let ((was, changed), is) = beside((was, changed), is)?;
+    Ok([was, changed, is])
+}
+
 // Whether a copy is as the store was, also after the store has changed.
 fn stays_apart(alloc: Global, calls: &str) -> Result<bool, Fail> {
-    let store = store_of(alloc, calls)?;
-    let was = texts_of(alloc, &store)?;
-    let copy = store.clone()?;
+    let (store, copy) = with_copy(store_of(alloc, calls)?)?;
     let equal = copy.deep_eq(&store) && store.deep_eq(&copy) && copy == store;
-    let mut gone = Vec::new(alloc);
-    gone.push(named(alloc, "b")?)?;
-    let mode = TCComputation::ComputeNow;
-    let changed = texts_of(alloc, &store.remove_entities(alloc, gone, mode)?)?;
-    Ok(equal && changed != was && texts_of(alloc, &copy)? == was)
+    let [was, changed, is] = before_and_after(alloc, store, copy)?;
+    Ok(equal && changed != was && is == was)
 }
 
 #[test]
@@ -212,16 +288,17 @@ fn taken_out(alloc: Global, store: Entities) -> Result<String, Fail> {
         list.push(entity?)?;
     }
     let again = Entities::from_entities(alloc, list, TCComputation::AssumeAlreadyComputed)?;
-    texts_of(alloc, &again)
+    let text = texts_of(alloc, &again);
+    drop(again);
+    text
 }
 
 // Whether these texts are what a store gives when it is taken apart, also while a copy shares its
 // entities.
 fn gives(alloc: Global, calls: &str, want: &str) -> Result<bool, Fail> {
-    let store = store_of(alloc, calls)?;
-    let copy = store.clone()?;
-    let shared = taken_out(alloc, store)?;
-    let alone = taken_out(alloc, copy)?;
+    let (store, copy) = with_copy(store_of(alloc, calls)?)?;
+    let (copy, shared) = beside(copy, taken_out(alloc, store))?;
+    let (shared, alone) = beside(shared, taken_out(alloc, copy))?;
     Ok(shared.as_str() == want && alone.as_str() == want)
 }
 
@@ -232,17 +309,31 @@ fn a_store_gives_its_entities(rt: HostRuntime) -> Result<(), Fail> {
     Ok(())
 }
 
+// An entity once more, shared.
+fn shared_again(entity: &Rc<Entity>) -> Result<Rc<Entity>, Fail> {
+    Ok(entity.clone()?)
+}
+
+// The texts of the store of `b c` and this entity.
+fn added(alloc: Global, entity: Rc<Entity>) -> Result<String, Fail> {
+    let (entity, list) = beside(entity, shared_of(alloc, "b c"))?;
+    let list = pushed(list, Ok(entity))?;
+    let store = Entities::new(alloc).add_entities(alloc, list, TCComputation::ComputeNow)?;
+    let text = texts_of(alloc, &store);
+    drop(store);
+    text
+}
+
 // The text of an entity that was given to a store while it was shared, after the store was
 // computed.
 fn given_shared(alloc: Global) -> Result<String, Fail> {
     let entity = Rc::new(alloc, entity_of(alloc, "a b")?)?;
-    let mut list = Vec::new(alloc);
-    list.push(entity.clone()?)?;
-    list.push(Rc::new(alloc, entity_of(alloc, "b c")?)?)?;
-    let mode = TCComputation::ComputeNow;
-    let store = Entities::new(alloc).add_entities(alloc, list, mode)?;
-    let within = texts_of(alloc, &store)?;
-    let outside = text_of(alloc, &entity)?;
+    let again = shared_again(&entity);
+    let (entity, again) = beside(entity, again)?;
+    let (entity, within) = beside(entity, added(alloc, again))?;
+    let outside = text_of(alloc, &entity);
+    drop(entity);
+    let (within, outside) = beside(within, outside)?;
     Ok(format!(in alloc; "{within}; {outside}")?)
 }
 
@@ -254,7 +345,10 @@ fn an_entity_that_is_shared_stays_as_it_was(rt: HostRuntime) -> Result<(), Fail>
 
 // The text of the store that these calls leave.
 fn written(alloc: Global, calls: &str) -> Result<String, Fail> {
-    Ok(store_of(alloc, calls)?.to_string(alloc)?)
+    let store = store_of(alloc, calls)?;
+    let text = store.to_string(alloc);
+    drop(store);
+    Ok(text?)
 }
 
 #[test]

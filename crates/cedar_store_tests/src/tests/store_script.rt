@@ -25,6 +25,25 @@ use std::test::Fail;
 
 pub(super) type Outcome = Result<Entities, EntitiesError>;
 
+// Both of two things, where the other could be made too; else the one is let go.
+pub(super) fn beside<A: Drop, B>(one: A, other: Result<B, Fail>) -> Result<(A, B), Fail> {
+    match other {
+        Ok(other) => Ok((one, other)),
+        Err(fail) => {
+            drop(one);
+            Err(fail)
+        }
+    }
+}
+
+// The list with one thing more, where that could be made; else it is let go.
+pub(super) fn pushed<T: Drop>(list: Vec<T>, one: Result<T, Fail>) -> Result<Vec<T>, Fail> {
+    let (list, one) = beside(list, one)?;
+    let mut list = list;
+    list.push(one)?;
+    Ok(list)
+}
+
 pub(super) fn owned(alloc: Global, text: &str) -> Result<String, Fail> {
     Ok(String::from_str(alloc, text)?)
 }
@@ -55,7 +74,7 @@ fn set_of(alloc: Global, names: &str) -> Result<HashSet<EntityUID>, Fail> {
 pub(super) fn uids_of(alloc: Global, names: &str) -> Result<Vec<EntityUID>, Fail> {
     let mut list = Vec::new(alloc);
     for name in names.split_whitespace() {
-        list.push(named(alloc, name)?)?;
+        list = pushed(list, named(alloc, name))?;
     }
     Ok(list)
 }
@@ -73,7 +92,7 @@ fn field_of(alloc: Global, text: &str) -> Result<(String, PartialValue), Fail> {
 fn fields_of(alloc: Global, texts: &str) -> Result<Vec<(String, PartialValue)>, Fail> {
     let mut fields = Vec::new(alloc);
     for text in texts.split_whitespace() {
-        fields.push(field_of(alloc, text)?)?;
+        fields = pushed(fields, field_of(alloc, text))?;
     }
     Ok(fields)
 }
@@ -87,11 +106,11 @@ fn part_of(text: &str, place: usize) -> &str {
 pub(super) fn entity_of(alloc: Global, text: &str) -> Result<Entity, Fail> {
     let whole = part_of(text, 0);
     let (name, parents) = whole.split_once(' ').unwrap_or((whole, ""));
-    let uid = named(alloc, name)?;
-    let parents = set_of(alloc, parents)?;
-    let indirect = set_of(alloc, part_of(text, 1))?;
-    let attrs = fields_of(alloc, part_of(text, 2))?;
-    let tags = fields_of(alloc, part_of(text, 3))?;
+    let (uid, parents) = beside(named(alloc, name)?, set_of(alloc, parents))?;
+    let (near, indirect) = beside((uid, parents), set_of(alloc, part_of(text, 1)))?;
+    let (known, attrs) = beside((near, indirect), fields_of(alloc, part_of(text, 2)))?;
+    let (known, tags) = beside((known, attrs), fields_of(alloc, part_of(text, 3)))?;
+    let (((uid, parents), indirect), attrs) = known;
     Ok(Entity::new_with_attr_partial_value(alloc, uid, attrs, indirect, parents, tags)?)
 }
 
@@ -100,7 +119,7 @@ pub(super) fn entities_of(alloc: Global, texts: &str) -> Result<Vec<Entity>, Fai
     let mut list = Vec::new(alloc);
     for text in texts.split(',') {
         if !text.trim().is_empty() {
-            list.push(entity_of(alloc, text)?)?;
+            list = pushed(list, entity_of(alloc, text))?;
         }
     }
     Ok(list)
@@ -118,7 +137,7 @@ pub(super) fn shared(alloc: Global, list: Vec<Entity>) -> Result<Vec<Rc<Entity>>
 }
 
 // The entities with these texts, to be shared.
-fn shared_of(alloc: Global, texts: &str) -> Result<Vec<Rc<Entity>>, Fail> {
+pub(super) fn shared_of(alloc: Global, texts: &str) -> Result<Vec<Rc<Entity>>, Fail> {
     shared(alloc, entities_of(alloc, texts)?)
 }
 
@@ -145,16 +164,20 @@ fn step(alloc: Global, store: Entities, call: &str) -> Result<Outcome, Fail> {
     let (word, mode, rest) = parts_of(call);
     let mode = mode_of(mode);
     if word == "from" {
+        drop(store);
         return Ok(Entities::from_entities(alloc, entities_of(alloc, rest)?, mode));
     }
     if word == "add" {
-        return Ok(store.add_entities(alloc, shared_of(alloc, rest)?, mode));
+        let (store, list) = beside(store, shared_of(alloc, rest))?;
+        return Ok(store.add_entities(alloc, list, mode));
     }
     if word == "upsert" {
-        return Ok(store.upsert_entities(alloc, shared_of(alloc, rest)?, mode));
+        let (store, list) = beside(store, shared_of(alloc, rest))?;
+        return Ok(store.upsert_entities(alloc, list, mode));
     }
     if word == "remove" {
-        return Ok(store.remove_entities(alloc, uids_of(alloc, rest)?, mode));
+        let (store, list) = beside(store, uids_of(alloc, rest))?;
+        return Ok(store.remove_entities(alloc, list, mode));
     }
     if word == "partial" {
         return Ok(Ok(store.partial()));
@@ -206,7 +229,7 @@ fn joined(alloc: Global, texts: Vec<String>, before: &str) -> Result<String, Fai
 fn names_of(alloc: Global, uids: Uids<'_>) -> Result<String, Fail> {
     let mut names = Vec::new(alloc);
     for uid in uids {
-        names.push(name_of(alloc, uid)?)?;
+        names = pushed(names, name_of(alloc, uid))?;
     }
     joined(alloc, names, " ")
 }
@@ -235,7 +258,7 @@ pub(super) fn text_of(alloc: Global, entity: &Entity) -> Result<String, Fail> {
 pub(super) fn texts_of(alloc: Global, store: &Entities) -> Result<String, Fail> {
     let mut texts = Vec::new(alloc);
     for entity in store.iter() {
-        texts.push(text_of(alloc, entity)?)?;
+        texts = pushed(texts, text_of(alloc, entity))?;
     }
     let whole = joined(alloc, texts, ", ")?;
     owned(alloc, whole.trim_start_matches(", "))
@@ -263,8 +286,16 @@ pub(super) fn refusal_of(alloc: Global, error: &EntitiesError) -> Result<String,
 // What these calls leave, or the refusal that ends them, as a text.
 pub(super) fn told(alloc: Global, calls: &str) -> Result<String, Fail> {
     match run(alloc, calls)? {
-        Ok(store) => texts_of(alloc, &store),
-        Err(error) => refusal_of(alloc, &error),
+        Ok(store) => {
+            let text = texts_of(alloc, &store);
+            drop(store);
+            text
+        }
+        Err(error) => {
+            let text = refusal_of(alloc, &error);
+            drop(error);
+            text
+        }
     }
 }
 

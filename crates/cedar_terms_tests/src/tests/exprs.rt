@@ -1,6 +1,7 @@
 // Expressions: their texts, the walk, and which are valid.
 use super::{
-    copies, has_slots, hash_of, is_written, named, number, owned, shows, truth, typed, uid,
+    both, copies, copy_of, counted, has_slots, hash_of, is_eq, is_written, named, not, number,
+    owned, shows, slot, truth, typed, uid, with_last,
 };
 use cedar_terms::err::ExprValidationError;
 use cedar_terms::expr::Expr;
@@ -9,88 +10,130 @@ use cedar_terms::slot::SlotId;
 use cedar_terms::unknown::Unknown;
 use cedar_terms::var::Var;
 use std::alloc::Global;
-use std::rc::Rc;
-use std::test::Fail;
 
-fn string(alloc: Global, text: &str) -> Result<Expr, Fail> {
-    Ok(Expr::val(alloc, Literal::String(owned(alloc, text)?))?)
+fn string(alloc: Global, text: &str) -> Option<Expr> {
+    match owned(alloc, text) {
+        Some(text) => Expr::val(alloc, Literal::String(text)).ok(),
+        None => None,
+    }
 }
 
-fn entity(alloc: Global, ty: &str, eid: &str) -> Result<Expr, Fail> {
-    let uid = Rc::new(alloc, uid(alloc, ty, eid)?)?;
-    Ok(Expr::val(alloc, Literal::EntityUID(uid))?)
+fn entity(alloc: Global, ty: &str, eid: &str) -> Option<Expr> {
+    match counted(alloc, uid(alloc, ty, eid)) {
+        Some(uid) => Expr::val(alloc, Literal::EntityUID(uid)).ok(),
+        None => None,
+    }
 }
 
-fn unknown(alloc: Global, name: &str) -> Result<Expr, Fail> {
-    Ok(Expr::unknown(alloc, Unknown::new_untyped(owned(alloc, name)?))?)
+fn unknown(alloc: Global, name: &str) -> Option<Expr> {
+    match owned(alloc, name) {
+        Some(name) => Expr::unknown(alloc, Unknown::new_untyped(name)).ok(),
+        None => None,
+    }
 }
 
-fn pair(alloc: Global, first: Expr, second: Expr) -> Result<Vec<Expr>, Fail> {
-    let mut exprs = Vec::new(alloc);
-    exprs.push(first)?;
-    exprs.push(second)?;
-    Ok(exprs)
+fn pair(alloc: Global, first: Option<Expr>, second: Option<Expr>) -> Option<Vec<Expr>> {
+    with_last(with_last(Some(Vec::new(alloc)), first), second)
 }
 
-fn call(alloc: Global, name: &str) -> Result<Expr, Fail> {
-    Ok(Expr::call(alloc, named(alloc, name)?, Vec::new(alloc))?)
+fn set(alloc: Global, exprs: Option<Vec<Expr>>) -> Option<Expr> {
+    match exprs {
+        Some(exprs) => Expr::set(alloc, exprs).ok(),
+        None => None,
+    }
+}
+
+fn call_of(alloc: Global, name: &str, args: Option<Vec<Expr>>) -> Option<Expr> {
+    match both(named(alloc, name), args) {
+        Some((name, args)) => Expr::call(alloc, name, args).ok(),
+        None => None,
+    }
+}
+
+fn call(alloc: Global, name: &str) -> Option<Expr> {
+    call_of(alloc, name, Some(Vec::new(alloc)))
+}
+
+fn and(alloc: Global, left: Option<Expr>, right: Option<Expr>) -> Option<Expr> {
+    match both(left, right) {
+        Some((left, right)) => Expr::and(alloc, left, right).ok(),
+        None => None,
+    }
+}
+
+fn is_in(alloc: Global, left: Option<Expr>, right: Option<Expr>) -> Option<Expr> {
+    match both(left, right) {
+        Some((left, right)) => Expr::is_in(alloc, left, right).ok(),
+        None => None,
+    }
+}
+
+fn is_type(alloc: Global, expr: Option<Expr>, ty: &str) -> Option<Expr> {
+    match both(expr, typed(alloc, ty)) {
+        Some((expr, ty)) => Expr::is_entity_type(alloc, expr, ty).ok(),
+        None => None,
+    }
+}
+
+fn var(alloc: Global, var: Var) -> Option<Expr> {
+    Expr::var(alloc, var).ok()
 }
 
 // `2 == 1`
-fn two_is_one(alloc: Global) -> Result<Expr, Fail> {
-    Ok(Expr::is_eq(alloc, number(alloc, 2)?, number(alloc, 1)?)?)
+fn two_is_one(alloc: Global) -> Option<Expr> {
+    is_eq(alloc, number(alloc, 2), number(alloc, 1))
 }
 
 // `!(2 == 1)`
-fn two_is_not_one(alloc: Global) -> Result<Expr, Fail> {
-    Ok(Expr::not(alloc, two_is_one(alloc)?)?)
-}
-
-// `principal is A`
-fn principal_is(alloc: Global, var: Var, ty: &str) -> Result<Expr, Fail> {
-    let var = Expr::var(alloc, var)?;
-    Ok(Expr::is_entity_type(alloc, var, typed(alloc, ty)?)?)
+fn two_is_not_one(alloc: Global) -> Option<Expr> {
+    not(alloc, two_is_one(alloc))
 }
 
 // How many expressions `nth` has.
 const EXPRS: usize = 20;
 
 // Expressions of each kind, no two of them equal.
-fn nth(alloc: Global, place: usize) -> Result<Expr, Fail> {
+fn nth(alloc: Global, place: usize) -> Option<Expr> {
     match place {
         0 => truth(alloc),
-        1 => Ok(Expr::val(alloc, Literal::Bool(false))?),
+        1 => Expr::val(alloc, Literal::Bool(false)).ok(),
         2 => number(alloc, -7),
         3 => string(alloc, "it's \"x\""),
         4 => string(alloc, "é"),
         5 => entity(alloc, "A::B", "\t"),
-        6 => Ok(Expr::var(alloc, Var::Principal)?),
-        7 => Ok(Expr::var(alloc, Var::Context)?),
-        8 => Ok(Expr::slot(alloc, SlotId::principal())?),
-        9 => Ok(Expr::slot(alloc, SlotId::resource())?),
+        6 => var(alloc, Var::Principal),
+        7 => var(alloc, Var::Context),
+        8 => slot(alloc, SlotId::principal()),
+        9 => slot(alloc, SlotId::resource()),
         10 => unknown(alloc, "a\\b"),
-        11 => Ok(Expr::set(alloc, Vec::new(alloc))?),
-        12 => Ok(Expr::set(alloc, pair(alloc, number(alloc, 2)?, two_is_one(alloc)?)?)?),
+        11 => set(alloc, Some(Vec::new(alloc))),
+        12 => set(alloc, pair(alloc, number(alloc, 2), two_is_one(alloc))),
         13 => call(alloc, "f"),
         14 => call_of_two(alloc),
-        15 => Ok(Expr::not(alloc, truth(alloc)?)?),
-        16 => Ok(Expr::and(alloc, truth(alloc)?, call(alloc, "f")?)?),
+        15 => not(alloc, truth(alloc)),
+        16 => and(alloc, truth(alloc), call(alloc, "f")),
         17 => two_is_one(alloc),
         18 => action_in_none(alloc),
-        _ => principal_is(alloc, Var::Resource, "N::T"),
+        _ => is_type(alloc, var(alloc, Var::Resource), "N::T"),
     }
 }
 
 // `A::f(!(2 == 1), true)`
-fn call_of_two(alloc: Global) -> Result<Expr, Fail> {
-    let args = pair(alloc, two_is_not_one(alloc)?, truth(alloc)?)?;
-    Ok(Expr::call(alloc, named(alloc, "A::f")?, args)?)
+fn call_of_two(alloc: Global) -> Option<Expr> {
+    call_of(
+        alloc,
+        "A::f",
+        pair(alloc, two_is_not_one(alloc), truth(alloc)),
+    )
 }
 
 // `action in []`
-fn action_in_none(alloc: Global) -> Result<Expr, Fail> {
-    let action = Expr::var(alloc, Var::Action)?;
-    Ok(Expr::is_in(alloc, action, Expr::set(alloc, Vec::new(alloc))?)?)
+fn action_in_none(alloc: Global) -> Option<Expr> {
+    is_in(
+        alloc,
+        var(alloc, Var::Action),
+        set(alloc, Some(Vec::new(alloc))),
+    )
 }
 
 // How the expressions of `nth` are written.
@@ -118,12 +161,11 @@ const TEXTS: [&str; 20] = [
 ];
 
 #[test]
-fn each_kind_is_written(rt: HostRuntime) -> Result<(), Fail> {
+fn each_kind_is_written(rt: HostRuntime) {
     let alloc = rt.alloc();
     for (i, want) in TEXTS.iter().enumerate() {
-        assert!(rt; shows(alloc, nth(alloc, i), want)?, "{want}");
+        assert!(rt; shows(alloc, nth(alloc, i), want), "{want}");
     }
-    Ok(())
 }
 
 // Whether two expressions are equal and hash alike just where they are the same.
@@ -131,119 +173,120 @@ fn told_apart(a: &Expr, b: &Expr, same: bool) -> bool {
     (a == b) == same && (hash_of(a) == hash_of(b)) == same
 }
 
-#[test]
-fn expressions_are_equal_where_they_are_the_same(rt: HostRuntime) -> Result<(), Fail> {
-    let alloc = rt.alloc();
-    for i in 0..EXPRS {
-        let a = nth(alloc, i)?;
-        for j in 0..EXPRS {
-            assert!(rt; told_apart(&a, &nth(alloc, j)?, i == j), "{i} and {j}");
+// The same of those at two places.
+fn nth_told_apart(alloc: Global, i: usize, j: usize) -> bool {
+    match both(nth(alloc, i), nth(alloc, j)) {
+        Some((a, b)) => {
+            let told = told_apart(&a, &b, i == j);
+            drop(a);
+            drop(b);
+            told
         }
+        None => false,
     }
-    Ok(())
 }
 
 #[test]
-fn a_copy_is_equal(rt: HostRuntime) -> Result<(), Fail> {
+fn expressions_are_equal_where_they_are_the_same(rt: HostRuntime) {
     let alloc = rt.alloc();
     for i in 0..EXPRS {
-        assert!(rt; copies(nth(alloc, i))?, "{i}");
+        for j in 0..EXPRS {
+            assert!(rt; nth_told_apart(alloc, i, j), "{i} and {j}");
+        }
     }
-    Ok(())
+}
+
+#[test]
+fn a_copy_is_equal(rt: HostRuntime) {
+    let alloc = rt.alloc();
+    for i in 0..EXPRS {
+        assert!(rt; copies(nth(alloc, i)), "{i}");
+    }
 }
 
 // `(!(2 == 1)) && true`
-fn conjunction(alloc: Global) -> Result<Expr, Fail> {
-    let left = two_is_not_one(alloc)?;
-    Ok(Expr::and(alloc, left, truth(alloc)?)?)
+fn conjunction(alloc: Global) -> Option<Expr> {
+    and(alloc, two_is_not_one(alloc), truth(alloc))
 }
 
 // `((!(2 == 1)) && true) in (2 == 1)`
-fn membership(alloc: Global) -> Result<Expr, Fail> {
-    let left = conjunction(alloc)?;
-    Ok(Expr::is_in(alloc, left, two_is_one(alloc)?)?)
-}
-
-// `(2 == 1) is A`
-fn test_of_type(alloc: Global) -> Result<Expr, Fail> {
-    let ty = typed(alloc, "A")?;
-    Ok(Expr::is_entity_type(alloc, two_is_one(alloc)?, ty)?)
-}
-
-// `!(!f())`
-fn not_not(alloc: Global) -> Result<Expr, Fail> {
-    let not = Expr::not(alloc, call(alloc, "f")?)?;
-    Ok(Expr::not(alloc, not)?)
+fn membership(alloc: Global) -> Option<Expr> {
+    is_in(alloc, conjunction(alloc), two_is_one(alloc))
 }
 
 #[test]
-fn operands_that_are_no_atoms_stand_in_parentheses(rt: HostRuntime) -> Result<(), Fail> {
+fn operands_that_are_no_atoms_stand_in_parentheses(rt: HostRuntime) {
     let alloc = rt.alloc();
-    assert!(rt; shows(alloc, two_is_not_one(alloc), "!(2 == 1)")?);
-    assert!(rt; shows(alloc, conjunction(alloc), "(!(2 == 1)) && true")?);
-    assert!(rt;
-        shows(
-            alloc,
-            membership(alloc),
-            "((!(2 == 1)) && true) in (2 == 1)"
-        )?
-    );
-    assert!(rt; shows(alloc, test_of_type(alloc), "(2 == 1) is A")?);
-    assert!(rt; shows(alloc, not_not(alloc), "!(!f())")?);
-    Ok(())
+    assert!(rt; shows(alloc, two_is_not_one(alloc), "!(2 == 1)"));
+    assert!(rt; shows(alloc, conjunction(alloc), "(!(2 == 1)) && true"));
+    let want = "((!(2 == 1)) && true) in (2 == 1)";
+    assert!(rt; shows(alloc, membership(alloc), want));
+    let test_of_type = is_type(alloc, two_is_one(alloc), "A");
+    assert!(rt; shows(alloc, test_of_type, "(2 == 1) is A"));
+    let not_not = not(alloc, not(alloc, call(alloc, "f")));
+    assert!(rt; shows(alloc, not_not, "!(!f())"));
 }
 
 // `(resource is B) && (1 == 2)`
-fn resource_part(alloc: Global) -> Result<Expr, Fail> {
-    let clause = Expr::is_eq(alloc, number(alloc, 1)?, number(alloc, 2)?)?;
-    Ok(Expr::and(alloc, principal_is(alloc, Var::Resource, "B")?, clause)?)
+fn resource_part(alloc: Global) -> Option<Expr> {
+    let clause = is_eq(alloc, number(alloc, 1), number(alloc, 2));
+    and(
+        alloc,
+        is_type(alloc, var(alloc, Var::Resource), "B"),
+        clause,
+    )
 }
 
 // `(principal is A) && (true && ..)`
-fn condition(alloc: Global) -> Result<Expr, Fail> {
-    let action = Expr::and(alloc, truth(alloc)?, resource_part(alloc)?)?;
-    Ok(Expr::and(alloc, principal_is(alloc, Var::Principal, "A")?, action)?)
+fn condition(alloc: Global) -> Option<Expr> {
+    let action = and(alloc, truth(alloc), resource_part(alloc));
+    and(
+        alloc,
+        is_type(alloc, var(alloc, Var::Principal), "A"),
+        action,
+    )
 }
 
 #[test]
-fn the_condition_of_a_policy_is_written(rt: HostRuntime) -> Result<(), Fail> {
+fn the_condition_of_a_policy_is_written(rt: HostRuntime) {
     let alloc = rt.alloc();
     let want = "(principal is A) && (true && ((resource is B) && (1 == 2)))";
-    assert!(rt; shows(alloc, condition(alloc), want)?);
-    Ok(())
-}
-
-fn slot(alloc: Global, id: SlotId) -> Result<Expr, Fail> {
-    Ok(Expr::slot(alloc, id)?)
+    assert!(rt; shows(alloc, condition(alloc), want));
 }
 
 // `[?resource, ?principal]`
-fn two_slots(alloc: Global) -> Result<Expr, Fail> {
-    let exprs = pair(
+fn two_slots(alloc: Global) -> Option<Expr> {
+    set(
         alloc,
-        slot(alloc, SlotId::resource())?,
-        slot(alloc, SlotId::principal())?,
-    )?;
-    Ok(Expr::set(alloc, exprs)?)
+        pair(
+            alloc,
+            slot(alloc, SlotId::resource()),
+            slot(alloc, SlotId::principal()),
+        ),
+    )
 }
 
 // `f([?resource, ?principal], ?resource)`
-fn call_of_slots(alloc: Global) -> Result<Expr, Fail> {
-    let args = pair(alloc, two_slots(alloc)?, slot(alloc, SlotId::resource())?)?;
-    Ok(Expr::call(alloc, named(alloc, "f")?, args)?)
-}
-
-// `!(1 is A)`
-fn one_is_no_a(alloc: Global) -> Result<Expr, Fail> {
-    let is = Expr::is_entity_type(alloc, number(alloc, 1)?, typed(alloc, "A")?)?;
-    Ok(Expr::not(alloc, is)?)
+fn call_of_slots(alloc: Global) -> Option<Expr> {
+    call_of(
+        alloc,
+        "f",
+        pair(alloc, two_slots(alloc), slot(alloc, SlotId::resource())),
+    )
 }
 
 // `(?principal in f([?resource, ?principal], ?resource)) && (!(1 is A))`
-fn with_slots(alloc: Global) -> Result<Expr, Fail> {
-    let right = call_of_slots(alloc)?;
-    let left = Expr::is_in(alloc, slot(alloc, SlotId::principal())?, right)?;
-    Ok(Expr::and(alloc, left, one_is_no_a(alloc)?)?)
+fn with_slots(alloc: Global) -> Option<Expr> {
+    let left = is_in(
+        alloc,
+        slot(alloc, SlotId::principal()),
+        call_of_slots(alloc),
+    );
+    and(
+        alloc,
+        left,
+        not(alloc, is_type(alloc, number(alloc, 1), "A")),
+    )
 }
 
 // What the walk through it meets.
@@ -261,119 +304,166 @@ const NODES: [&str; 11] = [
     "?principal",
 ];
 
-#[test]
-fn the_walk_goes_from_the_last_child_to_the_first(rt: HostRuntime) -> Result<(), Fail> {
-    let alloc = rt.alloc();
-    let expr = with_slots(alloc)?;
-    let nodes = expr.subexpressions(alloc)?;
-    assert!(rt; nodes.len() == NODES.len());
-    for (node, want) in nodes.iter().zip(NODES) {
-        assert!(rt; is_written(alloc, *node, want)?, "{want}");
+// Whether expressions are written so, in turn.
+fn are_written(alloc: Global, nodes: &Vec<&Expr>, want: &[&str]) -> bool {
+    let mut all = nodes.len() == want.len();
+    for (node, text) in nodes.iter().zip(want) {
+        all = all && is_written(alloc, *node, text);
     }
-    Ok(())
+    all
+}
+
+// Whether the walk through an expression that could be made meets these.
+fn walks(alloc: Global, made: Option<Expr>, want: &[&str]) -> bool {
+    match made {
+        Some(expr) => {
+            let told = match expr.subexpressions(alloc) {
+                Ok(nodes) => are_written(alloc, &nodes, want),
+                Err(_) => false,
+            };
+            drop(expr);
+            told
+        }
+        None => false,
+    }
 }
 
 #[test]
-fn slots_come_as_the_walk_meets_them(rt: HostRuntime) -> Result<(), Fail> {
+fn the_walk_goes_from_the_last_child_to_the_first(rt: HostRuntime) {
+    let alloc = rt.alloc();
+    assert!(rt; walks(alloc, with_slots(alloc), &NODES));
+}
+
+#[test]
+fn slots_come_as_the_walk_meets_them(rt: HostRuntime) {
     let alloc = rt.alloc();
     let (p, r) = (SlotId::principal(), SlotId::resource());
-    assert!(rt; has_slots(alloc, with_slots(alloc), &[r, p, r, p])?);
-    assert!(rt; has_slots(alloc, two_is_one(alloc), &[])?);
-    Ok(())
+    assert!(rt; has_slots(alloc, with_slots(alloc), &[r, p, r, p]));
+    assert!(rt; has_slots(alloc, two_is_one(alloc), &[]));
 }
 
 // `(unknown("a") == unknown("b")) && (!unknown("a"))`
-fn with_unknowns(alloc: Global) -> Result<Expr, Fail> {
-    let left = Expr::is_eq(alloc, unknown(alloc, "a")?, unknown(alloc, "b")?)?;
-    let right = Expr::not(alloc, unknown(alloc, "a")?)?;
-    Ok(Expr::and(alloc, left, right)?)
+fn with_unknowns(alloc: Global) -> Option<Expr> {
+    let left = is_eq(alloc, unknown(alloc, "a"), unknown(alloc, "b"));
+    and(alloc, left, not(alloc, unknown(alloc, "a")))
 }
 
-// The unknowns of an expression have these names.
-fn has_unknowns(alloc: Global, made: Result<Expr, Fail>, want: &[&str]) -> Result<bool, Fail> {
-    let expr = made?;
-    let unknowns = expr.unknowns(alloc)?;
+// Whether unknowns have these names, in turn.
+fn have_names(unknowns: &Vec<&Unknown>, want: &[&str]) -> bool {
     let same = unknowns
         .iter()
         .zip(want)
         .all(|(unknown, name)| unknown.name.as_str() == *name);
-    Ok(unknowns.len() == want.len() && same)
+    unknowns.len() == want.len() && same
+}
+
+// The unknowns of an expression have these names.
+fn has_unknowns(alloc: Global, made: Option<Expr>, want: &[&str]) -> bool {
+    match made {
+        Some(expr) => {
+            let told = match expr.unknowns(alloc) {
+                Ok(unknowns) => have_names(&unknowns, want),
+                Err(_) => false,
+            };
+            drop(expr);
+            told
+        }
+        None => false,
+    }
 }
 
 #[test]
-fn unknowns_come_as_the_walk_meets_them(rt: HostRuntime) -> Result<(), Fail> {
+fn unknowns_come_as_the_walk_meets_them(rt: HostRuntime) {
     let alloc = rt.alloc();
-    assert!(rt; has_unknowns(alloc, with_unknowns(alloc), &["a", "b", "a"])?);
-    assert!(rt; has_unknowns(alloc, two_is_one(alloc), &[])?);
-    Ok(())
+    assert!(rt; has_unknowns(alloc, with_unknowns(alloc), &["a", "b", "a"]));
+    assert!(rt; has_unknowns(alloc, two_is_one(alloc), &[]));
+}
+
+// Whether a verdict names this function, or, if it is empty, is no refusal.
+fn names(alloc: Global, verdict: Result<(), ExprValidationError>, want: &str) -> bool {
+    match verdict {
+        Ok(()) => want.is_empty(),
+        Err(ExprValidationError::UnknownFunction { name }) => {
+            let told = is_written(alloc, &name, want);
+            drop(name);
+            told
+        }
+        Err(ExprValidationError::Memory) => false,
+    }
 }
 
 // Whether an expression is refused for calling this function, or, if it is empty, not at all.
-fn refused_for(alloc: Global, made: Result<Expr, Fail>, want: &str) -> Result<bool, Fail> {
-    match made?.try_validate(alloc) {
-        Ok(()) => Ok(want.is_empty()),
-        Err(ExprValidationError::UnknownFunction { name }) => is_written(alloc, &name, want),
-        Err(ExprValidationError::Memory) => Ok(false),
+fn refused_for(alloc: Global, made: Option<Expr>, want: &str) -> bool {
+    match made {
+        Some(expr) => {
+            let told = names(alloc, expr.try_validate(alloc), want);
+            drop(expr);
+            told
+        }
+        None => false,
     }
 }
 
 #[test]
-fn four_functions_are_known(rt: HostRuntime) -> Result<(), Fail> {
+fn four_functions_are_known(rt: HostRuntime) {
     let alloc = rt.alloc();
     for known in ["ip", "decimal", "datetime", "duration"] {
-        assert!(rt; refused_for(alloc, call(alloc, known), "")?, "{known}");
+        assert!(rt; refused_for(alloc, call(alloc, known), ""), "{known}");
     }
     for other in ["f", "i", "ipp", "Ip", "A::ip", "ip::decimal2", "durations"] {
-        assert!(rt; refused_for(alloc, call(alloc, other), other)?, "{other}");
+        assert!(rt; refused_for(alloc, call(alloc, other), other), "{other}");
     }
-    assert!(rt; refused_for(alloc, two_is_not_one(alloc), "")?);
-    Ok(())
+    assert!(rt; refused_for(alloc, two_is_not_one(alloc), ""));
 }
 
 // `f(g(), h())`, of these names
-fn calls(alloc: Global, f: &str, g: &str, h: &str) -> Result<Expr, Fail> {
-    let args = pair(alloc, call(alloc, g)?, call(alloc, h)?)?;
-    Ok(Expr::call(alloc, named(alloc, f)?, args)?)
+fn calls(alloc: Global, f: &str, g: &str, h: &str) -> Option<Expr> {
+    call_of(alloc, f, pair(alloc, call(alloc, g), call(alloc, h)))
 }
 
 // `two(one(), ip()) && (!three())`
-fn both_sides(alloc: Global) -> Result<Expr, Fail> {
-    let right = Expr::not(alloc, call(alloc, "three")?)?;
-    Ok(Expr::and(alloc, calls(alloc, "two", "one", "ip")?, right)?)
+fn both_sides(alloc: Global) -> Option<Expr> {
+    and(
+        alloc,
+        calls(alloc, "two", "one", "ip"),
+        not(alloc, call(alloc, "three")),
+    )
 }
 
 #[test]
-fn the_first_unknown_function_of_the_walk_is_named(rt: HostRuntime) -> Result<(), Fail> {
+fn the_first_unknown_function_of_the_walk_is_named(rt: HostRuntime) {
     let alloc = rt.alloc();
-    assert!(rt; refused_for(alloc, calls(alloc, "two", "one", "ip"), "two")?);
-    assert!(rt; refused_for(alloc, calls(alloc, "ip", "one", "two"), "two")?);
-    assert!(rt; refused_for(alloc, calls(alloc, "ip", "one", "decimal"), "one")?);
-    assert!(rt; refused_for(alloc, both_sides(alloc), "three")?);
-    Ok(())
+    assert!(rt; refused_for(alloc, calls(alloc, "two", "one", "ip"), "two"));
+    assert!(rt; refused_for(alloc, calls(alloc, "ip", "one", "two"), "two"));
+    assert!(rt; refused_for(alloc, calls(alloc, "ip", "one", "decimal"), "one"));
+    assert!(rt; refused_for(alloc, both_sides(alloc), "three"));
 }
 
-fn refusal(alloc: Global) -> Result<ExprValidationError, Fail> {
-    let name = named(alloc, "A::ip")?;
-    Ok(ExprValidationError::UnknownFunction { name })
+fn refusal(alloc: Global) -> Option<ExprValidationError> {
+    match named(alloc, "A::ip") {
+        Some(name) => Some(ExprValidationError::UnknownFunction { name }),
+        None => None,
+    }
 }
 
-fn copied_refusal(alloc: Global) -> Result<ExprValidationError, Fail> {
-    Ok(refusal(alloc)?.clone()?)
+// Whether a refusal that could be made is the one for want of memory.
+fn is_memory(made: Option<ExprValidationError>) -> bool {
+    match made {
+        Some(ExprValidationError::Memory) => true,
+        Some(ExprValidationError::UnknownFunction { name }) => {
+            drop(name);
+            false
+        }
+        None => false,
+    }
 }
 
 #[test]
-fn refusals_are_written(rt: HostRuntime) -> Result<(), Fail> {
+fn refusals_are_written(rt: HostRuntime) {
     let alloc = rt.alloc();
-    assert!(rt; shows(alloc, refusal(alloc), "`A::ip` is not a known function")?);
-    assert!(rt;
-        shows(
-            alloc,
-            copied_refusal(alloc),
-            "`A::ip` is not a known function"
-        )?
-    );
-    assert!(rt; shows(alloc, Ok(ExprValidationError::Memory), "out of memory")?);
-    let copy = ExprValidationError::Memory.clone()?;
-    assert!(rt; matches!(copy, ExprValidationError::Memory));
-    Ok(())
+    let want = "`A::ip` is not a known function";
+    assert!(rt; shows(alloc, refusal(alloc), want));
+    assert!(rt; shows(alloc, copy_of(refusal(alloc)), want));
+    assert!(rt; shows(alloc, Some(ExprValidationError::Memory), "out of memory"));
+    assert!(rt; is_memory(copy_of(Some(ExprValidationError::Memory))));
 }

@@ -1,25 +1,24 @@
 // Values: their texts, their order, and how sets and records are made.
 use super::{
-    boolean, called, copies, differ, entity, extension, hash_of, is_written, long, longs, owned,
-    place, record, shows, start_of, text,
+    boolean, both, called, copies, copy_of, differ, entity, extension, hash_of, is_written, long,
+    longs, owned, place, record, record_of, set_of, shows, start_of, text, with_last,
 };
 use cedar_terms::literal::Literal;
 use cedar_terms::value::{Value, ValueKind};
 use std::alloc::Global;
-use std::test::Fail;
 
 // How many values `nth` has.
 const VALUES: usize = 29;
 
 // Values, each below the next.
-fn nth(alloc: Global, place: usize) -> Result<Value, Fail> {
+fn nth(alloc: Global, place: usize) -> Option<Value> {
     match place {
-        0 => Ok(boolean(false)),
-        1 => Ok(boolean(true)),
-        2 => Ok(long(i64::MIN)),
-        3 => Ok(long(-42)),
-        4 => Ok(long(0)),
-        5 => Ok(long(7)),
+        0 => Some(boolean(false)),
+        1 => Some(boolean(true)),
+        2 => Some(long(i64::MIN)),
+        3 => Some(long(-42)),
+        4 => Some(long(0)),
+        5 => Some(long(7)),
         6 => text(alloc, ""),
         7 => text(alloc, "\u{1}\u{7f}\0"),
         8 => text(alloc, "it's\t\"x\"\\"),
@@ -80,12 +79,11 @@ const TEXTS: [&str; 29] = [
 ];
 
 #[test]
-fn values_are_written(rt: HostRuntime) -> Result<(), Fail> {
+fn values_are_written(rt: HostRuntime) {
     let alloc = rt.alloc();
     for (i, want) in TEXTS.iter().enumerate() {
-        assert!(rt; shows(alloc, nth(alloc, i), want)?, "{want}");
+        assert!(rt; shows(alloc, nth(alloc, i), want), "{want}");
     }
-    Ok(())
 }
 
 // Whether two values stand as their places do, in each way of comparing them.
@@ -99,89 +97,123 @@ fn stand(a: &Value, b: &Value, i: usize, j: usize) -> bool {
         && (hash_of(&a.value) == hash_of(&b.value)) == same
 }
 
+// The same of those at two places.
+fn nth_stand(alloc: Global, i: usize, j: usize) -> bool {
+    match both(nth(alloc, i), nth(alloc, j)) {
+        Some((a, b)) => {
+            let told = stand(&a, &b, i, j);
+            drop(a);
+            drop(b);
+            told
+        }
+        None => false,
+    }
+}
+
 #[test]
-fn values_have_one_order(rt: HostRuntime) -> Result<(), Fail> {
+fn values_have_one_order(rt: HostRuntime) {
     let alloc = rt.alloc();
     for i in 0..VALUES {
-        let a = nth(alloc, i)?;
         for j in 0..VALUES {
-            assert!(rt; stand(&a, &nth(alloc, j)?, i, j), "{i} and {j}");
+            assert!(rt; nth_stand(alloc, i, j), "{i} and {j}");
         }
     }
-    Ok(())
+}
+
+// What the value at a place holds.
+fn kind_of(alloc: Global, place: usize) -> Option<ValueKind> {
+    match nth(alloc, place) {
+        Some(value) => {
+            let Value { value: kind, loc } = value;
+            drop(loc);
+            Some(kind)
+        }
+        None => None,
+    }
+}
+
+// Whether a copy of what the value at a place holds is equal to it.
+fn kind_copies(alloc: Global, place: usize) -> bool {
+    match both(copy_of(kind_of(alloc, place)), kind_of(alloc, place)) {
+        Some((copy, kind)) => {
+            let told = copy == kind;
+            drop(copy);
+            drop(kind);
+            told
+        }
+        None => false,
+    }
 }
 
 #[test]
-fn a_copy_is_equal(rt: HostRuntime) -> Result<(), Fail> {
+fn a_copy_is_equal(rt: HostRuntime) {
     let alloc = rt.alloc();
     for i in 0..VALUES {
-        assert!(rt; copies(nth(alloc, i))?, "{i}");
-        assert!(rt;
-            nth(alloc, i)?.value.clone()? == nth(alloc, i)?.value,
-            "{i}"
-        );
+        assert!(rt; copies(nth(alloc, i)), "{i}");
+        assert!(rt; kind_copies(alloc, i), "{i}");
     }
-    Ok(())
 }
 
-// `[{"k": 1, "j": 2}, [5, 4]]`, not yet sorted.
-fn nested(alloc: Global) -> Result<Vec<Value>, Fail> {
-    let mut inner = Vec::new(alloc);
-    inner.push(record(alloc, &[("k", 1), ("j", 2)])?)?;
-    inner.push(longs(alloc, &[5, 4])?)?;
-    Ok(inner)
+// `[{"k": 1, "j": 2}, [5, 4]]`, not yet sorted, and two more values.
+fn inner(alloc: Global) -> Option<Vec<Value>> {
+    let first = with_last(Some(Vec::new(alloc)), record(alloc, &[("k", 1), ("j", 2)]));
+    let second = with_last(first, longs(alloc, &[5, 4]));
+    let third = with_last(second, extension(alloc, "decimal", "1.5"));
+    with_last(third, text(alloc, "t"))
 }
 
-// A record of a set of these and two more.
-fn outer(alloc: Global) -> Result<Value, Fail> {
-    let mut inner = nested(alloc)?;
-    inner.push(extension(alloc, "decimal", "1.5")?)?;
-    inner.push(text(alloc, "t")?)?;
-    let set = Value::set(alloc, inner, None)?;
-    let mut pairs = Vec::new(alloc);
-    pairs.push((owned(alloc, "s")?, set))?;
-    Ok(Value::record(alloc, pairs, None)?)
+// A record of a set of these.
+fn outer(alloc: Global) -> Option<Value> {
+    let field = both(owned(alloc, "s"), set_of(alloc, inner(alloc)));
+    record_of(alloc, with_last(Some(Vec::new(alloc)), field))
 }
 
 #[test]
-fn values_within_values_are_written(rt: HostRuntime) -> Result<(), Fail> {
+fn values_within_values_are_written(rt: HostRuntime) {
     let alloc = rt.alloc();
     let want = "{\"s\": [\"t\", [4, 5], {\"j\": 2, \"k\": 1}, decimal(\"1.5\")]}";
-    assert!(rt; shows(alloc, outer(alloc), want)?);
-    Ok(())
+    assert!(rt; shows(alloc, outer(alloc), want));
 }
 
-fn string(alloc: Global, text: &str) -> Result<Literal, Fail> {
-    Ok(Literal::String(owned(alloc, text)?))
-}
-
-#[test]
-fn literals_are_told_apart(rt: HostRuntime) -> Result<(), Fail> {
-    let alloc = rt.alloc();
-    assert!(rt; copies(Ok(Literal::Long(1)))?);
-    assert!(rt; copies(string(alloc, "n"))?);
-    assert!(rt; differ(Literal::Long(1), Literal::Bool(true)));
-    assert!(rt; shows(alloc, string(alloc, "n\n"), "\"n\\n\"")?);
-    Ok(())
+fn string(alloc: Global, text: &str) -> Option<Literal> {
+    match owned(alloc, text) {
+        Some(text) => Some(Literal::String(text)),
+        None => None,
+    }
 }
 
 #[test]
-fn extension_values_are_told_apart(rt: HostRuntime) -> Result<(), Fail> {
+fn literals_are_told_apart(rt: HostRuntime) {
     let alloc = rt.alloc();
-    assert!(rt; copies(called(alloc, "ip", "1"))?);
-    assert!(rt; differ(called(alloc, "ip", "1")?, called(alloc, "ip", "2")?));
-    assert!(rt; differ(called(alloc, "ip", "1")?, called(alloc, "decimal", "1")?));
-    Ok(())
+    assert!(rt; copies(Some(Literal::Long(1))));
+    assert!(rt; copies(string(alloc, "n")));
+    assert!(rt; differ(Some(Literal::Long(1)), Some(Literal::Bool(true))));
+    assert!(rt; shows(alloc, string(alloc, "n\n"), "\"n\\n\""));
+}
+
+#[test]
+fn extension_values_are_told_apart(rt: HostRuntime) {
+    let alloc = rt.alloc();
+    assert!(rt; copies(called(alloc, "ip", "1")));
+    assert!(rt; differ(called(alloc, "ip", "1"), called(alloc, "ip", "2")));
+    assert!(rt; differ(called(alloc, "ip", "1"), called(alloc, "decimal", "1")));
+}
+
+// A number at a place.
+fn long_at(alloc: Global, n: i64, start: usize) -> Option<Value> {
+    match place(alloc, start) {
+        Some(loc) => Some(Value::new(ValueKind::Lit(Literal::Long(n)), Some(loc))),
+        None => None,
+    }
 }
 
 // The set of some numbers, each with the place where it stands.
-fn set_at(alloc: Global, pairs: &[(i64, usize)]) -> Result<Value, Fail> {
-    let mut values = Vec::new(alloc);
+fn set_at(alloc: Global, pairs: &[(i64, usize)]) -> Option<Value> {
+    let mut values = Some(Vec::new(alloc));
     for (n, start) in pairs {
-        let loc = place(alloc, *start)?;
-        values.push(Value::new(ValueKind::Lit(Literal::Long(*n)), loc))?;
+        values = with_last(values, long_at(alloc, *n, *start));
     }
-    Ok(Value::set(alloc, values, None)?)
+    set_of(alloc, values)
 }
 
 // Whether the elements of a set stand at these places.
@@ -196,17 +228,27 @@ fn stand_at(set: &Value, starts: &[usize]) -> bool {
     }
 }
 
-#[test]
-fn a_set_sorts_and_keeps_the_first_of_equal_ones(rt: HostRuntime) -> Result<(), Fail> {
-    let alloc = rt.alloc();
-    let set = set_at(alloc, &[(2, 1), (1, 2), (2, 3), (3, 4), (1, 5), (2, 6)])?;
-    assert!(rt; is_written(alloc, &set, "[1, 2, 3]")?);
-    assert!(rt; stand_at(&set, &[2, 1, 4]));
-    Ok(())
+// Whether a set that could be made is written so, and its elements stand at these places.
+fn is_set_at(alloc: Global, made: Option<Value>, want: &str, starts: &[usize]) -> bool {
+    match made {
+        Some(set) => {
+            let told = is_written(alloc, &set, want) && stand_at(&set, starts);
+            drop(set);
+            told
+        }
+        None => false,
+    }
 }
 
 #[test]
-fn a_record_keeps_the_last_of_each_key(rt: HostRuntime) -> Result<(), Fail> {
+fn a_set_sorts_and_keeps_the_first_of_equal_ones(rt: HostRuntime) {
+    let alloc = rt.alloc();
+    let set = set_at(alloc, &[(2, 1), (1, 2), (2, 3), (3, 4), (1, 5), (2, 6)]);
+    assert!(rt; is_set_at(alloc, set, "[1, 2, 3]", &[2, 1, 4]));
+}
+
+#[test]
+fn a_record_keeps_the_last_of_each_key(rt: HostRuntime) {
     let alloc = rt.alloc();
     let pairs = [
         ("b", 1),
@@ -219,6 +261,5 @@ fn a_record_keeps_the_last_of_each_key(rt: HostRuntime) -> Result<(), Fail> {
         ("z", 8),
     ];
     let want = "{\"\": 5, \"B\": 3, \"a\": 6, \"b\": 4, \"z\": 8, \"é\": 7}";
-    assert!(rt; shows(alloc, record(alloc, &pairs), want)?);
-    Ok(())
+    assert!(rt; shows(alloc, record(alloc, &pairs), want));
 }
