@@ -23,7 +23,7 @@ mod links;
 mod search;
 
 use crate::batches::arrange;
-use crate::component_lists::{Lists, make_lists};
+use crate::component_lists::{Lists, make_lists, ranks};
 use crate::components::make_components;
 use crate::links::make_links;
 use crate::search::finish_order;
@@ -74,8 +74,10 @@ pub fn reach(
         &finished,
         count,
     )?;
+    let rank = ranks(alloc, order)?;
     let made = make_lists(
         alloc,
+        &rank,
         count,
         &component,
         from,

@@ -119,8 +119,8 @@ pub(crate) fn finish_order(
     let mut s = Search {
         start: vec![in alloc; 0; n]?,
         next: Vec::from_slice(alloc, head)?,
-        path: Vec::new(alloc),
-        out: Vec::new(alloc),
+        path: Vec::with_capacity(alloc, n)?,
+        out: Vec::with_capacity(alloc, n)?,
     };
     for root in 0..n {
         if s.start[root] == 0 {

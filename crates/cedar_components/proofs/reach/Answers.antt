@@ -18,4 +18,4 @@ returns c =
     reach_from E n c.len-last.result component start lists found.component_len (λ x h. omega (arith, (found.component_in x h).1, len))
     c.in_ok-start.ensures.lists
     (same_reached E n (c.len-last.result + 1) component made.start.items made.lists.items start lists
-    (subst (λ v. AreReached E n v (c.len-last.result + 1) made.start.items made.lists.items) c.deref-6.ensures.value c.in_ok-made.ensures.reached) c.in_ok-start.ensures.same)
+    (subst (λ v. AreReached E n v (c.len-last.result + 1) made.start.items made.lists.items) c.deref-7.ensures.value c.in_ok-made.ensures.reached) c.in_ok-start.ensures.same)
