@@ -39,19 +39,19 @@ some_cond true x o = refl
 some_cond false x o = refl
 
 -- there is a first with a uid where the list has the uid
-first_some : (L : List EntityView) (q : EntityUID) → is_some (first_entity L q) ≡ is_member same_uid (uids_of L) q
+pub first_some : (L : List EntityView) (q : EntityUID) → is_some (first_entity L q) ≡ is_member same_uid (uids_of L) q
 first_some [] q = refl
 first_some (e ∷ L) q =
     some_cond (eq_by_cmp uid_order q e.uid) e (first_entity L q)
     ∙ ap (λ f. f q e.uid || is_some (first_entity L q)) same_tests
     ∙ ap (λ b. same_uid q e.uid || b) (first_some L q)
 
-and_on : (b : Bool) → b ≡ (b && true)
+pub and_on : (b : Bool) → b ≡ (b && true)
 and_on true = refl
 and_on false = refl
 
 -- the uids that are inserted, as a list
-inserted_members : (D : Held) (L : List EntityView) (q : EntityUID) → is_member same_uid (inserted_in D L) q ≡ (is_member same_uid (uids_of L) q && not (finmap.contains_key D q))
+pub inserted_members : (D : Held) (L : List EntityView) (q : EntityUID) → is_member same_uid (inserted_in D L) q ≡ (is_member same_uid (uids_of L) q && not (finmap.contains_key D q))
 inserted_members D L q = is_member-filter same_uid_equiv (λ u. not (finmap.contains_key D u)) q (λ x t. ap (λ u. not (finmap.contains_key D u)) ((same_uid_decides q x).0 t)) (uids_of L)
 
 first_out : (D : Held) (L : List EntityView) (q : EntityUID) → is_member same_uid (inserted_in D L) q ≡ false → (o : Option EntityView) → finmap.get D q ≡ o → option_or o (first_entity L q) ≡ o

@@ -1,10 +1,14 @@
 -- What adding makes of the map of a store.
-use Rattle.std.specs.Prelude.{◌≡◌, List, map, Option}
-use Rattle.std.proofs.Common.{ap, sym, subst, ◌∙◌}
-use Rattle.std.specs.Option.{option_or}
+use Rattle.std.specs.Prelude.{◌≡◌, ◌&&◌, not, true, List, map, Option, None}
+use Rattle.std.proofs.Common.{ap, refl, sym, subst, ◌∙◌}
+use Rattle.std.proofs.lemmas.Bool.{or_left}
+use Rattle.std.specs.List.{list_any}
+use Rattle.std.specs.Set.{is_member}
+use Rattle.std.specs.Option.{option_or, is_some}
 use Rattle.std.specs.HashMap.{HashMap}
 use Rattle.std.specs.FinMap as finmap
 use Rattle.cedar_graph.specs.declared.err.TcError.{TcError}
+use Rattle.cedar_ids.specs.UidOf.{same_uid}
 use Rattle.cedar_ids.specs.declared.entity.EntityUID.{EntityUID}
 use Rattle.cedar_entity.specs.declared.node.SharedEntity.{SharedEntity}
 use Rattle.cedar_entities.specs.declared.entities.TCComputation.{TCComputation}
@@ -12,13 +16,15 @@ use Rattle.cedar_entities.specs.declared.entities.TCComputation.TheVariants as m
 use Rattle.cedar_entity.specs.declared.err.EntitiesError.{EntitiesError}
 use Rattle.cedar_entity.specs.declared.err.EntitiesError.TheVariants as errors
 use Rattle.cedar_entities.specs.laws.Held.{held, held_map}
-use Rattle.cedar_entities.specs.Modes.{IsClosureRefused, WhereComputed}
+use Rattle.cedar_entities.specs.Modes.{ancestry, IsClosureRefused, WhereComputed}
 use Rattle.cedar_entities.specs.Plain.{StoreView, Held, IsPlainStore, AreBare, given_of}
 use Rattle.cedar_entities.specs.Present.{first_entity, with_first, AllMatch, FirstMismatch}
 use Rattle.cedar_entities.specs.Refusals.{MatchRefusal, IsAddingRefused}
+use Rattle.cedar_entities.specs.Edits.{uids_of}
+use Rattle.cedar_entities.specs.Touching.{inserted_in, is_touched}
 use Rattle.cedar_entities.specs.World.{World}
 use Rattle.cedar_entity.specs.View.{EntityView}
-use Rattle.cedar_entities.proofs.Adding.{all_agree, first_differs, refused_plain}
+use Rattle.cedar_entities.proofs.Adding.{all_agree, and_on, first_differs, first_some, inserted_members, refused_plain}
 use Rattle.cedar_entities.proofs.StoreMaps.{get_seen, seen_as, get_with_first}
 
 -- what the map of a store has, as what the store holds
@@ -28,6 +34,18 @@ stored m D is = (λ i q. sym (get_seen m q) i) ∙ ap (λ (E : Held). finmap.get
 pub put_in : {S : Type 0} (m n : HashMap EntityUID SharedEntity S) (D : Held) (L : List EntityView) → held_map m ≡ D
     → ((q : EntityUID) → held n q ≡ option_or (held m q) (first_entity L q)) → held_map n ≡ with_first D L
 put_in m n D L is put = seen_as n (with_first D L) (λ q. put q ∙ ap (λ f. option_or (f q) (first_entity L q)) (stored m D is) ∙ sym (get_with_first D L q))
+
+-- over nothing all that is held then was inserted
+pub all_inserted : {S : Type 0} (l m : HashMap EntityUID SharedEntity S) (L : List EntityView) → ((q : EntityUID) → held l q ≡ None)
+    → ((q : EntityUID) → held m q ≡ option_or (held l q) (first_entity L q)) → (q : EntityUID) → is_some (held m q) ≡ true → is_touched (held_map l) (inserted_in (held_map l) L) q ≡ true
+all_inserted l m L none put q there =
+    or_left (is_member same_uid (inserted_in (held_map l) L) q) (list_any (ancestry (held_map l) q) (inserted_in (held_map l) L))
+    (inserted_members (held_map l) L q
+    ∙ ap (λ o. is_member same_uid (uids_of L) q && not (is_some o)) (sym (ap (λ f. f q) (stored l (held_map l) refl)) ∙ none q)
+    ∙ sym (and_on (is_member same_uid (uids_of L) q))
+    ∙ sym (first_some L q)
+    ∙ sym (ap is_some (put q ∙ ap (λ o. option_or o (first_entity L q)) (none q)))
+    ∙ there)
 
 -- a refusal of the closure for one reason is one for another that follows
 pub refused_for : (C F : TcError EntityUID → Type 0) → ((t : TcError EntityUID) → C t → F t) → (e : EntitiesError) → MatchRefusal e (λ _. ⊥) C → MatchRefusal e (λ _. ⊥) F

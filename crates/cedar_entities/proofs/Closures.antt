@@ -1,9 +1,10 @@
 -- From what the closure calls say of the map to what is seen of it.
 use Rattle.std.specs.Prelude.{◌≡◌, Bool, true, false, Option, Some, None, Result, Ok, Err, IfErr}
 use Rattle.std.proofs.Common.{ap, sym, refl, subst, ◌∙◌, inl, inr}
-use Rattle.std.specs.Option.{option_map}
+use Rattle.std.specs.Option.{option_map, is_some}
+use Rattle.std.proofs.lemmas.Bool.{false≢true}
 use Rattle.std.specs.HashMap.{HashMap, get}
-use Rattle.cedar_graph.specs.Graph.{KeepsNodes, KeepsEdges, AddsOnlyReached, Reach, IsClosure, IsClosed, IsTrusted, HasNoCycleAt, HasNoLoop, graph_of, edge_at}
+use Rattle.cedar_graph.specs.Graph.{KeepsNodes, KeepsEdges, AddsOnlyReached, Reach, IsClosure, IsClosed, IsTrusted, HasNoCycle, HasNoCycleAt, HasNoLoop, graph_of, edge_at}
 use Rattle.cedar_graph.specs.Faults.{MatchFault, BreaksClosed}
 use Rattle.cedar_graph.specs.declared.err.TcError.{TcError}
 use Rattle.cedar_graph.specs.declared.err.TcError.TheVariants as tc
@@ -15,7 +16,7 @@ use Rattle.cedar_entity.specs.declared.err.EntitiesError.{EntitiesError}
 use Rattle.cedar_entity.specs.ClosureRefusals.{refusal_of, Tells}
 use Rattle.cedar_entities.specs.ClosureFaults.{IsClosureFault}
 use Rattle.cedar_entities.specs.Refusals.{MatchRefusal}
-use Rattle.cedar_entities.specs.laws.Held.{held_map, shared}
+use Rattle.cedar_entities.specs.laws.Held.{held, held_map, shared}
 use Rattle.cedar_entities.specs.Modes.{ancestry, is_ancestor_in, IsClosureRefused}
 use Rattle.cedar_entities.specs.Touching.{IsRepairOf, IsAcyclicAt}
 use Rattle.cedar_entities.specs.declared.entities.TCComputation.TheVariants as modes
@@ -86,3 +87,27 @@ refused_as C (Err e) t (inr h) k = subst (λ f. MatchRefusal f (λ _. ⊥) C) (s
 
 pub closed_seen : {S : Type 0} (m : HashMap EntityUID SharedEntity S) → IsClosed (graph_of same_uid node_edges m) × HasNoLoop (graph_of same_uid node_edges m) → IsClosed (ancestry (held_map m)) × HasNoLoop (ancestry (held_map m))
 closed_seen m h = subst (λ F. IsClosed F × HasNoLoop F) (same_ancestry m) h
+
+-- where all that is held passes, nothing else changes
+alone_at : (o p : Option SharedEntity) (b : Bool) → option_map node_kept p ≡ option_map node_kept o → (is_some (option_map shared o) ≡ true → b ≡ true) → b ≡ false → p ≡ o
+alone_at None None b same all out = refl
+alone_at None (Some n) b same all out = absurd (false≢true (sym (ap is_some same)))
+alone_at (Some m) p b same all out = absurd (false≢true (sym out ∙ all refl))
+
+pub repair_of_whole : {S : Type 0} (m n : HashMap EntityUID SharedEntity S) (fix : EntityUID → Bool) → ((q : EntityUID) → is_some (held m q) ≡ true → fix q ≡ true)
+    → KeepsNodes same_uid (λ e. (shared e).uid) node_kept m n
+    → KeepsEdges (graph_of same_uid node_edges m) (graph_of same_uid node_edges n)
+    → AddsOnlyReached (graph_of same_uid node_edges m) (graph_of same_uid node_edges n)
+    → IsClosure (graph_of same_uid node_edges m) (graph_of same_uid node_edges n)
+    → IsRepairOf fix (held_map m) (held_map n)
+repair_of_whole m n fix all keeps stays only closed =
+    repair_of m n fix keeps (λ q. alone_at (get same_uid m q) (get same_uid n q) (fix q) (keeps.rests q) (all q)) stays only (λ t a. closed)
+
+pub acyclic_whole : {S : Type 0} (m : HashMap EntityUID SharedEntity S) (fix : EntityUID → Bool) → HasNoCycle (graph_of same_uid node_edges m) → IsAcyclicAt fix (held_map m)
+acyclic_whole m fix h = acyclic_of m fix (λ t a p. h a)
+
+pub whole_told : {S : Type 0} (m : HashMap EntityUID SharedEntity S) (asked : Type 0) (t : TcError EntityUID) → MatchFault t (λ _ _ _. ⊥) (λ v. asked × Reach (graph_of same_uid node_edges m) v v)
+    → MatchRefusal (refusal_of t) (λ _. ⊥) (IsClosureRefused modes.ComputeNow (held_map m))
+whole_told m asked (tc.MissingTcEdge x) h = absurd h
+whole_told m asked (tc.HasCycle x) h = subst (λ F. Reach F x.vertex x.vertex) (same_ancestry m) h.1
+whole_told m asked tc.Memory h = tt

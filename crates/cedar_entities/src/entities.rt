@@ -34,7 +34,7 @@ use crate::touching::{
 use cedar_entity::entity::Entity;
 use cedar_entity::err::EntitiesError;
 use cedar_entity::node::SharedEntity;
-use cedar_graph::{enforce_tc_and_dag, repair_tc};
+use cedar_graph::{compute_tc, enforce_tc_and_dag, repair_tc};
 use cedar_ids::entity::EntityUID;
 use cedar_terms::{Expr, StaticallyTyped, Unknown};
 use cedar_uid_sets::SharedUid;
@@ -253,6 +253,124 @@ fn settle(
     }
 }
 
+// Gives all entities the ancestors that they reach, and refuses where one reaches itself. So all that a map held where it
+// was empty before is repaired, whatever passes for touched.
+fn close(
+    alloc: Global,
+    entities: &mut HashMap<SharedUid, SharedEntity>,
+) -> Result<(), EntitiesError>
+    requires { UidsMatch entities.old }
+    ensures keys { UidsMatch entities.new }
+    ensures ok { OnOk result ((touched : EntityUID → Bool) →
+        ((q : EntityUID) → is_some (held entities.old q) ≡ true → touched q ≡ true) →
+        IsRepairOf touched (held_map entities.old) (held_map entities.new)
+        × IsAcyclicAt touched (held_map entities.old)) }
+    ensures err { IfErr result (λ e. MatchRefusal e (λ _. ⊥)
+        (IsClosureRefused ComputeNow (held_map entities.old))) }
+{
+    compute_tc(alloc, entities, true)?;
+    Ok(())
+}
+
+// Ends an adding to an empty map, as the mode says.
+fn settle_whole(
+    alloc: Global,
+    entities: &mut HashMap<SharedUid, SharedEntity>,
+    tc_computation: TCComputation,
+) -> Result<(), EntitiesError>
+    requires { UidsMatch entities.old }
+    ensures keys { UidsMatch entities.new }
+    ensures ok { OnOk result ((touched : EntityUID → Bool) →
+        ((q : EntityUID) → is_some (held entities.old q) ≡ true → touched q ≡ true) →
+        IsSettled tc_computation touched (held_map entities.old) (held_map entities.new)) }
+    ensures err { IfErr result (λ e. MatchRefusal e (λ _. ⊥)
+        (IsClosureRefused tc_computation (held_map entities.old))) }
+{
+    match tc_computation {
+        TCComputation::AssumeAlreadyComputed => Ok(()),
+        TCComputation::EnforceAlreadyComputed => check(alloc, entities),
+        TCComputation::ComputeNow => close(alloc, entities),
+    }
+}
+
+// Adds entities to an empty map, in which all that is put is touched.
+fn fill(
+    alloc: Global,
+    entities: &mut HashMap<SharedUid, SharedEntity>,
+    list: Vec<Rc<Entity>>,
+    tc_computation: TCComputation,
+) -> Result<(), EntitiesError>
+    requires keys { UidsMatch entities.old }
+    requires empty { (q : EntityUID) → held entities.old q ≡ None }
+    ensures keys { UidsMatch entities.new }
+    ensures agree { OnOk result (AllMatch (held entities.old) (entities_in list.items)) }
+    ensures ok { OnOk result (IsSettled tc_computation
+        (is_touched (held_map entities.old) (inserted_in (held_map entities.old) (entities_in list.items)))
+        (with_first (held_map entities.old) (entities_in list.items)) (held_map entities.new)) }
+    ensures err { IfErr result (λ e. MatchRefusal e
+        (FirstMismatch (held entities.old) (entities_in list.items))
+        (λ t. AllMatch (held entities.old) (entities_in list.items)
+        × IsClosureRefused tc_computation
+        (with_first (held_map entities.old) (entities_in list.items)) t)) }
+{
+    put_all(alloc, entities, list)?;
+    settle_whole(alloc, entities, tc_computation)
+}
+
+// Adds entities, and closes what is inserted and what has one of that among its ancestors.
+fn add_to(
+    alloc: Global,
+    entities: &mut HashMap<SharedUid, SharedEntity>,
+    list: Vec<Rc<Entity>>,
+    tc_computation: TCComputation,
+) -> Result<(), EntitiesError>
+    requires keys { UidsMatch entities.old }
+    ensures keys { UidsMatch entities.new }
+    ensures agree { OnOk result (AllMatch (held entities.old) (entities_in list.items)) }
+    ensures ok { OnOk result (IsSettled tc_computation
+        (is_touched (held_map entities.old) (inserted_in (held_map entities.old) (entities_in list.items)))
+        (with_first (held_map entities.old) (entities_in list.items)) (held_map entities.new)) }
+    ensures err { IfErr result (λ e. MatchRefusal e
+        (FirstMismatch (held entities.old) (entities_in list.items))
+        (λ t. AllMatch (held entities.old) (entities_in list.items)
+        × IsClosureRefused tc_computation
+        (with_first (held_map entities.old) (entities_in list.items)) t)) }
+{
+    let uids = uids_in(alloc, &list)?;
+    let fresh = absent_uids(alloc, entities, uids)?;
+    let mut touched = HashSet::new(alloc);
+    note_all(&mut touched, fresh)?;
+    put_all(alloc, entities, list)?;
+    let by = touched_by_any(alloc, entities, &touched)?;
+    note_all(&mut touched, by)?;
+    settle(alloc, entities, &touched, tc_computation)
+}
+
+// Adds entities.
+fn add_all(
+    alloc: Global,
+    entities: &mut HashMap<SharedUid, SharedEntity>,
+    list: Vec<Rc<Entity>>,
+    tc_computation: TCComputation,
+) -> Result<(), EntitiesError>
+    requires keys { UidsMatch entities.old }
+    ensures keys { UidsMatch entities.new }
+    ensures agree { OnOk result (AllMatch (held entities.old) (entities_in list.items)) }
+    ensures ok { OnOk result (IsSettled tc_computation
+        (is_touched (held_map entities.old) (inserted_in (held_map entities.old) (entities_in list.items)))
+        (with_first (held_map entities.old) (entities_in list.items)) (held_map entities.new)) }
+    ensures err { IfErr result (λ e. MatchRefusal e
+        (FirstMismatch (held entities.old) (entities_in list.items))
+        (λ t. AllMatch (held entities.old) (entities_in list.items)
+        × IsClosureRefused tc_computation
+        (with_first (held_map entities.old) (entities_in list.items)) t)) }
+{
+    if entities.is_empty() {
+        return fill(alloc, entities, list, tc_computation);
+    }
+    add_to(alloc, entities, list, tc_computation)
+}
+
 // Repairs what a removal touched, and ends that as the mode says.
 fn mend(
     alloc: Global,
@@ -434,15 +552,8 @@ impl Entities {
             AreBare (entities_in list.items) → WhereComputed tc_computation
             (IsAddingRefused W (map given_of (entities_in list.items)) e)) }
     {
-        let uids = uids_in(alloc, &list)?;
-        let fresh = absent_uids(alloc, &self.entities, uids)?;
-        let mut touched = HashSet::new(alloc);
-        note_all(&mut touched, fresh)?;
         let mut entities = self.entities;
-        put_all(alloc, &mut entities, list)?;
-        let by = touched_by_any(alloc, &entities, &touched)?;
-        note_all(&mut touched, by)?;
-        settle(alloc, &mut entities, &touched, tc_computation)?;
+        add_all(alloc, &mut entities, list, tc_computation)?;
         Ok(Entities {
             entities,
             partial: self.partial,
