@@ -5,9 +5,10 @@
 //!
 //! [`reach`] does all. A depth-first search gives the order in which the numbers finish; searches
 //! against the arcs, in that order from its end, give each number its strong component; each
-//! component gets one list of what its members reach, those below it first; and one pass over the
-//! entries of the lists, a batch of lists at a time, brings each of them into one order. The
-//! searches keep stacks of their own, so that none of them recurses, whatever the graph is.
+//! component gets one list of what its members reach, those below it first. Where all lists are
+//! short, each is sorted as it is made; else one pass over the entries of the lists, a batch of
+//! lists at a time, brings each of them into one order. The searches keep stacks of their own, so
+//! that none of them recurses, whatever the graph is.
 #![tactic(auto)]
 
 ghost use Rattle.std.specs.Prelude.{◌≡◌, ℕ, IfOk};
@@ -48,7 +49,8 @@ pub struct Reached {
 /// Takes memory for lists in the number of numbers and arcs, and for the lists of what is reached;
 /// refused only where that is. Looks at each arc a few times, copies the list of a component once
 /// for each arc that leads to it from another, and visits each entry of the lists a few times to
-/// bring them into the order. Compares no numbers for that, and recurses nowhere.
+/// bring them into the order. Compares numbers for that only in lists of up to 16, and recurses
+/// nowhere.
 pub fn reach(
     alloc: Global,
     from: &[usize],
