@@ -12,6 +12,7 @@ mod line;
 mod machine;
 mod program;
 mod replay;
+mod uid_text;
 
 pub use cedar_entities::{
     Ancestors, Dereference, Entities, EntitiesError, Entity, Keys, Pairs, SharedEntity, SharedUid,

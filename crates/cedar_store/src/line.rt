@@ -6,8 +6,8 @@ ghost use Rattle.cedar_store.specs.Command.{AreTexts, IsCommand, IsLine, is_plai
 ghost use Rattle.cedar_policy_lines.specs.PolicyCommand.{policy_command};
 ghost use Rattle.cedar_store.specs.laws.Lines.{command_of, ReadsAs};
 
+use crate::uid_text::{KnownType, uid_of_text};
 use cedar_ids::entity::EntityUID;
-use cedar_policy_lines::field::uid_field;
 use cedar_policy_lines::{PolicyLine, read_policy_line};
 use std::alloc::{AllocError, Global};
 
@@ -33,14 +33,18 @@ pub(crate) enum Line {
 }
 
 // The uids whose texts the fields are, if each is one.
-fn uid_fields(alloc: Global, fields: &[&str]) -> Result<Option<Vec<EntityUID>>, AllocError>
+fn uid_fields(
+    alloc: Global,
+    known: &mut Vec<KnownType>,
+    fields: &[&str],
+) -> Result<Option<Vec<EntityUID>>, AllocError>
     ensures { IfOk result (ReadsAs
         (λ (us : List EntityUID). AreTexts us (map (λ f. f.now) fields.now))
         (λ us. us.items)) }
 {
     let mut uids = Vec::with_capacity(alloc, fields.len())?;
     for field in fields {
-        match uid_field(alloc, field)? {
+        match uid_of_text(alloc, known, field)? {
             None => return Ok(None),
             Some(uid) => uids.push(uid)?,
         }
@@ -51,6 +55,7 @@ fn uid_fields(alloc: Global, fields: &[&str]) -> Result<Option<Vec<EntityUID>>, 
 // The uid of the first field and those of the others, if each is the text of one.
 fn ent_fields(
     alloc: Global,
+    known: &mut Vec<KnownType>,
     fields: &[&str],
 ) -> Result<Option<(EntityUID, Vec<EntityUID>)>, AllocError>
     ensures { IfOk result (ReadsAs
@@ -60,17 +65,21 @@ fn ent_fields(
     let Some((first, rest)) = fields.split_first() else {
         return Ok(None);
     };
-    let Some(uid) = uid_field(alloc, first)? else {
+    let Some(uid) = uid_of_text(alloc, known, first)? else {
         return Ok(None);
     };
-    let Some(parents) = uid_fields(alloc, rest)? else {
+    let Some(parents) = uid_fields(alloc, known, rest)? else {
         return Ok(None);
     };
     Ok(Some((uid, parents)))
 }
 
 // The uids whose texts the fields are, if there is a field and each is one.
-fn remove_fields(alloc: Global, fields: &[&str]) -> Result<Option<Vec<EntityUID>>, AllocError>
+fn remove_fields(
+    alloc: Global,
+    known: &mut Vec<KnownType>,
+    fields: &[&str],
+) -> Result<Option<Vec<EntityUID>>, AllocError>
     ensures { IfOk result (ReadsAs
         (λ (us : List EntityUID). (us ≡ [] → ⊥) × AreTexts us (map (λ f. f.now) fields.now))
         (λ us. us.items)) }
@@ -78,11 +87,15 @@ fn remove_fields(alloc: Global, fields: &[&str]) -> Result<Option<Vec<EntityUID>
     if fields.is_empty() {
         return Ok(None);
     }
-    uid_fields(alloc, fields)
+    uid_fields(alloc, known, fields)
 }
 
 // The uid of the one field, if it is the text of one.
-fn anc_fields(alloc: Global, fields: &[&str]) -> Result<Option<EntityUID>, AllocError>
+fn anc_fields(
+    alloc: Global,
+    known: &mut Vec<KnownType>,
+    fields: &[&str],
+) -> Result<Option<EntityUID>, AllocError>
     ensures { IfOk result (ReadsAs
         (λ (u : EntityUID). AreTexts (u ∷ []) (map (λ f. f.now) fields.now))
         (λ u. u)) }
@@ -93,7 +106,7 @@ fn anc_fields(alloc: Global, fields: &[&str]) -> Result<Option<EntityUID>, Alloc
     if !rest.is_empty() {
         return Ok(None);
     }
-    uid_field(alloc, first)
+    uid_of_text(alloc, known, first)
 }
 
 // The fields between the tabs of a line.
@@ -124,17 +137,25 @@ fn command_of_word(word: &str) -> Option<Line>
 }
 
 // The command whose fields these are, if there is one.
-fn command_of_fields(alloc: Global, fields: &[&str]) -> Result<Option<Line>, AllocError>
+fn command_of_fields(
+    alloc: Global,
+    known: &mut Vec<KnownType>,
+    fields: &[&str],
+) -> Result<Option<Line>, AllocError>
     ensures { IfOk result (ReadsAs (λ c. IsCommand c (map (λ f. f.now) fields.now)) command_of) }
 {
     match read_policy_line(alloc, fields)? {
         Some(line) => Ok(Some(Line::Policy(line))),
-        None => other_command(alloc, fields),
+        None => other_command(alloc, known, fields),
     }
 }
 
 // The command whose fields these are, if there is one, where it is none on policy sets.
-fn other_command(alloc: Global, fields: &[&str]) -> Result<Option<Line>, AllocError>
+fn other_command(
+    alloc: Global,
+    known: &mut Vec<KnownType>,
+    fields: &[&str],
+) -> Result<Option<Line>, AllocError>
     requires { policy_command (map (λ f. f.now) fields.now) ≡ None }
     ensures { IfOk result (ReadsAs (λ c. IsCommand c (map (λ f. f.now) fields.now)) command_of) }
 {
@@ -142,19 +163,19 @@ fn other_command(alloc: Global, fields: &[&str]) -> Result<Option<Line>, AllocEr
         return Ok(None);
     };
     if *word == "ent" {
-        return match ent_fields(alloc, rest)? {
+        return match ent_fields(alloc, known, rest)? {
             None => Ok(None),
             Some((uid, parents)) => Ok(Some(Line::Ent(uid, parents))),
         };
     }
     if *word == "anc" {
-        return match anc_fields(alloc, rest)? {
+        return match anc_fields(alloc, known, rest)? {
             None => Ok(None),
             Some(uid) => Ok(Some(Line::Anc(uid))),
         };
     }
     if *word == "remove" {
-        return match remove_fields(alloc, rest)? {
+        return match remove_fields(alloc, known, rest)? {
             None => Ok(None),
             Some(uids) => Ok(Some(Line::Remove(uids))),
         };
@@ -172,8 +193,12 @@ fn is_plain(line: &[u8]) -> bool
     line.iter().all(|b| *b == b'\t' || (32 <= *b && *b <= 126))
 }
 
-// The command that a line is, if it is one.
-pub(crate) fn read_line(alloc: Global, line: &[u8]) -> Result<Option<Line>, AllocError>
+// The command that a line is, if it is one. The types that are read are known to the next line.
+pub(crate) fn read_line(
+    alloc: Global,
+    known: &mut Vec<KnownType>,
+    line: &[u8],
+) -> Result<Option<Line>, AllocError>
     ensures { IfOk result (ReadsAs (λ c. IsLine c line.now) command_of) }
 {
     if !is_plain(line) {
@@ -183,5 +208,5 @@ pub(crate) fn read_line(alloc: Global, line: &[u8]) -> Result<Option<Line>, Allo
         return Ok(None);
     };
     let fields = fields_of(alloc, text)?;
-    command_of_fields(alloc, &fields)
+    command_of_fields(alloc, known, &fields)
 }

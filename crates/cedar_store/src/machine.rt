@@ -17,21 +17,24 @@ ghost use Rattle.cedar_store.specs.laws.Machines.{Holds, Takes, LineTakes, IsAsc
 ghost use Rattle.cedar_store.specs.Output.{State, start, Gives, ShowsAncestors, count_line, written_line, uid_text, field_of, not_command};
 
 use crate::line::{Line, read_line};
+use crate::uid_text::KnownType;
 use cedar_entities::{Dereference, Entities, EntitiesError, Entity, TCComputation};
 use cedar_graph::TcError;
 use cedar_ids::entity::EntityUID;
 use cedar_policy_lines::PolicySets;
 use std::alloc::{AllocError, Global};
-use std::collections::{BTreeSet, HashSet};
+use std::collections::BTreeSet;
 use std::mem;
 use std::rc::Rc;
 
-// The state of a run: the entities that wait, the store, and the policy sets.
+// The state of a run: the entities that wait, the store, and the policy sets; and the types that are known by
+// their texts, which say nothing of the state.
 #[derive(Drop)]
 pub(crate) struct Machine {
     waiting: Vec<Rc<Entity>>,
     store: Entities,
     sets: PolicySets,
+    known: Vec<KnownType>,
 }
 
 // Adds a text and a line feed.
@@ -154,20 +157,20 @@ fn ancestors_of(alloc: Global, entity: &Entity) -> Result<BTreeSet<&EntityUID>, 
     entity.ancestors().collect(alloc)
 }
 
-// An entity with the uid and these parents.
+// An entity with the uid and these parents. They are taken in their order, in which each goes last.
 pub(crate) fn entity_with(
     alloc: Global,
     uid: EntityUID,
-    parents: Vec<EntityUID>,
+    mut parents: Vec<EntityUID>,
 ) -> Result<Entity, AllocError>
     ensures given { IfOk result (λ e. given_of e ≡ given uid parents.items) }
     ensures bare { IfOk result IsBare }
 {
-    let parents: HashSet<EntityUID> = parents.into_iter().collect(alloc)?;
-    let indirect = HashSet::new(alloc);
-    let attrs = Vec::new(alloc);
-    let tags = Vec::new(alloc);
-    let entity = Entity::new_with_attr_partial_value(alloc, uid, attrs, indirect, parents, tags)?;
+    parents.sort()?;
+    let mut entity = Entity::with_uid(alloc, uid);
+    for parent in parents {
+        entity.add_parent(parent)?;
+    }
     Ok(entity)
 }
 
@@ -180,6 +183,7 @@ impl Machine {
             waiting: Vec::new(alloc),
             store: Entities::new(alloc),
             sets: PolicySets::new(alloc),
+            known: Vec::new(alloc),
         }
     }
 
@@ -307,7 +311,7 @@ impl Machine {
         ensures { IfOk result (λ known. (s : State) → Holds self.old s →
             LineTakes known line.now s self.new out.old.items out.new.items) }
     {
-        match read_line(alloc, line)? {
+        match read_line(alloc, &mut self.known, line)? {
             None => Ok(false),
             Some(command) => {
                 self.take(alloc, command, out)?;

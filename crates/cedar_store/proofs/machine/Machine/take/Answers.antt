@@ -50,7 +50,7 @@ returns-in-Anc c = on_ok_weaker c.anc.result
 
 pub returns-in-Policy : goal.returns-in-Policy
 returns-in-Policy c =
-    let new : Machine = record { waiting = c.args.self.now.waiting; store = c.args.self.now.store; sets = c.take.new.self } in
+    let new : Machine = record { waiting = c.args.self.now.waiting; store = c.args.self.now.store; sets = c.take.new.self; known = c.args.self.now.known } in
     on_ok_weaker c.take.result
     (λ k s h. subst (λ (l : Line). HasAsciiUids (command_of l) → Takes (command_of l) s new c.args.out.now.items c.take.new.out.items) (sym c.in-Policy.is)
     (λ a. policy_takes c.args.self.now new s _ c.args.out.now.items c.take.new.out.items h refl refl k))

@@ -1,0 +1,179 @@
+//! Reading uids of which many have one type: the types that were read are known by their texts, and shared.
+ghost use Rattle.std.specs.Prelude.{◌≡◌, ◌++◌, IfOk, MatchOption, IfSome, IsTrue, codes};
+ghost use Rattle.std.specs.List.{list_all};
+ghost use Rattle.cedar_ids.specs.Escape.{is_plain_byte};
+ghost use Rattle.cedar_ids.specs.Name.{NameParts};
+ghost use Rattle.cedar_ids.specs.TextOf.{IsNameText, IsPrinted};
+ghost use Rattle.cedar_ids.specs.UidOf.{uid_parts};
+ghost use Rattle.cedar_ids.specs.Views.{type_name};
+ghost use Rattle.cedar_ids.specs.declared.entity.EntityUID.{EntityUID};
+ghost use Rattle.cedar_store.specs.laws.Lines.{ReadsAs};
+
+use cedar_ids::entity::{Eid, EntityType, EntityUID};
+use cedar_ids::err::ParseErrors;
+use cedar_policy_lines::field::uid_field;
+use std::alloc::{AllocError, Global};
+use std::marker::Model;
+
+// A type, and its text. Contracts see the name of the type.
+#[derive(Drop)]
+pub(crate) struct KnownType {
+    text: String,
+    ty: EntityType,
+}
+
+impl Model for KnownType {
+    ghost use Rattle.std.specs.String.{string_bytes};
+    ghost use Rattle.cedar_ids.specs.Name.{NameParts};
+    ghost use Rattle.cedar_ids.specs.TextOf.{IsNameText};
+    ghost use Rattle.cedar_ids.specs.Views.{type_name};
+
+    ghost Value = { NameParts };
+
+    ghost view = { λ k. type_name k.ty };
+
+    ghost invariant = { λ k. IsNameText (type_name k.ty) (string_bytes k.text) };
+}
+
+// So many types are known at the most.
+const MOST: usize = 16;
+
+// The type, shared once more, where this is its text.
+fn of_text(known: &KnownType, text: &str) -> Result<Option<EntityType>, AllocError>
+    ensures { IfOk result (λ o. IfSome o (λ t. IsNameText (type_name t) text.now)) }
+{
+    if known.text.as_str() != text {
+        return Ok(None);
+    }
+    Ok(Some(known.ty.clone()?))
+}
+
+// The type that is known by this text, if there is one.
+fn known_type(known: &[KnownType], text: &str) -> Result<Option<EntityType>, AllocError>
+    ensures { IfOk result (λ o. IfSome o (λ t. IsNameText (type_name t) text.now)) }
+{
+    for one in known {
+        if let Some(ty) = of_text(one, text)? {
+            return Ok(Some(ty));
+        }
+    }
+    Ok(None)
+}
+
+// A type that was read is known from then on, while there are few.
+fn keep_type(
+    alloc: Global,
+    known: &mut Vec<KnownType>,
+    text: &str,
+    ty: &EntityType,
+) -> Result<(), AllocError>
+    requires { IsNameText (type_name ty.now) text.now }
+{
+    if known.len() >= MOST {
+        return Ok(());
+    }
+    let text = String::from_str(alloc, text)?;
+    known.push(KnownType {
+        text,
+        ty: ty.clone()?,
+    })?;
+    Ok(())
+}
+
+// The type whose text this is, if it is that of one, read anew.
+fn read_type(
+    alloc: Global,
+    known: &mut Vec<KnownType>,
+    text: &str,
+) -> Result<Option<EntityType>, AllocError>
+    ensures { IfOk result (λ o. IfSome o (λ t. IsNameText (type_name t) text.now)) }
+{
+    match EntityType::from_normalized_str(alloc, text) {
+        Ok(ty) => {
+            keep_type(alloc, known, text, &ty)?;
+            Ok(Some(ty))
+        }
+        Err(ParseErrors::Memory) => Err(AllocError),
+        Err(ParseErrors::NotNormalized) => Ok(None),
+        Err(ParseErrors::InvalidName) => Ok(None),
+    }
+}
+
+// The type whose text this is, if it is that of one.
+fn type_of_text(
+    alloc: Global,
+    known: &mut Vec<KnownType>,
+    text: &str,
+) -> Result<Option<EntityType>, AllocError>
+    ensures { IfOk result (λ o. IfSome o (λ t. IsNameText (type_name t) text.now)) }
+{
+    if let Some(ty) = known_type(known, text)? {
+        return Ok(Some(ty));
+    }
+    read_type(alloc, known, text)
+}
+
+// Whether a text is printable ASCII without quotes and backslashes, so that it is its own escape.
+fn is_plain(text: &str) -> bool
+    ensures { result ≡ list_all is_plain_byte text.now }
+{
+    text.as_bytes().iter().all(|b| 32 <= *b && *b < 127 && *b != b'\'' && *b != b'"' && *b != b'\\')
+}
+
+// What stands before the first `::"`, and between that and a last `"`, where the second is its own escape.
+fn plain_halves(text: &str) -> Option<(&str, &str)>
+    ensures split { IfSome result (λ r. text.now ≡ r.0.now ++ (codes "::\"" ++ (r.1.now ++ codes "\""))) }
+    ensures plain { IfSome result (λ r. IsTrue (list_all is_plain_byte r.1.now)) }
+{
+    let (name, eid) = text.strip_suffix('"')?.split_once("::\"")?;
+    if is_plain(eid) {
+        return Some((name, eid));
+    }
+    None
+}
+
+// The uid of a type and an eid that is its own escape, if the first text is that of a type.
+fn plain_uid(
+    alloc: Global,
+    known: &mut Vec<KnownType>,
+    name: &str,
+    eid: &str,
+) -> Result<Option<EntityUID>, AllocError>
+    requires { IsTrue (list_all is_plain_byte eid.now) }
+    ensures { IfOk result (λ o. IfSome o (λ u. IsPrinted (uid_parts u) (name.now ++ (codes "::\"" ++ (eid.now ++ codes "\""))))) }
+{
+    let Some(ty) = type_of_text(alloc, known, name)? else {
+        return Ok(None);
+    };
+    let eid = String::from_str(alloc, eid)?;
+    Ok(Some(EntityUID::from_components(ty, Eid::new(eid), None)))
+}
+
+// The uid with a text, where that is read without an escape and of a name.
+fn uid_of_plain(
+    alloc: Global,
+    known: &mut Vec<KnownType>,
+    text: &str,
+) -> Result<Option<EntityUID>, AllocError>
+    ensures { IfOk result (λ o. IfSome o (λ u. IsPrinted (uid_parts u) text.now)) }
+{
+    match plain_halves(text) {
+        None => Ok(None),
+        Some((name, eid)) => plain_uid(alloc, known, name, eid),
+    }
+}
+
+// The uid with an ASCII eid whose text a field is, if there is one. Where the eid has no escape its type is shared with
+// other uids of that type, and neither has a location. Any other text is read by itself.
+pub(crate) fn uid_of_text(
+    alloc: Global,
+    known: &mut Vec<KnownType>,
+    text: &str,
+) -> Result<Option<EntityUID>, AllocError>
+    ensures { IfOk result (ReadsAs (λ (u : EntityUID). IsPrinted (uid_parts u) text.now) (λ u. u)) }
+{
+    if let Some(uid) = uid_of_plain(alloc, known, text)? {
+        return Ok(Some(uid));
+    }
+    uid_field(alloc, text)
+}
