@@ -1,5 +1,6 @@
 // What the tests build entities with. Each helper lets go by a written drop what it holds, on each path: a drop that is
 // not written is dear to prove at a type as large as an entity.
+mod looking_up;
 mod nodes;
 mod parts;
 mod texts;
