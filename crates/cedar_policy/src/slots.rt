@@ -1,8 +1,19 @@
-//! The slots of a template, one after the other.
-ghost use Rattle.std.specs.Prelude.{◌≡◌};
+//! The slots of a template: finding them in a body, and giving them one after the other.
+ghost use Rattle.std.specs.Prelude.{◌≡◌, ◌++◌, is_some, IfOk, OnOk};
 ghost use Rattle.std.specs.Iterator.{YieldsFirstRef, item_count};
+ghost use Rattle.std.specs.Option.{option_copied};
+ghost use Rattle.cedar_scope.specs.ScopeReads.{has_slot};
+ghost use Rattle.cedar_scope.specs.Views.{constraint_of};
+ghost use Rattle.cedar_scope.specs.laws.ScopeSlots.{constraint_slots};
+ghost use Rattle.cedar_body.specs.Bodies.{body_slots, clause_slots};
+ghost use Rattle.cedar_body.specs.Views.{body_of};
 
-use cedar_terms::slot::Slot;
+use cedar_body::TemplateBody;
+use cedar_ids::loc::Loc;
+use cedar_scope::{EntityReference, PrincipalOrResource, PrincipalOrResourceConstraint};
+use cedar_terms::expr::Expr;
+use cedar_terms::slot::{Slot, SlotId};
+use std::alloc::{AllocError, Global};
 use std::marker::Model;
 use std::slice;
 
@@ -43,5 +54,61 @@ impl<'a> Iterator for Slots<'a> {
 
     fn next(&mut self) -> Option<&'a Slot> {
         self.inner.next()
+    }
+}
+
+// The slots in a body's condition, which is not made: those of the clause, then the resource's, then the principal's.
+#[tactic(auto, using(crate::specs::laws::PolicySlots::slots_in_turn))]
+pub(crate) fn slots_in(alloc: Global, body: &TemplateBody) -> Result<Vec<Slot>, AllocError>
+    ensures { IfOk result (λ v. v.items ≡ body_slots (body_of body.now)) }
+{
+    let mut slots = slots_in_clause(alloc, body.non_scope_constraints())?;
+    let resource = body.resource_constraint().as_inner();
+    push_slot(&mut slots, PrincipalOrResource::Resource, resource)?;
+    let principal = body.principal_constraint().as_inner();
+    push_slot(&mut slots, PrincipalOrResource::Principal, principal)?;
+    Ok(slots)
+}
+
+// The slots of a clause, if there is one.
+fn slots_in_clause(alloc: Global, clause: Option<&Expr>) -> Result<Vec<Slot>, AllocError>
+    ensures { IfOk result (λ v. v.items ≡ clause_slots (option_copied clause.entry)) }
+{
+    match clause {
+        Some(clause) => clause.slots(alloc),
+        None => Ok(Vec::new(alloc)),
+    }
+}
+
+// Puts the slot of a variable last, if the constraint refers to it: at the location of its reference.
+fn push_slot(
+    slots: &mut Vec<Slot>,
+    v: PrincipalOrResource,
+    constraint: &PrincipalOrResourceConstraint,
+) -> Result<(), AllocError>
+    ensures { OnOk result (slots.new.items ≡ slots.old.items ++ constraint_slots v (constraint_of constraint.now)) }
+{
+    if let Some(loc) = slot_at(constraint) {
+        slots.push(Slot {
+            id: SlotId::from(v),
+            loc: loc.clone()?,
+        })?;
+    }
+    Ok(())
+}
+
+// The location of the slot that a constraint refers to, if it refers to one.
+fn slot_at(constraint: &PrincipalOrResourceConstraint) -> Option<&Option<Loc>>
+    ensures { is_some result ≡ has_slot (constraint_of constraint.now) }
+{
+    match constraint {
+        PrincipalOrResourceConstraint::In(EntityReference::Slot(loc)) => Some(loc),
+        PrincipalOrResourceConstraint::Eq(EntityReference::Slot(loc)) => Some(loc),
+        PrincipalOrResourceConstraint::IsIn(_, EntityReference::Slot(loc)) => Some(loc),
+        PrincipalOrResourceConstraint::In(EntityReference::EUID(_)) => None,
+        PrincipalOrResourceConstraint::Eq(EntityReference::EUID(_)) => None,
+        PrincipalOrResourceConstraint::IsIn(_, EntityReference::EUID(_)) => None,
+        PrincipalOrResourceConstraint::Any => None,
+        PrincipalOrResourceConstraint::Is(_) => None,
     }
 }

@@ -57,8 +57,9 @@ impl StaticPolicy {
     /// The static policy of these parts, if there is no slot in them; else the refusal has the first slot that
     /// the walk through the condition meets.
     ///
-    /// Takes memory to share the annotations and the clause and to find the slots, linear in the clause;
-    /// `Memory` comes only where that was refused. A refusal drops the parts.
+    /// Takes memory as `Template::new` does: to share the annotations and the clause, for the slots, and for the
+    /// walk through the clause, linear in that, where there is one. `Memory` comes only where that was refused. A
+    /// refusal drops the parts.
     pub fn new(
         alloc: Global,
         id: PolicyID,

@@ -17,7 +17,7 @@ ghost use Rattle.cedar_policy.specs.Validation.{Validated};
 
 use crate::err::TemplateValidationError;
 use crate::policy::Policy;
-use crate::slots::Slots;
+use crate::slots::{Slots, slots_in};
 use crate::static_policy::StaticPolicy;
 use crate::validate::check;
 use cedar_binding::{LinkingError, SlotEnv, check_bindings, no_bindings};
@@ -64,8 +64,8 @@ impl Model for Template {
 }
 
 impl Template {
-    /// The template of these parts. Takes memory to share the annotations and the clause and to find the
-    /// slots, linear in the clause, and is refused only where that is.
+    /// The template of these parts. Takes memory to share the annotations and the clause, for the slots, and for
+    /// the walk through the clause, linear in that, where there is one; is refused only where that is.
     pub fn new(
         alloc: Global,
         id: PolicyID,
@@ -101,8 +101,8 @@ impl Template {
         Template::from_body(alloc, body)
     }
 
-    /// The template of these parts, of which annotations and clause are shared already. Takes memory to find
-    /// the slots, linear in the clause, and is refused only where that is.
+    /// The template of these parts, of which annotations and clause are shared already. Takes memory as
+    /// `from_body` does.
     pub fn new_shared(
         alloc: Global,
         id: PolicyID,
@@ -137,13 +137,13 @@ impl Template {
         Template::from_body(alloc, body)
     }
 
-    /// The template of this body. Takes memory to find the slots, linear in the clause, and is refused only
-    /// where that is. In the original this is a conversion.
+    /// The template of this body. Takes memory for its slots, and for the walk through the clause, linear in
+    /// that, where there is one: none where there is neither. Is refused only where that is. The condition is
+    /// not made. In the original this is a conversion.
     pub fn from_body(alloc: Global, body: TemplateBody) -> Result<Template, AllocError>
         ensures { IfOk result (λ t. t ≡ body_of body) }
     {
-        let condition = body.condition(alloc)?;
-        let slots = condition.slots(alloc)?;
+        let slots = slots_in(alloc, &body)?;
         Ok(Template { body, slots })
     }
 

@@ -3,7 +3,7 @@ use Rattle.std.specs.Prelude.{◌≡◌, List, [], ◌∷◌, ◌++◌, Bool, tr
 use Rattle.std.proofs.Common.{ap, subst, sym, ◌∙◌}
 use Rattle.std.specs.List.{list_any}
 use Rattle.std.proofs.lemmas.Bool.{false≢true}
-use Rattle.std.proofs.lemmas.List.{append-nil}
+use Rattle.std.proofs.lemmas.List.{append-nil, append_assoc}
 use Rattle.cedar_terms.specs.ExprTree.{ExprTree}
 use Rattle.cedar_terms.specs.SlotTree.{same_slot, same_slot_decides}
 use Rattle.cedar_terms.specs.Walk.{slots_of}
@@ -44,6 +44,12 @@ not_after p (x ∷ xs) ys h = not_after p xs ys (neither_right (p x) (list_any p
 not_there : (s : SlotId) (h : Bool) → list_any (same_slot s) (if h then s ∷ [] else []) ≡ false → h ≡ false
 not_there s true e = absurd (false≢true (sym (neither_left (same_slot s s) false e) ∙ (same_slot_decides s s).1 refl))
 not_there s false e = refl
+
+-- the clause's slots, with the resource's and then the principal's behind them, are those of the body
+pub slots_in_turn : (b : BodyParts) → (clause_slots b.clause ++ constraint_slots variables.Resource b.resource) ++ constraint_slots variables.Principal b.principal ≡ body_slots b
+slots_in_turn b =
+    append_assoc (clause_slots b.clause) (constraint_slots variables.Resource b.resource) (constraint_slots variables.Principal b.principal)
+    ∙ sym (body_slots-parts b)
 
 -- where the principal's slot is none of a body's slots its constraint does not refer to it
 principal_without_slot : (b : BodyParts) → bindings.has_slot (body_slots b) Principal ≡ false → has_slot b.principal ≡ false

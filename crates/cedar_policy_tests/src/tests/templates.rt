@@ -1,17 +1,19 @@
 // The two hundred templates: principal and resource each free, equal to or in a uid or a slot; the action free,
 // equal to a uid, or in one or two of them; both effects.
-use super::{Scope, beside, bind, id, kept, same, shared, template, uid};
+use super::{Scope, beside, bind, id, kept, permits, same, shared, template, uid};
 use cedar_ids::entity::EntityUID;
+use cedar_ids::loc::Loc;
 use cedar_ids::policy_id::PolicyID;
 use cedar_policy::{Effect, Policy, SlotEnv, StaticPolicy, Template, UnexpectedSlotError};
 use cedar_scope::{
-    ActionConstraint, Annotations, PrincipalConstraint, PrincipalOrResourceConstraint,
-    ResourceConstraint,
+    ActionConstraint, Annotations, EntityReference, PrincipalConstraint,
+    PrincipalOrResourceConstraint, ResourceConstraint,
 };
 use cedar_terms::expr::Expr;
+use cedar_terms::slot::Slot;
 use std::alloc::Global;
 use std::collections::HashMap;
-use std::rc::Rc;
+use std::rc::{Rc, RcStr};
 use std::test::Fail;
 
 // How many there are.
@@ -333,5 +335,54 @@ fn each_static_policy_is_equal_to_one_built_of_its_parts(rt: HostRuntime) -> Res
             assert!(rt; is_static_rebuilt(alloc, policy)?);
         }
     }
+    Ok(())
+}
+
+// Equal to the slot, which stands at a byte.
+fn equal_to_slot_at(alloc: Global, start: usize) -> Result<PrincipalOrResourceConstraint, Fail> {
+    let src = RcStr::from_str(
+        alloc,
+        "permit(principal == ?principal, action, resource == ?resource);",
+    )?;
+    let place = Loc::new(start, start.saturating_add(10), src);
+    let slot = EntityReference::Slot(Some(place));
+    Ok(PrincipalOrResourceConstraint::Eq(slot))
+}
+
+// Principal and resource equal to their slots, which stand at two bytes.
+fn equal_to_slots_at(alloc: Global, principal: usize, resource: usize) -> Result<Scope, Fail> {
+    let principal = equal_to_slot_at(alloc, principal)?;
+    let (principal, resource) = beside(principal, equal_to_slot_at(alloc, resource))?;
+    Ok(Scope {
+        principal: PrincipalConstraint::new(principal),
+        action: ActionConstraint::any(),
+        resource: ResourceConstraint::new(resource),
+    })
+}
+
+// The byte that a slot stands at.
+fn start_of(slot: Option<&Slot>) -> usize {
+    match slot {
+        Some(Slot { loc: Some(loc), .. }) => loc.start,
+        _ => 0,
+    }
+}
+
+// Where the first two slots of a template stand.
+fn starts_of(template: Template) -> (usize, usize) {
+    let mut slots = template.slots();
+    let first = start_of(slots.next());
+    let second = start_of(slots.next());
+    drop(template);
+    (first, second)
+}
+
+#[test]
+fn the_slots_of_a_template_stand_where_its_constraints_have_them(
+    rt: HostRuntime,
+) -> Result<(), Fail> {
+    let alloc = rt.alloc();
+    let scope = equal_to_slots_at(alloc, 20, 52)?;
+    assert!(rt; starts_of(permits(alloc, scope, None)?) == (52, 20));
     Ok(())
 }
