@@ -41,7 +41,7 @@ one_parent_more u ps e p h = record {
   attrs = h.attrs;
   tags = h.tags;
   parents = λ q. set.contains-insert uid_order_total e.parents p q ∙ ap (λ f. f q p || set.contains e.parents q) same_tests
-    ∙ ap (λ b. same_uid q p || b) (h.parents q) ∙ or_back (same_uid q p) (is_member same_uid ps q) ∙ sym (is_member-append ps (p ∷ []) q);
+      ∙ ap (λ b. same_uid q p || b) (h.parents q) ∙ or_back (same_uid q p) (is_member same_uid ps q) ∙ sym (is_member-append ps (p ∷ []) q);
   bare = λ q. set.contains-remove uid_order_total e.indirect p q ∙ both_false _ (set.contains e.indirect q) (h.bare q);
 }
 
