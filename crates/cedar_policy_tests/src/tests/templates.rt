@@ -362,9 +362,12 @@ fn equal_to_slots_at(alloc: Global, principal: usize, resource: usize) -> Result
 
 // The byte that a slot stands at.
 fn start_of(slot: Option<&Slot>) -> usize {
-    match slot {
-        Some(Slot { loc: Some(loc), .. }) => loc.start,
-        _ => 0,
+    let Some(slot) = slot else {
+        return 0;
+    };
+    match &slot.loc {
+        Some(loc) => loc.start,
+        None => 0,
     }
 }
 
