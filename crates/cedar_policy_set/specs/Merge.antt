@@ -33,11 +33,6 @@ is_same_at here other i =
     option_eq same_policy (find (is_policy_at i) here.policies) (find (is_policy_at i) other.policies)
     && option_eq same_body (find (is_body_at i) here.bodies) (find (is_body_at i) other.bodies)
 
--- in one of the two orders
-abbrev pub stands_by : Bool → Board → List ℕ → Bool
-stands_by true b i = has_body b i
-stands_by false b i = has_policy b i
-
 -- those of some ids of the other board that stand in an order here and are bound to something else
 abbrev pub conflicting : Board → Board → (List ℕ → Bool) → List (List ℕ) → List (List ℕ)
 conflicting here other stands is = filter (λ i. stands i && not (is_same_at here other i)) is

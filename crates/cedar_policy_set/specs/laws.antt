@@ -3,6 +3,7 @@ pub mod BodyFaults
 pub mod EqualityLaws
 pub mod Founds
 pub mod FreshLaws
+pub mod GatherLaws
 pub mod Joins
 pub mod LinkLaws
 pub mod ListSteps

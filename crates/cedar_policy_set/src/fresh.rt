@@ -5,7 +5,6 @@ ghost use Rattle.cedar_policy_set.specs.Boards.{AreOnce};
 ghost use Rattle.cedar_policy_set.specs.Fresh.{numbered, is_bound_in_either, free_below, IsFree, AreFree};
 ghost use Rattle.cedar_policy_set.specs.laws.FreshLaws.{count};
 
-use crate::lists::either;
 use crate::policy_set::PolicySet;
 use cedar_ids::policy_id::PolicyID;
 use indexmap::{IndexMap, IndexSet};
@@ -25,7 +24,7 @@ fn numbered(alloc: Global, number: u128) -> Result<PolicyID, AllocError>
 fn is_bound_in_either(here: &PolicySet, other: &PolicySet, id: &PolicyID) -> bool
     ensures { result ≡ is_bound_in_either here.now other.now id.now }
 {
-    either(here.is_bound(id), other.is_bound(id))
+    here.is_bound(id) || other.is_bound(id)
 }
 
 // The first free id from this number on, with its number.

@@ -10,7 +10,7 @@ ghost use Rattle.cedar_policy_set.specs.laws.Joins.{CanJoin, CanJoinBoth};
 ghost use Rattle.cedar_policy_set.specs.laws.MapLaws.{has_other};
 
 use crate::found::Found;
-use crate::lists::{either, template_of};
+use crate::lists::template_of;
 use crate::maps::{bodies_by_id, ids_by_body, list_id, policies_by_id, put_last, set_of, unlist};
 use crate::policy_set::PolicySet;
 use cedar_ids::policy_id::PolicyID;
@@ -86,7 +86,7 @@ impl PolicySet {
     pub(crate) fn is_bound(&self, id: &PolicyID) -> bool
         ensures { result ≡ is_bound self.now id.now }
     {
-        either(self.has_policy(id), self.has_body(id))
+        self.has_policy(id) || self.has_body(id)
     }
 
     // Whether the template with this id has links. A static policy stands on its own body alone.

@@ -2,15 +2,19 @@
 ghost use Rattle.std.specs.Prelude.{◌≡◌, ◌&&◌, ◌++◌, ◌+◌, ◌∷◌, [], false, not, length, IfOk, OnOk, IsTrue, List, ℕ};
 ghost use Rattle.std.specs.List.{list_any};
 ghost use Rattle.std.specs.Map.{values_of};
-ghost use Rattle.std.specs.Option.{option_copied};
+ghost use Rattle.std.specs.Option.{option_copied, unwrap_or};
+ghost use Rattle.cedar_body.specs.Bodies.{with_id};
+ghost use Rattle.cedar_policy.specs.Policies.{policy_id, with_policy_id};
 ghost use Rattle.cedar_policy_set.specs.Boards.{AreOnce};
 ghost use Rattle.cedar_policy_set.specs.Fresh.{is_bound_in_either};
-ghost use Rattle.cedar_policy_set.specs.Merge.{body_ids, policy_ids, is_same_at, stands_by, conflicting, gathered, conflicts, renamed_body, renamed_policy, joined_bodies, joined_policies, merged, new_id, Merges, AreBelow, bound_ids};
+ghost use Rattle.cedar_policy_set.specs.Merge.{has_body, body_ids, policy_ids, is_same_at, conflicting, gathered, conflicts, renamed_body, renamed_policy, joined_bodies, joined_policies, merged, new_id, Merges, AreBelow, bound_ids};
+ghost use Rattle.cedar_policy_set.specs.laws.GatherLaws.{looked_at};
 ghost use Rattle.cedar_policy_set.specs.laws.MergeSteps.{Refuses, with_template_renamed};
 ghost use Rattle.cedar_policy_set.specs.Views.{bodies_of};
 
 use crate::err::PolicySetError;
 use crate::fresh::fresh_ids;
+use crate::lists::is_link;
 use crate::policy_set::PolicySet;
 use cedar_ids::policy_id::PolicyID;
 use cedar_policy::{Policy, Template};
@@ -68,8 +72,22 @@ fn refused<'a>(ids: &'a IndexSet<PolicyID>, rename: bool) -> Option<&'a PolicyID
     ids.iter().next()
 }
 
+// Which ids of the other set are looked at: those of one of its orders that stand in an order here. What an earlier group
+// looked at is left out.
+#[derive(Clone, Copy, Debug)]
+pub(crate) enum Group {
+    // Of bodies there: bodies here.
+    Bodies,
+    // Of policies there: policies here, but not where both sets have a body with the id.
+    Policies,
+    // Of bodies there: policies here, but not where there is a body here.
+    Links,
+    // Of policies there: bodies here, but not where there is a policy here.
+    Templates,
+}
+
 // The ids that conflict.
-#[tactic(auto, using(crate::specs::laws::MergeSteps::gathered_all))]
+#[tactic(auto, using(crate::specs::laws::GatherLaws::conflicts_in_groups))]
 fn conflicting_ids(
     alloc: Global,
     here: &PolicySet,
@@ -78,74 +96,83 @@ fn conflicting_ids(
     ensures { IfOk result (λ ids. ids.keys ≡ conflicts here.now other.now) }
 {
     let mut ids = IndexSet::new(alloc);
-    gather_bodies(&mut ids, here, other, true)?;
-    gather_policies(&mut ids, here, other, false)?;
-    gather_bodies(&mut ids, here, other, false)?;
-    gather_policies(&mut ids, here, other, true)?;
+    gather_bodies(&mut ids, here, other, Group::Bodies)?;
+    gather_policies(&mut ids, here, other, Group::Policies)?;
+    gather_bodies(&mut ids, here, other, Group::Links)?;
+    gather_policies(&mut ids, here, other, Group::Templates)?;
     Ok(ids)
 }
 
-// Gathers the ids of bodies there that conflict with a body here, or with a policy.
+// Gathers the ids of bodies there that conflict and are looked at in this group.
 fn gather_bodies(
     ids: &mut IndexSet<PolicyID>,
     here: &PolicySet,
     other: &PolicySet,
-    bodies: bool,
+    group: Group,
 ) -> Result<(), AllocError>
-    ensures { OnOk result (ids.new.keys ≡ gathered ids.old.keys (conflicting here.now other.now (stands_by bodies here.now) (body_ids other.now))) }
+    ensures { OnOk result (ids.new.keys ≡ gathered ids.old.keys (conflicting here.now other.now (looked_at group here.now other.now) (body_ids other.now))) }
 {
     for template in other.all_templates() {
-        gather_one(ids, here, other, template.id(), bodies)?;
+        gather_one(ids, here, other, template.id(), group)?;
     }
     Ok(())
 }
 
-// Gathers the ids of policies there that conflict with a body here, or with a policy.
+// Gathers the ids of policies there that conflict and are looked at in this group.
 fn gather_policies(
     ids: &mut IndexSet<PolicyID>,
     here: &PolicySet,
     other: &PolicySet,
-    bodies: bool,
+    group: Group,
 ) -> Result<(), AllocError>
-    ensures { OnOk result (ids.new.keys ≡ gathered ids.old.keys (conflicting here.now other.now (stands_by bodies here.now) (policy_ids other.now))) }
+    ensures { OnOk result (ids.new.keys ≡ gathered ids.old.keys (conflicting here.now other.now (looked_at group here.now other.now) (policy_ids other.now))) }
 {
     for policy in other.policies() {
-        gather_one(ids, here, other, policy.id(), bodies)?;
+        gather_one(ids, here, other, policy.id(), group)?;
     }
     Ok(())
 }
 
-// Gathers an id, if it conflicts with a body here, or with a policy.
+// Gathers an id, if it conflicts and is looked at in this group.
 fn gather_one(
     ids: &mut IndexSet<PolicyID>,
     here: &PolicySet,
     other: &PolicySet,
     id: &PolicyID,
-    bodies: bool,
+    group: Group,
 ) -> Result<(), AllocError>
-    ensures { OnOk result (ids.new.keys ≡ gathered ids.old.keys (conflicting here.now other.now (stands_by bodies here.now) (id.now ∷ []))) }
+    ensures { OnOk result (ids.new.keys ≡ gathered ids.old.keys (conflicting here.now other.now (looked_at group here.now other.now) (id.now ∷ []))) }
 {
-    if is_conflicting(here, other, id, bodies) {
+    if is_conflicting(here, other, id, group) {
         ids.insert(id.clone()?)?;
     }
     Ok(())
 }
 
-// Whether a body here, or a policy, has an id that is not bound alike in both sets.
-fn is_conflicting(here: &PolicySet, other: &PolicySet, id: &PolicyID, bodies: bool) -> bool
-    ensures { result ≡ (stands_by bodies here.now id.now && not (is_same_at here.now other.now id.now)) }
+// Whether an id is looked at in this group and is not bound alike in both sets.
+fn is_conflicting(here: &PolicySet, other: &PolicySet, id: &PolicyID, group: Group) -> bool
+    ensures { result ≡ (looked_at group here.now other.now id.now && not (is_same_at here.now other.now id.now)) }
 {
-    stands(here, id, bodies) && !is_same_at(here, other, id)
+    is_looked_at(here, other, id, group) && !is_same_at(here, other, id)
 }
 
-// Whether a body, or a policy, has an id.
-fn stands(set: &PolicySet, id: &PolicyID, bodies: bool) -> bool
-    ensures { result ≡ stands_by bodies set.now id.now }
+// Whether an id is looked at in this group.
+fn is_looked_at(here: &PolicySet, other: &PolicySet, id: &PolicyID, group: Group) -> bool
+    ensures { result ≡ looked_at group here.now other.now id.now }
 {
-    if bodies {
-        return set.has_body(id);
+    match group {
+        Group::Bodies => here.has_body(id),
+        Group::Policies => !have_bodies(here, other, id) && here.has_policy(id),
+        Group::Links => !here.has_body(id) && here.has_policy(id),
+        Group::Templates => !here.has_policy(id) && here.has_body(id),
     }
-    set.has_policy(id)
+}
+
+// Whether a body here and one there have an id.
+fn have_bodies(here: &PolicySet, other: &PolicySet, id: &PolicyID) -> bool
+    ensures { result ≡ (has_body here.now id.now && has_body other.now id.now) }
+{
+    here.has_body(id) && other.has_body(id)
 }
 
 // Whether an id is bound alike in both sets.
@@ -155,11 +182,11 @@ fn is_same_at(here: &PolicySet, other: &PolicySet, id: &PolicyID) -> bool
     here.get(id) == other.get(id) && here.get_template(id) == other.get_template(id)
 }
 
-// The id that a renaming gives.
-fn new_id<'a>(renaming: &'a IndexMap<PolicyID, PolicyID>, id: &'a PolicyID) -> &'a PolicyID
-    ensures { result.now ≡ new_id renaming.now.entries id.now }
+// The id that was found for an id, else the id itself.
+fn new_or<'a>(new: Option<&'a PolicyID>, id: &'a PolicyID) -> &'a PolicyID
+    ensures { result.now ≡ unwrap_or (option_copied new.entry) id.now }
 {
-    match renaming.get(id) {
+    match new {
         Some(new) => new,
         None => id,
     }
@@ -174,7 +201,7 @@ fn merged_bodies(
 ) -> Result<Vec<Rc<Template>>, AllocError>
     ensures { IfOk result (λ v. bodies_of v.items ≡ (merged here.now other.now (new_id renaming.now.entries)).bodies) }
 {
-    let mut bodies = Vec::new(alloc);
+    let mut bodies = Vec::with_capacity(alloc, here.shared_bodies().len())?;
     keep_bodies(&mut bodies, here.shared_bodies(), other, renaming)?;
     join_bodies(alloc, &mut bodies, here, other.shared_bodies(), renaming)?;
     Ok(bodies)
@@ -265,21 +292,22 @@ fn join_body(
 ) -> Result<(), AllocError>
     ensures { OnOk result (bodies_of bodies.new.items ≡ bodies_of bodies.old.items ++ joined_bodies here.now (new_id renaming.now.entries) (template.now.value ∷ [])) }
 {
-    if !here.is_bound(new_id(renaming, template.id())) {
-        bodies.push(renamed_body(alloc, template, renaming)?)?;
+    let new = renaming.get(template.id());
+    if !here.is_bound(new_or(new, template.id())) {
+        bodies.push(renamed_body(alloc, template, new)?)?;
     }
     Ok(())
 }
 
-// A body under its new id.
+// A body under its new id, if it gets one.
 fn renamed_body(
     alloc: Global,
     template: &Rc<Template>,
-    renaming: &IndexMap<PolicyID, PolicyID>,
+    new: Option<&PolicyID>,
 ) -> Result<Rc<Template>, AllocError>
-    ensures { IfOk result (λ t. t.value ≡ renamed_body (new_id renaming.now.entries) template.now.value) }
+    ensures { IfOk result (λ t. t.value ≡ with_id (unwrap_or (option_copied new.entry) template.now.value.id) template.now.value) }
 {
-    match renaming.get(template.id()) {
+    match new {
         None => template.clone(),
         Some(id) => Ok(Rc::new(alloc, template.new_id(id.clone()?)?)?),
     }
@@ -294,7 +322,7 @@ fn merged_policies(
 ) -> Result<Vec<Policy>, AllocError>
     ensures { IfOk result (λ v. v.items ≡ (merged here.now other.now (new_id renaming.now.entries)).policies) }
 {
-    let mut policies = Vec::new(alloc);
+    let mut policies = Vec::with_capacity(alloc, here.all_policies().len())?;
     keep_policies(&mut policies, here.all_policies(), other, renaming)?;
     join_policies(alloc, &mut policies, here, other.all_policies(), renaming)?;
     Ok(policies)
@@ -385,44 +413,58 @@ fn join_policy(
 ) -> Result<(), AllocError>
     ensures { OnOk result (policies.new.items ≡ policies.old.items ++ joined_policies here.now (new_id renaming.now.entries) (policy.now ∷ [])) }
 {
-    if !here.is_bound(new_id(renaming, policy.id())) {
-        policies.push(renamed_policy(alloc, policy, renaming)?)?;
+    let new = renaming.get(policy.id());
+    if !here.is_bound(new_or(new, policy.id())) {
+        policies.push(renamed_policy(alloc, policy, new, renaming)?)?;
     }
     Ok(())
 }
 
-// A policy under its new id, a link with its template under its own.
-#[tactic(auto, using(crate::specs::laws::MergeSteps::renamed_whole))]
+// A policy under its new id, if it gets one, a link with its template under its own.
+#[tactic(auto, using(crate::specs::laws::MergeSteps::renamed_twice))]
 fn renamed_policy(
     alloc: Global,
     policy: &Policy,
+    new: Option<&PolicyID>,
     renaming: &IndexMap<PolicyID, PolicyID>,
 ) -> Result<Policy, AllocError>
+    requires { unwrap_or (option_copied new) (policy_id policy.now) ≡ new_id renaming.now.entries (policy_id policy.now) }
     ensures { IfOk result (λ p. p ≡ renamed_policy (new_id renaming.now.entries) policy.now) }
 {
-    let renamed = with_renamed_template(alloc, policy, renaming)?;
-    match renaming.get(policy.id()) {
-        None => Ok(renamed),
-        Some(id) => renamed.new_id(alloc, id.clone()?),
+    match on_renamed_template(alloc, policy, renaming)? {
+        None => under_new_id(alloc, policy, new),
+        Some(renamed) => under_new_id(alloc, &renamed, new),
     }
 }
 
-// A link with its template under its new id; a static policy as it is.
-fn with_renamed_template(
+// A policy under its new id, if it gets one.
+#[tactic(auto, using(crate::specs::laws::MergeSteps::same_id_kept))]
+fn under_new_id(
+    alloc: Global,
+    policy: &Policy,
+    new: Option<&PolicyID>,
+) -> Result<Policy, AllocError>
+    ensures { IfOk result (λ p. p ≡ with_policy_id (unwrap_or (option_copied new.entry) (policy_id policy.now)) policy.now) }
+{
+    match new {
+        None => policy.clone(),
+        Some(id) => policy.new_id(alloc, id.clone()?),
+    }
+}
+
+// A link with its template under its new id, if that gets one. None of a static policy.
+fn on_renamed_template(
     alloc: Global,
     policy: &Policy,
     renaming: &IndexMap<PolicyID, PolicyID>,
-) -> Result<Policy, AllocError>
-    ensures { IfOk result (λ p. p ≡ with_template_renamed (new_id renaming.now.entries) policy.now) }
+) -> Result<Option<Policy>, AllocError>
+    ensures { IfOk result (λ o. unwrap_or o policy.now ≡ with_template_renamed (new_id renaming.now.entries) policy.now) }
 {
+    if !is_link(policy) {
+        return Ok(None);
+    }
     match renaming.get(policy.template().id()) {
-        None => policy.clone(),
-        Some(id) => {
-            let copy = policy.clone()?;
-            match copy.new_template_id(alloc, id.clone()?)? {
-                None => policy.clone(),
-                Some(renamed) => Ok(renamed),
-            }
-        }
+        None => Ok(None),
+        Some(id) => policy.clone()?.new_template_id(alloc, id.clone()?),
     }
 }

@@ -83,9 +83,27 @@ renamed_by None c p i e q =
 renamed_by (Some l) c p i e q =
     (λ j. record { template = renamed_body c p.template; link = Some (q j); env = p.env }) ∙ (λ j. record { template = renamed_body c p.template; link = option_map c (e j); env = p.env })
 
--- a policy with its template renamed, and then itself
-pub renamed_whole : (c : List ℕ → List ℕ) (p : PolicyParts) (i : List ℕ) → i ≡ c (policy_id p) → with_policy_id i (with_template_renamed c p) ≡ renamed_policy c p
-renamed_whole c p i q = renamed_by p.link c p i refl q
+renamed_twice_by : (o : Option (List ℕ)) (c : List ℕ → List ℕ) (p : PolicyParts) (i : List ℕ) → o ≡ p.link → i ≡ c (policy_id p) → with_policy_id i (template_renamed_by o c p) ≡ renamed_policy c p
+renamed_twice_by o c p i e q = renamed_by o c p i e (q ∙ ap (λ l. c (unwrap_or l p.template.id)) (sym e))
+
+same_id_by : (o : Option (List ℕ)) (c : List ℕ → List ℕ) (p : PolicyParts) → o ≡ p.link → policy_id (template_renamed_by o c p) ≡ policy_id p
+same_id_by None c p e = refl
+same_id_by (Some l) c p e = ap (λ l. unwrap_or l p.template.id) e
+
+-- a policy with its template renamed, and then itself: what has the former's id gets the latter's
+pub renamed_twice : (c : List ℕ → List ℕ) (p q : PolicyParts) (n : Option (List ℕ)) → q ≡ with_template_renamed c p → unwrap_or n (policy_id p) ≡ c (policy_id p) →
+    with_policy_id (unwrap_or n (policy_id q)) q ≡ renamed_policy c p
+renamed_twice c p q n s e =
+    ap (λ q. with_policy_id (unwrap_or n (policy_id q)) q) s
+    ∙ renamed_twice_by p.link c p (unwrap_or n (policy_id (with_template_renamed c p))) refl (ap (unwrap_or n) (same_id_by p.link c p refl) ∙ e)
+
+own_id : (o : Option (List ℕ)) (p : PolicyParts) → o ≡ p.link → renamed (unwrap_or o p.template.id) o p ≡ p
+own_id None p e = λ j. record { template = p.template; link = e j; env = p.env }
+own_id (Some l) p e = λ j. record { template = p.template; link = e j; env = p.env }
+
+-- under its own id a policy is as it was
+pub same_id_kept : (p : PolicyParts) → with_policy_id (policy_id p) p ≡ p
+same_id_kept p = own_id p.link p refl
 
 pub bodies_more : (ts : List (Rc BodyParts Global)) (k : ℕ) (t : Rc BodyParts Global) → k < length ts → t ≡ get_or ts k t → bodies_of (take (k + 1) ts) ≡ bodies_of (take k ts) ++ t.value ∷ []
 bodies_more ts k t l e =

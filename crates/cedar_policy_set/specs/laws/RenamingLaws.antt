@@ -17,14 +17,14 @@ use Rattle.cedar_policy_set.specs.laws.FreshLaws.{numbered_is, either_among_ids,
 use Rattle.cedar_policy_set.specs.laws.MergeLaws.{Renames}
 use Rattle.cedar_policy_set.specs.laws.OnceLaws.{any-map}
 
-itself : (i : List ℕ) → same_text i i ≡ true
+pub itself : (i : List ℕ) → same_text i i ≡ true
 itself i = same_text_equiv.refl i
 
-first_of : (a b : Bool) → a ≡ true → (a || b) ≡ true
+pub first_of : (a b : Bool) → a ≡ true → (a || b) ≡ true
 first_of true b h = refl
 first_of false b h = absurd (false≢true h)
 
-second_of : (a b : Bool) → b ≡ true → (a || b) ≡ true
+pub second_of : (a b : Bool) → b ≡ true → (a || b) ≡ true
 second_of true b h = refl
 second_of false b h = h
 
@@ -33,7 +33,7 @@ either_of true b h = inl refl
 either_of false b h = inr h
 
 -- an id stands among some
-abbrev is_in : List ℕ → List (List ℕ) → Bool
+abbrev pub is_in : List ℕ → List (List ℕ) → Bool
 is_in i is = list_any (same_text i) is
 
 in_first : (i : List ℕ) (xs ys : List (List ℕ)) → is_in i xs ≡ true → is_in i (xs ++ ys) ≡ true
@@ -42,11 +42,11 @@ in_first i xs ys h = list_any-append (same_text i) xs ys ∙ first_of (is_in i x
 in_second : (i : List ℕ) (xs ys : List (List ℕ)) → is_in i ys ≡ true → is_in i (xs ++ ys) ≡ true
 in_second i xs ys h = list_any-append (same_text i) xs ys ∙ second_of (is_in i xs) (is_in i ys) h
 
-in_step : (i x : List ℕ) (seen : List (List ℕ)) (v : Bool) → is_in i seen ≡ true → is_in i (if v then seen else seen ++ x ∷ []) ≡ true
+pub in_step : (i x : List ℕ) (seen : List (List ℕ)) (v : Bool) → is_in i seen ≡ true → is_in i (if v then seen else seen ++ x ∷ []) ≡ true
 in_step i x seen true h = h
 in_step i x seen false h = in_first i seen (x ∷ []) h
 
-still_there : (i : List ℕ) (seen xs : List (List ℕ)) → is_in i seen ≡ true → is_in i (gathered seen xs) ≡ true
+pub still_there : (i : List ℕ) (seen xs : List (List ℕ)) → is_in i seen ≡ true → is_in i (gathered seen xs) ≡ true
 still_there i seen [] h = h
 still_there i seen (x ∷ xs) h = still_there i (if is_in x seen then seen else seen ++ x ∷ []) xs (in_step i x seen (is_in x seen) h)
 
@@ -60,7 +60,7 @@ gathers_at i seen x xs l (inl s) = still_there i (if is_in x seen then seen else
 gathers_at i seen x xs l (inr h) = l h
 
 -- what is to be gathered is there
-gathers : (i : List ℕ) (seen xs : List (List ℕ)) → is_in i xs ≡ true → is_in i (gathered seen xs) ≡ true
+pub gathers : (i : List ℕ) (seen xs : List (List ℕ)) → is_in i xs ≡ true → is_in i (gathered seen xs) ≡ true
 gathers i seen [] h = absurd (false≢true h)
 gathers i seen (x ∷ xs) h =
     gathers_at i seen x xs (λ k. gathers i (if is_in x seen then seen else seen ++ x ∷ []) xs k) (either_of (same_text i x) (is_in i xs) h)
@@ -81,7 +81,7 @@ both_true true false p q = refl
 both_true true true p q = absurd (false≢true (sym q))
 both_true false b p q = absurd (false≢true p)
 
-in_conflicting : (h o : Board) (stands : List ℕ → Bool) (is : List (List ℕ)) (i : List ℕ) → stands i ≡ true → is_same_at h o i ≡ false → is_in i is ≡ true → is_in i (conflicting h o stands is) ≡ true
+pub in_conflicting : (h o : Board) (stands : List ℕ → Bool) (is : List (List ℕ)) (i : List ℕ) → stands i ≡ true → is_same_at h o i ≡ false → is_in i is ≡ true → is_in i (conflicting h o stands is) ≡ true
 in_conflicting h o stands is i s d h' = in_filter (λ j. stands j && not (is_same_at h o j)) i is (both_true (stands i) (is_same_at h o i) s d) h'
 
 -- an id that is bound in both boards to something else is one of the conflicting ones

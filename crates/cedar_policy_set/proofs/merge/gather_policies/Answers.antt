@@ -1,6 +1,7 @@
 use Rattle.std.proofs.Common.{[], ◌∷◌, List, map, sym, ap, ◌∙◌}
 use Rattle.cedar_policy.specs.Policies.{PolicyParts, policy_id}
-use Rattle.cedar_policy_set.specs.Merge.{stands_by, conflicting, gathered}
+use Rattle.cedar_policy_set.specs.Merge.{conflicting, gathered}
+use Rattle.cedar_policy_set.specs.laws.GatherLaws.{looked_at}
 use Rattle.cedar_policy_set.specs.laws.MergeSteps.{gathered_first}
 use Rattle.cedar_policy_set.proofs.merge.gather_policies.Goals as goal
 
@@ -8,7 +9,7 @@ pub loop-policy-preserved : goal.loop-policy-preserved
 loop-policy-preserved c =
     let h = c.args.here.now in
     let o = c.args.other.now in
-    let st = stands_by c.args.bodies h in
+    let st = looked_at c.args.group h o in
     let seen = c.loop-policy.ids.keys in
     let rest = map (policy_id) c.next.new.self in
     ap (λ ks. gathered ks (conflicting h o st rest)) (c.in_ok-gather_one.ensures ∙ ap (λ i. gathered seen (conflicting h o st (i ∷ []))) c.id.ensures)
