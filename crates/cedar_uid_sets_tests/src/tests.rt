@@ -1,5 +1,6 @@
 // What the tests build sets of. A uid stands for a number: its eid is the number and 1,000, so uids stand in the
-// order of the numbers.
+// order of the numbers. Each helper lets go by a written drop what it holds, on each path: a drop that is not written is
+// dear to prove at a type as large as a set of uids.
 
 mod one_uid;
 mod sets;
@@ -10,6 +11,40 @@ use cedar_uid_sets::{SharedUid, UidSet};
 use std::alloc::Global;
 use std::fmt::Write;
 use std::test::Fail;
+
+// A value and a further one.
+fn beside<A: Drop, B>(one: A, other: Result<B, Fail>) -> Result<(A, B), Fail> {
+    match other {
+        Ok(other) => Ok((one, other)),
+        Err(fail) => {
+            drop(one);
+            Err(fail)
+        }
+    }
+}
+
+// A value and a copy of it.
+fn twice<T: Clone + Drop>(value: T) -> Result<(T, T), Fail> {
+    match value.clone() {
+        Ok(copy) => Ok((value, copy)),
+        Err(error) => {
+            drop(value);
+            Err(Fail::from(error))
+        }
+    }
+}
+
+// A list with a further item.
+fn pushed<T: Drop>(list: Vec<T>, item: Result<T, Fail>) -> Result<Vec<T>, Fail> {
+    let mut list = list;
+    list.push(item?)?;
+    Ok(list)
+}
+
+// Whether two things are equal.
+fn equal<T: PartialEq + Drop>(one: T, other: Result<T, Fail>) -> Result<bool, Fail> {
+    Ok(one == other?)
+}
 
 // The uid of a number.
 fn uid(alloc: Global, n: u32) -> Result<EntityUID, Fail> {
@@ -27,7 +62,7 @@ fn shared(alloc: Global, n: u32) -> Result<SharedUid, Fail> {
 fn pointers(alloc: Global, numbers: &[u32]) -> Result<Vec<SharedUid>, Fail> {
     let mut uids = Vec::new(alloc);
     for n in numbers {
-        uids.push(shared(alloc, *n)?)?;
+        uids = pushed(uids, shared(alloc, *n))?;
     }
     Ok(uids)
 }
@@ -43,8 +78,13 @@ fn put_in(alloc: Global, set: &mut UidSet, numbers: &[u32]) -> Result<(), Fail> 
 // The set of the uids of these numbers.
 fn filled(alloc: Global, numbers: &[u32]) -> Result<UidSet, Fail> {
     let mut set = UidSet::new(alloc);
-    put_in(alloc, &mut set, numbers)?;
-    Ok(set)
+    match put_in(alloc, &mut set, numbers) {
+        Ok(()) => Ok(set),
+        Err(fail) => {
+            drop(set);
+            Err(fail)
+        }
+    }
 }
 
 // The numbers below n, each once where the step is prime to n: from the start on, a step each.
@@ -91,13 +131,54 @@ fn eids(alloc: Global, set: &UidSet) -> Result<String, Fail> {
     Ok(text)
 }
 
+// Whether a set has the uid of a number.
+fn has(alloc: Global, set: &UidSet, n: u32) -> Result<bool, Fail> {
+    match uid(alloc, n) {
+        Ok(uid) => {
+            let told = set.contains(&uid);
+            drop(uid);
+            Ok(told)
+        }
+        Err(fail) => Err(fail),
+    }
+}
+
 // The eids of those numbers below n whose uids a set has.
 fn found(alloc: Global, set: &UidSet, n: u32) -> Result<String, Fail> {
     let mut numbers = Vec::new(alloc);
     for n in 0..n {
-        if set.contains(&uid(alloc, n)?) {
+        if has(alloc, set, n)? {
             numbers.push(n)?;
         }
     }
     in_order(alloc, numbers.as_slice())
+}
+
+// Takes the uid of a number out.
+fn take_out(alloc: Global, set: &mut UidSet, n: u32) -> Result<(), Fail> {
+    match uid(alloc, n) {
+        Ok(uid) => {
+            set.remove(&uid);
+            drop(uid);
+            Ok(())
+        }
+        Err(fail) => Err(fail),
+    }
+}
+
+// Whether the eids of a set are these.
+fn is(alloc: Global, set: &UidSet, want: &str) -> Result<bool, Fail> {
+    Ok(eids(alloc, set)?.as_str() == want)
+}
+
+// The same of a set that is made for it.
+fn becomes(alloc: Global, made: Result<UidSet, Fail>, want: &str) -> Result<bool, Fail> {
+    match made {
+        Ok(set) => {
+            let told = is(alloc, &set, want);
+            drop(set);
+            told
+        }
+        Err(fail) => Err(fail),
+    }
 }
