@@ -6,3 +6,4 @@ mod counting;
 mod nodes;
 mod random;
 mod small;
+mod told;

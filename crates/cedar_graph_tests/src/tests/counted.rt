@@ -1,68 +1,135 @@
 // How much the calls do: edges listed, nodes visited, and large graphs.
-use crate::tests::counting::{chain, counting_graph, edge_count, listed, put_counting, star};
-use crate::tests::nodes::{Edges, edges_of, set_of};
-use cedar_graph::{
-    TCNode, TcError, Work, compute_tc, compute_tc_counted, repair_tc, repair_tc_counted,
+ghost use Rattle.std.specs.Prelude.{nat_eq, IfOk};
+ghost use Rattle.cedar_graph.specs.Graph.{KeysMatch};
+
+use crate::tests::counting::{
+    Counting, chain, counting_graph, edge_count, listed, put_counting, star,
 };
+use crate::tests::nodes::{Edges, edges_of};
+use crate::tests::told::{Told, close, close_counted, names_one, repair, repair_counted};
+use cedar_graph::{TCNode, Work};
+use std::alloc::{AllocError, Global};
 use std::collections::HashMap;
 use std::test::Fail;
 
-#[test]
-fn edges_are_listed_once(rt: HostRuntime) -> Result<(), Fail> {
-    let alloc = rt.alloc();
-    let mut nodes = counting_graph(alloc, &[1, 2, 3, 4], &[(1, 2), (2, 3), (3, 1), (4, 1)])?;
-    let work = compute_tc_counted(alloc, &mut nodes, false)?;
-    assert_eq!(rt;
-        work,
-        Work {
-            reads: 4,
-            closings: 4
+// Whether a call did so much.
+fn did(work: Option<Work>, reads: usize, closings: usize) -> bool {
+    match work {
+        Some(work) => work == Work { reads, closings },
+        None => false,
+    }
+}
+
+// Whether the edges of a cycle of three with a way in are listed once.
+fn are_listed_once(alloc: Global) -> bool {
+    match counting_graph(alloc, &[1, 2, 3, 4], &[(1, 2), (2, 3), (3, 1), (4, 1)]) {
+        Ok(mut nodes) => {
+            let work = close_counted(alloc, &mut nodes, false);
+            let told = did(work, 4, 4) && listed(&nodes) == (4, 1) && edge_count(&nodes) == 12;
+            drop(nodes);
+            told
         }
-    );
-    assert_eq!(rt; listed(&nodes), (4, 1));
-    assert_eq!(rt; edge_count(&nodes), 12);
-    Ok(())
+        Err(_) => false,
+    }
 }
 
 #[test]
-fn nothing_is_done_for_no_nodes(rt: HostRuntime) -> Result<(), Fail> {
-    let alloc = rt.alloc();
-    let mut nodes = counting_graph(alloc, &[], &[])?;
-    let work = compute_tc_counted(alloc, &mut nodes, true)?;
-    assert_eq!(rt;
-        work,
-        Work {
-            reads: 0,
-            closings: 0
+fn edges_are_listed_once(rt: HostRuntime) {
+    assert!(rt; are_listed_once(rt.alloc()));
+}
+
+fn no_nodes_take_nothing(alloc: Global) -> bool {
+    match counting_graph(alloc, &[], &[]) {
+        Ok(mut nodes) => {
+            let closed = close_counted(alloc, &mut nodes, true);
+            let repaired = repair_counted(alloc, &[1], &mut nodes, true);
+            let told = did(closed, 0, 0) && did(repaired, 0, 0);
+            drop(nodes);
+            told
         }
-    );
-    let work = repair_tc_counted(alloc, &set_of(alloc, &[1])?, &mut nodes, true)?;
-    assert_eq!(rt;
-        work,
-        Work {
-            reads: 0,
-            closings: 0
-        }
-    );
-    Ok(())
+        Err(_) => false,
+    }
 }
 
 #[test]
-fn chain_of_two_thousand(rt: HostRuntime) -> Result<(), Fail> {
-    let alloc = rt.alloc();
-    let mut nodes = chain(alloc, 1, 2000)?;
-    put_counting(alloc, &mut nodes, 2000, &[])?;
-    let work = compute_tc_counted(alloc, &mut nodes, true)?;
-    assert_eq!(rt; edge_count(&nodes), 1_999_000);
-    assert_eq!(rt;
-        work,
-        Work {
-            reads: 2000,
-            closings: 2000
+fn nothing_is_done_for_no_nodes(rt: HostRuntime) {
+    assert!(rt; no_nodes_take_nothing(rt.alloc()));
+}
+
+// Each key of a range with an edge to the next, and the key behind them with these edges.
+fn ended_chain(
+    alloc: Global,
+    first: u64,
+    end: u64,
+    row: &[u64],
+) -> Result<HashMap<u64, Counting>, AllocError>
+    ensures { IfOk result (λ m. KeysMatch nat_eq (λ n. n.number) m) }
+{
+    let mut nodes = chain(alloc, first, end)?;
+    match put_counting(alloc, &mut nodes, end, row) {
+        Ok(()) => Ok(nodes),
+        Err(error) => {
+            drop(nodes);
+            Err(error)
         }
-    );
-    assert_eq!(rt; listed(&nodes), (2000, 1));
-    Ok(())
+    }
+}
+
+fn chain_takes(alloc: Global, count: usize) -> bool {
+    match ended_chain(alloc, 1, 2000, &[]) {
+        Ok(mut nodes) => {
+            let work = close_counted(alloc, &mut nodes, true);
+            let told = edge_count(&nodes) == 1_999_000
+                && did(work, count, count)
+                && listed(&nodes) == (count, 1);
+            drop(nodes);
+            told
+        }
+        Err(_) => false,
+    }
+}
+
+#[test]
+fn chain_of_two_thousand(rt: HostRuntime) {
+    assert!(rt; chain_takes(rt.alloc(), 2000));
+}
+
+// Whether each node has so many edges.
+fn have_rows_of(nodes: &HashMap<u64, Counting>, count: usize) -> bool {
+    let mut all = true;
+    for node in nodes.values() {
+        all = all && node.targets.len() == count;
+    }
+    all
+}
+
+// Whether fifty keys that lead to each other are closed to all edges, each listed once.
+fn all_lead_to_all(alloc: Global, keys: &[u64], edges: Edges<'_>) -> bool {
+    match counting_graph(alloc, keys, edges) {
+        Ok(mut nodes) => {
+            let closed = close(alloc, &mut nodes, false);
+            let told = closed == Told::Passed
+                && edge_count(&nodes) == 2500
+                && listed(&nodes) == (50, 1)
+                && have_rows_of(&nodes, 50);
+            drop(nodes);
+            told
+        }
+        Err(_) => false,
+    }
+}
+
+// Whether closing a graph without cycles is refused for one.
+fn has_cycle(alloc: Global, keys: &[u64], edges: Edges<'_>) -> bool {
+    match counting_graph(alloc, keys, edges) {
+        Ok(mut nodes) => {
+            let answer = close(alloc, &mut nodes, true);
+            let told = matches!(answer, Told::Cycle(_));
+            drop(nodes);
+            told
+        }
+        Err(_) => false,
+    }
 }
 
 #[test]
@@ -78,99 +145,149 @@ fn each_of_fifty_leads_to_the_others(rt: HostRuntime) -> Result<(), Fail> {
             }
         }
     }
-    let mut nodes = counting_graph(alloc, &keys, &edges)?;
-    compute_tc(alloc, &mut nodes, false)?;
-    assert_eq!(rt; edge_count(&nodes), 2500);
-    assert_eq!(rt; listed(&nodes), (50, 1));
-    for node in nodes.values() {
-        assert_eq!(rt; node.targets.len(), 50);
-    }
-    let mut nodes = counting_graph(alloc, &keys, &edges)?;
-    let refused = compute_tc(alloc, &mut nodes, true);
-    assert!(rt; matches!(refused, Err(TcError::HasCycle(_))));
+    assert!(rt; all_lead_to_all(alloc, &keys, &edges));
+    assert!(rt; has_cycle(alloc, &keys, &edges));
     Ok(())
 }
 
-#[test]
-fn two_cycles_that_share_a_key_are_repaired(rt: HostRuntime) -> Result<(), Fail> {
-    let alloc = rt.alloc();
-    let keys = [1, 2, 3, 4, 5];
-    let edges: Edges<'_> = &[(1, 2), (2, 3), (3, 1), (3, 4), (4, 5), (5, 3)];
-    let mut nodes = counting_graph(alloc, &keys, edges)?;
-    let Err(TcError::HasCycle(cycle)) = repair_tc(alloc, &set_of(alloc, &keys)?, &mut nodes, true)
-    else {
-        return Err("no cycle".into());
-    };
-    assert!(rt; keys.contains(cycle.vertex_with_loop()));
-    assert_eq!(rt; edge_count(&nodes), 25);
-    assert!(rt;
-        edges_of(alloc, &nodes)?
-            .iter()
-            .all(|e| e.0 <= 5 && e.1 <= 5)
-    );
-    Ok(())
-}
-
-#[test]
-fn each_key_to_fix_is_visited(rt: HostRuntime) -> Result<(), Fail> {
-    let alloc = rt.alloc();
-    let mut nodes = chain(alloc, 0, 9)?;
-    compute_tc(alloc, &mut nodes, true)?;
-    put_counting(alloc, &mut nodes, 3, &[4])?;
-    put_counting(alloc, &mut nodes, 1, &[2, 3])?;
-    put_counting(alloc, &mut nodes, 7, &[8])?;
-    let fix = set_of(alloc, &[1, 3, 7])?;
-    let before = listed(&nodes).0;
-    let work = repair_tc_counted(alloc, &fix, &mut nodes, true)?;
-    assert!(rt; work.closings >= 3 && work.closings <= 6);
-    assert_eq!(rt; listed(&nodes).0, before.saturating_add(work.reads));
-    assert_eq!(rt; edge_count(&nodes), 45);
-    let work = repair_tc_counted(alloc, &set_of(alloc, &[20, 21])?, &mut nodes, true)?;
-    assert_eq!(rt;
-        work,
-        Work {
-            reads: 0,
-            closings: 0
+// Whether the edges between some keys stay among the first five.
+fn stay_among_five(alloc: Global, nodes: &HashMap<u64, Counting>) -> bool {
+    match edges_of(alloc, nodes) {
+        Ok(all) => {
+            let told = all.iter().all(|e| e.0 <= 5 && e.1 <= 5);
+            drop(all);
+            told
         }
-    );
-    Ok(())
+        Err(_) => false,
+    }
+}
+
+fn two_cycles_are_repaired(alloc: Global, keys: &[u64], edges: Edges<'_>) -> bool {
+    match counting_graph(alloc, keys, edges) {
+        Ok(mut nodes) => {
+            let answer = repair(alloc, keys, &mut nodes, true);
+            let told = names_one(answer, keys)
+                && edge_count(&nodes) == 25
+                && stay_among_five(alloc, &nodes);
+            drop(nodes);
+            told
+        }
+        Err(_) => false,
+    }
+}
+
+#[test]
+fn two_cycles_that_share_a_key_are_repaired(rt: HostRuntime) {
+    let edges: Edges<'_> = &[(1, 2), (2, 3), (3, 1), (3, 4), (4, 5), (5, 3)];
+    assert!(rt; two_cycles_are_repaired(rt.alloc(), &[1, 2, 3, 4, 5], edges));
+}
+
+// Puts in the nodes 3, 1 and 7 anew.
+fn change(alloc: Global, nodes: &mut HashMap<u64, Counting>) -> Result<(), AllocError>
+    requires { KeysMatch nat_eq (λ n. n.number) nodes.old }
+    ensures { KeysMatch nat_eq (λ n. n.number) nodes.new }
+{
+    put_counting(alloc, nodes, 3, &[4])?;
+    put_counting(alloc, nodes, 1, &[2, 3])?;
+    put_counting(alloc, nodes, 7, &[8])
+}
+
+// Whether repair visits each of three keys, at most those between them twice, and counts what it reads.
+fn visits_each(work: Option<Work>, before: usize, after: usize) -> bool {
+    match work {
+        Some(work) => {
+            work.closings >= 3 && work.closings <= 6 && after == before.saturating_add(work.reads)
+        }
+        None => false,
+    }
+}
+
+// Whether the keys to fix of a closed chain that is changed are visited, and no absent ones.
+fn are_visited(alloc: Global) -> bool {
+    match chain(alloc, 0, 9) {
+        Ok(mut nodes) => {
+            let closed = close(alloc, &mut nodes, true);
+            let changed = change(alloc, &mut nodes).is_ok();
+            let before = listed(&nodes).0;
+            let work = repair_counted(alloc, &[1, 3, 7], &mut nodes, true);
+            let visited = visits_each(work, before, listed(&nodes).0);
+            let count = edge_count(&nodes);
+            let further = repair_counted(alloc, &[20, 21], &mut nodes, true);
+            let told = closed == Told::Passed
+                && changed
+                && visited
+                && count == 45
+                && did(further, 0, 0);
+            drop(nodes);
+            told
+        }
+        Err(_) => false,
+    }
+}
+
+#[test]
+fn each_key_to_fix_is_visited(rt: HostRuntime) {
+    assert!(rt; are_visited(rt.alloc()));
+}
+
+// Whether a node of a graph has the first of two edges, and not the second.
+fn has_one(nodes: &HashMap<u64, Counting>, from: u64, to: u64, not_to: u64) -> bool {
+    match nodes.get(&from) {
+        Some(node) => node.has_edge_to(&to) && !node.has_edge_to(&not_to),
+        None => false,
+    }
+}
+
+fn end_is_closed(alloc: Global) -> bool {
+    match ended_chain(alloc, 99_951, 100_000, &[]) {
+        Ok(mut nodes) => {
+            let closed = close(alloc, &mut nodes, false);
+            let told = closed == Told::Passed
+                && edge_count(&nodes) == 1225
+                && has_one(&nodes, 99_951, 100_000, 99_951);
+            drop(nodes);
+            told
+        }
+        Err(_) => false,
+    }
 }
 
 // The part of a chain of 100,000 keys whose last 50 have nodes.
 #[test]
-fn end_of_a_long_chain(rt: HostRuntime) -> Result<(), Fail> {
-    let alloc = rt.alloc();
-    let mut nodes = chain(alloc, 99_951, 100_000)?;
-    put_counting(alloc, &mut nodes, 100_000, &[])?;
-    compute_tc(alloc, &mut nodes, false)?;
-    assert_eq!(rt; edge_count(&nodes), 1225);
-    let first = nodes.get(&99_951).ok_or("no node")?;
-    assert!(rt; first.has_edge_to(&100_000) && !first.has_edge_to(&99_951));
-    Ok(())
+fn end_of_a_long_chain(rt: HostRuntime) {
+    assert!(rt; end_is_closed(rt.alloc()));
 }
 
-#[test]
-fn large_star(rt: HostRuntime) -> Result<(), Fail> {
-    let alloc = rt.alloc();
-    let mut nodes = star(alloc, 100_000)?;
-    let work = compute_tc_counted(alloc, &mut nodes, true)?;
-    assert_eq!(rt;
-        work,
-        Work {
-            reads: 100_001,
-            closings: 100_001
+fn star_takes(alloc: Global, count: usize) -> bool {
+    match star(alloc, 100_000) {
+        Ok(mut nodes) => {
+            let work = close_counted(alloc, &mut nodes, true);
+            let told = did(work, count, count) && edge_count(&nodes) == 200_001;
+            drop(nodes);
+            told
         }
-    );
-    assert_eq!(rt; edge_count(&nodes), 200_001);
-    Ok(())
+        Err(_) => false,
+    }
 }
 
 #[test]
-fn large_cycle(rt: HostRuntime) -> Result<(), Fail> {
-    let alloc = rt.alloc();
-    let mut nodes = chain(alloc, 0, 1999)?;
-    put_counting(alloc, &mut nodes, 1999, &[0])?;
-    compute_tc(alloc, &mut nodes, false)?;
-    assert_eq!(rt; edge_count(&nodes), 4_000_000);
-    Ok(())
+fn large_star(rt: HostRuntime) {
+    assert!(rt; star_takes(rt.alloc(), 100_001));
+}
+
+fn cycle_is_closed(alloc: Global) -> bool {
+    match ended_chain(alloc, 0, 1999, &[0]) {
+        Ok(mut nodes) => {
+            let closed = close(alloc, &mut nodes, false);
+            let told = closed == Told::Passed && edge_count(&nodes) == 4_000_000;
+            drop(nodes);
+            told
+        }
+        Err(_) => false,
+    }
+}
+
+#[test]
+fn large_cycle(rt: HostRuntime) {
+    assert!(rt; cycle_is_closed(rt.alloc()));
 }

@@ -7,7 +7,6 @@ ghost use Rattle.cedar_graph.specs.Graph.{KeysMatch};
 use cedar_graph::TCNode;
 use std::alloc::{AllocError, Global};
 use std::collections::{HashMap, HashSet};
-use std::test::Fail;
 
 /// A node with a set of edges, all of them direct: it takes the default `direct_edges`.
 #[derive(Drop)]
@@ -225,7 +224,7 @@ pub fn edges_of<V: TCNode<u64>>(
 }
 
 /// Some keys, in order.
-pub fn in_order(alloc: Global, keys: &[&u64]) -> Result<Vec<u64>, Fail> {
+pub fn in_order(alloc: Global, keys: &[&u64]) -> Result<Vec<u64>, AllocError> {
     let mut all: Vec<u64> = Vec::new(alloc);
     for key in keys {
         all.push(**key)?;

@@ -1,10 +1,12 @@
 // Many graphs on up to eight keys, some without nodes, beside a plain closure.
 ghost use Rattle.std.specs.Prelude.{◌<◌};
 
-use crate::tests::counting::{counting_graph, listed, rows_in_order};
-use crate::tests::nodes::{Edges, edges_of, set_of};
-use cedar_graph::{TcError, compute_tc, compute_tc_counted, repair_tc, repair_tc_counted};
+use crate::tests::counting::{Counting, counting_graph, listed, rows_in_order};
+use crate::tests::nodes::Edges;
+use crate::tests::told::{Told, close, close_counted, has_edges, repair, repair_counted};
+use cedar_graph::Work;
 use std::alloc::{AllocError, Global};
+use std::collections::HashMap;
 use std::test::Fail;
 
 const KEYS: [u64; 8] = [1, 2, 3, 4, 5, 6, 7, 8];
@@ -106,91 +108,197 @@ fn some_edges(
     Ok(edges)
 }
 
-// Fails with this text where it does not hold.
-fn holds(what: bool, text: &'static str) -> Result<(), Fail> {
-    if what {
-        return Ok(());
+// The first of some texts whose check does not hold, or none.
+fn wrong(checks: &[(bool, &'static str)]) -> &'static str {
+    for (holds, text) in checks {
+        if !*holds {
+            return *text;
+        }
     }
-    Err(text.into())
+    ""
 }
 
-// Closes the graph: edges, counts, refusal and the named key as those of the plain closure.
+// Whether a call named a key of these on a cycle, or passed where there is none.
+fn is_named(answer: Told, keys: &[u64], closure: Edges<'_>, has_cycle: bool) -> bool {
+    match answer {
+        Told::Cycle(key) => keys.contains(&key) && closure.contains(&(key, key)),
+        Told::Passed => !has_cycle,
+        Told::Missing(_, _, _) | Told::Memory => false,
+    }
+}
+
+// What is wrong where a graph of so many nodes was closed with this work.
+fn wrong_closed(
+    alloc: Global,
+    nodes: &HashMap<u64, Counting>,
+    work: Option<Work>,
+    count: usize,
+    closure: Edges<'_>,
+) -> &'static str {
+    let counts = match work {
+        Some(work) => work.reads == count && work.closings == count,
+        None => false,
+    };
+    wrong(&[
+        (has_edges(alloc, nodes, closure), "edges of the closure"),
+        (
+            listed(nodes) == (count, count.min(1)),
+            "each node is read once",
+        ),
+        (rows_in_order(nodes), "order of the closure's rows"),
+        (counts, "counts of the closure"),
+    ])
+}
+
+// Closes the graph: what is wrong with its edges and counts, beside the plain closure.
+fn check_edges(alloc: Global, keys: &[u64], edges: Edges<'_>, closure: Edges<'_>) -> &'static str {
+    match counting_graph(alloc, keys, edges) {
+        Ok(mut nodes) => {
+            let work = close_counted(alloc, &mut nodes, false);
+            let told = wrong_closed(alloc, &nodes, work, keys.len(), closure);
+            drop(nodes);
+            told
+        }
+        Err(_) => "out of memory",
+    }
+}
+
+// Closes the graph where no cycle is to be: what is wrong with its edges, the refusal and the named key.
+fn check_cycle(alloc: Global, keys: &[u64], edges: Edges<'_>, closure: Edges<'_>) -> &'static str {
+    let has_cycle = closure.iter().any(|e| e.0 == e.1);
+    match counting_graph(alloc, keys, edges) {
+        Ok(mut nodes) => {
+            let answer = close(alloc, &mut nodes, true);
+            let told = wrong(&[
+                (
+                    is_named(answer, keys, closure, has_cycle),
+                    "cycle is refused, and a key on it named",
+                ),
+                (
+                    has_edges(alloc, &nodes, closure),
+                    "edges where a cycle was asked for",
+                ),
+            ]);
+            drop(nodes);
+            told
+        }
+        Err(_) => "out of memory",
+    }
+}
+
+// Both in turn: what is wrong first, or nothing.
 fn check_closing(
     alloc: Global,
     keys: &[u64],
     edges: Edges<'_>,
     closure: Edges<'_>,
-) -> Result<(), Fail> {
-    let mut nodes = counting_graph(alloc, keys, edges)?;
-    let work = compute_tc_counted(alloc, &mut nodes, false)?;
-    let count = keys.len();
-    holds(
-        edges_of(alloc, &nodes)?.as_slice() == closure,
-        "edges of the closure",
-    )?;
-    holds(
-        listed(&nodes) == (count, count.min(1)),
-        "each node is read once",
-    )?;
-    holds(rows_in_order(&nodes), "order of the closure's rows")?;
-    holds(
-        work.reads == count && work.closings == count,
-        "counts of the closure",
-    )?;
-    let has_cycle = closure.iter().any(|e| e.0 == e.1);
-    let mut nodes = counting_graph(alloc, keys, edges)?;
-    match compute_tc(alloc, &mut nodes, true) {
-        Err(TcError::HasCycle(cycle)) => {
-            let key = *cycle.vertex_with_loop();
-            holds(
-                keys.contains(&key) && closure.contains(&(key, key)),
-                "named key",
-            )?;
-        }
-        other => holds(other.is_ok() && !has_cycle, "cycle is refused")?,
+) -> &'static str {
+    let first = check_edges(alloc, keys, edges, closure);
+    if !first.is_empty() {
+        return first;
     }
-    holds(
-        edges_of(alloc, &nodes)?.as_slice() == closure,
-        "edges where a cycle was asked for",
-    )
+    check_cycle(alloc, keys, edges, closure)
 }
 
-// Repairs the graph at some keys, where the other nodes are closed.
+// What is wrong where a graph was repaired at so many keys with this work.
+fn wrong_repaired(
+    alloc: Global,
+    nodes: &HashMap<u64, Counting>,
+    work: Option<Work>,
+    present: usize,
+    closure: Edges<'_>,
+) -> &'static str {
+    let (reads, closings) = match work {
+        Some(work) => (work.reads == listed(nodes).0, work.closings == present),
+        None => (false, false),
+    };
+    wrong(&[
+        (has_edges(alloc, nodes, closure), "edges of the repair"),
+        (rows_in_order(nodes), "order of the repair's rows"),
+        (reads, "reads of the repair"),
+        (closings, "closings of the repair"),
+    ])
+}
+
+// Repairs the graph at some keys, where the other nodes are closed: what is wrong with its edges and counts.
+fn check_repaired(
+    alloc: Global,
+    keys: &[u64],
+    trusted: Edges<'_>,
+    closure: Edges<'_>,
+    to_fix: &[u64],
+) -> &'static str {
+    let present = to_fix.iter().filter(|key| keys.contains(*key)).count();
+    match counting_graph(alloc, keys, trusted) {
+        Ok(mut nodes) => {
+            let work = repair_counted(alloc, to_fix, &mut nodes, false);
+            let told = wrong_repaired(alloc, &nodes, work, present, closure);
+            drop(nodes);
+            told
+        }
+        Err(_) => "out of memory",
+    }
+}
+
+// The same where no cycle is to be: what is wrong with its edges, the refusal and the named key.
+fn check_repair_of_cycle(
+    alloc: Global,
+    keys: &[u64],
+    trusted: Edges<'_>,
+    closure: Edges<'_>,
+    to_fix: &[u64],
+) -> &'static str {
+    let has_cycle = closure.iter().any(|e| e.0 == e.1 && to_fix.contains(&e.0));
+    match counting_graph(alloc, keys, trusted) {
+        Ok(mut nodes) => {
+            let answer = repair(alloc, to_fix, &mut nodes, true);
+            let told = wrong(&[
+                (
+                    is_named(answer, to_fix, closure, has_cycle),
+                    "cycle is refused by repair, and a key on it named",
+                ),
+                (
+                    has_edges(alloc, &nodes, closure),
+                    "edges of a repair with cycles",
+                ),
+            ]);
+            drop(nodes);
+            told
+        }
+        Err(_) => "out of memory",
+    }
+}
+
+// Both in turn: what is wrong first, or nothing.
 fn check_repair(
     alloc: Global,
     keys: &[u64],
     edges: Edges<'_>,
     closure: Edges<'_>,
     to_fix: &[u64],
-) -> Result<(), Fail> {
-    let trusted = joined(alloc, to_fix, edges, closure)?;
-    let fix = set_of(alloc, to_fix)?;
-    let mut nodes = counting_graph(alloc, keys, &trusted)?;
-    let work = repair_tc_counted(alloc, &fix, &mut nodes, false)?;
-    let present = to_fix.iter().filter(|key| keys.contains(*key)).count();
-    holds(
-        edges_of(alloc, &nodes)?.as_slice() == closure,
-        "edges of the repair",
-    )?;
-    holds(rows_in_order(&nodes), "order of the repair's rows")?;
-    holds(work.reads == listed(&nodes).0, "reads of the repair")?;
-    holds(work.closings == present, "closings of the repair")?;
-    let has_cycle = closure.iter().any(|e| e.0 == e.1 && to_fix.contains(&e.0));
-    let mut nodes = counting_graph(alloc, keys, &trusted)?;
-    match repair_tc(alloc, &fix, &mut nodes, true) {
-        Err(TcError::HasCycle(cycle)) => {
-            let key = *cycle.vertex_with_loop();
-            holds(
-                to_fix.contains(&key) && closure.contains(&(key, key)),
-                "repair's named key",
-            )?;
+) -> &'static str {
+    match joined(alloc, to_fix, edges, closure) {
+        Ok(trusted) => {
+            let first = check_repaired(alloc, keys, &trusted, closure, to_fix);
+            let second = check_repair_of_cycle(alloc, keys, &trusted, closure, to_fix);
+            drop(trusted);
+            wrong(&[(first.is_empty(), first), (second.is_empty(), second)])
         }
-        other => holds(other.is_ok() && !has_cycle, "cycle is refused by repair")?,
+        Err(_) => "out of memory",
     }
-    holds(
-        edges_of(alloc, &nodes)?.as_slice() == closure,
-        "edges of a repair with cycles",
-    )
+}
+
+// Closes a graph, and repairs it at some keys: what is wrong first, or nothing.
+fn check_both(alloc: Global, keys: &[u64], edges: Edges<'_>, to_fix: &[u64]) -> &'static str {
+    match plain_closure(alloc, edges) {
+        Ok(closure) => {
+            let first = check_closing(alloc, keys, edges, &closure);
+            let second = check_repair(alloc, keys, edges, &closure, to_fix);
+            drop(closure);
+            wrong(&[(first.is_empty(), first), (second.is_empty(), second)])
+        }
+        Err(_) => "out of memory",
+    }
 }
 
 // The keys with nodes, and the edges.
@@ -234,15 +342,22 @@ const SHAPES: [(&'static [u64], Edges<'static>); 7] = [
 ];
 
 #[test]
-fn cycles_of_several_shapes(rt: HostRuntime) -> Result<(), Fail> {
+fn cycles_of_several_shapes(rt: HostRuntime) {
     let alloc = rt.alloc();
     for (keys, edges) in SHAPES {
-        let closure = plain_closure(alloc, edges)?;
-        check_closing(alloc, keys, edges, &closure)?;
-        check_repair(alloc, keys, edges, &closure, keys)?;
-        check_repair(alloc, keys, edges, &closure, &[1, 8])?;
+        assert_eq!(rt; check_both(alloc, keys, edges, keys), "");
+        assert_eq!(rt; check_both(alloc, keys, edges, &[1, 8]), "");
     }
-    Ok(())
+}
+
+// The next graph of a row: what is wrong with it, or nothing.
+fn check_next(alloc: Global, random: &mut Random) -> Result<&'static str, AllocError> {
+    let count = random.below(8).saturating_add(1);
+    let odds = random.below(7).saturating_add(2);
+    let keys = some_keys(alloc, random, count, 3)?;
+    let edges = some_edges(alloc, random, &keys, count, odds)?;
+    let to_fix = some_keys(alloc, random, 8, 2)?;
+    Ok(check_both(alloc, &keys, &edges, &to_fix))
 }
 
 #[test]
@@ -250,16 +365,30 @@ fn random_graphs(rt: HostRuntime) -> Result<(), Fail> {
     let alloc = rt.alloc();
     let mut random = Random { state: 1 };
     for _ in 0..20_000 {
-        let count = random.below(8).saturating_add(1);
-        let odds = random.below(7).saturating_add(2);
-        let keys = some_keys(alloc, &mut random, count, 3)?;
-        let edges = some_edges(alloc, &mut random, &keys, count, odds)?;
-        let closure = plain_closure(alloc, &edges)?;
-        check_closing(alloc, &keys, &edges, &closure)?;
-        let to_fix = some_keys(alloc, &mut random, 8, 2)?;
-        check_repair(alloc, &keys, &edges, &closure, &to_fix)?;
+        assert_eq!(rt; check_next(alloc, &mut random)?, "");
     }
     Ok(())
+}
+
+// The graph of a number on three keys, each with or without its node: what is wrong with it, or nothing.
+fn check_numbered(alloc: Global, number: u64) -> Result<&'static str, AllocError> {
+    let mut bits = number;
+    let mut keys = Vec::new(alloc);
+    let mut edges = Vec::new(alloc);
+    for from in 1..4 {
+        let here = bits % 2 == 1;
+        bits /= 2;
+        if here {
+            keys.push(from)?;
+        }
+        for to in 1..4 {
+            if bits % 2 == 1 && here {
+                edges.push((from, to))?;
+            }
+            bits /= 2;
+        }
+    }
+    Ok(check_both(alloc, &keys, &edges, &[1, 3]))
 }
 
 // All graphs on three keys, each key with or without its node.
@@ -267,25 +396,7 @@ fn random_graphs(rt: HostRuntime) -> Result<(), Fail> {
 fn graphs_on_three_keys_some_without_nodes(rt: HostRuntime) -> Result<(), Fail> {
     let alloc = rt.alloc();
     for number in 0..4096 {
-        let mut bits: u64 = number;
-        let mut keys = Vec::new(alloc);
-        let mut edges = Vec::new(alloc);
-        for from in 1..4 {
-            let here = bits % 2 == 1;
-            bits /= 2;
-            if here {
-                keys.push(from)?;
-            }
-            for to in 1..4 {
-                if bits % 2 == 1 && here {
-                    edges.push((from, to))?;
-                }
-                bits /= 2;
-            }
-        }
-        let closure = plain_closure(alloc, &edges)?;
-        check_closing(alloc, &keys, &edges, &closure)?;
-        check_repair(alloc, &keys, &edges, &closure, &[1, 3])?;
+        assert_eq!(rt; check_numbered(alloc, number)?, "");
     }
     Ok(())
 }

@@ -1,8 +1,7 @@
 // All graphs on three keys, against paths that are looked for one by one.
-use crate::tests::nodes::{Edges, edges_of, graph, set_of};
-use cedar_graph::{TcError, compute_tc, enforce_tc_and_dag, repair_tc};
+use crate::tests::nodes::{Edges, graph};
+use crate::tests::told::{Told, check, close, has_edges, repair};
 use std::alloc::{AllocError, Global};
-use std::test::Fail;
 
 const KEYS: [u64; 3] = [1, 2, 3];
 
@@ -47,58 +46,133 @@ fn breaks(edges: Edges<'_>, a: u64, b: u64, c: u64) -> bool {
     edges.contains(&(a, b)) && edges.contains(&(b, c)) && !edges.contains(&(a, c))
 }
 
-#[test]
-fn closes_all_small_graphs(rt: HostRuntime) -> Result<(), Fail> {
-    let alloc = rt.alloc();
-    let fix = set_of(alloc, &KEYS)?;
-    for number in 0..512 {
-        let edges = numbered(alloc, number)?;
-        let closure = reached(alloc, &edges)?;
-        let has_cycle = KEYS.iter().any(|key| closure.contains(&(*key, *key)));
-        let mut nodes = graph(alloc, &KEYS, &edges)?;
-        compute_tc(alloc, &mut nodes, false)?;
-        assert!(rt; edges_of(alloc, &nodes)? == closure, "graph {number}");
-        let mut nodes = graph(alloc, &KEYS, &edges)?;
-        match compute_tc(alloc, &mut nodes, true) {
-            Err(TcError::HasCycle(cycle)) => {
-                let key = *cycle.vertex_with_loop();
-                assert!(rt; is_reached(&edges, key, key), "graph {number}");
-            }
-            other => assert!(rt; other.is_ok() && !has_cycle, "graph {number}"),
+// Whether a graph is closed to these edges.
+fn is_closed(alloc: Global, edges: Edges<'_>, closure: Edges<'_>) -> bool {
+    match graph(alloc, &KEYS, edges) {
+        Ok(mut nodes) => {
+            let answer = close(alloc, &mut nodes, false);
+            let same = has_edges(alloc, &nodes, closure);
+            drop(nodes);
+            answer == Told::Passed && same
         }
-        let mut nodes = graph(alloc, &KEYS, &edges)?;
-        let repaired = repair_tc(alloc, &fix, &mut nodes, true);
-        assert_eq!(rt; repaired.is_err(), has_cycle, "graph {number}");
-        assert!(rt; edges_of(alloc, &nodes)? == closure, "graph {number}");
+        Err(_) => false,
     }
-    Ok(())
+}
+
+// Whether closing a graph names a key on a cycle, or passes where there is none.
+fn is_named(alloc: Global, edges: Edges<'_>, has_cycle: bool) -> bool {
+    match graph(alloc, &KEYS, edges) {
+        Ok(mut nodes) => {
+            let answer = close(alloc, &mut nodes, true);
+            drop(nodes);
+            match answer {
+                Told::Cycle(key) => is_reached(edges, key, key),
+                Told::Passed => !has_cycle,
+                Told::Missing(_, _, _) | Told::Memory => false,
+            }
+        }
+        Err(_) => false,
+    }
+}
+
+// Whether repair at all keys is refused where there is a cycle, and closes to these edges.
+fn is_repaired(alloc: Global, edges: Edges<'_>, closure: Edges<'_>, has_cycle: bool) -> bool {
+    match graph(alloc, &KEYS, edges) {
+        Ok(mut nodes) => {
+            let answer = repair(alloc, &KEYS, &mut nodes, true);
+            let same = has_edges(alloc, &nodes, closure);
+            drop(nodes);
+            (answer != Told::Passed) == has_cycle && same
+        }
+        Err(_) => false,
+    }
+}
+
+// Whether a graph is closed and repaired to what is reached, and its cycles are named.
+fn agrees(alloc: Global, edges: Edges<'_>) -> bool {
+    match reached(alloc, edges) {
+        Ok(closure) => {
+            let has_cycle = KEYS.iter().any(|key| closure.contains(&(*key, *key)));
+            let told = is_closed(alloc, edges, &closure)
+                && is_named(alloc, edges, has_cycle)
+                && is_repaired(alloc, edges, &closure, has_cycle);
+            drop(closure);
+            told
+        }
+        Err(_) => false,
+    }
+}
+
+// The same of the graph of a number.
+fn number_agrees(alloc: Global, number: u64) -> bool {
+    match numbered(alloc, number) {
+        Ok(edges) => {
+            let told = agrees(alloc, &edges);
+            drop(edges);
+            told
+        }
+        Err(_) => false,
+    }
 }
 
 #[test]
-fn checks_all_small_graphs(rt: HostRuntime) -> Result<(), Fail> {
+fn closes_all_small_graphs(rt: HostRuntime) {
     let alloc = rt.alloc();
     for number in 0..512 {
-        let edges = numbered(alloc, number)?;
-        let is_closed = reached(alloc, &edges)? == edges;
-        let nodes = graph(alloc, &KEYS, &edges)?;
-        match enforce_tc_and_dag(alloc, &nodes) {
-            Ok(()) => {
-                assert!(rt; is_closed, "graph {number}");
-                assert!(rt;
-                    KEYS.iter().all(|x| !edges.contains(&(*x, *x))),
-                    "graph {number}"
-                );
-            }
-            Err(TcError::MissingTcEdge(missing)) => {
-                let (a, b, c) = (missing.child, missing.parent, missing.grandparent);
-                assert!(rt; breaks(&edges, a, b, c), "graph {number}");
-            }
-            Err(TcError::HasCycle(cycle)) => {
-                let key = *cycle.vertex_with_loop();
-                assert!(rt; is_closed && edges.contains(&(key, key)), "graph {number}");
-            }
-            Err(TcError::Memory) => return Err("out of memory".into()),
-        }
+        assert!(rt; number_agrees(alloc, number), "graph {number}");
     }
-    Ok(())
+}
+
+// What the check of a graph tells.
+fn checked(alloc: Global, edges: Edges<'_>) -> Told {
+    match graph(alloc, &KEYS, edges) {
+        Ok(nodes) => {
+            let answer = check(alloc, &nodes);
+            drop(nodes);
+            answer
+        }
+        Err(_) => Told::Memory,
+    }
+}
+
+// Whether what a check told is so.
+fn is_so(answer: Told, edges: Edges<'_>, is_closed: bool) -> bool {
+    match answer {
+        Told::Passed => is_closed && KEYS.iter().all(|x| !edges.contains(&(*x, *x))),
+        Told::Missing(a, b, c) => breaks(edges, a, b, c),
+        Told::Cycle(key) => is_closed && edges.contains(&(key, key)),
+        Told::Memory => false,
+    }
+}
+
+// Whether the check of a graph tells what is so.
+fn check_agrees(alloc: Global, edges: Edges<'_>) -> bool {
+    match reached(alloc, edges) {
+        Ok(closure) => {
+            let is_closed = closure.as_slice() == edges;
+            drop(closure);
+            is_so(checked(alloc, edges), edges, is_closed)
+        }
+        Err(_) => false,
+    }
+}
+
+// The same of the graph of a number.
+fn check_of_number_agrees(alloc: Global, number: u64) -> bool {
+    match numbered(alloc, number) {
+        Ok(edges) => {
+            let told = check_agrees(alloc, &edges);
+            drop(edges);
+            told
+        }
+        Err(_) => false,
+    }
+}
+
+#[test]
+fn checks_all_small_graphs(rt: HostRuntime) {
+    let alloc = rt.alloc();
+    for number in 0..512 {
+        assert!(rt; check_of_number_agrees(alloc, number), "graph {number}");
+    }
 }
