@@ -1,4 +1,5 @@
-// Calls on a store beside the same calls on the world that it stands for.
+// Calls on a store beside the same calls on the world that it stands for. What a function here holds it lets go by a
+// written drop, on each path: a drop that is not written is dear to prove at a type as large as a store.
 use super::store_world::{
     Call, Refused, Row, Rows, World, after, ancestors, bit, count, empty, entry,
 };
@@ -12,6 +13,7 @@ use cedar_ids::entity::EntityUID;
 use cedar_terms::{Literal, PartialValue, Value, ValueKind};
 use std::alloc::Global;
 use std::collections::HashSet;
+use std::hash::Hash;
 use std::rc::Rc;
 use std::test::Fail;
 
@@ -36,27 +38,66 @@ pub(super) fn bit_of(uid: &EntityUID) -> u8 {
     }
 }
 
+// A value and a further one.
+fn beside<A: Drop, B>(one: A, other: Result<B, Fail>) -> Result<(A, B), Fail> {
+    match other {
+        Ok(other) => Ok((one, other)),
+        Err(fail) => {
+            drop(one);
+            Err(fail)
+        }
+    }
+}
+
+// A list with a further item.
+fn pushed<T: Drop>(list: Vec<T>, item: Result<T, Fail>) -> Result<Vec<T>, Fail> {
+    let mut list = list;
+    list.push(item?)?;
+    Ok(list)
+}
+
+// A set with a further item.
+fn joined<T: Eq + Hash + Drop>(set: HashSet<T>, item: Result<T, Fail>) -> Result<HashSet<T>, Fail> {
+    let mut set = set;
+    set.insert(item?)?;
+    Ok(set)
+}
+
 fn set_of(alloc: Global, bits: u8) -> Result<HashSet<EntityUID>, Fail> {
     let mut set = HashSet::new(alloc);
     for uid in 0..3_u8 {
         if bits & bit(uid) != 0 {
-            set.insert(numbered(alloc, uid)?)?;
+            set = joined(set, numbered(alloc, uid))?;
         }
     }
     Ok(set)
 }
 
 // The attribute of an entity.
-pub(super) fn attr_of(row: &Row) -> PartialValue {
+fn attr_of(row: &Row) -> PartialValue {
     let number = Literal::Long(i64::from(row.attr));
     PartialValue::Value(Value::new(ValueKind::Lit(number), None))
 }
 
+// Whether an entity has the attribute of this one.
+pub(super) fn has_attr(entity: &Entity, row: &Row) -> bool {
+    let want = attr_of(row);
+    let same = entity.get("k") == Some(&want);
+    drop(want);
+    same
+}
+
+// The attribute of an entity at its key.
+fn attr_at_key(alloc: Global, row: &Row) -> Result<(String, PartialValue), Fail> {
+    let key = String::from_str(alloc, "k")?;
+    Ok((key, attr_of(row)))
+}
+
 fn entity_of(alloc: Global, row: &Row) -> Result<Entity, Fail> {
     let uid = numbered(alloc, row.uid)?;
-    let parents = set_of(alloc, row.parents)?;
-    let mut attrs = Vec::new(alloc);
-    attrs.push((String::from_str(alloc, "k")?, attr_of(row)))?;
+    let (uid, parents) = beside(uid, set_of(alloc, row.parents))?;
+    let attrs = pushed(Vec::new(alloc), attr_at_key(alloc, row));
+    let ((uid, parents), attrs) = beside((uid, parents), attrs)?;
     let none = HashSet::new(alloc);
     let tags = Vec::new(alloc);
     Ok(Entity::new_with_attr_partial_value(alloc, uid, attrs, none, parents, tags)?)
@@ -65,15 +106,20 @@ fn entity_of(alloc: Global, row: &Row) -> Result<Entity, Fail> {
 fn entities_of(alloc: Global, rows: &Rows) -> Result<Vec<Entity>, Fail> {
     let mut list = Vec::new(alloc);
     for row in rows.iter().flatten() {
-        list.push(entity_of(alloc, row)?)?;
+        list = pushed(list, entity_of(alloc, row))?;
     }
     Ok(list)
+}
+
+fn shared_entity(alloc: Global, row: &Row) -> Result<Rc<Entity>, Fail> {
+    let entity = entity_of(alloc, row)?;
+    Ok(Rc::new(alloc, entity)?)
 }
 
 fn shared_of(alloc: Global, rows: &Rows) -> Result<Vec<Rc<Entity>>, Fail> {
     let mut list = Vec::new(alloc);
     for row in rows.iter().flatten() {
-        list.push(Rc::new(alloc, entity_of(alloc, row)?)?)?;
+        list = pushed(list, shared_entity(alloc, row))?;
     }
     Ok(list)
 }
@@ -81,9 +127,36 @@ fn shared_of(alloc: Global, rows: &Rows) -> Result<Vec<Rc<Entity>>, Fail> {
 fn uids_of(alloc: Global, list: &[u8; 2]) -> Result<Vec<EntityUID>, Fail> {
     let mut uids = Vec::new(alloc);
     for uid in list {
-        uids.push(numbered(alloc, *uid)?)?;
+        uids = pushed(uids, numbered(alloc, *uid))?;
     }
     Ok(uids)
+}
+
+type Answer = Result<Entities, EntitiesError>;
+
+fn added(alloc: Global, store: Entities, rows: &Rows, mode: TCComputation) -> Result<Answer, Fail> {
+    let (store, list) = beside(store, shared_of(alloc, rows))?;
+    Ok(store.add_entities(alloc, list, mode))
+}
+
+fn upserted(
+    alloc: Global,
+    store: Entities,
+    rows: &Rows,
+    mode: TCComputation,
+) -> Result<Answer, Fail> {
+    let (store, list) = beside(store, shared_of(alloc, rows))?;
+    Ok(store.upsert_entities(alloc, list, mode))
+}
+
+fn removed(
+    alloc: Global,
+    store: Entities,
+    list: &[u8; 2],
+    mode: TCComputation,
+) -> Result<Answer, Fail> {
+    let (store, uids) = beside(store, uids_of(alloc, list))?;
+    Ok(store.remove_entities(alloc, uids, mode))
 }
 
 // What a call in a mode makes of a store.
@@ -92,12 +165,15 @@ pub(super) fn done(
     store: Entities,
     call: &Call,
     mode: TCComputation,
-) -> Result<Result<Entities, EntitiesError>, Fail> {
+) -> Result<Answer, Fail> {
     match call {
-        Call::From(rows) => Ok(Entities::from_entities(alloc, entities_of(alloc, rows)?, mode)),
-        Call::Add(rows) => Ok(store.add_entities(alloc, shared_of(alloc, rows)?, mode)),
-        Call::Upsert(rows) => Ok(store.upsert_entities(alloc, shared_of(alloc, rows)?, mode)),
-        Call::Remove(list) => Ok(store.remove_entities(alloc, uids_of(alloc, list)?, mode)),
+        Call::From(rows) => {
+            drop(store);
+            Ok(Entities::from_entities(alloc, entities_of(alloc, rows)?, mode))
+        }
+        Call::Add(rows) => added(alloc, store, rows, mode),
+        Call::Upsert(rows) => upserted(alloc, store, rows, mode),
+        Call::Remove(list) => removed(alloc, store, list, mode),
         Call::Partial => Ok(Ok(store.partial())),
     }
 }
@@ -116,19 +192,31 @@ fn is_row(entity: &Entity, row: &Row, ancestors: u8) -> bool {
     bit_of(entity.uid()) == bit(row.uid)
         && bits_of(entity.parents()) == row.parents
         && bits_of(entity.indirect_ancestors()) == ancestors & !row.parents
-        && entity.get("k") == Some(&attr_of(row))
+        && has_attr(entity, row)
+}
+
+// Whether a look-up found with a uid what the world has.
+fn is_found(found: &Dereference<'_, Entity>, world: &World, uid: u8) -> bool {
+    match (found, entry(world, uid)) {
+        (Dereference::Data(entity), Some(row)) => is_row(entity, &row, ancestors(world, uid)),
+        (Dereference::Residual(_), None) => world.partial,
+        (Dereference::NoSuchEntity, None) => !world.partial,
+        _ => false,
+    }
 }
 
 // Whether a store has with a uid what the world has.
 fn is_held(alloc: Global, store: &Entities, world: &World, uid: u8) -> Result<bool, Fail> {
     let name = numbered(alloc, uid)?;
-    match (store.entity(alloc, &name)?, entry(world, uid)) {
-        (Dereference::Data(entity), Some(row)) => {
-            Ok(is_row(entity, &row, ancestors(world, uid)))
+    let found = store.entity(alloc, &name);
+    drop(name);
+    match found {
+        Ok(found) => {
+            let held = is_found(&found, world, uid);
+            drop(found);
+            Ok(held)
         }
-        (Dereference::Residual(_), None) => Ok(world.partial),
-        (Dereference::NoSuchEntity, None) => Ok(!world.partial),
-        _ => Ok(false),
+        Err(error) => Err(Fail::from(error)),
     }
 }
 
@@ -199,15 +287,27 @@ pub(super) fn compared(alloc: Global, calls: &[Call]) -> Result<End, Fail> {
     for call in calls {
         let then = after(&world, call);
         match done(alloc, store, call, TCComputation::ComputeNow)? {
-            Ok(next) => {
-                let Some(held) = stood_for(alloc, &next, then)? else {
+            Ok(next) => match stood_for(alloc, &next, then) {
+                Ok(Some(held)) => {
+                    store = next;
+                    world = held;
+                }
+                Ok(None) => {
+                    drop(next);
                     return Ok(End::Differs);
-                };
-                store = next;
-                world = held;
+                }
+                Err(fail) => {
+                    drop(next);
+                    return Err(fail);
+                }
+            },
+            Err(error) => {
+                let end = end_of(&error, then);
+                drop(error);
+                return Ok(end);
             }
-            Err(error) => return Ok(end_of(&error, then)),
         }
     }
+    drop(store);
     Ok(End::Held)
 }

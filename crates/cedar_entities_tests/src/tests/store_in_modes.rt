@@ -1,5 +1,5 @@
 // Calls on a store in the three modes, beside what each leaves as far as that is fixed.
-use super::store_beside::{attr_of, bit_of, bits_of, done, numbered};
+use super::store_beside::{bit_of, bits_of, done, has_attr, numbered};
 use super::store_kept::{Fault, Kept, Left, Store, kept_at, left_by, none};
 use super::store_lists::{below, call_at, drawn_call, three};
 use super::store_world::{Call, Row, bit};
@@ -29,18 +29,32 @@ fn kept_of(entity: &Entity, uid: u8) -> Kept {
         parents,
         attr: 0,
     };
-    if entity.get("k") != Some(&attr_of(&row)) {
+    if !has_attr(entity, &row) {
         row.attr = 1;
     }
     let further = bits_of(entity.indirect_ancestors());
     Kept { row, further }
 }
 
+// What a look-up of a uid found.
+fn found_at(found: &Dereference<'_, Entity>, uid: u8) -> Option<Kept> {
+    match found {
+        Dereference::Data(entity) => Some(kept_of(entity, uid)),
+        _ => None,
+    }
+}
+
 fn seen_at(alloc: Global, store: &Entities, uid: u8) -> Result<Option<Kept>, Fail> {
     let name = numbered(alloc, uid)?;
-    match store.entity(alloc, &name)? {
-        Dereference::Data(entity) => Ok(Some(kept_of(entity, uid))),
-        _ => Ok(None),
+    let found = store.entity(alloc, &name);
+    drop(name);
+    match found {
+        Ok(found) => {
+            let kept = found_at(&found, uid);
+            drop(found);
+            Ok(kept)
+        }
+        Err(error) => Err(Fail::from(error)),
     }
 }
 
@@ -105,16 +119,28 @@ fn compared(alloc: Global, calls: &[(Call, TCComputation)]) -> Result<End, Fail>
     for (call, mode) in calls {
         let left = left_by(&before, call, *mode);
         match done(alloc, store, call, *mode)? {
-            Ok(next) => {
-                before = seen(alloc, &next)?;
-                if !agrees(&left, &before) {
-                    return Ok(End::Differs);
+            Ok(next) => match seen(alloc, &next) {
+                Ok(held) => {
+                    if !agrees(&left, &held) {
+                        drop(next);
+                        return Ok(End::Differs);
+                    }
+                    store = next;
+                    before = held;
                 }
-                store = next;
+                Err(fail) => {
+                    drop(next);
+                    return Err(fail);
+                }
+            },
+            Err(error) => {
+                let end = ended(&error, left);
+                drop(error);
+                return Ok(end);
             }
-            Err(error) => return Ok(ended(&error, left)),
         }
     }
+    drop(store);
     Ok(End::Held)
 }
 
