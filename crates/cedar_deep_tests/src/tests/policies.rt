@@ -1,13 +1,13 @@
-// A template with a deep clause is made, linked, written, compared, hashed, copied, validated and dropped. A function
-// here keeps one value alive, since each step that may fail drops all of them.
-use super::LEVELS;
+// A template with a deep clause is made, linked, written, compared, hashed, copied, validated and dropped.
+use super::{LEVELS, beside, copies, equal};
 use cedar_ids::{EntityUID, PolicyID};
 use cedar_policy::{Effect, Policy, SlotEnv, StaticPolicy, Template};
 use cedar_scope::{ActionConstraint, Annotations, PrincipalConstraint, ResourceConstraint};
 use cedar_terms::{Expr, Literal, SlotId};
-use std::alloc::Global;
-use std::collections::HashMap;
-use std::hash::{DefaultHasher, Hash, Hasher};
+use std::alloc::{AllocError, Global};
+use std::collections::{HashMap, HashSet};
+use std::fmt::Display;
+use std::hash::Hash;
 use std::rc::Rc;
 use std::test::Fail;
 
@@ -42,26 +42,33 @@ fn template(
     Ok(made?)
 }
 
+fn id(alloc: Global, text: &str) -> Result<PolicyID, Fail> {
+    Ok(PolicyID::from_string(alloc, text)?)
+}
+
 // The template `t` with the deep clause and a slot.
 fn slotted(alloc: Global) -> Result<Template, Fail> {
-    let clause = nots(alloc)?;
-    let id = PolicyID::from_string(alloc, "t")?;
+    let (clause, id) = beside(nots(alloc)?, id(alloc, "t"))?;
     template(alloc, id, PrincipalConstraint::is_eq_slot(), clause)
 }
 
 // The template `t` with the deep clause and no slot.
 fn free(alloc: Global) -> Result<Template, Fail> {
-    let clause = nots(alloc)?;
-    let id = PolicyID::from_string(alloc, "t")?;
+    let (clause, id) = beside(nots(alloc)?, id(alloc, "t"))?;
     template(alloc, id, PrincipalConstraint::any(), clause)
+}
+
+// A map of one key.
+fn just_at<V: Drop>(alloc: Global, slot: SlotId, value: V) -> Result<HashMap<SlotId, V>, Fail> {
+    let mut values = HashMap::new(alloc);
+    drop(values.insert(slot, value)?);
+    Ok(values)
 }
 
 // The binding of the principal's slot.
 fn bound(alloc: Global) -> Result<SlotEnv, Fail> {
     let uid = EntityUID::with_eid_and_type(alloc, "A", "a")?;
-    let mut values = HashMap::new(alloc);
-    drop(values.insert(SlotId::Principal, uid)?);
-    Ok(values)
+    just_at(alloc, SlotId::Principal, uid)
 }
 
 fn shared(alloc: Global) -> Result<Rc<Template>, Fail> {
@@ -71,32 +78,35 @@ fn shared(alloc: Global) -> Result<Rc<Template>, Fail> {
 
 // The link `l` of the template with a slot.
 fn link(alloc: Global) -> Result<Policy, Fail> {
-    let id = PolicyID::from_string(alloc, "l")?;
-    let values = bound(alloc)?;
-    let template = shared(alloc)?;
+    let (template, id) = beside(shared(alloc)?, id(alloc, "l"))?;
+    let ((template, id), values) = beside((template, id), bound(alloc))?;
     Ok(Template::link(alloc, template, id, values)?)
 }
 
 // How many slots the template of the link has.
 fn count_slots(alloc: Global) -> Result<usize, Fail> {
-    let policy = link(alloc)?;
-    Ok(policy.template().slots().count())
+    match link(alloc) {
+        Ok(policy) => {
+            let slots = policy.template().slots().count();
+            drop(policy);
+            Ok(slots)
+        }
+        Err(fail) => Err(fail),
+    }
+}
+
+// The text of a thing.
+fn text_of<T: Display + Drop>(alloc: Global, thing: T) -> Result<String, Fail> {
+    Ok(thing.to_string(alloc)?)
 }
 
 fn text_of_link(alloc: Global) -> Result<String, Fail> {
-    let policy = link(alloc)?;
-    Ok(policy.to_string(alloc)?)
+    text_of(alloc, link(alloc)?)
 }
 
 // Whether the link is equal to another one that is made alike.
-fn equals_link(alloc: Global, one: &Policy) -> Result<bool, Fail> {
-    let other = link(alloc)?;
-    Ok(*one == other)
-}
-
 fn links_agree(alloc: Global) -> Result<bool, Fail> {
-    let one = link(alloc)?;
-    equals_link(alloc, &one)
+    equal(link(alloc)?, link(alloc))
 }
 
 #[test]
@@ -121,8 +131,7 @@ fn fixed_policy(alloc: Global) -> Result<Policy, Fail> {
 }
 
 fn text_of_fixed(alloc: Global) -> Result<String, Fail> {
-    let policy = fixed_policy(alloc)?;
-    Ok(policy.to_string(alloc)?)
+    text_of(alloc, fixed_policy(alloc)?)
 }
 
 // How long the text is: 56 characters round the clause, which has a `!` and two parentheses for each level but
@@ -143,74 +152,75 @@ fn a_deep_clause_is_written(rt: HostRuntime) -> Result<(), Fail> {
     Ok(())
 }
 
-fn hash_of<T: Hash>(x: &T) -> u64 {
-    let mut state = DefaultHasher::new();
-    x.hash(&mut state);
-    state.finish()
-}
-
-// Whether a copy of a template is equal to it, and hashes alike.
-fn is_copied(one: &Template) -> Result<bool, Fail> {
-    let copy = one.clone()?;
-    Ok(copy == *one && hash_of(&copy) == hash_of(one))
-}
-
-fn copies(alloc: Global) -> Result<bool, Fail> {
-    let one = slotted(alloc)?;
-    is_copied(&one)
-}
-
 fn is_valid(alloc: Global) -> Result<bool, Fail> {
-    let one = slotted(alloc)?;
-    Ok(one.try_validate(alloc).is_ok())
+    match slotted(alloc)?.try_validate(alloc) {
+        Ok(template) => {
+            drop(template);
+            Ok(true)
+        }
+        Err(error) => {
+            drop(error);
+            Ok(false)
+        }
+    }
 }
 
 // Whether the static policy is equal to another one that is made alike.
-fn equals_fixed(alloc: Global, one: &StaticPolicy) -> Result<bool, Fail> {
-    let other = fixed(alloc)?;
-    Ok(*one == other)
-}
-
 fn statics_agree(alloc: Global) -> Result<bool, Fail> {
-    let one = fixed(alloc)?;
-    equals_fixed(alloc, &one)
+    equal(fixed(alloc)?, fixed(alloc))
 }
 
 #[test]
 fn a_deep_clause_is_compared_copied_and_validated(rt: HostRuntime) -> Result<(), Fail> {
     let alloc = rt.alloc();
-    assert!(rt; copies(alloc)?);
+    assert!(rt; copies(slotted(alloc)?)?);
     assert!(rt; is_valid(alloc)?);
     assert!(rt; statics_agree(alloc)?);
     Ok(())
 }
 
 fn condition_of_link(alloc: Global) -> Result<Expr, Fail> {
-    let policy = link(alloc)?;
-    Ok(policy.condition(alloc)?)
+    match link(alloc) {
+        Ok(policy) => {
+            let condition = policy.condition(alloc);
+            drop(policy);
+            Ok(condition?)
+        }
+        Err(fail) => Err(fail),
+    }
 }
 
 fn condition_of_template(alloc: Global) -> Result<Expr, Fail> {
-    let template = slotted(alloc)?;
-    Ok(template.condition(alloc)?)
+    match slotted(alloc) {
+        Ok(template) => {
+            let condition = template.condition(alloc);
+            drop(template);
+            Ok(condition?)
+        }
+        Err(fail) => Err(fail),
+    }
 }
 
-// Whether a condition is the template's.
-fn equals_condition(alloc: Global, one: &Expr) -> Result<bool, Fail> {
-    let other = condition_of_template(alloc)?;
-    Ok(*one == other)
-}
-
+// Whether the link's condition is the template's.
 fn conditions_agree(alloc: Global) -> Result<bool, Fail> {
-    let one = condition_of_link(alloc)?;
-    equals_condition(alloc, &one)
+    equal(condition_of_link(alloc)?, condition_of_template(alloc))
+}
+
+// How many there are in a set that is made for it.
+fn count<T: Eq + Hash + Drop>(set: Result<HashSet<T>, AllocError>) -> Result<usize, Fail> {
+    Ok(set?.len())
 }
 
 // How many entities the link leaves unknown.
 fn count_unknown(alloc: Global) -> Result<usize, Fail> {
-    let policy = link(alloc)?;
-    let uids = policy.unknown_entities(alloc)?;
-    Ok(uids.len())
+    match link(alloc) {
+        Ok(policy) => {
+            let uids = policy.unknown_entities(alloc);
+            drop(policy);
+            count(uids)
+        }
+        Err(fail) => Err(fail),
+    }
 }
 
 #[test]

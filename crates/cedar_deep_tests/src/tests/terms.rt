@@ -1,27 +1,9 @@
 // Expressions and values: made, compared, hashed, copied, written, walked and dropped.
-use super::LEVELS;
+use super::{LEVELS, agree, copies, just};
 use cedar_terms::{Expr, Literal, Value};
-use std::alloc::Global;
+use std::alloc::{AllocError, Global};
 use std::fmt::Display;
-use std::hash::{DefaultHasher, Hash, Hasher};
 use std::test::Fail;
-
-fn hash_of<T: Hash>(x: &T) -> u64 {
-    let mut state = DefaultHasher::new();
-    x.hash(&mut state);
-    state.finish()
-}
-
-// Whether two things are equal, and hash alike.
-fn agree<T: Hash + Drop>(x: T, y: T) -> bool {
-    x == y && hash_of(&x) == hash_of(&y)
-}
-
-// Whether a copy of a thing agrees with it.
-fn copies<T: Clone + Hash + Drop>(x: T) -> Result<bool, Fail> {
-    let copy = x.clone()?;
-    Ok(agree(copy, x))
-}
 
 // Whether a thing is written so.
 fn shows<T: Display + Drop>(alloc: Global, x: T, want: &str) -> Result<bool, Fail> {
@@ -54,7 +36,7 @@ fn around(alloc: Global, n: usize, marks: (&str, &str), middle: &str) -> Result<
 #[test]
 fn deep_expressions_are_compared_and_copied(rt: HostRuntime) -> Result<(), Fail> {
     let alloc = rt.alloc();
-    assert!(rt; agree(nots(alloc)?, nots(alloc)?));
+    assert!(rt; agree(nots(alloc)?, nots(alloc))?);
     assert!(rt; copies(nots(alloc)?)?);
     Ok(())
 }
@@ -67,14 +49,34 @@ fn deep_expressions_are_written(rt: HostRuntime) -> Result<(), Fail> {
     Ok(())
 }
 
+// How many there are in a list that is made for it.
+fn count<T: Drop>(list: Result<Vec<T>, AllocError>) -> Result<usize, Fail> {
+    Ok(list?.len())
+}
+
+// Whether an expression has one node more than there are levels, no slot and no unknown, and is valid.
+fn is_walked(alloc: Global, expr: &Expr) -> Result<bool, Fail> {
+    let nodes = count(expr.subexpressions(alloc))?;
+    let slots = count(expr.slots(alloc))?;
+    let unknowns = count(expr.unknowns(alloc))?;
+    let valid = expr.try_validate(alloc).is_ok();
+    Ok(nodes == 10001 && slots == 0 && unknowns == 0 && valid)
+}
+
+fn nots_are_walked(alloc: Global) -> Result<bool, Fail> {
+    match nots(alloc) {
+        Ok(expr) => {
+            let told = is_walked(alloc, &expr);
+            drop(expr);
+            told
+        }
+        Err(fail) => Err(fail),
+    }
+}
+
 #[test]
 fn deep_expressions_are_walked(rt: HostRuntime) -> Result<(), Fail> {
-    let alloc = rt.alloc();
-    let expr = nots(alloc)?;
-    assert!(rt; expr.subexpressions(alloc)?.len() == 10001);
-    assert!(rt; expr.slots(alloc)?.is_empty());
-    assert!(rt; expr.unknowns(alloc)?.is_empty());
-    assert!(rt; expr.try_validate(alloc).is_ok());
+    assert!(rt; nots_are_walked(rt.alloc())?);
     Ok(())
 }
 
@@ -82,9 +84,7 @@ fn deep_expressions_are_walked(rt: HostRuntime) -> Result<(), Fail> {
 fn sets(alloc: Global) -> Result<Value, Fail> {
     let mut value = Value::set(alloc, Vec::new(alloc), None)?;
     for _ in 1..LEVELS {
-        let mut elements = Vec::new(alloc);
-        elements.push(value)?;
-        value = Value::set(alloc, elements, None)?;
+        value = Value::set(alloc, just(alloc, value)?, None)?;
     }
     Ok(value)
 }
@@ -92,7 +92,7 @@ fn sets(alloc: Global) -> Result<Value, Fail> {
 #[test]
 fn deep_values_are_compared_and_copied(rt: HostRuntime) -> Result<(), Fail> {
     let alloc = rt.alloc();
-    assert!(rt; agree(sets(alloc)?, sets(alloc)?));
+    assert!(rt; agree(sets(alloc)?, sets(alloc))?);
     assert!(rt; copies(sets(alloc)?)?);
     Ok(())
 }
