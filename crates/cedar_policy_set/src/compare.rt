@@ -17,11 +17,26 @@ impl Clone for PolicySet {
     ghost is_clone = { λ x y. y ≡ x };
 
     fn clone(&self) -> Result<PolicySet, AllocError> {
-        Ok(PolicySet {
-            templates: copy_of_bodies(&self.templates)?,
-            links: copy_of_policies(&self.links)?,
-            template_to_links_map: copy_of_ids(&self.template_to_links_map)?,
-        })
+        let templates = copy_of_bodies(&self.templates)?;
+        let links = match copy_of_policies(&self.links) {
+            Ok(links) => links,
+            Err(error) => {
+                drop(templates);
+                return Err(error);
+            }
+        };
+        match copy_of_ids(&self.template_to_links_map) {
+            Ok(template_to_links_map) => Ok(PolicySet {
+                templates,
+                links,
+                template_to_links_map,
+            }),
+            Err(error) => {
+                drop(templates);
+                drop(links);
+                Err(error)
+            }
+        }
     }
 }
 

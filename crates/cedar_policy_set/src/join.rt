@@ -1,11 +1,11 @@
 //! What joins a policy set: policies, static policies, templates, and links of a template in the set.
-ghost use Rattle.std.specs.Prelude.{◌≡◌, ◌<◌, length, IfOk, OnOk, MatchOption, Ok, Some, None};
+ghost use Rattle.std.specs.Prelude.{◌≡◌, ◌<◌, length, IfOk, IfErr, OnOk, MatchOption, Ok, Some, None};
 ghost use Rattle.cedar_body.specs.BodyEquality.{same_body};
 ghost use Rattle.cedar_body.specs.Bodies.{body_slots};
 ghost use Rattle.cedar_binding.specs.Checks.{Binds};
 ghost use Rattle.cedar_binding.specs.Views.{env_of};
 ghost use Rattle.cedar_policy_set.specs.Boards.{empty_board, bound_at, without, Template as template_binding};
-ghost use Rattle.cedar_policy_set.specs.Refusals.{Steps, Makes, told_by_set, told_by_linking};
+ghost use Rattle.cedar_policy_set.specs.Refusals.{IsRefusal, Steps, Makes, told_by_set, told_by_linking};
 ghost use Rattle.cedar_policy_set.specs.Steps.{add_static_step, add_template_step, add_step, link_onto, link_step, add_then};
 ghost use Rattle.cedar_policy_set.specs.laws.Joins.{CanJoinBoth, HasNoTemplate, Stands, StandsThere};
 
@@ -27,21 +27,40 @@ impl PolicySet {
         ensures { IfOk result (λ s. add_step empty_board policy ≡ Ok s) }
     {
         let mut set = PolicySet::new(alloc);
-        set.put_both(policy)?;
-        Ok(set)
+        match set.put_both(policy) {
+            Ok(()) => Ok(set),
+            Err(error) => {
+                drop(set);
+                Err(error)
+            }
+        }
     }
 
     /// The set that adding these policies leaves, one after another; the first refusal is the answer, and there is no set
     /// then. Takes memory as `add` does.
-    #[tactic(auto, using(crate::specs::laws::ListSteps::refused_then))]
     pub fn try_from_iter(alloc: Global, policies: Vec<Policy>) -> Result<PolicySet, PolicySetError>
         ensures { Makes told_by_set result (add_then (Ok empty_board) policies.items) }
     {
         let mut set = PolicySet::new(alloc);
-        for policy in policies {
-            set.add(alloc, policy)?;
+        match set.add_all(alloc, policies) {
+            Ok(()) => Ok(set),
+            Err(error) => {
+                drop(set);
+                Err(error)
+            }
         }
-        Ok(set)
+    }
+
+    // Takes in policies, one after another; the first refusal ends it.
+    #[tactic(auto, using(crate::specs::laws::ListSteps::refused_then))]
+    fn add_all(&mut self, alloc: Global, policies: Vec<Policy>) -> Result<(), PolicySetError>
+        ensures ok { OnOk result (add_then (Ok self.old) policies.items ≡ Ok self.new) }
+        ensures err { IfErr result (λ e. IsRefusal (told_by_set e) (add_then (Ok self.old) policies.items)) }
+    {
+        for policy in policies {
+            self.add(alloc, policy)?;
+        }
+        Ok(())
     }
 
     /// Takes in a static policy, its body last in the order of bodies and the policy last in the other.
@@ -52,9 +71,9 @@ impl PolicySet {
         ensures { Steps told_by_set result self.old self.new (add_static_step self.old policy) }
     {
         if self.is_bound(policy.id()) {
-            return Err(PolicySetError::Occupied {
-                id: policy.id().clone()?,
-            });
+            let id: Result<PolicyID, AllocError> = policy.id().clone();
+            drop(policy);
+            return Err(PolicySetError::Occupied { id: id? });
         }
         let policy = Policy::from_static(alloc, policy)?;
         self.put_both(policy)?;
@@ -69,9 +88,9 @@ impl PolicySet {
         ensures { Steps told_by_set result self.old self.new (add_template_step self.old template) }
     {
         if self.is_bound(template.id()) {
-            return Err(PolicySetError::Occupied {
-                id: template.id().clone()?,
-            });
+            let id: Result<PolicyID, AllocError> = template.id().clone();
+            drop(template);
+            return Err(PolicySetError::Occupied { id: id? });
         }
         let template = Rc::new(alloc, template)?;
         self.put_template(template)?;
@@ -103,9 +122,9 @@ impl PolicySet {
     {
         let _whole = policy.is_static();
         if self.is_bound(policy.id()) {
-            return Err(PolicySetError::Occupied {
-                id: policy.id().clone()?,
-            });
+            let id: Result<PolicyID, AllocError> = policy.id().clone();
+            drop(policy);
+            return Err(PolicySetError::Occupied { id: id? });
         }
         self.put_both(policy)?;
         Ok(())
@@ -122,9 +141,11 @@ impl PolicySet {
                 let same = are_same(template, policy.template());
                 self.add_onto(policy, same)
             }
-            Some(Found::Policy(_policy)) => Err(PolicySetError::Occupied {
-                id: policy.template().id().clone()?,
-            }),
+            Some(Found::Policy(_policy)) => {
+                let id: Result<PolicyID, AllocError> = policy.template().id().clone();
+                drop(policy);
+                Err(PolicySetError::Occupied { id: id? })
+            }
         }
     }
 
@@ -136,14 +157,14 @@ impl PolicySet {
     {
         let _total = policy.env();
         if !same {
-            return Err(PolicySetError::Occupied {
-                id: policy.template().id().clone()?,
-            });
+            let id: Result<PolicyID, AllocError> = policy.template().id().clone();
+            drop(policy);
+            return Err(PolicySetError::Occupied { id: id? });
         }
         if self.is_bound(policy.id()) {
-            return Err(PolicySetError::Occupied {
-                id: policy.id().clone()?,
-            });
+            let id: Result<PolicyID, AllocError> = policy.id().clone();
+            drop(policy);
+            return Err(PolicySetError::Occupied { id: id? });
         }
         self.put_policy(policy)?;
         Ok(())
@@ -160,9 +181,9 @@ impl PolicySet {
             policy.id() == policy.template().id(),
             self.is_bound(policy.id()),
         ) {
-            return Err(PolicySetError::Occupied {
-                id: policy.id().clone()?,
-            });
+            let id: Result<PolicyID, AllocError> = policy.id().clone();
+            drop(policy);
+            return Err(PolicySetError::Occupied { id: id? });
         }
         self.put_both(policy)?;
         Ok(())
@@ -179,9 +200,22 @@ impl PolicySet {
     ) -> Result<(), LinkingError>
         ensures { Steps told_by_linking result self.old self.new (link_step self.old template_id new_id (env_of values)) }
     {
-        match self.template(&template_id)? {
-            None => Err(LinkingError::NoSuchTemplate { id: template_id }),
-            Some(template) => self.link_template(alloc, template, new_id, values),
+        match self.template(&template_id) {
+            Ok(None) => {
+                drop(new_id);
+                drop(values);
+                Err(LinkingError::NoSuchTemplate { id: template_id })
+            }
+            Ok(Some(template)) => {
+                drop(template_id);
+                self.link_template(alloc, template, new_id, values)
+            }
+            Err(error) => {
+                drop(template_id);
+                drop(new_id);
+                drop(values);
+                Err(LinkingError::from(error))
+            }
         }
     }
 
@@ -225,8 +259,15 @@ impl PolicySet {
         requires { Stands self.old template.value }
         ensures { Steps told_by_linking result self.old self.new (link_onto template.value self.old new_id (env_of values)) }
     {
-        check_values(alloc, &template, &values)?;
+        if let Err(error) = check_values(alloc, &template, &values) {
+            drop(template);
+            drop(new_id);
+            drop(values);
+            return Err(error);
+        }
         if self.is_bound(&new_id) {
+            drop(template);
+            drop(values);
             return Err(LinkingError::PolicyIdConflict { id: new_id });
         }
         let policy = Template::link(alloc, template, new_id, values)?;

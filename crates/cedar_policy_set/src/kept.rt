@@ -10,13 +10,16 @@ ghost use Rattle.cedar_policy_set.specs.laws.Joins.{CanJoin, CanJoinBoth};
 ghost use Rattle.cedar_policy_set.specs.laws.MapLaws.{has_other};
 
 use crate::found::Found;
-use crate::lists::template_of;
-use crate::maps::{bodies_by_id, ids_by_body, list_id, policies_by_id, put_last, set_of, unlist};
+use crate::maps::{
+    bodies_by_id, ids_by_body, list_policy, policies_by_id, put_last, room_for_body, room_for_both,
+    unlist,
+};
 use crate::policy_set::PolicySet;
 use cedar_ids::policy_id::PolicyID;
 use cedar_policy::{Policy, Template};
 use indexmap::IndexSet;
 use std::alloc::{AllocError, Global};
+use std::mem::replace;
 use std::rc::Rc;
 
 impl PolicySet {
@@ -106,14 +109,22 @@ impl PolicySet {
         ensures ok { OnOk result (self.new ≡ with_template self.old template.value) }
         ensures err { OnErr result (self.new ≡ self.old) }
     {
-        let id = template.id().clone()?;
-        let listed = template.id().clone()?;
-        self.templates.reserve(1)?;
-        self.template_to_links_map.reserve(1)?;
-        let ids = IndexSet::new(*self.templates.allocator());
-        put_last(&mut self.templates, id, template);
-        put_last(&mut self.template_to_links_map, listed, ids);
-        Ok(())
+        match room_for_body(
+            &mut self.templates,
+            &mut self.template_to_links_map,
+            &template,
+        ) {
+            Ok((id, listed)) => {
+                let ids = IndexSet::new(*self.templates.allocator());
+                put_last(&mut self.templates, id, template);
+                put_last(&mut self.template_to_links_map, listed, ids);
+                Ok(())
+            }
+            Err(error) => {
+                drop(template);
+                Err(error)
+            }
+        }
     }
 
     // Puts a link of a template in the set last.
@@ -122,13 +133,16 @@ impl PolicySet {
         ensures ok { OnOk result (self.new ≡ with_policy self.old policy) }
         ensures err { OnErr result (self.new ≡ self.old) }
     {
-        let id = policy.id().clone()?;
-        let listed = policy.id().clone()?;
-        self.links.reserve(1)?;
-        let body = policy.template().id();
-        list_id(&mut self.template_to_links_map, body, listed)?;
-        put_last(&mut self.links, id, policy);
-        Ok(())
+        match list_policy(&mut self.links, &mut self.template_to_links_map, &policy) {
+            Ok(id) => {
+                put_last(&mut self.links, id, policy);
+                Ok(())
+            }
+            Err(error) => {
+                drop(policy);
+                Err(error)
+            }
+        }
     }
 
     // Puts a policy and its template last, each in its order.
@@ -137,18 +151,23 @@ impl PolicySet {
         ensures ok { OnOk result (self.new ≡ with_both self.old policy.template policy) }
         ensures err { OnErr result (self.new ≡ self.old) }
     {
-        let template = template_of(&policy)?;
-        let body = template.id().clone()?;
-        let under = template.id().clone()?;
-        let own = policy.id().clone()?;
-        let ids = set_of(*self.templates.allocator(), policy.id().clone()?)?;
-        self.templates.reserve(1)?;
-        self.links.reserve(1)?;
-        self.template_to_links_map.reserve(1)?;
-        put_last(&mut self.templates, body, template);
-        put_last(&mut self.links, own, policy);
-        put_last(&mut self.template_to_links_map, under, ids);
-        Ok(())
+        match room_for_both(
+            &mut self.templates,
+            &mut self.links,
+            &mut self.template_to_links_map,
+            &policy,
+        ) {
+            Ok((body, under, own, ids, template)) => {
+                put_last(&mut self.templates, body, template);
+                put_last(&mut self.links, own, policy);
+                put_last(&mut self.template_to_links_map, under, ids);
+                Ok(())
+            }
+            Err(error) => {
+                drop(policy);
+                Err(error)
+            }
+        }
     }
 
     // Takes out what an id is bound to, which has no links.
@@ -160,7 +179,7 @@ impl PolicySet {
     {
         let template = self.templates.shift_remove(id);
         let policy = self.links.shift_remove(id);
-        self.template_to_links_map.shift_remove(id);
+        drop(self.template_to_links_map.shift_remove(id));
         unlist(&mut self.template_to_links_map, &policy, id);
         (template, policy)
     }
@@ -185,12 +204,33 @@ impl PolicySet {
         ensures ok { OnOk result (self.new ≡ board_of bodies.items policies.items) }
         ensures err { OnErr result (self.new ≡ self.old) }
     {
-        let listed = ids_by_body(alloc, &bodies, &policies)?;
-        let templates = bodies_by_id(alloc, bodies)?;
-        let links = policies_by_id(alloc, policies)?;
-        self.templates = templates;
-        self.links = links;
-        self.template_to_links_map = listed;
+        let listed = match ids_by_body(alloc, &bodies, &policies) {
+            Ok(listed) => listed,
+            Err(error) => {
+                drop(bodies);
+                drop(policies);
+                return Err(error);
+            }
+        };
+        let templates = match bodies_by_id(alloc, bodies) {
+            Ok(templates) => templates,
+            Err(error) => {
+                drop(policies);
+                drop(listed);
+                return Err(error);
+            }
+        };
+        let links = match policies_by_id(alloc, policies) {
+            Ok(links) => links,
+            Err(error) => {
+                drop(listed);
+                drop(templates);
+                return Err(error);
+            }
+        };
+        drop(replace(&mut self.templates, templates));
+        drop(replace(&mut self.links, links));
+        drop(replace(&mut self.template_to_links_map, listed));
         Ok(())
     }
 }

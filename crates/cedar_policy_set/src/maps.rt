@@ -12,6 +12,7 @@ ghost use Rattle.cedar_policy_set.specs.laws.MapLaws.{unlisted, all_listed};
 ghost use Rattle.indexmap.specs.IndexMap.{get, spare};
 ghost use Rattle.indexmap.specs.IndexSet.{insert_key, remove_key};
 
+use crate::lists::template_of;
 use cedar_ids::policy_id::PolicyID;
 use cedar_policy::{Policy, Template};
 use indexmap::{IndexMap, IndexSet};
@@ -41,13 +42,141 @@ fn put_new<V: Drop>(
     Ok(())
 }
 
+// A value with a copy of an id; the value goes where there is none.
+fn with_copy<A: Drop>(value: A, id: &PolicyID) -> Result<(A, PolicyID), AllocError>
+    ensures { IfOk result (λ r. (r.0 ≡ value) × (r.1 ≡ id.now)) }
+{
+    match id.clone() {
+        Ok(id) => Ok((value, id)),
+        Err(error) => {
+            drop(value);
+            Err(error)
+        }
+    }
+}
+
+// A value with the set of an id; the value goes where there is none.
+fn with_set<A: Drop>(
+    value: A,
+    alloc: Global,
+    id: &PolicyID,
+) -> Result<(A, IndexSet<PolicyID>), AllocError>
+    ensures { IfOk result (λ r. (r.0 ≡ value) × (r.1.keys ≡ id.now ∷ [])) }
+{
+    match set_of(alloc, id) {
+        Ok(ids) => Ok((value, ids)),
+        Err(error) => {
+            drop(value);
+            Err(error)
+        }
+    }
+}
+
+// A value with a further share of a policy's template; the value goes where there is none.
+fn with_share<A: Drop>(value: A, policy: &Policy) -> Result<(A, Rc<Template>), AllocError>
+    ensures { IfOk result (λ r. (r.0 ≡ value) × (r.1.value ≡ policy.now.template)) }
+{
+    match template_of(policy) {
+        Ok(template) => Ok((value, template)),
+        Err(error) => {
+            drop(value);
+            Err(error)
+        }
+    }
+}
+
+// Room for one more body and its list, and two copies of its id.
+pub(crate) fn room_for_body(
+    templates: &mut IndexMap<PolicyID, Rc<Template>>,
+    map: &mut IndexMap<PolicyID, IndexSet<PolicyID>>,
+    template: &Template,
+) -> Result<(PolicyID, PolicyID), AllocError>
+    ensures bodies { templates.new.entries ≡ templates.old.entries }
+    ensures lists { map.new.entries ≡ map.old.entries }
+    ensures room { OnOk result ((0 < spare templates.new) × (0 < spare map.new)) }
+    ensures ids { IfOk result (λ r. (r.0 ≡ template.now.id) × (r.1 ≡ template.now.id)) }
+{
+    templates.reserve(1)?;
+    map.reserve(1)?;
+    let id = template.id().clone()?;
+    with_copy(id, template.id())
+}
+
+// Room for one more policy, which is listed last under its body's id; and a copy of its own id.
+pub(crate) fn list_policy(
+    links: &mut IndexMap<PolicyID, Policy>,
+    map: &mut IndexMap<PolicyID, IndexSet<PolicyID>>,
+    policy: &Policy,
+) -> Result<PolicyID, AllocError>
+    ensures policies { links.new.entries ≡ links.old.entries }
+    ensures room { OnOk result (0 < spare links.new) }
+    ensures id { IfOk result (λ i. i ≡ policy_id policy.now) }
+    ensures ok { OnOk result (lists_of map.new.entries ≡ with_listed policy.now.template.id (policy_id policy.now) (lists_of map.old.entries)) }
+    ensures err { OnErr result (lists_of map.new.entries ≡ lists_of map.old.entries) }
+{
+    links.reserve(1)?;
+    let (id, listed) = with_copy(policy.id().clone()?, policy.id())?;
+    match list_id(map, policy.template().id(), listed) {
+        Ok(()) => Ok(id),
+        Err(error) => {
+            drop(id);
+            Err(error)
+        }
+    }
+}
+
+// Room for one more policy and its body, what they go under, and a further share of the body.
+pub(crate) fn room_for_both(
+    templates: &mut IndexMap<PolicyID, Rc<Template>>,
+    links: &mut IndexMap<PolicyID, Policy>,
+    map: &mut IndexMap<PolicyID, IndexSet<PolicyID>>,
+    policy: &Policy,
+) -> Result<
+    (
+        PolicyID,
+        PolicyID,
+        PolicyID,
+        IndexSet<PolicyID>,
+        Rc<Template>,
+    ),
+    AllocError,
+>
+    ensures bodies { templates.new.entries ≡ templates.old.entries }
+    ensures policies { links.new.entries ≡ links.old.entries }
+    ensures lists { map.new.entries ≡ map.old.entries }
+    ensures room { OnOk result ((0 < spare templates.new) × (0 < spare links.new) × (0 < spare map.new)) }
+    ensures body { IfOk result (λ r. (r.0 ≡ policy.now.template.id) × (r.1 ≡ policy.now.template.id)) }
+    ensures own { IfOk result (λ r. (r.2 ≡ policy_id policy.now) × (r.3.keys ≡ policy_id policy.now ∷ [])) }
+    ensures share { IfOk result (λ r. r.4.value ≡ policy.now.template) }
+{
+    let alloc = *map.allocator();
+    links.reserve(1)?;
+    let ids = room_for_body(templates, map, policy.template())?;
+    let ((body, under), own) = with_copy(ids, policy.id())?;
+    let ((body, under, own), ids) = with_set((body, under, own), alloc, policy.id())?;
+    let ((body, under, own, ids), template) = with_share((body, under, own, ids), policy)?;
+    Ok((body, under, own, ids, template))
+}
+
 // The set of one id.
-pub(crate) fn set_of(alloc: Global, id: PolicyID) -> Result<IndexSet<PolicyID>, AllocError>
-    ensures { IfOk result (λ s. s.keys ≡ id ∷ []) }
+fn set_of(alloc: Global, id: &PolicyID) -> Result<IndexSet<PolicyID>, AllocError>
+    ensures { IfOk result (λ s. s.keys ≡ id.now ∷ []) }
 {
     let mut ids = IndexSet::new(alloc);
-    put_id(&mut ids, id)?;
-    Ok(ids)
+    match put_copy(&mut ids, id) {
+        Ok(()) => Ok(ids),
+        Err(error) => {
+            drop(ids);
+            Err(error)
+        }
+    }
+}
+
+// Puts a copy of an id last, if it isn't there.
+fn put_copy(ids: &mut IndexSet<PolicyID>, id: &PolicyID) -> Result<(), AllocError>
+    ensures { OnOk result (ids.new.keys ≡ insert_key same_text ids.old.keys id.now) }
+{
+    put_id(ids, id.clone()?)
 }
 
 // Puts an id last, if it isn't there.
@@ -114,11 +243,52 @@ pub(crate) fn bodies_by_id(
     ensures keyed { IfOk result (λ m. IsKeyed (λ t. t.value.id) m.entries) }
     ensures values { IfOk result (λ m. values_of m.entries ≡ bodies.items) }
 {
-    let mut templates = IndexMap::with_capacity(alloc, bodies.len())?;
-    for template in bodies {
-        put_new(&mut templates, template.id().clone()?, template)?;
+    match IndexMap::with_capacity(alloc, bodies.len()) {
+        Ok(mut templates) => match put_bodies(&mut templates, bodies) {
+            Ok(()) => Ok(templates),
+            Err(error) => {
+                drop(templates);
+                Err(error)
+            }
+        },
+        Err(error) => {
+            drop(bodies);
+            Err(error)
+        }
     }
-    Ok(templates)
+}
+
+// Puts bodies into an empty map, under their ids.
+fn put_bodies(
+    templates: &mut IndexMap<PolicyID, Rc<Template>>,
+    bodies: Vec<Rc<Template>>,
+) -> Result<(), AllocError>
+    requires empty { templates.old.entries ≡ [] }
+    requires once { AreOnce (λ (t : BodyParts). t.id) (bodies_of bodies.items) }
+    ensures keyed { OnOk result (IsKeyed (λ t. t.value.id) templates.new.entries) }
+    ensures values { OnOk result (values_of templates.new.entries ≡ bodies.items) }
+{
+    for template in bodies {
+        put_body(templates, template)?;
+    }
+    Ok(())
+}
+
+// Puts a body with a new id last.
+fn put_body(
+    templates: &mut IndexMap<PolicyID, Rc<Template>>,
+    template: Rc<Template>,
+) -> Result<(), AllocError>
+    requires { get same_text templates.old template.value.id ≡ None }
+    ensures { OnOk result (templates.new.entries ≡ templates.old.entries ++ (template.value.id, template) ∷ []) }
+{
+    match template.id().clone() {
+        Ok(id) => put_new(templates, id, template),
+        Err(error) => {
+            drop(template);
+            Err(error)
+        }
+    }
 }
 
 // Policies under their ids, in their order.
@@ -130,11 +300,49 @@ pub(crate) fn policies_by_id(
     ensures keyed { IfOk result (λ m. IsKeyed policy_id m.entries) }
     ensures values { IfOk result (λ m. values_of m.entries ≡ policies.items) }
 {
-    let mut links = IndexMap::with_capacity(alloc, policies.len())?;
-    for policy in policies {
-        put_new(&mut links, policy.id().clone()?, policy)?;
+    match IndexMap::with_capacity(alloc, policies.len()) {
+        Ok(mut links) => match put_policies(&mut links, policies) {
+            Ok(()) => Ok(links),
+            Err(error) => {
+                drop(links);
+                Err(error)
+            }
+        },
+        Err(error) => {
+            drop(policies);
+            Err(error)
+        }
     }
-    Ok(links)
+}
+
+// Puts policies into an empty map, under their ids.
+fn put_policies(
+    links: &mut IndexMap<PolicyID, Policy>,
+    policies: Vec<Policy>,
+) -> Result<(), AllocError>
+    requires empty { links.old.entries ≡ [] }
+    requires once { AreOnce policy_id policies.items }
+    ensures keyed { OnOk result (IsKeyed policy_id links.new.entries) }
+    ensures values { OnOk result (values_of links.new.entries ≡ policies.items) }
+{
+    for policy in policies {
+        put_policy(links, policy)?;
+    }
+    Ok(())
+}
+
+// Puts a policy with a new id last.
+fn put_policy(links: &mut IndexMap<PolicyID, Policy>, policy: Policy) -> Result<(), AllocError>
+    requires { get same_text links.old (policy_id policy) ≡ None }
+    ensures { OnOk result (links.new.entries ≡ links.old.entries ++ (policy_id policy, policy) ∷ []) }
+{
+    match policy.id().clone() {
+        Ok(id) => put_new(links, id, policy),
+        Err(error) => {
+            drop(policy);
+            Err(error)
+        }
+    }
 }
 
 // The ids of the policies on each body, under its id, in the order of bodies.
@@ -148,8 +356,13 @@ pub(crate) fn ids_by_body(
     ensures { IfOk result (λ m. lists_of m.entries ≡ ids_by_body (bodies_of bodies.now) policies.now) }
 {
     let mut map = no_ids(alloc, bodies)?;
-    list_ids(&mut map, policies)?;
-    Ok(map)
+    match list_ids(&mut map, policies) {
+        Ok(()) => Ok(map),
+        Err(error) => {
+            drop(map);
+            Err(error)
+        }
+    }
 }
 
 // No id under each body's id.

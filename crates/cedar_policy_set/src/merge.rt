@@ -1,5 +1,5 @@
 //! Merging another policy set into this one.
-ghost use Rattle.std.specs.Prelude.{◌≡◌, ◌&&◌, ◌++◌, ◌+◌, ◌∷◌, [], false, not, length, IfOk, OnOk, IsTrue, List, ℕ};
+ghost use Rattle.std.specs.Prelude.{◌≡◌, ◌&&◌, ◌++◌, ◌+◌, ◌∷◌, [], false, not, length, IfOk, OnErr, OnOk, IsTrue, List, ℕ};
 ghost use Rattle.std.specs.List.{list_any};
 ghost use Rattle.std.specs.Map.{values_of};
 ghost use Rattle.std.specs.Option.{option_copied, unwrap_or};
@@ -7,8 +7,8 @@ ghost use Rattle.cedar_body.specs.Bodies.{with_id};
 ghost use Rattle.cedar_policy.specs.Policies.{policy_id, with_policy_id};
 ghost use Rattle.cedar_policy_set.specs.Boards.{AreOnce};
 ghost use Rattle.cedar_policy_set.specs.Fresh.{is_bound_in_either};
-ghost use Rattle.cedar_policy_set.specs.Merge.{has_body, body_ids, policy_ids, is_same_at, conflicting, gathered, conflicts, renamed_body, renamed_policy, joined_bodies, joined_policies, merged, new_id, Merges, AreBelow, bound_ids};
-ghost use Rattle.cedar_policy_set.specs.laws.GatherLaws.{looked_at};
+ghost use Rattle.cedar_policy_set.specs.Merge.{has_body, body_ids, policy_ids, is_same_at, conflicting, gathered, conflicts, renamed_body, renamed_policy, joined_bodies, joined_policies, merged, new_id, IsRenaming, Merges, AreBelow, bound_ids};
+ghost use Rattle.cedar_policy_set.specs.laws.GatherLaws.{in_groups, looked_at};
 ghost use Rattle.cedar_policy_set.specs.laws.MergeSteps.{Refuses, with_template_renamed};
 ghost use Rattle.cedar_policy_set.specs.Views.{bodies_of};
 
@@ -52,13 +52,41 @@ impl PolicySet {
         let _ = &other.templates;
         let ids = conflicting_ids(alloc, self, other)?;
         if let Some(id) = refused(&ids, rename_duplicates) {
-            return Err(PolicySetError::Occupied { id: id.clone()? });
+            let id: Result<PolicyID, AllocError> = id.clone();
+            drop(ids);
+            return Err(PolicySetError::Occupied { id: id? });
         }
         let renaming = fresh_ids(alloc, ids, self, other)?;
-        let bodies = merged_bodies(alloc, self, other, &renaming)?;
-        let policies = merged_policies(alloc, self, other, &renaming)?;
-        self.replace(alloc, bodies, policies)?;
-        Ok(renaming)
+        match self.put_merged(alloc, other, &renaming) {
+            Ok(()) => Ok(renaming),
+            Err(error) => {
+                drop(renaming);
+                Err(PolicySetError::from(error))
+            }
+        }
+    }
+
+    // Puts what two sets bind, the other's under new ids, in the place of all.
+    fn put_merged(
+        &mut self,
+        alloc: Global,
+        other: &PolicySet,
+        renaming: &IndexMap<PolicyID, PolicyID>,
+    ) -> Result<(), AllocError>
+        requires { IsRenaming self.old other.now renaming.now.entries }
+        ensures ok { OnOk result (self.new ≡ merged self.old other.now (new_id renaming.now.entries)) }
+        ensures err { OnErr result (self.new ≡ self.old) }
+    {
+        let _ = &self.templates;
+        let _ = &other.templates;
+        let bodies = merged_bodies(alloc, self, other, renaming)?;
+        match merged_policies(alloc, self, other, renaming) {
+            Ok(policies) => self.replace(alloc, bodies, policies),
+            Err(error) => {
+                drop(bodies);
+                Err(error)
+            }
+        }
     }
 }
 
@@ -96,11 +124,27 @@ fn conflicting_ids(
     ensures { IfOk result (λ ids. ids.keys ≡ conflicts here.now other.now) }
 {
     let mut ids = IndexSet::new(alloc);
-    gather_bodies(&mut ids, here, other, Group::Bodies)?;
-    gather_policies(&mut ids, here, other, Group::Policies)?;
-    gather_bodies(&mut ids, here, other, Group::Links)?;
-    gather_policies(&mut ids, here, other, Group::Templates)?;
-    Ok(ids)
+    match gather_all(&mut ids, here, other) {
+        Ok(()) => Ok(ids),
+        Err(error) => {
+            drop(ids);
+            Err(error)
+        }
+    }
+}
+
+// Gathers the ids that conflict, group after group.
+fn gather_all(
+    ids: &mut IndexSet<PolicyID>,
+    here: &PolicySet,
+    other: &PolicySet,
+) -> Result<(), AllocError>
+    ensures { OnOk result (ids.new.keys ≡ in_groups ids.old.keys here.now other.now) }
+{
+    gather_bodies(ids, here, other, Group::Bodies)?;
+    gather_policies(ids, here, other, Group::Policies)?;
+    gather_bodies(ids, here, other, Group::Links)?;
+    gather_policies(ids, here, other, Group::Templates)
 }
 
 // Gathers the ids of bodies there that conflict and are looked at in this group.
@@ -202,9 +246,27 @@ fn merged_bodies(
     ensures { IfOk result (λ v. bodies_of v.items ≡ (merged here.now other.now (new_id renaming.now.entries)).bodies) }
 {
     let mut bodies = Vec::with_capacity(alloc, here.shared_bodies().len())?;
-    keep_bodies(&mut bodies, here.shared_bodies(), other, renaming)?;
-    join_bodies(alloc, &mut bodies, here, other.shared_bodies(), renaming)?;
-    Ok(bodies)
+    match fill_bodies(alloc, &mut bodies, here, other, renaming) {
+        Ok(()) => Ok(bodies),
+        Err(error) => {
+            drop(bodies);
+            Err(error)
+        }
+    }
+}
+
+// Puts the bodies of both sets last.
+fn fill_bodies(
+    alloc: Global,
+    bodies: &mut Vec<Rc<Template>>,
+    here: &PolicySet,
+    other: &PolicySet,
+    renaming: &IndexMap<PolicyID, PolicyID>,
+) -> Result<(), AllocError>
+    ensures { OnOk result (bodies_of bodies.new.items ≡ (bodies_of bodies.old.items ++ here.now.bodies) ++ joined_bodies here.now (new_id renaming.now.entries) other.now.bodies) }
+{
+    keep_bodies(bodies, here.shared_bodies(), other, renaming)?;
+    join_bodies(alloc, bodies, here, other.shared_bodies(), renaming)
 }
 
 // Puts the bodies of this set last.
@@ -323,9 +385,27 @@ fn merged_policies(
     ensures { IfOk result (λ v. v.items ≡ (merged here.now other.now (new_id renaming.now.entries)).policies) }
 {
     let mut policies = Vec::with_capacity(alloc, here.all_policies().len())?;
-    keep_policies(&mut policies, here.all_policies(), other, renaming)?;
-    join_policies(alloc, &mut policies, here, other.all_policies(), renaming)?;
-    Ok(policies)
+    match fill_policies(alloc, &mut policies, here, other, renaming) {
+        Ok(()) => Ok(policies),
+        Err(error) => {
+            drop(policies);
+            Err(error)
+        }
+    }
+}
+
+// Puts the policies of both sets last.
+fn fill_policies(
+    alloc: Global,
+    policies: &mut Vec<Policy>,
+    here: &PolicySet,
+    other: &PolicySet,
+    renaming: &IndexMap<PolicyID, PolicyID>,
+) -> Result<(), AllocError>
+    ensures { OnOk result (policies.new.items ≡ (policies.old.items ++ here.now.policies) ++ joined_policies here.now (new_id renaming.now.entries) other.now.policies) }
+{
+    keep_policies(policies, here.all_policies(), other, renaming)?;
+    join_policies(alloc, policies, here, other.all_policies(), renaming)
 }
 
 // Puts the policies of this set last.
@@ -433,7 +513,11 @@ fn renamed_policy(
 {
     match on_renamed_template(alloc, policy, renaming)? {
         None => under_new_id(alloc, policy, new),
-        Some(renamed) => under_new_id(alloc, &renamed, new),
+        Some(renamed) => {
+            let named = under_new_id(alloc, &renamed, new);
+            drop(renamed);
+            named
+        }
     }
 }
 
@@ -465,6 +549,9 @@ fn on_renamed_template(
     }
     match renaming.get(policy.template().id()) {
         None => Ok(None),
-        Some(id) => policy.clone()?.new_template_id(alloc, id.clone()?),
+        Some(id) => {
+            let id = id.clone()?;
+            policy.clone()?.new_template_id(alloc, id)
+        }
     }
 }

@@ -123,10 +123,12 @@ impl PolicySet {
         ensures { result ≡ self.policies }
     {
         let PolicySet {
-            templates: _templates,
+            templates,
             links,
-            template_to_links_map: _map,
+            template_to_links_map: map,
         } = self;
+        drop(templates);
+        drop(map);
         IntoPolicies::of(links)
     }
 

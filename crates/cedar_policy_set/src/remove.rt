@@ -35,7 +35,8 @@ impl PolicySet {
                 }
             }
         }
-        let (_body, policy) = self.take(id);
+        let (body, policy) = self.take(id);
+        drop(body);
         match policy {
             Some(policy) => Ok(policy),
             None => unreachable!(),
@@ -64,7 +65,8 @@ impl PolicySet {
                 }
             }
         }
-        let (_body, policy) = self.take(id);
+        let (body, policy) = self.take(id);
+        drop(body);
         match policy {
             Some(policy) => Ok(policy),
             None => unreachable!(),
@@ -100,7 +102,9 @@ impl PolicySet {
             return Err(PolicySetTemplateRemovalError::RemoveTemplateWithLinksError(id.clone()?));
         }
         let template = template.clone()?;
-        let (_body, _policy) = self.take(id);
+        let (body, policy) = self.take(id);
+        drop(body);
+        drop(policy);
         Ok(template)
     }
 }

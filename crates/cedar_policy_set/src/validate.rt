@@ -2,7 +2,7 @@
 ghost use Rattle.std.specs.Prelude.{◌≡◌, OnOk, IfErr, All};
 ghost use Rattle.std.specs.List.{find};
 ghost use Rattle.std.specs.Option.{option_copied};
-ghost use Rattle.cedar_policy_set.specs.Validity.{is_slotless_link, IsValidBody, ValidatesSet};
+ghost use Rattle.cedar_policy_set.specs.Validity.{is_slotless_link, HasSlottedLinks, IsSetFault, IsValidBody, ValidatesSet};
 ghost use Rattle.cedar_policy_set.specs.Views.{bodies_of};
 ghost use Rattle.cedar_policy_set.specs.laws.BodyFaults.{IsBodyFault, IsFirstFault};
 
@@ -23,14 +23,27 @@ impl PolicySet {
     pub fn try_validate(self, alloc: Global) -> Result<PolicySet, PolicySetValidationError>
         ensures { ValidatesSet result self }
     {
+        match self.check(alloc) {
+            Ok(()) => Ok(self),
+            Err(error) => {
+                drop(self);
+                Err(error)
+            }
+        }
+    }
+
+    // Refuses the first link of a template without slots, else the first body that is not valid.
+    fn check(&self, alloc: Global) -> Result<(), PolicySetValidationError>
+        ensures ok { OnOk result (HasSlottedLinks self.now × All IsValidBody self.now.bodies) }
+        ensures err { IfErr result (λ e. IsSetFault e self.now) }
+    {
         if let Some(link) = first_slotless(self.all_policies()) {
             return Err(PolicySetValidationError::LinkToSlotlessTemplate {
                 link_id: link.id().clone()?,
                 template_id: link.template().id().clone()?,
             });
         }
-        validate_bodies(alloc, self.shared_bodies())?;
-        Ok(self)
+        validate_bodies(alloc, self.shared_bodies())
     }
 }
 
@@ -66,11 +79,17 @@ fn validate_body(alloc: Global, template: &Template) -> Result<(), PolicySetVali
     ensures err { IfErr result (λ e. IsBodyFault e template.now) }
 {
     match template.clone()?.try_validate(alloc) {
-        Ok(_valid) => Ok(()),
-        Err(TemplateValidationError::Memory) => Err(PolicySetValidationError::Memory),
-        Err(error) => {
-            let id = template.id().clone()?;
-            Err(PolicySetValidationError::InvalidTemplate { id, error })
+        Ok(valid) => {
+            drop(valid);
+            Ok(())
         }
+        Err(TemplateValidationError::Memory) => Err(PolicySetValidationError::Memory),
+        Err(error) => match template.id().clone() {
+            Ok(id) => Err(PolicySetValidationError::InvalidTemplate { id, error }),
+            Err(refused) => {
+                drop(error);
+                Err(PolicySetValidationError::from(refused))
+            }
+        },
     }
 }

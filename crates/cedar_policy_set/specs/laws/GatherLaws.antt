@@ -59,11 +59,14 @@ both_so false b h = absurd (false≢true h)
 among_bodies : (h o : Board) (i : List ℕ) → has_body h i ≡ true → is_in i (body_ids o) ≡ true → is_same_at h o i ≡ false → is_in i (gathered [] (conflicting h o (has_body h) (body_ids o))) ≡ true
 among_bodies h o i b t d = gathers i [] (conflicting h o (has_body h) (body_ids o)) (in_conflicting h o (has_body h) (body_ids o) i b d t)
 
--- so the four groups give the ids that conflict
-pub conflicts_in_groups : (h o : Board) →
-    gathered (gathered (gathered (gathered [] (conflicting h o (looked_at Bodies h o) (body_ids o))) (conflicting h o (looked_at Policies h o) (policy_ids o))) (conflicting h o (looked_at Links h o) (body_ids o)))
+-- the ids that conflict and are looked at, group after group
+abbrev pub in_groups : List (List ℕ) → Board → Board → List (List ℕ)
+in_groups seen h o =
+    gathered (gathered (gathered (gathered seen (conflicting h o (looked_at Bodies h o) (body_ids o))) (conflicting h o (looked_at Policies h o) (policy_ids o))) (conflicting h o (looked_at Links h o) (body_ids o)))
     (conflicting h o (looked_at Templates h o) (policy_ids o))
-    ≡ conflicts h o
+
+-- so the four groups give the ids that conflict
+pub conflicts_in_groups : (h o : Board) → in_groups [] h o ≡ conflicts h o
 conflicts_in_groups h o =
     let a = conflicting h o (has_body h) (body_ids o) in
     let b = conflicting h o (has_policy h) (policy_ids o) in
