@@ -4,7 +4,7 @@ use Rattle.cedar_policy_set.specs.laws.MapLaws.{all_listed}
 use Rattle.cedar_policy_set.proofs.Entries.{listed_all}
 use Rattle.cedar_policy_set.proofs.maps.ids_by_body.Goals as goal
 
-pub returns : goal.returns
-returns c =
-    c.in_ok-list_ids.ensures ∙ ap (λ ls. all_listed ls c.args.policies.now) c.in_ok-map.ensures
+pub returns-in-Ok : goal.returns-in-Ok
+returns-in-Ok c =
+    c.in-Ok.ensures ∙ ap (λ ls. all_listed ls c.args.policies.now) c.in_ok-map.ensures
     ∙ listed_all (bodies_of c.args.bodies.now) c.args.policies.now c.requires.bodies c.requires.policies

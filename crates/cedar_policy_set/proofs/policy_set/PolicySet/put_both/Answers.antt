@@ -1,6 +1,5 @@
 use Rattle.std.specs.Prelude.{◌≡◌, ◌++◌, ◌∷◌, []}
-use Rattle.std.proofs.Common.{◌∙◌, ap, sym, subst, refl}
-use Rattle.cedar_body.specs.Bodies.{BodyParts}
+use Rattle.std.proofs.Common.{◌∙◌, sym, subst, refl}
 use Rattle.cedar_policy.specs.Policies.{policy_id}
 use Rattle.cedar_policy_set.specs.Maps.{Maps, maps_of, board_in}
 use Rattle.cedar_policy_set.specs.laws.BoardLaws.{both_free}
@@ -14,35 +13,35 @@ put_last-requires-clause-absent c =
     let m : Maps = maps_of c.self.inside.templates.entries c.self.inside.links.entries c.self.inside.template_to_links_map.entries in
     let p = c.args.policy in
     let j : CanJoinBoth (board_in m) p = subst (λ b. CanJoinBoth b p) (sym c.self.view_is) c.requires in
-    let k : c.in_ok-body.body ≡ p.template.id = c.in_ok-body.ensures.cases ∙ c.id.ensures ∙ ap (λ (t : BodyParts). t.id) (c.deref.ensures ∙ c.in_ok-template.ensures) in
-    rw (k, c.in_ok-reserve.ensures.entries) (absent_body m c.self.inside.templates.entries p.template.id c.self.invariant refl j.0)
+    let k : c.in-Ok.body ≡ p.template.id = c.in-Ok.ensures.body.0 in
+    rw (k, c.room_for_both.ensures.bodies) (absent_body m c.self.inside.templates.entries p.template.id c.self.invariant refl j.0)
 
-pub put_last-requires-2-clause-absent : goal.put_last-requires-2-clause-absent
-put_last-requires-2-clause-absent c =
+pub put_last-requires-in-Ok-clause-absent : goal.put_last-requires-in-Ok-clause-absent
+put_last-requires-in-Ok-clause-absent c =
     let m : Maps = maps_of c.self.inside.templates.entries c.self.inside.links.entries c.self.inside.template_to_links_map.entries in
     let p = c.args.policy in
     let j : CanJoinBoth (board_in m) p = subst (λ b. CanJoinBoth b p) (sym c.self.view_is) c.requires in
-    let k : c.in_ok-own.own ≡ policy_id p = c.in_ok-own.ensures.cases ∙ c.id-3.ensures in
-    rw (k, c.in_ok-reserve-2.ensures.entries) (absent_policy m (policy_id p) c.self.invariant (both_free p.link (board_in m) p refl j.0 j.1))
+    let k : c.in-Ok.own ≡ policy_id p = c.in-Ok.ensures.own.0 in
+    rw (k, c.room_for_both.ensures.policies) (absent_policy m (policy_id p) c.self.invariant (both_free p.link (board_in m) p refl j.0 j.1))
 
-pub put_last-requires-3-clause-absent : goal.put_last-requires-3-clause-absent
-put_last-requires-3-clause-absent c =
+pub put_last-requires-in-Ok-2-clause-absent : goal.put_last-requires-in-Ok-2-clause-absent
+put_last-requires-in-Ok-2-clause-absent c =
     let m : Maps = maps_of c.self.inside.templates.entries c.self.inside.links.entries c.self.inside.template_to_links_map.entries in
     let p = c.args.policy in
     let j : CanJoinBoth (board_in m) p = subst (λ b. CanJoinBoth b p) (sym c.self.view_is) c.requires in
-    let k : c.in_ok-under.under ≡ p.template.id = c.in_ok-under.ensures.cases ∙ c.id-2.ensures ∙ ap (λ (t : BodyParts). t.id) (c.deref-2.ensures ∙ c.in_ok-template.ensures) in
-    rw (k, c.in_ok-reserve-3.ensures.entries) (absent_list m c.self.inside.template_to_links_map.entries p.template.id c.self.invariant refl j.0)
+    let k : c.in-Ok.under ≡ p.template.id = c.in-Ok.ensures.body.1 in
+    rw (k, c.room_for_both.ensures.lists) (absent_list m c.self.inside.template_to_links_map.entries p.template.id c.self.invariant refl j.0)
 
-pub invariant_of-self-2 : goal.invariant_of-self-2
-invariant_of-self-2 c =
+pub invariant_of-self : goal.invariant_of-self
+invariant_of-self c =
     let m : Maps = maps_of c.self.inside.templates.entries c.self.inside.links.entries c.self.inside.template_to_links_map.entries in
     let p = c.args.policy in
     let j : CanJoinBoth (board_in m) p = subst (λ b. CanJoinBoth b p) (sym c.self.view_is) c.requires in
-    let k : c.in_ok-body.body ≡ p.template.id = c.in_ok-body.ensures.cases ∙ c.id.ensures ∙ ap (λ (t : BodyParts). t.id) (c.deref.ensures ∙ c.in_ok-template.ensures) in
-    let l : c.in_ok-under.under ≡ p.template.id = c.in_ok-under.ensures.cases ∙ c.id-2.ensures ∙ ap (λ (t : BodyParts). t.id) (c.deref-2.ensures ∙ c.in_ok-template.ensures) in
-    let n : c.in_ok-own.own ≡ policy_id p = c.in_ok-own.ensures.cases ∙ c.id-3.ensures in
-    let one : c.in_ok-ids.ids.keys ≡ policy_id p ∷ [] = c.in_ok-ids.ensures ∙ ap (λ i. i ∷ []) (c.in_ok-clone.ensures.cases ∙ c.id-4.ensures) in
+    let k : c.in-Ok.body ≡ p.template.id = c.in-Ok.ensures.body.0 in
+    let l : c.in-Ok.under ≡ p.template.id = c.in-Ok.ensures.body.1 in
+    let n : c.in-Ok.own ≡ policy_id p = c.in-Ok.ensures.own.0 in
+    let one : c.in-Ok.ids.keys ≡ policy_id p ∷ [] = c.in-Ok.ensures.own.1 in
     (both_kept m p _ _ _ c.self.invariant j
-    (read_last (λ v. v.value) c.self.inside.templates.entries c.reserve.new.self.entries c.put_last.new.map.entries _ p.template.id c.in_ok-template.template p.template c.in_ok-reserve.ensures.entries c.put_last.ensures k c.in_ok-template.ensures)
-    (c.put_last-2.ensures ∙ (λ i. c.in_ok-reserve-2.ensures.entries i ++ (n i, p) ∷ []))
-    (read_last (λ v. v.keys) c.self.inside.template_to_links_map.entries c.reserve-3.new.self.entries c.put_last-3.new.map.entries _ p.template.id c.in_ok-ids.ids (policy_id p ∷ []) c.in_ok-reserve-3.ensures.entries c.put_last-3.ensures l one)).0
+    (read_last (λ v. v.value) c.self.inside.templates.entries c.room_for_both.new.templates.entries c.put_last.new.map.entries _ p.template.id c.in-Ok.template p.template c.room_for_both.ensures.bodies c.put_last.ensures k c.in-Ok.ensures.share)
+    (c.put_last-in-Ok.ensures ∙ (λ i. c.room_for_both.ensures.policies i ++ (n i, p) ∷ []))
+    (read_last (λ v. v.keys) c.self.inside.template_to_links_map.entries c.room_for_both.new.map.entries c.put_last-in-Ok-2.new.map.entries _ p.template.id c.in-Ok.ids (policy_id p ∷ []) c.room_for_both.ensures.lists c.put_last-in-Ok-2.ensures l one)).0

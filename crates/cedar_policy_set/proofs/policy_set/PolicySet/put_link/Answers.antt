@@ -8,5 +8,5 @@ use Rattle.cedar_policy_set.proofs.policy_set.PolicySet.put_link.Goals as goal
 
 pub link_template-requires : goal.link_template-requires
 link_template-requires c =
-    stands c.args.self.now c.args.template_id c.in-Some.template.value
-    (subst (λ o. MatchOption o (HasNoTemplate (bound_at c.args.self.now c.args.template_id)) (λ t. bound_at c.args.self.now c.args.template_id ≡ Some (Template t.value))) c.in-Some.is c.in_ok-template.ensures)
+    stands c.args.self.now c.args.template_id c.in-Ok-Some.template.value
+    (subst (λ o. MatchOption o (HasNoTemplate (bound_at c.args.self.now c.args.template_id)) (λ t. bound_at c.args.self.now c.args.template_id ≡ Some (Template t.value))) c.in-Ok-Some.field-0-is c.in-Ok-Some.ensures)

@@ -2,7 +2,7 @@ use Rattle.std.proofs.Common.{◌≡◌, ◌++◌}
 use Rattle.std.specs.Map.{values_of}
 use Rattle.cedar_policy.specs.Policies.{policy_id}
 use Rattle.cedar_policy_set.specs.laws.ListedLaws.{IsKeyed}
-use Rattle.cedar_policy_set.proofs.maps.policies_by_id.Given as goal
+use Rattle.cedar_policy_set.proofs.maps.put_policies.Given as goal
 
 abbrev pub invariant-loop-policy : goal.invariant-loop-policy
 invariant-loop-policy l = record {

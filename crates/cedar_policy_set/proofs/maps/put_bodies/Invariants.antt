@@ -2,7 +2,7 @@ use Rattle.std.proofs.Common.{◌≡◌, ◌++◌}
 use Rattle.std.specs.Map.{values_of}
 use Rattle.cedar_policy_set.specs.laws.ListedLaws.{IsKeyed}
 use Rattle.cedar_policy_set.proofs.Entries.{shared_id}
-use Rattle.cedar_policy_set.proofs.maps.bodies_by_id.Given as goal
+use Rattle.cedar_policy_set.proofs.maps.put_bodies.Given as goal
 
 abbrev pub invariant-loop-template : goal.invariant-loop-template
 invariant-loop-template l = record {
