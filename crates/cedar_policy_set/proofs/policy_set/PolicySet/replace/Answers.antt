@@ -1,5 +1,5 @@
 use Rattle.std.proofs.Common.{◌∙◌}
-use Rattle.cedar_policy_set.specs.Maps.{ids_by_body}
+use Rattle.cedar_policy_set.specs.Maps.{board_in, ids_by_body, maps_of}
 use Rattle.cedar_policy_set.specs.Views.{bodies_of}
 use Rattle.cedar_policy_set.proofs.Entries.{made}
 use Rattle.cedar_policy_set.proofs.policy_set.PolicySet.replace.Goals as goal
@@ -13,6 +13,7 @@ invariant_of-self c =
 
 pub returns-clause-ok : goal.returns-clause-ok
 returns-clause-ok c =
-    (made c.in-Ok-bodies_by_id.templates.entries c.in-Ok-policies_by_id.links.entries c.in-Ok.listed.entries c.args.bodies.items c.args.policies.items c.requires
+    (λ j. board_in (maps_of (c.replace.ensures.after j).entries (c.replace-2.ensures.after j).entries (c.replace-3.ensures.after j).entries))
+    ∙ (made c.in-Ok-bodies_by_id.templates.entries c.in-Ok-policies_by_id.links.entries c.in-Ok.listed.entries c.args.bodies.items c.args.policies.items c.requires
     c.in-Ok-bodies_by_id.ensures.keyed c.in-Ok-bodies_by_id.ensures.values c.in-Ok-policies_by_id.ensures.keyed c.in-Ok-policies_by_id.ensures.values
     (c.in-Ok.ensures ∙ (λ j. ids_by_body (bodies_of (c.deref.ensures.value j)) (c.deref-2.ensures.value j)))).1
