@@ -43,7 +43,8 @@ impl PolicySet {
                 template_id: link.template().id().clone()?,
             });
         }
-        validate_bodies(alloc, self.shared_bodies())
+        validate_bodies(alloc, self.shared_bodies())?;
+        Ok(())
     }
 }
 
