@@ -1,3 +1,4 @@
+mod Abbreviations
 mod Adjacent
 mod Edits
 mod Filtered

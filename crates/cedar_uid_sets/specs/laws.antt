@@ -1,4 +1,5 @@
 pub mod Codes
+pub mod Fronts
 pub mod Merged
 pub mod Places
 pub mod Sets

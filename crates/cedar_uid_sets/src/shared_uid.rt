@@ -6,6 +6,7 @@ ghost use Rattle.std.proofs.Common.{refl};
 ghost use Rattle.cedar_ids.specs.Printed.{uid_output};
 ghost use Rattle.cedar_ids.specs.UidOf.{uid_parts};
 
+use crate::fronts::{Fronted, Key, are_same, order_of};
 use cedar_ids::entity::EntityUID;
 use std::alloc::{AllocError, Global};
 use std::cmp::Ordering;
@@ -15,8 +16,12 @@ use std::marker::Model;
 use std::rc::Rc;
 
 /// A uid that several sets share. Contracts see the uid.
+///
+/// Beside the uid stand two numbers that abbreviate it: one for its type where that is short and has no path, and one
+/// for the first eight bytes of its eid. Where these differ, they decide equality and order, and no text is looked
+/// at. They cost 16 bytes a shared uid.
 #[derive(Debug, Drop)]
-pub struct SharedUid(Rc<EntityUID>);
+pub struct SharedUid(Rc<Fronted>);
 
 impl Model for SharedUid {
     ghost use Rattle.cedar_ids.specs.declared.entity.EntityUID.{EntityUID};
@@ -34,21 +39,29 @@ impl SharedUid {
     pub fn new(alloc: Global, uid: EntityUID) -> Result<SharedUid, AllocError>
         ensures { IfOk result (λ s. s ≡ uid) }
     {
-        Ok(SharedUid(Rc::new(alloc, uid)?))
+        Ok(SharedUid(Rc::new(alloc, Fronted::new(uid))?))
     }
 
     /// The uid. It takes no memory.
     pub fn uid(&self) -> &EntityUID
         ensures { result.now ≡ self.now }
     {
-        &*self.0
+        self.0.uid()
     }
 
     /// The uid: a copy where it is still shared.
     pub fn into_uid(self) -> Result<EntityUID, AllocError>
         ensures { IfOk result (λ u. u ≡ self) }
     {
-        Rc::unwrap_or_clone(self.0)
+        let fronted = Rc::unwrap_or_clone(self.0)?;
+        Ok(fronted.into_uid())
+    }
+
+    // The uid, to be looked for.
+    pub(crate) fn key(&self) -> Key<'_>
+        ensures { result ≡ self.now }
+    {
+        self.0.key()
     }
 }
 
@@ -66,7 +79,7 @@ impl PartialEq for SharedUid {
     ghost laws = { partial_equiv_from_equiv same_uid_equiv };
 
     fn eq(&self, other: &SharedUid) -> bool {
-        self.uid() == other.uid()
+        are_same(&self.key(), &other.key())
     }
 }
 
@@ -94,7 +107,7 @@ impl Ord for SharedUid {
     ghost matches_eq = { uid_order_ties };
 
     fn cmp(&self, other: &SharedUid) -> Ordering {
-        self.uid().cmp(other.uid())
+        order_of(&self.key(), &other.key())
     }
 }
 

@@ -1,0 +1,43 @@
+-- Numbers that abbreviate names and eids.
+use Rattle.std.specs.Prelude.{◌≡◌, ℕ, zero, suc, ◌+◌, ◌*◌, ◌^◌, ◌<◌, Bool, true, false, ◌&&◌, cond, List, [], ◌∷◌, length, nat_le, slice_index, ⊤}
+use Rattle.cedar_ids.specs.Name.{NameParts}
+use Rattle.cedar_ids.specs.TextOf.{IsName}
+use Rattle.cedar_ids.specs.UidOf.{uid_parts}
+use Rattle.cedar_ids.specs.declared.entity.EntityUID.{EntityUID}
+
+-- the number of which these are the first n digits to base 256, the highest first
+abbrev pub number : ℕ → (ℕ → ℕ) → ℕ
+number zero digit = 0
+number (suc n) digit = digit 0 * 256 ^ n + number n (λ i. digit (suc i))
+
+-- the first n are digits
+abbrev pub AreDigits : ℕ → (ℕ → ℕ) → Type 0
+AreDigits zero digit = ⊤
+AreDigits (suc n) digit = (digit 0 < 256) × AreDigits n (λ i. digit (suc i))
+
+-- the first eight bytes of a text as a number, with a zero for each that is not there
+abbrev pub front : List ℕ → ℕ
+front text = number 8 (slice_index text)
+
+-- the first eight are bytes
+abbrev pub BeginsWithBytes : List ℕ → Type 0
+BeginsWithBytes text = AreDigits 8 (slice_index text)
+
+abbrev pub is_none : List (List ℕ) → Bool
+is_none [] = true
+is_none (id ∷ ids) = false
+
+-- a name without a path, of at most eight bytes
+abbrev pub is_short : NameParts → Bool
+is_short n = is_none n.path && nat_le (length n.basename) 8
+
+-- the front of a short name; 0 of any other, which says nothing of it
+abbrev pub kind : NameParts → ℕ
+kind n = cond (is_short n) (front n.basename) 0
+
+-- the two numbers are those of the uid
+pub record Abbreviate (k f : ℕ) (u : EntityUID) : Type 0 where
+  pub of_name : k ≡ kind (uid_parts u).name
+  pub of_eid : f ≡ front (uid_parts u).eid
+  pub name : IsName (uid_parts u).name
+  pub bytes : BeginsWithBytes (uid_parts u).eid

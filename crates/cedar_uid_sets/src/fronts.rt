@@ -1,0 +1,241 @@
+//! The numbers that abbreviate uids, and comparisons by them.
+ghost use Rattle.std.specs.Prelude.{◌≡◌, ◌<◌, nat_eq, slice_index};
+ghost use Rattle.std.specs.Ordering.{nat_cmp};
+ghost use Rattle.std.specs.Cmp.Lexicographic.{pointwise, slice_cmp};
+ghost use Rattle.cedar_ids.specs.UidOf.{same_uid, uid_order, uid_parts};
+ghost use Rattle.cedar_uid_sets.specs.laws.Fronts.{front, kind, is_none, is_short, BeginsWithBytes};
+
+use cedar_ids::entity::EntityUID;
+use cedar_ids::name::Name;
+use std::alloc::AllocError;
+use std::cmp::Ordering;
+use std::hash::{Hash, Hasher};
+use std::marker::Model;
+
+// A hasher that counts what it is given, up to four.
+#[derive(Drop)]
+struct Writes {
+    count: u8,
+}
+
+impl Hasher for Writes {
+    ghost use Rattle.std.specs.Prelude.{min, ◌+◌};
+
+    ghost write = { λ s bytes. record { count = min (s.count + 1) 4 } };
+
+    ghost finish = { λ s. s.count };
+
+    fn finish(&self) -> u64 {
+        self.count as u64
+    }
+
+    fn write(&mut self, _bytes: &[u8]) {
+        if self.count < 4 {
+            self.count += 1;
+        } else {
+            self.count = 4;
+        }
+    }
+}
+
+// Whether a name has no path. It gives a hasher its basename, a mark and the length of its path, and then the path.
+fn has_no_path(name: &Name) -> bool
+    ensures { result ≡ is_none name.now.path }
+{
+    let mut writes = Writes { count: 0 };
+    name.hash(&mut writes);
+    writes.count == 3
+}
+
+// The byte at a place, or 0.
+fn byte(text: &[u8], at: usize) -> u64
+    ensures value { result ≡ slice_index text.now at }
+    ensures small { result < 256 }
+{
+    match text.get(at) {
+        Some(byte) => *byte as u64,
+        None => 0,
+    }
+}
+
+// The first eight bytes, the first as the highest.
+fn front(text: &[u8]) -> u64
+    ensures value { result ≡ front text.now }
+    ensures bytes { BeginsWithBytes text.now }
+{
+    byte(text, 0) * 0x100_0000_0000_0000
+        + byte(text, 1) * 0x1_0000_0000_0000
+        + byte(text, 2) * 0x100_0000_0000
+        + byte(text, 3) * 0x1_0000_0000
+        + byte(text, 4) * 0x100_0000
+        + byte(text, 5) * 0x1_0000
+        + byte(text, 6) * 0x100
+        + byte(text, 7)
+}
+
+// Whether a name has no path, and a basename of at most eight bytes.
+fn is_short(name: &Name) -> bool
+    ensures { result ≡ is_short name.now }
+{
+    has_no_path(name) && name.basename().as_ref().len() <= 8
+}
+
+// The front of a short name, and 0 of another.
+fn kind(name: &Name) -> u64
+    ensures { result ≡ kind name.now }
+{
+    if !is_short(name) {
+        return 0;
+    }
+    front(name.basename().as_ref().as_bytes())
+}
+
+/// A uid that is looked for, with the numbers that abbreviate it. Contracts see the uid.
+#[derive(Drop)]
+pub(crate) struct Key<'a> {
+    kind: u64,
+    front: u64,
+    uid: &'a EntityUID,
+}
+
+impl<'a> Model for Key<'a> {
+    ghost use Rattle.cedar_ids.specs.Codes.{uid_code};
+    ghost use Rattle.cedar_ids.specs.declared.entity.EntityUID.{EntityUID};
+    ghost use Rattle.cedar_uid_sets.specs.laws.Fronts.{Abbreviate};
+
+    ghost Value = { EntityUID };
+
+    ghost coded = { uid_code };
+
+    ghost view = { λ k. k.uid.now };
+
+    ghost invariant = { λ k. Abbreviate k.kind k.front k.uid.now };
+}
+
+impl<'a> Key<'a> {
+    // The uid, to be looked for.
+    pub(crate) fn of(uid: &'a EntityUID) -> Key<'a>
+        ensures { result ≡ uid.now }
+    {
+        Key {
+            kind: kind(uid.entity_type().name()),
+            front: front(uid.eid().as_ref().as_bytes()),
+            uid,
+        }
+    }
+}
+
+/// A uid with the numbers that abbreviate it. Contracts see the uid.
+#[derive(Debug, Drop)]
+pub(crate) struct Fronted {
+    kind: u64,
+    front: u64,
+    uid: EntityUID,
+}
+
+impl Model for Fronted {
+    ghost use Rattle.cedar_ids.specs.Codes.{uid_code};
+    ghost use Rattle.cedar_ids.specs.declared.entity.EntityUID.{EntityUID};
+    ghost use Rattle.cedar_uid_sets.specs.laws.Fronts.{Abbreviate};
+
+    ghost Value = { EntityUID };
+
+    ghost coded = { uid_code };
+
+    ghost view = { λ f. f.uid };
+
+    ghost invariant = { λ f. Abbreviate f.kind f.front f.uid };
+}
+
+impl Fronted {
+    // The uid with its numbers.
+    pub(crate) fn new(uid: EntityUID) -> Fronted
+        ensures { result ≡ uid }
+    {
+        let kind = kind(uid.entity_type().name());
+        let front = front(uid.eid().as_ref().as_bytes());
+        Fronted { kind, front, uid }
+    }
+
+    // The uid.
+    pub(crate) fn uid(&self) -> &EntityUID
+        ensures { result.now ≡ self.now }
+    {
+        &self.uid
+    }
+
+    // The uid, to be looked for.
+    pub(crate) fn key(&self) -> Key<'_>
+        ensures { result ≡ self.now }
+    {
+        Key {
+            kind: self.kind,
+            front: self.front,
+            uid: &self.uid,
+        }
+    }
+
+    // The uid alone.
+    pub(crate) fn into_uid(self) -> EntityUID
+        ensures { result ≡ self }
+    {
+        let Fronted { uid, .. } = self;
+        uid
+    }
+}
+
+impl Clone for Fronted {
+    ghost is_clone = { λ x y. y ≡ x };
+
+    fn clone(&self) -> Result<Fronted, AllocError> {
+        let uid = self.uid.clone()?;
+        Ok(Fronted {
+            kind: self.kind,
+            front: self.front,
+            uid,
+        })
+    }
+}
+
+// How the eids of two uids stand.
+fn order_of_eids(one: &EntityUID, other: &EntityUID) -> Ordering
+    ensures { result ≡ slice_cmp nat_cmp (uid_parts one.now).eid (uid_parts other.now).eid }
+{
+    one.eid().as_ref().cmp(other.eid().as_ref())
+}
+
+// How the first stands to the other: by the numbers where both names are short and the numbers differ.
+pub(crate) fn order_of(one: &Key<'_>, other: &Key<'_>) -> Ordering
+    ensures { result ≡ uid_order one.now other.now }
+{
+    if one.kind == 0 || other.kind == 0 {
+        return one.uid.cmp(other.uid);
+    }
+    if one.kind != other.kind {
+        return one.kind.cmp(&other.kind);
+    }
+    if one.front != other.front {
+        return one.front.cmp(&other.front);
+    }
+    order_of_eids(one.uid, other.uid)
+}
+
+// Whether two uids have one eid.
+fn have_one_eid(one: &EntityUID, other: &EntityUID) -> bool
+    ensures { result ≡ pointwise nat_eq (uid_parts one.now).eid (uid_parts other.now).eid }
+{
+    one.eid().as_ref() == other.eid().as_ref()
+}
+
+// Whether both are the same: not where the numbers differ, and where both names are short the eids tell.
+pub(crate) fn are_same(one: &Key<'_>, other: &Key<'_>) -> bool
+    ensures { result ≡ same_uid one.now other.now }
+{
+    if one.kind != other.kind || one.front != other.front {
+        return false;
+    }
+    if one.kind == 0 || other.kind == 0 {
+        return one.uid == other.uid;
+    }
+    have_one_eid(one.uid, other.uid)
+}
