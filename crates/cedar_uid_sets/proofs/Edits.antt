@@ -16,7 +16,8 @@ use Rattle.cedar_uid_sets.specs.laws.Sets.{contains_listed, same_tests, one_equa
 use Rattle.cedar_uid_sets.specs.laws.Places.{IsPlaceOf, IsGapFor}
 use Rattle.cedar_uid_sets.proofs.Orders.{apart, apart_back}
 
-one_same : (us : List EntityUID) (u : EntityUID) (i : ℕ) → i < length us → ((d : EntityUID) → get_or us i d ≡ u) → is_member same_uid us u ≡ true
+-- what has a place is a member
+pub one_same : (us : List EntityUID) (u : EntityUID) (i : ℕ) → i < length us → ((d : EntityUID) → get_or us i d ≡ u) → is_member same_uid us u ≡ true
 one_same [] u i lt h = absurd (omega arith)
 one_same (x ∷ us) u zero lt h = ap (λ b. b || is_member same_uid us u) ((same_uid_decides u x).1 (sym (h x)))
 one_same (x ∷ us) u (suc i) lt h = ap (λ b. same_uid u x || b) (one_same us u i (omega arith) h) ∙ or_true (same_uid u x)
@@ -33,7 +34,8 @@ none_same (x ∷ us) u h = ap (λ b. b || is_member same_uid us u) (h zero x (om
 pub present : (us : List EntityUID) (u : EntityUID) (i : ℕ) → IsPlaceOf us u i → set.contains (set.from_list {R = uid_order} us) u ≡ true
 present us u i p = contains_listed us u ∙ one_same us u i p.in_range p.here
 
-not_in_gap : (us : List EntityUID) (u : EntityUID) (i : ℕ) → IsGapFor us u i → is_member same_uid us u ≡ false
+-- what has a gap is no member
+pub not_in_gap : (us : List EntityUID) (u : EntityUID) (i : ℕ) → IsGapFor us u i → is_member same_uid us u ≡ false
 not_in_gap us u i g = none_same us u (λ j d lt. by_side j d lt (cases_lt j i))
   where
     by_side : (j : ℕ) (d : EntityUID) → j < length us → (j < i) ⊎ (i ≤ j) → same_uid u (get_or us j d) ≡ false

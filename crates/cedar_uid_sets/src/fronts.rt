@@ -9,6 +9,7 @@ use cedar_ids::entity::EntityUID;
 use cedar_ids::name::Name;
 use std::alloc::AllocError;
 use std::cmp::Ordering;
+use std::fmt;
 use std::hash::{Hash, Hasher};
 use std::marker::Model;
 
@@ -126,7 +127,7 @@ impl<'a> Key<'a> {
 }
 
 /// A uid with the numbers that abbreviate it. Contracts see the uid.
-#[derive(Debug, Drop)]
+#[derive(Drop)]
 pub(crate) struct Fronted {
     kind: u64,
     front: u64,
@@ -194,6 +195,12 @@ impl Clone for Fronted {
             front: self.front,
             uid,
         })
+    }
+}
+
+impl fmt::Debug for Fronted {
+    fn fmt<W: fmt::Write>(&self, f: &mut fmt::Formatter<W>) -> fmt::Result {
+        self.uid.fmt(f)
     }
 }
 

@@ -6,6 +6,7 @@ ghost use Rattle.std.specs.VecDeque.{deque_len};
 ghost use Rattle.cedar_ids.specs.UidOf.{same_uid};
 ghost use Rattle.cedar_uid_sets.specs.laws.Merged.{merged, below, above};
 
+use crate::fronts::Key;
 use crate::order::order;
 use crate::shared_uid::SharedUid;
 use cedar_ids::entity::EntityUID;
@@ -27,7 +28,7 @@ pub(crate) fn shared(alloc: Global, uids: HashSet<EntityUID>) -> Result<Vec<Shar
 
 // Moves what is less than the uid from the front of the queue to the end of the vector, and drops the uid itself
 // where it comes next.
-fn move_below(queue: &mut VecDeque<SharedUid>, uid: &EntityUID, to: &mut Vec<SharedUid>)
+fn move_below(queue: &mut VecDeque<SharedUid>, uid: &Key<'_>, to: &mut Vec<SharedUid>)
     requires { vec_len to.old + deque_len queue.old ≤ vec_capacity to.old }
     ensures moved { to.new.items ≡ to.old.items ++ below uid.now queue.old.items }
     ensures left { queue.new.items ≡ above uid.now queue.old.items }
@@ -74,7 +75,7 @@ pub(crate) fn merge(
     let mut left = VecDeque::from_vec(left);
     let mut right = VecDeque::from_vec(right);
     while let Some(shared) = right.pop_front() {
-        move_below(&mut left, shared.uid(), &mut to);
+        move_below(&mut left, &shared.key(), &mut to);
         to.push_reserved(shared);
     }
     move_all(left, &mut to);

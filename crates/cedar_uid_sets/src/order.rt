@@ -1,22 +1,26 @@
 //! Where a uid stands among uids that ascend.
 ghost use Rattle.std.specs.Prelude.{◌≡◌, ◌↔◌, MatchResult, IsTrue, length};
-ghost use Rattle.cedar_ids.specs.UidOf.{uid_order};
+ghost use Rattle.std.specs.Set.{is_member};
+ghost use Rattle.cedar_ids.specs.UidOf.{same_uid, uid_order};
 ghost use Rattle.cedar_uid_sets.specs.UidSets.{Ascend};
 ghost use Rattle.cedar_uid_sets.specs.laws.Places.{IsPlaceOf, IsGapFor};
 
+use crate::fronts::{Key, are_same, order_of};
 use crate::shared_uid::SharedUid;
-use cedar_ids::entity::EntityUID;
 use std::cmp::Ordering;
 
+// So many uids are gone through one by one, which costs less than a search.
+const FEW: usize = 8;
+
 // How what is shared stands to the uid.
-pub(crate) fn order(shared: &SharedUid, uid: &EntityUID) -> Ordering
+pub(crate) fn order(shared: &SharedUid, uid: &Key<'_>) -> Ordering
     ensures { result ≡ uid_order shared.now uid.now }
 {
-    shared.uid().cmp(uid)
+    order_of(&shared.key(), uid)
 }
 
 // Whether the uid is greater than all of these.
-fn is_past_all(uids: &[SharedUid], uid: &EntityUID) -> bool
+fn is_past_all(uids: &[SharedUid], uid: &Key<'_>) -> bool
     requires { Ascend uids.now }
     ensures { IsTrue result → IsGapFor uids.now uid.now (length uids.now) }
 {
@@ -27,7 +31,7 @@ fn is_past_all(uids: &[SharedUid], uid: &EntityUID) -> bool
 }
 
 // Where the uid is, or where it would go.
-pub(crate) fn place(uids: &[SharedUid], uid: &EntityUID) -> Result<usize, usize>
+pub(crate) fn place(uids: &[SharedUid], uid: &Key<'_>) -> Result<usize, usize>
     requires { Ascend uids.now }
     ensures { MatchResult result (IsPlaceOf uids.now uid.now) (IsGapFor uids.now uid.now) }
 {
@@ -35,7 +39,7 @@ pub(crate) fn place(uids: &[SharedUid], uid: &EntityUID) -> Result<usize, usize>
 }
 
 // The same where the uid is likely to go at the end, which is looked at first.
-pub(crate) fn place_from_end(uids: &[SharedUid], uid: &EntityUID) -> Result<usize, usize>
+pub(crate) fn place_from_end(uids: &[SharedUid], uid: &Key<'_>) -> Result<usize, usize>
     requires { Ascend uids.now }
     ensures { MatchResult result (IsPlaceOf uids.now uid.now) (IsGapFor uids.now uid.now) }
 {
@@ -45,9 +49,30 @@ pub(crate) fn place_from_end(uids: &[SharedUid], uid: &EntityUID) -> Result<usiz
     place(uids, uid)
 }
 
+// Whether the uid is one of these.
+fn is_listed(uids: &[SharedUid], uid: &Key<'_>) -> bool
+    ensures { result ≡ is_member same_uid uids.now uid.now }
+{
+    uids.iter().any(|shared| are_same(uid, &shared.key()))
+}
+
+// The same of uids that ascend.
+pub(crate) fn is_among(uids: &[SharedUid], uid: &Key<'_>) -> bool
+    requires { Ascend uids.now }
+    ensures { result ≡ is_member same_uid uids.now uid.now }
+{
+    if uids.len() <= FEW {
+        return is_listed(uids, uid);
+    }
+    match place(uids, uid) {
+        Ok(_at) => true,
+        Err(_at) => false,
+    }
+}
+
 // Whether each of these is less than the next.
 pub(crate) fn ascend(uids: &[SharedUid]) -> bool
     ensures { IsTrue result ↔ Ascend uids.now }
 {
-    uids.is_sorted_by(|one, next| order(one, next.uid()).is_lt())
+    uids.is_sorted_by(|one, next| order(one, &next.key()).is_lt())
 }

@@ -8,8 +8,9 @@ ghost use Rattle.cedar_ids.specs.UidOf.{same_uid};
 ghost use Rattle.cedar_ids.specs.declared.entity.EntityUID.{EntityUID};
 ghost use Rattle.cedar_uid_sets.specs.UidSets.{UidValues, Ascend, Retains};
 
+use crate::fronts::Key;
 use crate::merge::{merge, shared};
-use crate::order::{ascend, place, place_from_end};
+use crate::order::{ascend, is_among, place, place_from_end};
 use crate::shared_uid::SharedUid;
 use cedar_ids::entity::EntityUID;
 use std::alloc::{AllocError, Global};
@@ -121,14 +122,25 @@ impl UidSet {
     }
 
     /// Whether the uid is in the set. It takes no memory, and compares it to the logarithm of the number of
-    /// uids.
+    /// uids; where there are at most eight, to each of them.
     pub fn contains(&self, uid: &EntityUID) -> bool
         ensures { result ≡ set.contains self.now uid.now }
     {
-        match place(&self.uids, uid) {
-            Ok(_at) => true,
-            Err(_at) => false,
-        }
+        self.contains_key(&Key::of(uid))
+    }
+
+    /// The same for a uid that is shared, which costs less: the numbers that abbreviate it are at hand.
+    pub fn contains_shared(&self, shared: &SharedUid) -> bool
+        ensures { result ≡ set.contains self.now shared.now }
+    {
+        self.contains_key(&shared.key())
+    }
+
+    // Whether the uid is in the set.
+    fn contains_key(&self, uid: &Key<'_>) -> bool
+        ensures { result ≡ set.contains self.now uid.now }
+    {
+        is_among(&self.uids, uid)
     }
 
     /// Puts a uid in; one that is there already changes nothing.
@@ -140,7 +152,7 @@ impl UidSet {
         ensures ok { OnOk result (self.new ≡ set.insert self.old shared) }
         ensures err { OnErr result (self.new ≡ self.old) }
     {
-        match place_from_end(&self.uids, shared.uid()) {
+        match place_from_end(&self.uids, &shared.key()) {
             Ok(_at) => Ok(()),
             Err(at) => Ok(self.uids.insert(at, shared)?),
         }
@@ -150,6 +162,20 @@ impl UidSet {
     ///
     /// It compares the uid to the logarithm of the number of uids, and moves the pointers to the greater ones.
     pub fn remove(&mut self, uid: &EntityUID)
+        ensures { self.new ≡ set.remove self.old uid.now }
+    {
+        self.remove_key(&Key::of(uid));
+    }
+
+    /// The same for a uid that is shared, which costs less: the numbers that abbreviate it are at hand.
+    pub fn remove_shared(&mut self, shared: &SharedUid)
+        ensures { self.new ≡ set.remove self.old shared.now }
+    {
+        self.remove_key(&shared.key());
+    }
+
+    // Takes a uid out.
+    fn remove_key(&mut self, uid: &Key<'_>)
         ensures { self.new ≡ set.remove self.old uid.now }
     {
         if let Ok(at) = place(&self.uids, uid) {
@@ -192,7 +218,7 @@ impl UidSet {
         ensures { self.new ≡ set.difference self.old (set.from_list uids.now) }
     {
         for shared in uids {
-            self.remove(shared.uid());
+            self.remove_shared(shared);
         }
     }
 
@@ -200,7 +226,7 @@ impl UidSet {
     fn keep_others(&mut self, others: &UidSet)
         ensures { self.new ≡ set.difference self.old others.now }
     {
-        self.uids.retain(|shared| !others.contains(shared.uid()));
+        self.uids.retain(|shared| !others.contains_shared(shared));
     }
 
     /// Puts in uids that ascend, each once, as [`UidSet::is_ascending`] tells; those that are there already change

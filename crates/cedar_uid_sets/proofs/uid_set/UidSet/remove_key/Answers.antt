@@ -1,5 +1,5 @@
 use Rattle.cedar_uid_sets.proofs.Edits.{absent, sorted_remove, set_remove, set_remove_absent}
-use Rattle.cedar_uid_sets.proofs.uid_set.UidSet.remove.Goals as goal
+use Rattle.cedar_uid_sets.proofs.uid_set.UidSet.remove_key.Goals as goal
 
 -- it goes from its place
 pub invariant_of-self : goal.invariant_of-self
