@@ -66,7 +66,7 @@ fn touched_by(
 {
     let mut copies = Vec::new(alloc);
     for (key, node) in entities {
-        if node.0.is_descendant_of(uid.uid()) {
+        if node.0.is_descendant_of_shared(uid) {
             copies.push(copy_of(key)?)?;
         }
     }
@@ -151,7 +151,7 @@ fn lessen(entity: &mut Entity, lost: &[SharedUid])
     ensures { entity.new ≡ stripped (is_member same_uid []) (is_member same_uid lost.now) entity.old }
 {
     for uid in lost {
-        entity.remove_indirect_ancestor(uid.uid());
+        entity.remove_shared_ancestor(uid);
     }
 }
 
@@ -160,7 +160,7 @@ fn part(entity: &mut Entity, gone: &[SharedUid])
     ensures { entity.new ≡ parted (is_member same_uid gone.now) entity.old }
 {
     for uid in gone {
-        entity.remove_parent(uid.uid());
+        entity.remove_shared_parent(uid);
     }
 }
 
@@ -316,7 +316,7 @@ fn has_any_of(entity: &Entity, uids: &HashSet<SharedUid>) -> bool
     ensures { result ≡ list_any (has_ancestor entity.now) uids.now.keys }
 {
     for uid in uids {
-        if entity.is_descendant_of(uid.uid()) {
+        if entity.is_descendant_of_shared(uid) {
             return true;
         }
     }

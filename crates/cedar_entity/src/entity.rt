@@ -118,9 +118,6 @@ impl StaticallyTyped for Entity {
     }
 }
 
-// So many uids are looked through one by one.
-const FEW: usize = 16;
-
 // A copy of a uid.
 fn copy_of(uid: &EntityUID) -> Result<EntityUID, AllocError>
     ensures { IfOk result (λ copy. copy ≡ uid.now) }
@@ -149,23 +146,6 @@ fn are_equal(one: &EntityUID, other: &EntityUID) -> bool
     ensures { result ≡ same_uid one.now other.now }
 {
     one.eid().as_ref() == other.eid().as_ref() && one == other
-}
-
-// Whether a uid is one of these.
-fn is_listed(uids: &[SharedUid], uid: &EntityUID) -> bool
-    ensures { result ≡ is_member same_uid uids.now uid.now }
-{
-    uids.iter().any(|other| are_equal(uid, other.uid()))
-}
-
-// Whether a uid is in a set. A set of few is gone through, which costs less than a search.
-fn is_among(uids: &UidSet, uid: &EntityUID) -> bool
-    ensures { result ≡ set.contains uids.now uid.now }
-{
-    if uids.len() > FEW {
-        return uids.contains(uid);
-    }
-    is_listed(uids.pointers(), uid)
 }
 
 // Whether two walks give equal uids in turn.
@@ -290,14 +270,14 @@ impl Entity {
     pub fn is_child_of(&self, other: &EntityUID) -> bool
         ensures { result ≡ set.contains self.now.parents other.now }
     {
-        is_among(&self.parents, other)
+        self.parents.contains(other)
     }
 
     /// Whether a uid is an indirect ancestor. It takes no memory.
     pub fn is_indirect_descendant_of(&self, other: &EntityUID) -> bool
         ensures { result ≡ set.contains self.now.indirect other.now }
     {
-        is_among(&self.indirect_ancestors, other)
+        self.indirect_ancestors.contains(other)
     }
 
     /// Whether a uid is an ancestor: a parent or an indirect one. It takes no memory.
@@ -305,6 +285,13 @@ impl Entity {
         ensures { result ≡ has_ancestor self.now other.now }
     {
         self.is_child_of(other) || self.is_indirect_descendant_of(other)
+    }
+
+    /// The same of a uid that is shared, which costs less.
+    pub fn is_descendant_of_shared(&self, other: &SharedUid) -> bool
+        ensures { result ≡ has_ancestor self.now other.now }
+    {
+        self.parents.contains_shared(other) || self.indirect_ancestors.contains_shared(other)
     }
 
     /// The keys of the attributes, in byte order. It takes no memory.
@@ -571,7 +558,7 @@ impl Entity {
         ensures ok { OnOk result (self.new ≡ with_indirect_ancestor self.old shared) }
         ensures err { OnErr result (self.new ≡ self.old) }
     {
-        if self.is_child_of(shared.uid()) {
+        if self.parents.contains_shared(&shared) {
             return Ok(());
         }
         self.indirect_ancestors.insert(shared)
@@ -615,7 +602,7 @@ impl Entity {
         let shared = SharedUid::new(self.parents.allocator(), uid)?;
         let copy = shared.clone()?;
         self.parents.insert(shared)?;
-        self.indirect_ancestors.remove(copy.uid());
+        self.indirect_ancestors.remove_shared(&copy);
         Ok(())
     }
 
@@ -626,11 +613,25 @@ impl Entity {
         self.indirect_ancestors.remove(uid);
     }
 
+    /// The same of a uid that is shared, which costs less.
+    pub fn remove_shared_ancestor(&mut self, shared: &SharedUid)
+        ensures { self.new ≡ record self.old { indirect = set.remove self.old.indirect shared.now } }
+    {
+        self.indirect_ancestors.remove_shared(shared);
+    }
+
     /// Takes a uid out of the parents; the indirect ancestors stay. It takes no memory.
     pub fn remove_parent(&mut self, uid: &EntityUID)
         ensures { self.new ≡ record self.old { parents = set.remove self.old.parents uid.now } }
     {
         self.parents.remove(uid);
+    }
+
+    /// The same of a uid that is shared, which costs less.
+    pub fn remove_shared_parent(&mut self, shared: &SharedUid)
+        ensures { self.new ≡ record self.old { parents = set.remove self.old.parents shared.now } }
+    {
+        self.parents.remove_shared(shared);
     }
 
     /// Takes all uids out of the indirect ancestors; the parents stay. It takes no memory.

@@ -13,7 +13,7 @@ use cedar_uid_sets::{SharedUid, UidSet};
 fn first_common<'a>(uids: &'a [SharedUid], other: &UidSet) -> Option<&'a SharedUid>
     ensures { option_copied result ≡ find (set.contains other.now) uids.now }
 {
-    uids.iter().find(|shared| other.contains(shared.uid()))
+    uids.iter().find(|shared| other.contains_shared(shared))
 }
 
 // The first of these that is no action's.

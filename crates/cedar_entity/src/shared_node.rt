@@ -91,9 +91,9 @@ impl TCNode<SharedUid> for Entity {
         listed_pointers(alloc, self.ancestor_pointers())
     }
 
-    /// As [`Entity::is_descendant_of`].
+    /// As [`Entity::is_descendant_of_shared`].
     fn has_edge_to(&self, k: &SharedUid) -> bool {
-        self.is_descendant_of(k.uid())
+        self.is_descendant_of_shared(k)
     }
 
     /// As [`Entity::remove_all_indirect_ancestors`]. It takes no memory and is never refused.

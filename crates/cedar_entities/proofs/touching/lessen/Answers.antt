@@ -10,7 +10,6 @@ loop-uid-init c = stripped_nothing c.args.entity.now
 pub loop-uid-preserved : goal.loop-uid-preserved
 loop-uid-preserved c =
     let within : c.loop-uid.uid-index < length c.args.lost.now = omega arith in
-    c.remove_indirect_ancestor.ensures
-    ∙ ap (λ k. record c.loop-uid.entity { indirect = set.remove c.loop-uid.entity.indirect k }) c.uid.ensures
+    c.remove_shared_ancestor.ensures
     ∙ ap (λ (e : EntityView). record e { indirect = set.remove e.indirect c.uid-item.result }) c.loop-uid.invariant
     ∙ lessened_more c.args.entity.now c.args.lost.now c.loop-uid.uid-index c.uid-item.result within c.uid-item.is

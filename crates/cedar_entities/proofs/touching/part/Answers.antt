@@ -10,7 +10,6 @@ loop-uid-init c = parted_nothing c.args.entity.now
 pub loop-uid-preserved : goal.loop-uid-preserved
 loop-uid-preserved c =
     let within : c.loop-uid.uid-index < length c.args.gone.now = omega arith in
-    c.remove_parent.ensures
-    ∙ ap (λ k. record c.loop-uid.entity { parents = set.remove c.loop-uid.entity.parents k }) c.uid.ensures
+    c.remove_shared_parent.ensures
     ∙ ap (λ (e : EntityView). record e { parents = set.remove e.parents c.uid-item.result }) c.loop-uid.invariant
     ∙ parted_more c.args.entity.now c.args.gone.now c.loop-uid.uid-index c.uid-item.result within c.uid-item.is

@@ -19,7 +19,7 @@ loop-key-preserved-in_ok-push c q =
     let m = c.args.entities.now in
     let gives = c.into_iter-key-iterator.ensures.into_iter_gives in
     let found = (hash_map_turn deref_pair c.loop-key.yielded c.into_iter-key-iterator.result c.loop-key.key-iterator c.next.new.self c.next.result (c.in-Some.key, c.in-Some.node) c.loop-key.yielded_by c.in-Some.is c.next.ensures.steps same_uid_equiv m gives.0 gives.4).1 in
-    let hits : is_ancestor_in (held m c.in-Some.key.now) c.args.uid.now ≡ true = ap (λ o. is_ancestor_in (option_map shared o) c.args.uid.now) found ∙ sym (ap (λ e. has_ancestor e c.args.uid.now) c.deref.ensures) ∙ ap (has_ancestor c.deref.result.now) (sym c.uid.ensures) ∙ sym c.is_descendant_of.ensures ∙ c.if-is_descendant_of.true in
+    let hits : is_ancestor_in (held m c.in-Some.key.now) c.args.uid.now ≡ true = ap (λ o. is_ancestor_in (option_map shared o) c.args.uid.now) found ∙ sym (ap (λ e. has_ancestor e c.args.uid.now) c.deref.ensures) ∙ sym c.is_descendant_of_shared.ensures ∙ c.if-is_descendant_of_shared.true in
     listed_key (λ x. is_ancestor_in (held m x) c.args.uid.now) (map deref_pair c.loop-key.yielded) c.in-Some.key.now c.in-Some.node.now q (is_member same_uid c.loop-key.copies.items q) (c.loop-key.invariant q)
     (is_member same_uid c.push.new.self.items q)
     (ap (λ l. is_member same_uid l q) c.in_ok-push.ensures.items ∙ member_push c.loop-key.copies.items c.in_ok-copy_of.field-0 q ∙ ap (λ k. is_member same_uid c.loop-key.copies.items q || same_uid k q) c.in_ok-copy_of.ensures)
@@ -30,7 +30,7 @@ loop-key-preserved c q =
     let m = c.args.entities.now in
     let gives = c.into_iter-key-iterator.ensures.into_iter_gives in
     let found = (hash_map_turn deref_pair c.loop-key.yielded c.into_iter-key-iterator.result c.loop-key.key-iterator c.next.new.self c.next.result (c.in-Some.key, c.in-Some.node) c.loop-key.yielded_by c.in-Some.is c.next.ensures.steps same_uid_equiv m gives.0 gives.4).1 in
-    let out : is_ancestor_in (held m c.in-Some.key.now) c.args.uid.now ≡ false = ap (λ o. is_ancestor_in (option_map shared o) c.args.uid.now) found ∙ sym (ap (λ e. has_ancestor e c.args.uid.now) c.deref.ensures) ∙ ap (has_ancestor c.deref.result.now) (sym c.uid.ensures) ∙ sym c.is_descendant_of.ensures ∙ c.if-is_descendant_of.false in
+    let out : is_ancestor_in (held m c.in-Some.key.now) c.args.uid.now ≡ false = ap (λ o. is_ancestor_in (option_map shared o) c.args.uid.now) found ∙ sym (ap (λ e. has_ancestor e c.args.uid.now) c.deref.ensures) ∙ sym c.is_descendant_of_shared.ensures ∙ c.if-is_descendant_of_shared.false in
     unlisted_key (λ x. is_ancestor_in (held m x) c.args.uid.now) (map deref_pair c.loop-key.yielded) c.in-Some.key.now c.in-Some.node.now q (is_member same_uid c.loop-key.copies.items q) (c.loop-key.invariant q)
     out ∙ ap (λ l. is_some (lookup (same_uid q) l) && is_ancestor_in (held m q) c.args.uid.now) (sym (map_append_one deref_pair c.loop-key.yielded (c.in-Some.key, c.in-Some.node)))
 

@@ -6,5 +6,5 @@ loop-shared-init c = difference_none c.args.self.now
 
 pub loop-shared-preserved : goal.loop-shared-preserved
 loop-shared-preserved c =
-    rw (c.remove.ensures, c.uid.ensures, c.shared-item.is, c.loop-shared.invariant)
+    rw (c.remove_shared.ensures, c.shared-item.is, c.loop-shared.invariant)
     (difference_more c.args.self.now c.args.uids.now c.loop-shared.shared-index _ c.loop-shared-test.true)
