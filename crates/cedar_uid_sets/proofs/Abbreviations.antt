@@ -250,8 +250,8 @@ module _ (k l f g : ℕ) (x y : EntityUID) (a : Abbreviate k f x) (b : Abbreviat
   by_kinds differ =
       differ_decide k l (slice_cmp nat_cmp (uid_parts x).eid (uid_parts y).eid) differ
       ∙ ap (λ o. ordering_then o (slice_cmp nat_cmp (uid_parts x).eid (uid_parts y).eid))
-          ((λ i. nat_cmp (a.of_name i) (b.of_name i))
-          ∙ kinds_decide (uid_parts x).name (uid_parts y).name a.name b.name short_one short_other (λ e. differ (a.of_name ∙ e ∙ sym b.of_name)))
+      ((λ i. nat_cmp (a.of_name i) (b.of_name i))
+      ∙ kinds_decide (uid_parts x).name (uid_parts y).name a.name b.name short_one short_other (λ e. differ (a.of_name ∙ e ∙ sym b.of_name)))
 
   -- else the eids do
   pub by_eids : k ≡ l → slice_cmp nat_cmp (uid_parts x).eid (uid_parts y).eid ≡ uid_order x y

@@ -7,6 +7,7 @@ ghost use Rattle.cedar_uid_sets.specs.laws.Places.{IsPlaceOf, IsGapFor};
 
 use crate::fronts::{Key, are_same, order_of};
 use crate::shared_uid::SharedUid;
+use cedar_ids::entity::EntityUID;
 use std::cmp::Ordering;
 
 // So many uids are gone through one by one, which costs less than a search.
@@ -56,7 +57,18 @@ fn is_listed(uids: &[SharedUid], uid: &Key<'_>) -> bool
     uids.iter().any(|shared| are_same(uid, &shared.key()))
 }
 
-// The same of uids that ascend.
+// Whether a search finds the uid.
+fn is_found(uids: &[SharedUid], uid: &Key<'_>) -> bool
+    requires { Ascend uids.now }
+    ensures { result ≡ is_member same_uid uids.now uid.now }
+{
+    match place(uids, uid) {
+        Ok(_at) => true,
+        Err(_at) => false,
+    }
+}
+
+// Whether the uid is one of these.
 pub(crate) fn is_among(uids: &[SharedUid], uid: &Key<'_>) -> bool
     requires { Ascend uids.now }
     ensures { result ≡ is_member same_uid uids.now uid.now }
@@ -64,10 +76,32 @@ pub(crate) fn is_among(uids: &[SharedUid], uid: &Key<'_>) -> bool
     if uids.len() <= FEW {
         return is_listed(uids, uid);
     }
-    match place(uids, uid) {
-        Ok(_at) => true,
-        Err(_at) => false,
+    is_found(uids, uid)
+}
+
+// Whether two uids are equal. Their eids are looked at first, since they differ where their types do not.
+fn are_equal(one: &EntityUID, other: &EntityUID) -> bool
+    ensures { result ≡ same_uid one.now other.now }
+{
+    one.eid().as_ref() == other.eid().as_ref() && one == other
+}
+
+// Whether a plain uid is one of these. No number is made for it.
+fn has_plain(uids: &[SharedUid], uid: &EntityUID) -> bool
+    ensures { result ≡ is_member same_uid uids.now uid.now }
+{
+    uids.iter().any(|shared| are_equal(uid, shared.uid()))
+}
+
+// Whether a plain uid is one of these. Its numbers are made where these are not few.
+pub(crate) fn has(uids: &[SharedUid], uid: &EntityUID) -> bool
+    requires { Ascend uids.now }
+    ensures { result ≡ is_member same_uid uids.now uid.now }
+{
+    if uids.len() <= FEW {
+        return has_plain(uids, uid);
     }
+    is_found(uids, &Key::of(uid))
 }
 
 // Whether each of these is less than the next.

@@ -10,7 +10,7 @@ ghost use Rattle.cedar_uid_sets.specs.UidSets.{UidValues, Ascend, Retains};
 
 use crate::fronts::Key;
 use crate::merge::{merge, shared};
-use crate::order::{ascend, is_among, place, place_from_end};
+use crate::order::{ascend, has, is_among, place, place_from_end};
 use crate::shared_uid::SharedUid;
 use cedar_ids::entity::EntityUID;
 use std::alloc::{AllocError, Global};
@@ -126,21 +126,14 @@ impl UidSet {
     pub fn contains(&self, uid: &EntityUID) -> bool
         ensures { result ≡ set.contains self.now uid.now }
     {
-        self.contains_key(&Key::of(uid))
+        has(&self.uids, uid)
     }
 
     /// The same for a uid that is shared, which costs less: the numbers that abbreviate it are at hand.
     pub fn contains_shared(&self, shared: &SharedUid) -> bool
         ensures { result ≡ set.contains self.now shared.now }
     {
-        self.contains_key(&shared.key())
-    }
-
-    // Whether the uid is in the set.
-    fn contains_key(&self, uid: &Key<'_>) -> bool
-        ensures { result ≡ set.contains self.now uid.now }
-    {
-        is_among(&self.uids, uid)
+        is_among(&self.uids, &shared.key())
     }
 
     /// Puts a uid in; one that is there already changes nothing.
