@@ -9,6 +9,7 @@ use cedar_ids::entity::{Eid, EntityType, EntityUID};
 use cedar_ids::loc::Loc;
 use cedar_ids::name::Name;
 use cedar_terms::{Literal, PartialValue, StaticType, StaticallyTyped, Value, ValueKind};
+use cedar_uid_sets::SharedUid;
 use std::alloc::Global;
 use std::collections::HashSet;
 use std::hash::{DefaultHasher, Hash, Hasher};
@@ -268,6 +269,41 @@ fn what_is_removed_goes_from_its_set_alone(rt: HostRuntime) -> Result<(), Fail> 
         "A::\"b\" A::\"d\" A::\"e\"",
     );
     assert!(rt; tried(rt.alloc(), entity, loses_all)?);
+    Ok(())
+}
+
+// Removes a shared uid, which is a parent and an indirect ancestor, from the one set and then from the other.
+fn loses_shared(entity: &mut Entity, shared: &SharedUid) -> bool {
+    let both = entity.is_descendant_of_shared(shared);
+    entity.remove_shared_parent(shared);
+    let kept = entity.parents().count() == 1 && entity.is_descendant_of_shared(shared);
+    entity.remove_shared_ancestor(shared);
+    both && kept && !entity.is_descendant_of_shared(shared) && has_counts(entity, 1, 2)
+}
+
+fn loses_by_shared(alloc: Global, entity: &mut Entity) -> Result<bool, Fail> {
+    match uid(alloc, "A::\"b\"") {
+        Ok(name) => match SharedUid::new(alloc, name) {
+            Ok(shared) => {
+                let lost = loses_shared(entity, &shared);
+                drop(shared);
+                Ok(lost)
+            }
+            Err(error) => Err(Fail::from(error)),
+        },
+        Err(fail) => Err(fail),
+    }
+}
+
+#[test]
+fn what_is_removed_as_shared_goes_from_its_set_alone(rt: HostRuntime) -> Result<(), Fail> {
+    let entity = related(
+        rt.alloc(),
+        "A::\"a\"",
+        "A::\"b\" A::\"c\"",
+        "A::\"b\" A::\"d\" A::\"e\"",
+    );
+    assert!(rt; tried(rt.alloc(), entity, loses_by_shared)?);
     Ok(())
 }
 
