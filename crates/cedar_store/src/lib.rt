@@ -43,7 +43,7 @@ pub use cedar_terms::{
     Expr, ExprValidationError, ExtensionValue, Literal, PartialValue, Slot, SlotId, StaticType,
     StaticallyTyped, Unknown, Value, ValueKind, Var, is_reserved_key,
 };
-pub use program::{RunError, run};
+pub use program::{RunError, run, run_and_leave};
 pub use replay::{EntityCall, replay_entities};
 
 /// Ids, names, uids, values, expressions, entities, scope constraints, templates, policies and policy sets, at the

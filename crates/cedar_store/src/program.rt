@@ -8,6 +8,7 @@ ghost use Rattle.cedar_store.specs.Faults.{Leaves};
 use crate::machine::{Machine, push_fault};
 use std::alloc::{AllocError, Global};
 use std::io::{Read, Write};
+use std::mem;
 use thiserror::Error;
 
 /// Why a run ended early.
@@ -50,8 +51,8 @@ fn lines_of(alloc: Global, input: &[u8]) -> Result<Vec<&[u8]>, AllocError>
     input.split(|b| *b == b'\n').collect(alloc)
 }
 
-// What is written for an input, and the status.
-fn answer(alloc: Global, input: &[u8]) -> Result<(Vec<u8>, u8), AllocError>
+// What is written for an input, the status, and the machine as it stands then.
+fn answer(alloc: Global, input: &[u8]) -> Result<(Vec<u8>, u8, Machine), AllocError>
     ensures { IfOk result (λ r. IsOutput input.now (record { bytes = r.0.items; status = r.1 })) }
 {
     let lines = lines_of(alloc, input)?;
@@ -60,10 +61,29 @@ fn answer(alloc: Global, input: &[u8]) -> Result<(Vec<u8>, u8), AllocError>
     for (i, line) in lines.iter().enumerate() {
         if !machine.line(alloc, line, &mut out)? {
             push_fault(alloc, &mut out, i + 1)?;
-            return Ok((out, 2));
+            return Ok((out, 2, machine));
         }
     }
-    Ok((out, 0))
+    Ok((out, 0, machine))
+}
+
+// Reads the input to its end, writes its output, and answers the status and the machine as it stands then.
+fn run_by<R: Read, W: Write>(
+    alloc: Global,
+    reader: &mut R,
+    writer: &mut W,
+) -> Result<(u8, Machine), RunError>
+    ensures written { IfOk result (λ r. IfSome (R.remaining reader.old) (λ input.
+        (bytes : List ℕ) × IsOutput input (record { bytes = bytes; status = r.0 })
+        × Appends (W.contents writer.old) (W.contents writer.new) bytes)) }
+    ensures end { OnOk result (IsAtEnd (R.remaining reader.new)) }
+    ensures err { IfErr result (λ e. Leaves e (writer.new ≡ writer.old)) }
+{
+    let input = read_all(alloc, reader)?;
+    let (out, status, machine) = answer(alloc, &input).map_err(|_| RunError::Memory)?;
+    writer.write_all(&out).map_err(|_| RunError::Write)?;
+    writer.flush().map_err(|_| RunError::Write)?;
+    Ok((status, machine))
 }
 
 /// Reads the input to its end, and writes its output: what each line that is a command writes, up to the
@@ -91,9 +111,35 @@ pub fn run<R: Read, W: Write>(alloc: Global, reader: &mut R, writer: &mut W) -> 
     // After a read fault, or where memory ran out, nothing was written.
     ensures err { IfErr result (λ e. Leaves e (writer.new ≡ writer.old)) }
 {
-    let input = read_all(alloc, reader)?;
-    let (out, status) = answer(alloc, &input).map_err(|_| RunError::Memory)?;
-    writer.write_all(&out).map_err(|_| RunError::Write)?;
-    writer.flush().map_err(|_| RunError::Write)?;
+    let (status, machine) = run_by(alloc, reader, writer)?;
+    drop(machine);
+    Ok(status)
+}
+
+/// Does what [`run`] does, and leaves the entities and policies that the input made where they are: their memory is not
+/// given back. So it is for a program that ends then, whose memory goes with it, and saves the time of letting go of
+/// each. Where it is refused all is given back. It is this project's own.
+pub fn run_and_leave<R: Read, W: Write>(
+    alloc: Global,
+    reader: &mut R,
+    writer: &mut W,
+) -> Result<u8, RunError>
+    // Where the reader and the writer tell their bytes, what was written is the output of what was read,
+    // and so is the status.
+    ensures written { IfOk result (λ status. IfSome (R.remaining reader.old) (λ input.
+        (bytes : List ℕ) × IsOutput input (record { bytes = bytes; status = status })
+        × Appends (W.contents writer.old) (W.contents writer.new) bytes)) }
+
+    // Every input has exactly one output.
+    ensures one { HasOneOutput }
+
+    // The input was read to its end.
+    ensures end { OnOk result (IsAtEnd (R.remaining reader.new)) }
+
+    // After a read fault, or where memory ran out, nothing was written.
+    ensures err { IfErr result (λ e. Leaves e (writer.new ≡ writer.old)) }
+{
+    let (status, machine) = run_by(alloc, reader, writer)?;
+    mem::forget(machine);
     Ok(status)
 }

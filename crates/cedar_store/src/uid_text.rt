@@ -1,5 +1,5 @@
 //! Reading uids of which many have one type: the types that were read are known by their texts, and shared.
-ghost use Rattle.std.specs.Prelude.{◌≡◌, ◌++◌, IfOk, MatchOption, IfSome, IsTrue, codes};
+ghost use Rattle.std.specs.Prelude.{◌≡◌, ◌++◌, List, ℕ, IfOk, MatchOption, IfSome, IsTrue, codes};
 ghost use Rattle.std.specs.List.{list_all};
 ghost use Rattle.cedar_ids.specs.Escape.{is_plain_byte};
 ghost use Rattle.cedar_ids.specs.Name.{NameParts};
@@ -37,28 +37,6 @@ impl Model for KnownType {
 
 // So many types are known at the most.
 const MOST: usize = 16;
-
-// The type, shared once more, where this is its text.
-fn of_text(known: &KnownType, text: &str) -> Result<Option<EntityType>, AllocError>
-    ensures { IfOk result (λ o. IfSome o (λ t. IsNameText (type_name t) text.now)) }
-{
-    if known.text.as_str() != text {
-        return Ok(None);
-    }
-    Ok(Some(known.ty.clone()?))
-}
-
-// The type that is known by this text, if there is one.
-fn known_type(known: &[KnownType], text: &str) -> Result<Option<EntityType>, AllocError>
-    ensures { IfOk result (λ o. IfSome o (λ t. IsNameText (type_name t) text.now)) }
-{
-    for one in known {
-        if let Some(ty) = of_text(one, text)? {
-            return Ok(Some(ty));
-        }
-    }
-    Ok(None)
-}
 
 // A type that was read is known from then on, while there are few.
 fn keep_type(
@@ -99,25 +77,23 @@ fn read_type(
     }
 }
 
-// The type whose text this is, if it is that of one.
-fn type_of_text(
-    alloc: Global,
-    known: &mut Vec<KnownType>,
-    text: &str,
-) -> Result<Option<EntityType>, AllocError>
-    ensures { IfOk result (λ o. IfSome o (λ t. IsNameText (type_name t) text.now)) }
-{
-    if let Some(ty) = known_type(known, text)? {
-        return Ok(Some(ty));
-    }
-    read_type(alloc, known, text)
-}
-
 // Whether a text is printable ASCII without quotes and backslashes, so that it is its own escape.
 fn is_plain(text: &str) -> bool
     ensures { result ≡ list_all is_plain_byte text.now }
 {
     text.as_bytes().iter().all(|b| 32 <= *b && *b < 127 && *b != b'\'' && *b != b'"' && *b != b'\\')
+}
+
+// What stands between `::"` at the front and a `"` at the end, where that is its own escape.
+fn eid_after(text: &str) -> Option<&str>
+    ensures split { IfSome result (λ e. text.now ≡ codes "::\"" ++ (e.now ++ codes "\"")) }
+    ensures plain { IfSome result (λ e. IsTrue (list_all is_plain_byte e.now)) }
+{
+    let eid = text.strip_prefix("::\"")?.strip_suffix('"')?;
+    if is_plain(eid) {
+        return Some(eid);
+    }
+    None
 }
 
 // What stands before the first `::"`, and between that and a last `"`, where the second is its own escape.
@@ -132,8 +108,51 @@ fn plain_halves(text: &str) -> Option<(&str, &str)>
     None
 }
 
-// The uid of a type and an eid that is its own escape, if the first text is that of a type.
-fn plain_uid(
+// The uid of a type and an eid that is its own escape. Its text is that of the type, the mark, the eid and a quote.
+fn uid_of_parts(alloc: Global, ty: EntityType, eid: &str) -> Result<EntityUID, AllocError>
+    requires { IsTrue (list_all is_plain_byte eid.now) }
+    ensures { IfOk result (λ u. (name : List ℕ) → IsNameText (type_name ty) name →
+        IsPrinted (uid_parts u) (name ++ (codes "::\"" ++ (eid.now ++ codes "\"")))) }
+{
+    let eid = String::from_str(alloc, eid)?;
+    Ok(EntityUID::from_components(ty, Eid::new(eid), None))
+}
+
+// The uid of this type with a text, if the text is that of one whose eid is its own escape.
+fn uid_of_type(
+    alloc: Global,
+    known: &KnownType,
+    text: &str,
+) -> Result<Option<EntityUID>, AllocError>
+    ensures { IfOk result (λ o. IfSome o (λ u. IsPrinted (uid_parts u) text.now)) }
+{
+    let Some(rest) = text.strip_prefix(known.text.as_str()) else {
+        return Ok(None);
+    };
+    let Some(eid) = eid_after(rest) else {
+        return Ok(None);
+    };
+    Ok(Some(uid_of_parts(alloc, known.ty.clone()?, eid)?))
+}
+
+// The uid with a text, of a type that is known.
+fn uid_of_known(
+    alloc: Global,
+    known: &[KnownType],
+    text: &str,
+) -> Result<Option<EntityUID>, AllocError>
+    ensures { IfOk result (λ o. IfSome o (λ u. IsPrinted (uid_parts u) text.now)) }
+{
+    for one in known {
+        if let Some(uid) = uid_of_type(alloc, one, text)? {
+            return Ok(Some(uid));
+        }
+    }
+    Ok(None)
+}
+
+// The uid of a type that is read anew and an eid that is its own escape, if the first text is that of a type.
+fn uid_of_halves(
     alloc: Global,
     known: &mut Vec<KnownType>,
     name: &str,
@@ -142,11 +161,10 @@ fn plain_uid(
     requires { IsTrue (list_all is_plain_byte eid.now) }
     ensures { IfOk result (λ o. IfSome o (λ u. IsPrinted (uid_parts u) (name.now ++ (codes "::\"" ++ (eid.now ++ codes "\""))))) }
 {
-    let Some(ty) = type_of_text(alloc, known, name)? else {
+    let Some(ty) = read_type(alloc, known, name)? else {
         return Ok(None);
     };
-    let eid = String::from_str(alloc, eid)?;
-    Ok(Some(EntityUID::from_components(ty, Eid::new(eid), None)))
+    Ok(Some(uid_of_parts(alloc, ty, eid)?))
 }
 
 // The uid with a text, where that is read without an escape and of a name.
@@ -157,9 +175,12 @@ fn uid_of_plain(
 ) -> Result<Option<EntityUID>, AllocError>
     ensures { IfOk result (λ o. IfSome o (λ u. IsPrinted (uid_parts u) text.now)) }
 {
+    if let Some(uid) = uid_of_known(alloc, known, text)? {
+        return Ok(Some(uid));
+    }
     match plain_halves(text) {
         None => Ok(None),
-        Some((name, eid)) => plain_uid(alloc, known, name, eid),
+        Some((name, eid)) => uid_of_halves(alloc, known, name, eid),
     }
 }
 

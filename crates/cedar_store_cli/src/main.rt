@@ -1,12 +1,12 @@
 //! The program: the lines of standard input in, their answers to standard output.
 #![tactic(auto)]
 
-use cedar_store::run;
+use cedar_store::run_and_leave;
 use std::io;
 use std::process::ExitCode;
 
 fn main(rt: HostRuntime) -> ExitCode {
-    match run(rt.alloc(), &mut rt.reader(), &mut io::writer(&rt)) {
+    match run_and_leave(rt.alloc(), &mut rt.reader(), &mut io::writer(&rt)) {
         Ok(status) => ExitCode::from(status),
         Err(error) => {
             let _ = eprintln!(rt; "{error}");
