@@ -1,5 +1,5 @@
 //! Which line of the program is which command.
-ghost use Rattle.std.specs.Prelude.{◌≡◌, ◌∷◌, [], List, ℕ, IfOk, map, codes, ◌==◌, None};
+ghost use Rattle.std.specs.Prelude.{◌≡◌, ◌∷◌, [], List, ℕ, IfOk, IsTrue, map, codes, ◌==◌, None};
 ghost use Rattle.std.specs.List.{list_all, slice_split};
 ghost use Rattle.cedar_ids.specs.declared.entity.EntityUID.{EntityUID};
 ghost use Rattle.cedar_store.specs.Command.{AreTexts, IsCommand, IsLine, is_plain};
@@ -136,6 +136,17 @@ fn command_of_word(word: &str) -> Option<Line>
     None
 }
 
+// Whether the fields begin with the word of an entity, which no command on policy sets does. It is asked first, since lines of
+// entities are the most.
+fn is_entity(fields: &[&str]) -> bool
+    ensures { IsTrue result → policy_command (map (λ f. f.now) fields.now) ≡ None }
+{
+    match fields.first() {
+        Some(word) => *word == "ent",
+        None => false,
+    }
+}
+
 // The command whose fields these are, if there is one.
 fn command_of_fields(
     alloc: Global,
@@ -144,6 +155,9 @@ fn command_of_fields(
 ) -> Result<Option<Line>, AllocError>
     ensures { IfOk result (ReadsAs (λ c. IsCommand c (map (λ f. f.now) fields.now)) command_of) }
 {
+    if is_entity(fields) {
+        return other_command(alloc, known, fields);
+    }
     match read_policy_line(alloc, fields)? {
         Some(line) => Ok(Some(Line::Policy(line))),
         None => other_command(alloc, known, fields),
@@ -186,11 +200,23 @@ fn other_command(
     Ok(command_of_word(word))
 }
 
-// Whether a line has tabs and printable ASCII alone.
+// Whether a byte is a tab or printable ASCII.
+fn is_plain_byte(b: u8) -> bool
+    ensures { result ≡ is_plain b }
+{
+    b == b'\t' || (32 <= b && b <= 126)
+}
+
+// Whether a line has tabs and printable ASCII alone. It is gone through to its end, which costs less a byte than to stop at the
+// first that is neither.
 fn is_plain(line: &[u8]) -> bool
     ensures { result ≡ list_all is_plain line.now }
 {
-    line.iter().all(|b| *b == b'\t' || (32 <= *b && *b <= 126))
+    let mut plain = true;
+    for b in line {
+        plain = plain & is_plain_byte(*b);
+    }
+    plain
 }
 
 // The command that a line is, if it is one. The types that are read are known to the next line.
