@@ -600,6 +600,17 @@ impl Entity {
         ensures err { OnErr result (self.new ≡ self.old) }
     {
         let shared = SharedUid::new(self.parents.allocator(), uid)?;
+        self.add_shared_parent(shared)
+    }
+
+    /// The same of a uid that is shared already, which is not copied.
+    pub fn add_shared_parent(&mut self, shared: SharedUid) -> Result<(), AllocError>
+        ensures ok { OnOk result (self.new ≡ record self.old {
+          parents = set.insert self.old.parents shared;
+          indirect = set.remove self.old.indirect shared;
+        }) }
+        ensures err { OnErr result (self.new ≡ self.old) }
+    {
         let copy = shared.clone()?;
         self.parents.insert(shared)?;
         self.indirect_ancestors.remove_shared(&copy);

@@ -10,6 +10,7 @@
 
 mod line;
 mod machine;
+mod parents;
 mod program;
 mod replay;
 mod uid_text;

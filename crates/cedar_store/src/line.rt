@@ -6,9 +6,11 @@ ghost use Rattle.cedar_store.specs.Command.{AreTexts, IsCommand, IsLine, is_plai
 ghost use Rattle.cedar_policy_lines.specs.PolicyCommand.{policy_command};
 ghost use Rattle.cedar_store.specs.laws.Lines.{command_of, ReadsAs};
 
+use crate::parents::{Known, parents_of_fields};
 use crate::uid_text::{KnownType, uid_of_text};
 use cedar_ids::entity::EntityUID;
 use cedar_policy_lines::{PolicyLine, read_policy_line};
+use cedar_uid_sets::SharedUid;
 use std::alloc::{AllocError, Global};
 
 // A line that is a command.
@@ -17,7 +19,7 @@ pub(crate) enum Line {
     // An empty line.
     Nothing,
     // An entity and its parents.
-    Ent(EntityUID, Vec<EntityUID>),
+    Ent(EntityUID, Vec<SharedUid>),
     // The entities that wait become the store.
     Build,
     // They are added to the store.
@@ -55,9 +57,9 @@ fn uid_fields(
 // The uid of the first field and those of the others, if each is the text of one.
 fn ent_fields(
     alloc: Global,
-    known: &mut Vec<KnownType>,
+    known: &mut Known,
     fields: &[&str],
-) -> Result<Option<(EntityUID, Vec<EntityUID>)>, AllocError>
+) -> Result<Option<(EntityUID, Vec<SharedUid>)>, AllocError>
     ensures { IfOk result (ReadsAs
         (λ (p : EntityUID × List EntityUID). AreTexts (p.0 ∷ p.1) (map (λ f. f.now) fields.now))
         (λ p. (p.0, p.1.items))) }
@@ -65,10 +67,10 @@ fn ent_fields(
     let Some((first, rest)) = fields.split_first() else {
         return Ok(None);
     };
-    let Some(uid) = uid_of_text(alloc, known, first)? else {
+    let Some(uid) = uid_of_text(alloc, &mut known.types, first)? else {
         return Ok(None);
     };
-    let Some(parents) = uid_fields(alloc, known, rest)? else {
+    let Some(parents) = parents_of_fields(alloc, known, rest)? else {
         return Ok(None);
     };
     Ok(Some((uid, parents)))
@@ -77,7 +79,7 @@ fn ent_fields(
 // The uids whose texts the fields are, if there is a field and each is one.
 fn remove_fields(
     alloc: Global,
-    known: &mut Vec<KnownType>,
+    known: &mut Known,
     fields: &[&str],
 ) -> Result<Option<Vec<EntityUID>>, AllocError>
     ensures { IfOk result (ReadsAs
@@ -87,13 +89,13 @@ fn remove_fields(
     if fields.is_empty() {
         return Ok(None);
     }
-    uid_fields(alloc, known, fields)
+    uid_fields(alloc, &mut known.types, fields)
 }
 
 // The uid of the one field, if it is the text of one.
 fn anc_fields(
     alloc: Global,
-    known: &mut Vec<KnownType>,
+    known: &mut Known,
     fields: &[&str],
 ) -> Result<Option<EntityUID>, AllocError>
     ensures { IfOk result (ReadsAs
@@ -106,7 +108,7 @@ fn anc_fields(
     if !rest.is_empty() {
         return Ok(None);
     }
-    uid_of_text(alloc, known, first)
+    uid_of_text(alloc, &mut known.types, first)
 }
 
 // The fields between the tabs of a line.
@@ -150,7 +152,7 @@ fn is_entity(fields: &[&str]) -> bool
 // The command whose fields these are, if there is one.
 fn command_of_fields(
     alloc: Global,
-    known: &mut Vec<KnownType>,
+    known: &mut Known,
     fields: &[&str],
 ) -> Result<Option<Line>, AllocError>
     ensures { IfOk result (ReadsAs (λ c. IsCommand c (map (λ f. f.now) fields.now)) command_of) }
@@ -167,7 +169,7 @@ fn command_of_fields(
 // The command whose fields these are, if there is one, where it is none on policy sets.
 fn other_command(
     alloc: Global,
-    known: &mut Vec<KnownType>,
+    known: &mut Known,
     fields: &[&str],
 ) -> Result<Option<Line>, AllocError>
     requires { policy_command (map (λ f. f.now) fields.now) ≡ None }
@@ -219,10 +221,10 @@ fn is_plain(line: &[u8]) -> bool
     plain
 }
 
-// The command that a line is, if it is one. The types that are read are known to the next line.
+// The command that a line is, if it is one. What is read is known to the next line.
 pub(crate) fn read_line(
     alloc: Global,
-    known: &mut Vec<KnownType>,
+    known: &mut Known,
     line: &[u8],
 ) -> Result<Option<Line>, AllocError>
     ensures { IfOk result (ReadsAs (λ c. IsLine c line.now) command_of) }

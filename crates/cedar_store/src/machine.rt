@@ -17,24 +17,25 @@ ghost use Rattle.cedar_store.specs.laws.Machines.{Holds, Takes, LineTakes, IsAsc
 ghost use Rattle.cedar_store.specs.Output.{State, start, Gives, ShowsAncestors, count_line, written_line, uid_text, field_of, not_command};
 
 use crate::line::{Line, read_line};
-use crate::uid_text::KnownType;
+use crate::parents::Known;
 use cedar_entities::{Dereference, Entities, EntitiesError, Entity, TCComputation};
 use cedar_graph::TcError;
 use cedar_ids::entity::EntityUID;
 use cedar_policy_lines::PolicySets;
+use cedar_uid_sets::SharedUid;
 use std::alloc::{AllocError, Global};
 use std::collections::BTreeSet;
 use std::mem;
 use std::rc::Rc;
 
-// The state of a run: the entities that wait, the store, and the policy sets; and the types that are known by
-// their texts, which say nothing of the state.
+// The state of a run: the entities that wait, the store, and the policy sets; and the types and parents that
+// are known by their texts, which say nothing of the state.
 #[derive(Drop)]
 pub(crate) struct Machine {
     waiting: Vec<Rc<Entity>>,
     store: Entities,
     sets: PolicySets,
-    known: Vec<KnownType>,
+    known: Known,
 }
 
 // Adds a text and a line feed.
@@ -161,7 +162,7 @@ fn ancestors_of(alloc: Global, entity: &Entity) -> Result<BTreeSet<&EntityUID>, 
 pub(crate) fn entity_with(
     alloc: Global,
     uid: EntityUID,
-    mut parents: Vec<EntityUID>,
+    mut parents: Vec<SharedUid>,
 ) -> Result<Entity, AllocError>
     ensures given { IfOk result (λ e. given_of e ≡ given uid parents.items) }
     ensures bare { IfOk result IsBare }
@@ -169,7 +170,7 @@ pub(crate) fn entity_with(
     parents.sort()?;
     let mut entity = Entity::with_uid(alloc, uid);
     for parent in parents {
-        entity.add_parent(parent)?;
+        entity.add_shared_parent(parent)?;
     }
     Ok(entity)
 }
@@ -183,7 +184,7 @@ impl Machine {
             waiting: Vec::new(alloc),
             store: Entities::new(alloc),
             sets: PolicySets::new(alloc),
-            known: Vec::new(alloc),
+            known: Known::new(alloc),
         }
     }
 
@@ -192,7 +193,7 @@ impl Machine {
         &mut self,
         alloc: Global,
         uid: EntityUID,
-        parents: Vec<EntityUID>,
+        parents: Vec<SharedUid>,
     ) -> Result<(), AllocError>
         ensures { OnOk result ((s : State) → Holds self.old s → AreAsciiUids (uid ∷ parents.items) →
             (out : List ℕ) → Takes (Ent uid parents.items) s self.new out out) }

@@ -10,7 +10,7 @@ loop-parent-init c = subst (HasParents c.args.uid []) (sym c.with_uid-entity.ens
 
 pub loop-parent-preserved : goal.loop-parent-preserved
 loop-parent-preserved c =
-    subst (HasParents c.args.uid (c.loop-parent.yielded ++ c.in-Some.parent ∷ [])) (sym c.in_ok-add_parent.ensures.ok)
+    subst (HasParents c.args.uid (c.loop-parent.yielded ++ c.in-Some.parent ∷ [])) (sym c.in_ok-add_shared_parent.ensures.ok)
     (one_parent_more c.args.uid c.loop-parent.yielded c.loop-parent.entity c.in-Some.parent c.loop-parent.invariant)
 
 pub returns-clause-given : goal.returns-clause-given
