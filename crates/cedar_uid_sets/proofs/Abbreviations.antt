@@ -2,11 +2,12 @@
 use Rattle.std.specs.Prelude.{◌≡◌, ◌⊎◌, ℕ, zero, suc, ◌+◌, ◌*◌, ◌^◌, ◌<◌, ◌≤◌, Bool, true, false, ◌&&◌, ◌||◌, cond, List, [], ◌∷◌, ◌++◌, length, nat_le, nat_eq, min, slice_index, IsTrue}
 use Rattle.std.proofs.Common.{ap, sym, refl, subst, ◌∙◌, arith, inl, inr}
 use Rattle.std.proofs.Math.Nat.{mul-le-mul_right, pow-suc}
-use Rattle.std.proofs.lemmas.Bool.{leb-true, eqb-true, false≢true}
+use Rattle.std.proofs.lemmas.Bool.{leb-true, eqb-true, eq-eqb, false≢true}
 use Rattle.std.specs.Cmp.{ranks, first_so, second_so}
 use Rattle.std.specs.Cmp.Lexicographic.{slice_cmp, pointwise, nat_list_cmp_total}
 use Rattle.std.specs.Hash as fed
-use Rattle.std.specs.List.{AllByRecursion, fold, flat_map, list_all}
+use Rattle.std.specs.List.{AllByRecursion, fold, flat_map, list_all, list_any}
+use Rattle.std.specs.Set.{is_member}
 use Rattle.std.specs.Ordering.{nat_cmp, ordering_then, ordering_reverse, MatchOrdering}
 use Rattle.std.specs.declared.cmp.Ordering.{Ordering}
 use Rattle.std.specs.declared.cmp.Ordering.TheVariants.{Less, Equal, Greater}
@@ -14,10 +15,10 @@ use Rattle.cedar_ids.specs.Name.{NameParts, name_cmp, name_eq}
 use Rattle.cedar_ids.specs.laws.NameLaws.{name_cmp_total, name_eq_equiv}
 use Rattle.cedar_ids.specs.Reading.{is_id, is_id_start, is_id_part, is_reserved}
 use Rattle.cedar_ids.specs.TextOf.{IsName}
-use Rattle.cedar_ids.specs.UidOf.{uid_parts, uid_order, same_uid}
+use Rattle.cedar_ids.specs.UidOf.{uid_parts, uid_order, same_uid, same_uid_decides}
 use Rattle.cedar_ids.specs.declared.entity.EntityUID.{EntityUID}
 use Rattle.cedar_uid_sets.specs.declared.fronts.Writes.{Writes}
-use Rattle.cedar_uid_sets.specs.laws.Fronts.{number, AreDigits, front, BeginsWithBytes, is_none, is_short, kind, Abbreviate}
+use Rattle.cedar_uid_sets.specs.laws.Fronts.{number, AreDigits, front, BeginsWithBytes, is_none, is_short, kind, same_numbers, Abbreviate}
 
 -- ---- the hasher that counts up to four
 
@@ -271,3 +272,28 @@ module _ (k l f g : ℕ) (x y : EntityUID) (a : Abbreviate k f x) (b : Abbreviat
   same_by_eids e =
       let one : name_eq (uid_parts x).name (uid_parts y).name ≡ true = ap (name_eq (uid_parts x).name) (sym (names e)) ∙ name_eq_equiv.refl (uid_parts x).name in
       sym (ap (λ b. b && pointwise nat_eq (uid_parts x).eid (uid_parts y).eid) one)
+
+-- ---- numbers that are looked for first
+
+or_first : (a b : Bool) → (a || b) ≡ false → a ≡ false
+or_first true b h = h
+or_first false b h = refl
+
+or_second : (a b : Bool) → (a || b) ≡ false → b ≡ false
+or_second true b h = absurd (false≢true (sym h))
+or_second false b h = h
+
+eq_itself : (n : ℕ) → nat_eq n n ≡ true
+eq_itself n = eq-eqb n n refl
+
+same_itself : (u : EntityUID) → same_numbers u u ≡ true
+same_itself u = rw (eq_itself (kind (uid_parts u).name), eq_itself (front (uid_parts u).eid)) refl
+
+-- where none has the numbers of the uid, it is none of them
+pub none_without_numbers : (u : EntityUID) (us : List EntityUID) → list_any (same_numbers u) us ≡ false → is_member same_uid us u ≡ false
+none_without_numbers u [] h = refl
+none_without_numbers u (v ∷ vs) h = rw (differ (same_uid u v) refl, none_without_numbers u vs (or_second (same_numbers u v) _ h)) refl
+  where
+    differ : (b : Bool) → same_uid u v ≡ b → b ≡ false
+    differ false e = refl
+    differ true e = absurd (false≢true (sym (or_first (same_numbers u v) _ h) ∙ subst (λ w. same_numbers u w ≡ true) ((same_uid_decides u v).0 e) (same_itself u)))

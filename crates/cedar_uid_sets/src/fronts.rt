@@ -3,7 +3,7 @@ ghost use Rattle.std.specs.Prelude.{◌≡◌, ◌<◌, nat_eq, slice_index};
 ghost use Rattle.std.specs.Ordering.{nat_cmp};
 ghost use Rattle.std.specs.Cmp.Lexicographic.{pointwise, slice_cmp};
 ghost use Rattle.cedar_ids.specs.UidOf.{same_uid, uid_order, uid_parts};
-ghost use Rattle.cedar_uid_sets.specs.laws.Fronts.{front, kind, is_none, is_short, BeginsWithBytes};
+ghost use Rattle.cedar_uid_sets.specs.laws.Fronts.{front, kind, is_none, is_short, same_numbers, BeginsWithBytes};
 
 use cedar_ids::entity::EntityUID;
 use cedar_ids::name::Name;
@@ -232,6 +232,13 @@ fn have_one_eid(one: &EntityUID, other: &EntityUID) -> bool
     ensures { result ≡ pointwise nat_eq (uid_parts one.now).eid (uid_parts other.now).eid }
 {
     one.eid().as_ref() == other.eid().as_ref()
+}
+
+// Whether two uids have the same numbers. Where they have not they differ.
+pub(crate) fn have_same_numbers(one: &Key<'_>, other: &Key<'_>) -> bool
+    ensures { result ≡ same_numbers one.now other.now }
+{
+    one.kind == other.kind && one.front == other.front
 }
 
 // Whether both are the same: not where the numbers differ, and where both names are short the eids tell.

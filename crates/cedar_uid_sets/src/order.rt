@@ -1,11 +1,13 @@
 //! Where a uid stands among uids that ascend.
 ghost use Rattle.std.specs.Prelude.{◌≡◌, ◌↔◌, MatchResult, IsTrue, length};
+ghost use Rattle.std.specs.List.{list_any};
 ghost use Rattle.std.specs.Set.{is_member};
 ghost use Rattle.cedar_ids.specs.UidOf.{same_uid, uid_order};
 ghost use Rattle.cedar_uid_sets.specs.UidSets.{Ascend};
+ghost use Rattle.cedar_uid_sets.specs.laws.Fronts.{same_numbers};
 ghost use Rattle.cedar_uid_sets.specs.laws.Places.{IsPlaceOf, IsGapFor};
 
-use crate::fronts::{Key, are_same, order_of};
+use crate::fronts::{Key, are_same, have_same_numbers, order_of};
 use crate::shared_uid::SharedUid;
 use cedar_ids::entity::EntityUID;
 use std::cmp::Ordering;
@@ -50,7 +52,16 @@ pub(crate) fn place_from_end(uids: &[SharedUid], uid: &Key<'_>) -> Result<usize,
     place(uids, uid)
 }
 
+// Whether one of these has the numbers of the uid. Where none has, the uid is none of them.
+fn has_numbers(uids: &[SharedUid], uid: &Key<'_>) -> bool
+    ensures { result ≡ list_any (same_numbers uid.now) uids.now }
+{
+    uids.iter()
+        .any(|shared| have_same_numbers(uid, &shared.key()))
+}
+
 // Whether the uid is one of these.
+#[inline(never)]
 fn is_listed(uids: &[SharedUid], uid: &Key<'_>) -> bool
     ensures { result ≡ is_member same_uid uids.now uid.now }
 {
@@ -58,6 +69,7 @@ fn is_listed(uids: &[SharedUid], uid: &Key<'_>) -> bool
 }
 
 // Whether a search finds the uid.
+#[inline(never)]
 fn is_found(uids: &[SharedUid], uid: &Key<'_>) -> bool
     requires { Ascend uids.now }
     ensures { result ≡ is_member same_uid uids.now uid.now }
@@ -68,13 +80,13 @@ fn is_found(uids: &[SharedUid], uid: &Key<'_>) -> bool
     }
 }
 
-// Whether the uid is one of these.
+// Whether the uid is one of these. Where these are few, mostly the numbers tell that it is not.
 pub(crate) fn is_among(uids: &[SharedUid], uid: &Key<'_>) -> bool
     requires { Ascend uids.now }
     ensures { result ≡ is_member same_uid uids.now uid.now }
 {
     if uids.len() <= FEW {
-        return is_listed(uids, uid);
+        return has_numbers(uids, uid) && is_listed(uids, uid);
     }
     is_found(uids, uid)
 }

@@ -1,5 +1,5 @@
 -- Numbers that abbreviate names and eids.
-use Rattle.std.specs.Prelude.{◌≡◌, ℕ, zero, suc, ◌+◌, ◌*◌, ◌^◌, ◌<◌, Bool, true, false, ◌&&◌, cond, List, [], ◌∷◌, length, nat_le, slice_index, ⊤}
+use Rattle.std.specs.Prelude.{◌≡◌, ℕ, zero, suc, ◌+◌, ◌*◌, ◌^◌, ◌<◌, Bool, true, false, ◌&&◌, cond, List, [], ◌∷◌, length, nat_le, nat_eq, slice_index, ⊤}
 use Rattle.cedar_ids.specs.Name.{NameParts}
 use Rattle.cedar_ids.specs.TextOf.{IsName}
 use Rattle.cedar_ids.specs.UidOf.{uid_parts}
@@ -41,3 +41,7 @@ pub record Abbreviate (k f : ℕ) (u : EntityUID) : Type 0 where
   pub of_eid : f ≡ front (uid_parts u).eid
   pub name : IsName (uid_parts u).name
   pub bytes : BeginsWithBytes (uid_parts u).eid
+
+-- whether two uids have the same numbers, as the same uid has
+abbrev pub same_numbers : EntityUID → EntityUID → Bool
+same_numbers u v = nat_eq (kind (uid_parts u).name) (kind (uid_parts v).name) && nat_eq (front (uid_parts u).eid) (front (uid_parts v).eid)
