@@ -1,10 +1,11 @@
 -- What the readings of an edit's uids come to, over what is held.
-use Rattle.std.specs.Prelude.{◌≡◌, Bool, true, false, cond, not, ◌&&◌, ◌||◌, List, [], ◌∷◌, Option, Some, None, map, filter}
+use Rattle.std.specs.Prelude.{◌≡◌, Bool, true, false, cond, not, ◌&&◌, ◌||◌, List, [], ◌∷◌, ◌++◌, Option, Some, None, map, filter}
 use Rattle.std.proofs.Common.{ap, sym, refl, ◌∙◌}
 use Rattle.std.proofs.lemmas.Bool.{and_parts, both_ways, false_from_ne_true, or_parts, or_left, or_right}
 use Rattle.std.specs.List.{list_any, AllByRecursion}
 use Rattle.std.specs.Option.{option_map, is_some}
 use Rattle.std.specs.Set.{is_member}
+use Rattle.std.specs.HashMap.{HashMap, get}
 use Rattle.std.specs.FinSet as set
 use Rattle.std.specs.FinMap as finmap
 use Rattle.cedar_ids.specs.UidOf.{same_uid, uid_order_total, same_uid_decides}
@@ -16,8 +17,10 @@ use Rattle.cedar_entities.specs.Edits.{goes_with, lessened}
 use Rattle.cedar_entities.specs.Modes.{ancestry, is_ancestor_in}
 use Rattle.cedar_entities.specs.Plain.{Held}
 use Rattle.cedar_entities.specs.Touching.{is_touched}
+use Rattle.cedar_entities.specs.laws.Held.{held, shared}
 use Rattle.cedar_entities.specs.laws.Readings.{IsReadingOf, goes_from, is_below, notes}
 use Rattle.cedar_entities.specs.declared.touching.Applied.{Applied}
+use Rattle.cedar_entity.specs.declared.node.SharedEntity.{SharedEntity}
 use Rattle.cedar_entities.proofs.Editing.{retain_none}
 
 same_bool : (x y : Bool) → (x ≡ true → y ≡ true) → (y ≡ true → x ≡ true) → x ≡ y
@@ -86,6 +89,19 @@ any_filter p f (x ∷ xs) = at (p x) (any_filter p f xs)
     at : (b : Bool) → list_any f (filter p xs) ≡ list_any (λ y. p y && f y) xs → list_any f (cond b (x ∷ filter p xs) (filter p xs)) ≡ ((b && f x) || list_any (λ y. p y && f y) xs)
     at true k = ap (λ b. f x || b) k
     at false k = k
+
+-- one more in a list, which does not count
+pub one_left_out : {X : Type 0} (p : X → Bool) (xs : List X) (x : X) → p x ≡ false → filter p xs ≡ filter p (xs ++ x ∷ [])
+one_left_out p [] x h = sym (ap (λ b. cond b (x ∷ []) []) h)
+one_left_out p (y ∷ ys) x h = ap (λ zs. cond (p y) (y ∷ zs) zs) (one_left_out p ys x h)
+
+-- what a map has is not absent
+pub not_absent : {S : Type 0} (m : HashMap EntityUID SharedEntity S) (u : EntityUID) → is_some (get same_uid m u) ≡ true → not (is_some (held m u)) ≡ false
+not_absent m u h = at (get same_uid m u) h
+  where
+    at : (o : Option SharedEntity) → is_some o ≡ true → not (is_some (option_map shared o)) ≡ false
+    at None k = absurd (both_ways false refl k)
+    at (Some e) k = refl
 
 -- a set of which nothing goes
 pub none_retained : (s : UidSet) (g : EntityUID → Bool) → ((x : EntityUID) → set.contains s x ≡ true → g x ≡ false) → set.retain s (λ p. not (g p)) ≡ s

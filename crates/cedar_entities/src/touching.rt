@@ -300,9 +300,11 @@ pub(crate) fn absent_uids(
     ensures { IfOk result (λ v. v.items ≡ filter (λ u. not (is_some (held entities.now u))) list.items) }
 {
     let mut kept = Vec::new(alloc);
-    for uid in list {
-        if !entities.contains_key(&uid) {
-            kept.push(uid)?;
+    for shared in list {
+        if entities.contains_key(&shared) {
+            drop(shared);
+        } else {
+            kept.push(shared)?;
         }
     }
     Ok(kept)
