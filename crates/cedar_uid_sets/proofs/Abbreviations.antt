@@ -13,7 +13,7 @@ use Rattle.std.specs.declared.cmp.Ordering.{Ordering}
 use Rattle.std.specs.declared.cmp.Ordering.TheVariants.{Less, Equal, Greater}
 use Rattle.cedar_ids.specs.Name.{NameParts, name_cmp, name_eq}
 use Rattle.cedar_ids.specs.laws.NameLaws.{name_cmp_total, name_eq_equiv}
-use Rattle.cedar_ids.specs.Reading.{is_id, is_id_start, is_id_part, is_reserved}
+use Rattle.cedar_ids.specs.Reading.{is_id, is_id_start, is_id_part}
 use Rattle.cedar_ids.specs.TextOf.{IsName}
 use Rattle.cedar_ids.specs.UidOf.{uid_parts, uid_order, same_uid, same_uid_decides}
 use Rattle.cedar_ids.specs.declared.entity.EntityUID.{EntityUID}

@@ -1,5 +1,5 @@
 //! Where a uid stands among uids that ascend.
-ghost use Rattle.std.specs.Prelude.{◌≡◌, ◌↔◌, MatchResult, IsTrue, length};
+ghost use Rattle.std.specs.Prelude.{◌≡◌, ◌↔◌, MatchResult, IsTrue, length, false};
 ghost use Rattle.std.specs.List.{list_any};
 ghost use Rattle.std.specs.Set.{is_member};
 ghost use Rattle.cedar_ids.specs.UidOf.{same_uid, uid_order};
@@ -60,8 +60,14 @@ fn has_numbers(uids: &[SharedUid], uid: &Key<'_>) -> bool
         .any(|shared| have_same_numbers(uid, &shared.key()))
 }
 
-// Whether the uid is one of these.
-#[inline(never)]
+// Whether it has to be looked whether the uid is one of these: where they are few, mostly the numbers tell that it is not.
+fn may_be_among(uids: &[SharedUid], uid: &Key<'_>) -> bool
+    ensures { (result ≡ false) → is_member same_uid uids.now uid.now ≡ false }
+{
+    uids.len() > FEW || has_numbers(uids, uid)
+}
+
+// Whether the uid is one of these, gone through one by one.
 fn is_listed(uids: &[SharedUid], uid: &Key<'_>) -> bool
     ensures { result ≡ is_member same_uid uids.now uid.now }
 {
@@ -69,7 +75,6 @@ fn is_listed(uids: &[SharedUid], uid: &Key<'_>) -> bool
 }
 
 // Whether a search finds the uid.
-#[inline(never)]
 fn is_found(uids: &[SharedUid], uid: &Key<'_>) -> bool
     requires { Ascend uids.now }
     ensures { result ≡ is_member same_uid uids.now uid.now }
@@ -80,15 +85,23 @@ fn is_found(uids: &[SharedUid], uid: &Key<'_>) -> bool
     }
 }
 
-// Whether the uid is one of these. Where these are few, mostly the numbers tell that it is not.
-pub(crate) fn is_among(uids: &[SharedUid], uid: &Key<'_>) -> bool
+// Whether the uid is one of these.
+fn is_one_of(uids: &[SharedUid], uid: &Key<'_>) -> bool
     requires { Ascend uids.now }
     ensures { result ≡ is_member same_uid uids.now uid.now }
 {
     if uids.len() <= FEW {
-        return has_numbers(uids, uid) && is_listed(uids, uid);
+        return is_listed(uids, uid);
     }
     is_found(uids, uid)
+}
+
+// Whether the uid is one of these. The look at the numbers stands apart, so that it costs a caller no more than that.
+pub(crate) fn is_among(uids: &[SharedUid], uid: &Key<'_>) -> bool
+    requires { Ascend uids.now }
+    ensures { result ≡ is_member same_uid uids.now uid.now }
+{
+    may_be_among(uids, uid) && is_one_of(uids, uid)
 }
 
 // Whether two uids are equal. Their eids are looked at first, since they differ where their types do not.
@@ -113,7 +126,7 @@ pub(crate) fn has(uids: &[SharedUid], uid: &EntityUID) -> bool
     if uids.len() <= FEW {
         return has_plain(uids, uid);
     }
-    is_found(uids, &Key::of(uid))
+    is_one_of(uids, &Key::of(uid))
 }
 
 // Whether each of these is less than the next.
