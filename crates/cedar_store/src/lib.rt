@@ -10,7 +10,7 @@
 
 mod line;
 mod machine;
-mod parents;
+mod parent_fields;
 mod program;
 mod replay;
 mod uid_text;

@@ -6,7 +6,7 @@ ghost use Rattle.cedar_store.specs.Command.{AreTexts, IsCommand, IsLine, is_plai
 ghost use Rattle.cedar_policy_lines.specs.PolicyCommand.{policy_command};
 ghost use Rattle.cedar_store.specs.laws.Lines.{command_of, ReadsAs};
 
-use crate::parents::{Known, parents_of_fields};
+use crate::parent_fields::{Known, parents_of_fields};
 use crate::uid_text::{KnownType, uid_of_text};
 use cedar_ids::entity::EntityUID;
 use cedar_policy_lines::{PolicyLine, read_policy_line};

@@ -17,7 +17,7 @@ ghost use Rattle.cedar_store.specs.laws.Machines.{Holds, Takes, LineTakes, IsAsc
 ghost use Rattle.cedar_store.specs.Output.{State, start, Gives, ShowsAncestors, count_line, written_line, uid_text, field_of, not_command};
 
 use crate::line::{Line, read_line};
-use crate::parents::Known;
+use crate::parent_fields::Known;
 use cedar_entities::{Dereference, Entities, EntitiesError, Entity, TCComputation};
 use cedar_graph::TcError;
 use cedar_ids::entity::EntityUID;

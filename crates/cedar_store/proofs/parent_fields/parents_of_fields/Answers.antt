@@ -1,6 +1,6 @@
 use Rattle.std.proofs.Common.{arith}
 use Rattle.cedar_store.proofs.Commands.{texts_more, no_texts}
-use Rattle.cedar_store.proofs.parents.parents_of_fields.Goals as goal
+use Rattle.cedar_store.proofs.parent_fields.parents_of_fields.Goals as goal
 
 pub returns-in-None : goal.returns-in-None
 returns-in-None c = no_texts c.args.fields.now c.loop-field.field-index _ (omega arith) (rw c.in-None.is at c.in_ok-parent_of_text.ensures)

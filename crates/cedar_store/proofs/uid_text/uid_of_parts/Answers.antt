@@ -2,10 +2,10 @@ use Rattle.std.proofs.Common.{◌≡◌, ◌∙◌, ap}
 use Rattle.cedar_ids.specs.UidOf.{uid_parts}
 use Rattle.cedar_ids.specs.Views.{type_name, eid_bytes}
 use Rattle.cedar_store.proofs.PlainUids.{plain_printed}
-use Rattle.cedar_store.proofs.uid_text.plain_uid.Goals as goal
+use Rattle.cedar_store.proofs.uid_text.uid_of_parts.Goals as goal
 
 pub returns : goal.returns
-returns c =
+returns c name is =
     let eid : eid_bytes c.new.result ≡ c.args.eid.now = ap eid_bytes c.new.ensures ∙ c.in_ok-eid.ensures.ok in
-    plain_printed (type_name c.in-Some.ty) c.args.name.now c.args.eid.now (uid_parts c.from_components.result) (rw c.in-Some.is at c.in_ok-ty.ensures) c.requires
-    (c.from_components.ensures ∙ λ i. record { name = type_name c.in-Some.ty; eid = eid i })
+    plain_printed (type_name c.args.ty) name c.args.eid.now (uid_parts c.from_components.result) is c.requires
+    (c.from_components.ensures ∙ λ i. record { name = type_name c.args.ty; eid = eid i })
