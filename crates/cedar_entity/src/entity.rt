@@ -230,6 +230,34 @@ impl Entity {
         }
     }
 
+    /// An entity with a uid, these parents and nothing else. The parents stand in any order, and some may be equal.
+    ///
+    /// Where they ascend, each once, the vector is taken as it is, after a comparison a parent, and no memory is taken.
+    /// Else they are sorted and put in one after another, which takes memory and is refused only where that is. It is
+    /// our own: the original makes an entity of a hash set of parents.
+    pub fn with_shared_parents(
+        alloc: Global,
+        uid: EntityUID,
+        parents: Vec<SharedUid>,
+    ) -> Result<Entity, AllocError>
+        ensures { IfOk result (λ e. e ≡ record {
+          uid = uid;
+          attrs = [];
+          tags = [];
+          parents = set.from_list parents.items;
+          indirect = set.empty;
+        }) }
+    {
+        let parents = UidSet::from_pointers(parents)?;
+        Ok(Entity {
+            uid,
+            attrs: BTreeMap::new(alloc),
+            indirect_ancestors: UidSet::new(alloc),
+            parents,
+            tags: BTreeMap::new(alloc),
+        })
+    }
+
     /// The uid. It takes no memory.
     pub fn uid(&self) -> &EntityUID
         ensures { result.now ≡ self.now.uid }
@@ -291,7 +319,7 @@ impl Entity {
     pub fn is_descendant_of_shared(&self, other: &SharedUid) -> bool
         ensures { result ≡ has_ancestor self.now other.now }
     {
-        self.parents.contains_shared(other) || self.indirect_ancestors.contains_shared(other)
+        UidSet::either_contains(&self.parents, &self.indirect_ancestors, other)
     }
 
     /// The keys of the attributes, in byte order. It takes no memory.

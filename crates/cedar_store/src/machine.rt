@@ -158,23 +158,6 @@ fn ancestors_of(alloc: Global, entity: &Entity) -> Result<BTreeSet<&EntityUID>, 
     entity.ancestors().collect(alloc)
 }
 
-// An entity with the uid and these parents. They are taken in their order, in which each goes last.
-pub(crate) fn entity_with(
-    alloc: Global,
-    uid: EntityUID,
-    mut parents: Vec<SharedUid>,
-) -> Result<Entity, AllocError>
-    ensures given { IfOk result (λ e. given_of e ≡ given uid parents.items) }
-    ensures bare { IfOk result IsBare }
-{
-    parents.sort()?;
-    let mut entity = Entity::with_uid(alloc, uid);
-    for parent in parents {
-        entity.add_shared_parent(parent)?;
-    }
-    Ok(entity)
-}
-
 impl Machine {
     // Nothing waits, the store is empty, and so are the policy sets.
     pub(crate) fn new(alloc: Global) -> Machine
@@ -198,8 +181,8 @@ impl Machine {
         ensures { OnOk result ((s : State) → Holds self.old s → AreAsciiUids (uid ∷ parents.items) →
             (out : List ℕ) → Takes (Ent uid parents.items) s self.new out out) }
     {
-        let entity = Rc::new(alloc, entity_with(alloc, uid, parents)?)?;
-        self.waiting.push(entity)?;
+        let entity = Entity::with_shared_parents(alloc, uid, parents)?;
+        self.waiting.push(Rc::new(alloc, entity)?)?;
         Ok(())
     }
 

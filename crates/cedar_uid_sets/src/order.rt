@@ -60,8 +60,8 @@ fn has_numbers(uids: &[SharedUid], uid: &Key<'_>) -> bool
         .any(|shared| have_same_numbers(uid, &shared.key()))
 }
 
-// Whether it has to be looked whether the uid is one of these: where they are few, mostly the numbers tell that it is not.
-fn may_be_among(uids: &[SharedUid], uid: &Key<'_>) -> bool
+// Whether it has to be looked whether the uid is one of these: where they are few, the numbers mostly tell that it is not.
+pub(crate) fn may_be_among(uids: &[SharedUid], uid: &Key<'_>) -> bool
     ensures { (result ≡ false) → is_member same_uid uids.now uid.now ≡ false }
 {
     uids.len() > FEW || has_numbers(uids, uid)
@@ -86,7 +86,7 @@ fn is_found(uids: &[SharedUid], uid: &Key<'_>) -> bool
 }
 
 // Whether the uid is one of these.
-fn is_one_of(uids: &[SharedUid], uid: &Key<'_>) -> bool
+pub(crate) fn is_one_of(uids: &[SharedUid], uid: &Key<'_>) -> bool
     requires { Ascend uids.now }
     ensures { result ≡ is_member same_uid uids.now uid.now }
 {
@@ -94,14 +94,6 @@ fn is_one_of(uids: &[SharedUid], uid: &Key<'_>) -> bool
         return is_listed(uids, uid);
     }
     is_found(uids, uid)
-}
-
-// Whether the uid is one of these. The look at the numbers stands apart, so that it costs a caller no more than that.
-pub(crate) fn is_among(uids: &[SharedUid], uid: &Key<'_>) -> bool
-    requires { Ascend uids.now }
-    ensures { result ≡ is_member same_uid uids.now uid.now }
-{
-    may_be_among(uids, uid) && is_one_of(uids, uid)
 }
 
 // Whether two uids are equal. Their eids are looked at first, since they differ where their types do not.

@@ -1,5 +1,5 @@
 //! Sets of shared uids.
-ghost use Rattle.std.specs.Prelude.{◌≡◌, ◌↔◌, IfOk, OnOk, OnErr, IsTrue, List};
+ghost use Rattle.std.specs.Prelude.{◌≡◌, ◌↔◌, ◌||◌, IfOk, OnOk, OnErr, IsTrue, List};
 ghost use Rattle.std.specs.FinSet as set;
 ghost use Rattle.std.specs.Fn.{CalledAt};
 ghost use Rattle.std.specs.Set.{is_member};
@@ -10,7 +10,7 @@ ghost use Rattle.cedar_uid_sets.specs.UidSets.{UidValues, Ascend, Retains};
 
 use crate::fronts::Key;
 use crate::merge::{merge, shared};
-use crate::order::{ascend, has, is_among, place, place_from_end};
+use crate::order::{ascend, has, is_one_of, may_be_among, place, place_from_end};
 use crate::shared_uid::SharedUid;
 use cedar_ids::entity::EntityUID;
 use std::alloc::{AllocError, Global};
@@ -133,7 +133,22 @@ impl UidSet {
     pub fn contains_shared(&self, shared: &SharedUid) -> bool
         ensures { result ≡ set.contains self.now shared.now }
     {
-        is_among(&self.uids, &shared.key())
+        is_one_of(&self.uids, &shared.key())
+    }
+
+    // The same, where the numbers are looked at first: mostly these tell that the uid is not there.
+    fn holds(&self, shared: &SharedUid) -> bool
+        ensures { result ≡ set.contains self.now shared.now }
+    {
+        may_be_among(&self.uids, &shared.key()) && self.contains_shared(shared)
+    }
+
+    /// Whether a uid that is shared is in one of two sets. It takes no memory. Where a set has at most eight uids,
+    /// mostly the numbers that abbreviate them are all that is looked at.
+    pub fn either_contains(one: &UidSet, other: &UidSet, shared: &SharedUid) -> bool
+        ensures { result ≡ (set.contains one.now shared.now || set.contains other.now shared.now) }
+    {
+        one.holds(shared) || other.holds(shared)
     }
 
     /// Puts a uid in; one that is there already changes nothing.
