@@ -1,5 +1,5 @@
 //! Which line of the program is which command.
-ghost use Rattle.std.specs.Prelude.{◌≡◌, ◌∷◌, [], List, ℕ, IfOk, IsTrue, map, codes, ◌==◌, None};
+ghost use Rattle.std.specs.Prelude.{◌≡◌, ◌∷◌, [], List, ℕ, IfOk, OnOk, IsTrue, map, codes, ◌==◌, None};
 ghost use Rattle.std.specs.List.{list_all, slice_split};
 ghost use Rattle.cedar_ids.specs.declared.entity.EntityUID.{EntityUID};
 ghost use Rattle.cedar_store.specs.Command.{AreTexts, IsCommand, IsLine, is_plain};
@@ -111,11 +111,12 @@ fn anc_fields(
     uid_of_text(alloc, &mut known.types, first)
 }
 
-// The fields between the tabs of a line.
-fn fields_of(alloc: Global, line: &str) -> Result<Vec<&str>, AllocError>
-    ensures { IfOk result (λ v. map (λ x. x.now) v.items ≡ slice_split (λ b. b == 9) line.now) }
+// Puts the fields between the tabs of a line in the place of those before.
+fn set_fields<'a>(fields: &mut Vec<&'a str>, line: &'a str) -> Result<(), AllocError>
+    ensures { OnOk result (map (λ x. x.now) fields.new.items ≡ slice_split (λ b. b == 9) line.now) }
 {
-    line.split('\t').collect(alloc)
+    fields.clear();
+    fields.extend(line.split('\t'))
 }
 
 // The command that a word is by itself, if there is one, where it is none on policy sets.
@@ -222,10 +223,11 @@ fn is_plain(line: &[u8]) -> bool
 }
 
 // The command that a line is, if it is one. What is read is known to the next line.
-pub(crate) fn read_line(
+pub(crate) fn read_line<'a>(
     alloc: Global,
     known: &mut Known,
-    line: &[u8],
+    fields: &mut Vec<&'a str>,
+    line: &'a [u8],
 ) -> Result<Option<Line>, AllocError>
     ensures { IfOk result (ReadsAs (λ c. IsLine c line.now) command_of) }
 {
@@ -235,6 +237,6 @@ pub(crate) fn read_line(
     let Ok(text) = str::from_utf8(line) else {
         return Ok(None);
     };
-    let fields = fields_of(alloc, text)?;
-    command_of_fields(alloc, known, &fields)
+    set_fields(fields, text)?;
+    command_of_fields(alloc, known, fields)
 }

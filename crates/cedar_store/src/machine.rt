@@ -285,17 +285,18 @@ impl Machine {
         }
     }
 
-    // Takes a line, and says whether it is a command.
-    pub(crate) fn line(
+    // Takes a line, and says whether it is a command. What the fields are before says nothing: they are set to those of the line.
+    pub(crate) fn line<'a>(
         &mut self,
         alloc: Global,
-        line: &[u8],
+        fields: &mut Vec<&'a str>,
+        line: &'a [u8],
         out: &mut Vec<u8>,
     ) -> Result<bool, AllocError>
         ensures { IfOk result (λ known. (s : State) → Holds self.old s →
             LineTakes known line.now s self.new out.old.items out.new.items) }
     {
-        match read_line(alloc, &mut self.known, line)? {
+        match read_line(alloc, &mut self.known, fields, line)? {
             None => Ok(false),
             Some(command) => {
                 self.take(alloc, command, out)?;

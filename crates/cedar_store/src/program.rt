@@ -57,9 +57,10 @@ fn answer(alloc: Global, input: &[u8]) -> Result<(Vec<u8>, u8, Machine), AllocEr
 {
     let lines = lines_of(alloc, input)?;
     let mut machine = Machine::new(alloc);
+    let mut fields = Vec::new(alloc);
     let mut out = Vec::new(alloc);
     for (i, line) in lines.iter().enumerate() {
-        if !machine.line(alloc, line, &mut out)? {
+        if !machine.line(alloc, &mut fields, line, &mut out)? {
             push_fault(alloc, &mut out, i + 1)?;
             return Ok((out, 2, machine));
         }
