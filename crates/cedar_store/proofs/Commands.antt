@@ -1,6 +1,6 @@
 -- Which fields are those of which command.
 use Rattle.std.specs.Prelude.{◌≡◌, ℕ, zero, suc, ◌+◌, ◌<◌, List, [], ◌∷◌, ◌++◌, map, codes, length, ◌==◌, Bool, true, false, Option, Some, None}
-use Rattle.std.proofs.Common.{ap, sym, refl, ◌∙◌, get_or, take, arith}
+use Rattle.std.proofs.Common.{ap, sym, refl, subst, ◌∙◌, get_or, take, arith}
 use Rattle.std.proofs.lemmas.Bool.{false≢true}
 use Rattle.std.specs.Str.{bytes_eq}
 use Rattle.std.specs.Borrow.{Bor}
@@ -112,3 +112,7 @@ pub no_uids : (fs : List (Bor (List ℕ))) (b : Bool) → b ≡ (length fs == 0)
 no_uids [] b e t [] h = h.0 refl
 no_uids [] b e t (u ∷ us) h = h.1
 no_uids (f ∷ fs) b e t us h = let z : length (f ∷ fs) ≡ 0 = eqb-true (length (f ∷ fs)) 0 (sym e ∙ t) in absurd (omega arith)
+
+-- fields that begin with an entity's word are no command on policy sets
+pub no_policy : (fs : List (Bor (List ℕ))) (w : Bor (List ℕ)) (ws : List (Bor (List ℕ))) → fs ≡ w ∷ ws → w.now ≡ codes "ent" → policy_command (map (λ f. f.now) fs) ≡ None
+no_policy fs w ws e is = rw e (subst (λ v. policy_command (v ∷ map (λ f. f.now) ws) ≡ None) (sym is) refl)

@@ -144,8 +144,8 @@ fn command_of_word(word: &str) -> Option<Line>
 fn is_entity(fields: &[&str]) -> bool
     ensures { IsTrue result → policy_command (map (λ f. f.now) fields.now) ≡ None }
 {
-    match fields.first() {
-        Some(word) => *word == "ent",
+    match fields.split_first() {
+        Some((word, _)) => *word == "ent",
         None => false,
     }
 }

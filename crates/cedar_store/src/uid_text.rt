@@ -118,6 +118,13 @@ fn uid_of_parts(alloc: Global, ty: EntityType, eid: &str) -> Result<EntityUID, A
     Ok(EntityUID::from_components(ty, Eid::new(eid), None))
 }
 
+// A type that is known, shared once more.
+fn type_of(known: &KnownType) -> Result<EntityType, AllocError>
+    ensures { IfOk result (λ t. type_name t ≡ known.now) }
+{
+    known.ty.clone()
+}
+
 // The uid of this type with a text, if the text is that of one whose eid is its own escape.
 fn uid_of_type(
     alloc: Global,
@@ -132,7 +139,7 @@ fn uid_of_type(
     let Some(eid) = eid_after(rest) else {
         return Ok(None);
     };
-    Ok(Some(uid_of_parts(alloc, known.ty.clone()?, eid)?))
+    Ok(Some(uid_of_parts(alloc, type_of(known)?, eid)?))
 }
 
 // The uid with a text, of a type that is known.

@@ -1,4 +1,5 @@
 mod edits;
+mod known_lines;
 mod policies;
 mod replays;
 mod store_edits;

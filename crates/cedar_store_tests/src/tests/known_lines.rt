@@ -1,0 +1,115 @@
+// Lines of which some tell what others told: types and parents that the program knows from lines before, and fields that stand
+// where those of other lines stood.
+use cedar_store::{RunError, run, run_and_leave};
+use std::alloc::Global;
+use std::test::Fail;
+
+// The status, or 9 where there is none.
+fn status_of(ran: Result<u8, RunError>) -> u8 {
+    match ran {
+        Ok(status) => status,
+        Err(error) => {
+            drop(error);
+            9
+        }
+    }
+}
+
+// Whether a run that gives its memory back and one that leaves it write the same and answer this status.
+fn is_same(alloc: Global, input: &str, status: u8) -> bool {
+    let mut given_back = Vec::new(alloc);
+    let mut left = Vec::new(alloc);
+    let one = status_of(run(alloc, &mut input.as_bytes(), &mut given_back));
+    let other = status_of(run_and_leave(alloc, &mut input.as_bytes(), &mut left));
+    one == status && other == status && given_back.as_slice() == left.as_slice()
+}
+
+// Whether a run writes this.
+fn writes(alloc: Global, input: &str, want: &str) -> bool {
+    let mut out = Vec::new(alloc);
+    let status = status_of(run(alloc, &mut input.as_bytes(), &mut out));
+    status == 0 && out.as_slice() == want.as_bytes()
+}
+
+#[test]
+fn what_is_left_was_written_all_the_same(rt: HostRuntime) {
+    let alloc = rt.alloc();
+    for (input, status) in &[
+        ("", 0),
+        ("\n\n", 0),
+        ("ent\tA::\"a\"\tB::\"b\"\nbuild\nanc\tA::\"a\"\n", 0),
+        ("static\tp\tpermit\nids\n", 0),
+        ("ent\tA::\"a\"\tA::\"a\"\nbuild\nbuild", 0),
+        ("build\nnothing\nbuild", 2),
+        ("ent\tA::\"a\"\nanc\n", 2),
+    ] {
+        assert!(rt; is_same(alloc, input, *status), "{input}");
+    }
+}
+
+// Users with two parents each, of 300 and of seven.
+fn users(alloc: Global, n: usize) -> Result<String, Fail> {
+    let mut input = String::new(alloc);
+    for i in 0..n {
+        let one = i % 300;
+        let other = i % 7;
+        input.push_str(format!(in alloc;
+            "ent\tUser::\"u{i}\"\tTeam::\"t{other}\"\tGroup::\"g{one}\"\n"
+        )?.as_str())?;
+    }
+    input.push_str("build\n")?;
+    for i in 0..n {
+        input.push_str(format!(in alloc; "anc\tUser::\"u{i}\"\n")?.as_str())?;
+    }
+    Ok(input)
+}
+
+// What is due for them.
+fn users_due(alloc: Global, n: usize) -> Result<String, Fail> {
+    let mut want = format!(in alloc; "ok {n}\n")?;
+    for i in 0..n {
+        let one = i % 300;
+        let other = i % 7;
+        want.push_str(format!(in alloc; "anc\tGroup::\"g{one}\"\tTeam::\"t{other}\"\n")?.as_str())?;
+    }
+    Ok(want)
+}
+
+// More parents than are known at once, each of them more than once.
+#[test]
+fn parents_are_those_of_the_line(rt: HostRuntime) -> Result<(), Fail> {
+    let alloc = rt.alloc();
+    let input = users(alloc, 700)?;
+    let want = users_due(alloc, 700)?;
+    assert!(rt; writes(alloc, input.as_str(), want.as_str()));
+    Ok(())
+}
+
+#[test]
+fn parents_that_end_alike_are_told_apart(rt: HostRuntime) {
+    let alloc = rt.alloc();
+    let input =
+        "ent\tA::\"1\"\tB::\"first of the same end\"\nent\tA::\"2\"\tB::\"other of the same end\"\nent\tA::\"3\"\tB::\"first of the same end\"\nent\tA::\"4\"\tC::\"first of the same end\"\nbuild\nanc\tA::\"1\"\nanc\tA::\"2\"\nanc\tA::\"3\"\nanc\tA::\"4\"\n";
+    let want =
+        "ok 4\nanc\tB::\"first of the same end\"\nanc\tB::\"other of the same end\"\nanc\tB::\"first of the same end\"\nanc\tC::\"first of the same end\"\n";
+    assert!(rt; writes(alloc, input, want));
+}
+
+// Types that begin alike, and one that begins with the whole of another.
+#[test]
+fn types_that_begin_alike_are_told_apart(rt: HostRuntime) {
+    let alloc = rt.alloc();
+    let input =
+        "ent\tA::\"x\"\tAB::\"x\"\tA::B::\"x\"\tA::B::C::\"x\"\nbuild\nanc\tA::\"x\"\nanc\tAB::\"x\"\nanc\tA::B::\"x\"\n";
+    let want = "ok 1\nanc\tA::B::\"x\"\tA::B::C::\"x\"\tAB::\"x\"\nno entity\nno entity\n";
+    assert!(rt; writes(alloc, input, want));
+}
+
+// A line with few fields after one with many.
+#[test]
+fn fields_are_those_of_the_line(rt: HostRuntime) {
+    let alloc = rt.alloc();
+    let input =
+        "ent\tA::\"a\"\tA::\"b\"\tA::\"c\"\tA::\"d\"\tA::\"e\"\tA::\"f\"\tA::\"g\"\tA::\"h\"\tA::\"i\"\tA::\"j\"\nent\tA::\"k\"\nbuild\nanc\tA::\"k\"\n";
+    assert!(rt; writes(alloc, input, "ok 2\nanc\n"));
+}
