@@ -182,7 +182,8 @@ impl Machine {
             (out : List ℕ) → Takes (Ent uid parents.items) s self.new out out) }
     {
         let entity = Entity::with_shared_parents(alloc, uid, parents)?;
-        self.waiting.push(Rc::new(alloc, entity)?)?;
+        let entity = Rc::new(alloc, entity)?;
+        self.waiting.push(entity)?;
         Ok(())
     }
 

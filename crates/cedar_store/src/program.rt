@@ -68,6 +68,15 @@ fn answer(alloc: Global, input: &[u8]) -> Result<(Vec<u8>, u8, Machine), AllocEr
     Ok((out, 0, machine))
 }
 
+// Writes all of these bytes, and flushes.
+fn send<W: Write>(writer: &mut W, bytes: &[u8]) -> Result<(), RunError>
+    ensures sent { OnOk result (Appends (W.contents writer.old) (W.contents writer.new) bytes.now) }
+    ensures err { IfErr result (λ e. Leaves e (writer.new ≡ writer.old)) }
+{
+    writer.write_all(bytes).map_err(|_| RunError::Write)?;
+    writer.flush().map_err(|_| RunError::Write)
+}
+
 // Reads the input to its end, writes its output, and answers the status and the machine as it stands then.
 fn run_by<R: Read, W: Write>(
     alloc: Global,
@@ -82,9 +91,13 @@ fn run_by<R: Read, W: Write>(
 {
     let input = read_all(alloc, reader)?;
     let (out, status, machine) = answer(alloc, &input).map_err(|_| RunError::Memory)?;
-    writer.write_all(&out).map_err(|_| RunError::Write)?;
-    writer.flush().map_err(|_| RunError::Write)?;
-    Ok((status, machine))
+    match send(writer, &out) {
+        Ok(()) => Ok((status, machine)),
+        Err(error) => {
+            drop(machine);
+            Err(error)
+        }
+    }
 }
 
 /// Reads the input to its end, and writes its output: what each line that is a command writes, up to the

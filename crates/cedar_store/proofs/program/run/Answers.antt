@@ -1,8 +1,8 @@
 use Rattle.cedar_store.proofs.HasOutput.{has_one_output}
 use Rattle.cedar_store.proofs.program.run.Goals as goal
 
-pub returns-in_err-run_by-clause-one : goal.returns-in_err-run_by-clause-one
-returns-in_err-run_by-clause-one g c = has_one_output
+pub returns-in_err-status-clause-one : goal.returns-in_err-status-clause-one
+returns-in_err-status-clause-one g c = has_one_output
 
 pub returns-clause-one : goal.returns-clause-one
 returns-clause-one g c = has_one_output

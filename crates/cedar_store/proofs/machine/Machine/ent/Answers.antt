@@ -8,7 +8,7 @@ use Rattle.std.proofs.lemmas.List.{map-append}
 
 pub returns : goal.returns
 returns c s h ascii out =
-    let made = c.in_ok-new.ensures.ok ∙ c.in_ok-entity.ensures in
-    ent_takes c.args.self.now _ s c.args.uid c.args.parents.items c.in_ok-new.entity.value out h
-    (ap (map (λ r. r.value)) c.in_ok-push.ensures.items ∙ map-append (λ r. r.value) c.args.self.now.waiting.items (c.in_ok-new.entity ∷ [])) refl refl
+    let made = c.in_ok-entity-2.ensures.ok ∙ c.in_ok-entity.ensures in
+    ent_takes c.args.self.now _ s c.args.uid c.args.parents.items c.in_ok-entity-2.entity.value out h
+    (ap (map (λ r. r.value)) c.in_ok-push.ensures.items ∙ map-append (λ r. r.value) c.args.self.now.waiting.items (c.in_ok-entity-2.entity ∷ [])) refl refl
     (ap given_of made) (subst IsBare (sym made) (λ q. set.contains-empty uid_order q)) ascii
