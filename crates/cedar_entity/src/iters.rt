@@ -139,6 +139,12 @@ impl<'a> Iterator for Pointers<'a> {
         }
         self.others.next()
     }
+
+    fn size_hint(&self) -> (usize, Option<usize>) {
+        let first = self.first.len();
+        let others = self.others.len();
+        (first.saturating_add(others), first.checked_add(others))
+    }
 }
 
 /// The uids of one set, then those of another, each in the order of uids.

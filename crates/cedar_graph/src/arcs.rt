@@ -16,6 +16,9 @@ use std::alloc::{AllocError, Global};
 use std::collections::{HashMap, HashSet};
 use std::hash::Hash;
 
+// Room for so many arcs is made at once where some keys are repaired.
+const ARCS: usize = 64;
+
 // Numbers for the keys of the map.
 fn number_keys<K: Clone + Eq + Hash, V>(
     alloc: Global,
@@ -168,8 +171,8 @@ pub(crate) fn read_fix<K: Clone + Eq + Hash, V: TCNode<K>>(
     let fixed = keys.len();
     let mut s = Reading {
         keys,
-        from: Vec::new(alloc),
-        to: Vec::new(alloc),
+        from: Vec::with_capacity(alloc, ARCS)?,
+        to: Vec::with_capacity(alloc, ARCS)?,
         reads: 0,
     };
     for a in 0..fixed {

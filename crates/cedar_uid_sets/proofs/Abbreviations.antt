@@ -287,7 +287,7 @@ eq_itself : (n : ℕ) → nat_eq n n ≡ true
 eq_itself n = eq-eqb n n refl
 
 same_itself : (u : EntityUID) → same_numbers u u ≡ true
-same_itself u = rw (eq_itself (kind (uid_parts u).name), eq_itself (front (uid_parts u).eid)) refl
+same_itself u = rw (eq_itself (front (uid_parts u).eid), eq_itself (kind (uid_parts u).name)) refl
 
 -- where none has the numbers of the uid, it is none of them
 pub none_without_numbers : (u : EntityUID) (us : List EntityUID) → list_any (same_numbers u) us ≡ false → is_member same_uid us u ≡ false

@@ -238,14 +238,14 @@ fn have_one_eid(one: &EntityUID, other: &EntityUID) -> bool
 pub(crate) fn have_same_numbers(one: &Key<'_>, other: &Key<'_>) -> bool
     ensures { result ≡ same_numbers one.now other.now }
 {
-    one.kind == other.kind && one.front == other.front
+    one.front == other.front && one.kind == other.kind
 }
 
 // Whether both are the same: not where the numbers differ, and where both names are short the eids tell.
 pub(crate) fn are_same(one: &Key<'_>, other: &Key<'_>) -> bool
     ensures { result ≡ same_uid one.now other.now }
 {
-    if one.kind != other.kind || one.front != other.front {
+    if one.front != other.front || one.kind != other.kind {
         return false;
     }
     if one.kind == 0 || other.kind == 0 {

@@ -13,7 +13,7 @@ use cedar_ids::entity::EntityUID;
 use std::cmp::Ordering;
 
 // So many uids are gone through one by one, which costs less than a search.
-const FEW: usize = 8;
+const FEW: usize = 16;
 
 // How what is shared stands to the uid.
 pub(crate) fn order(shared: &SharedUid, uid: &Key<'_>) -> Ordering

@@ -122,7 +122,7 @@ impl UidSet {
     }
 
     /// Whether the uid is in the set. It takes no memory, and compares it to the logarithm of the number of
-    /// uids; where there are at most eight, to each of them.
+    /// uids; where there are at most sixteen, to each of them.
     pub fn contains(&self, uid: &EntityUID) -> bool
         ensures { result ≡ set.contains self.now uid.now }
     {
@@ -143,7 +143,7 @@ impl UidSet {
         may_be_among(&self.uids, &shared.key()) && self.contains_shared(shared)
     }
 
-    /// Whether a uid that is shared is in one of two sets. It takes no memory. Where a set has at most eight uids,
+    /// Whether a uid that is shared is in one of two sets. It takes no memory. Where a set has at most sixteen uids,
     /// mostly the numbers that abbreviate them are all that is looked at.
     pub fn either_contains(one: &UidSet, other: &UidSet, shared: &SharedUid) -> bool
         ensures { result ≡ (set.contains one.now shared.now || set.contains other.now shared.now) }

@@ -44,4 +44,4 @@ pub record Abbreviate (k f : ℕ) (u : EntityUID) : Type 0 where
 
 -- whether two uids have the same numbers, as the same uid has
 abbrev pub same_numbers : EntityUID → EntityUID → Bool
-same_numbers u v = nat_eq (kind (uid_parts u).name) (kind (uid_parts v).name) && nat_eq (front (uid_parts u).eid) (front (uid_parts v).eid)
+same_numbers u v = nat_eq (front (uid_parts u).eid) (front (uid_parts v).eid) && nat_eq (kind (uid_parts u).name) (kind (uid_parts v).name)
