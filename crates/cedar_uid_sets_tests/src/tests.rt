@@ -97,8 +97,11 @@ fn stepped(alloc: Global, n: u32, start: u32, step: u32) -> Result<Vec<u32>, Fai
     Ok(numbers)
 }
 
+// A first number, the number behind the last, and how many are passed at a step.
+type Range = (u32, u32, u32);
+
 // Every so many numbers of a range.
-fn row(alloc: Global, range: (u32, u32, u32)) -> Result<Vec<u32>, Fail> {
+fn row(alloc: Global, range: Range) -> Result<Vec<u32>, Fail> {
     let (from, to, step) = range;
     let mut numbers = Vec::new(alloc);
     for n in from..to {
@@ -122,6 +125,31 @@ fn in_order(alloc: Global, numbers: &[u32]) -> Result<String, Fail> {
     Ok(text)
 }
 
+// The eids of the numbers of two lists, each once.
+fn both_in_order(alloc: Global, numbers: &[u32], others: &[u32]) -> Result<String, Fail> {
+    let mut all = numbers.to_vec(alloc)?;
+    match all.extend_from_slice(others) {
+        Ok(()) => {
+            let text = in_order(alloc, all.as_slice());
+            drop(all);
+            text
+        }
+        Err(error) => {
+            drop(all);
+            Err(Fail::from(error))
+        }
+    }
+}
+
+// The same of two ranges.
+fn rows_in_order(alloc: Global, of: Range, others: Range) -> Result<String, Fail> {
+    let (numbers, others) = beside(row(alloc, of)?, row(alloc, others))?;
+    let text = both_in_order(alloc, numbers.as_slice(), others.as_slice());
+    drop(numbers);
+    drop(others);
+    text
+}
+
 // The eids of a set.
 fn eids(alloc: Global, set: &UidSet) -> Result<String, Fail> {
     let mut text = String::new(alloc);
@@ -130,6 +158,14 @@ fn eids(alloc: Global, set: &UidSet) -> Result<String, Fail> {
         write!(text, "{eid} ")?;
     }
     Ok(text)
+}
+
+// The set of the numbers of a range.
+fn filled_row(alloc: Global, range: Range) -> Result<UidSet, Fail> {
+    let numbers = row(alloc, range)?;
+    let set = filled(alloc, numbers.as_slice());
+    drop(numbers);
+    set
 }
 
 // Whether a set has the uid of a number.

@@ -1,5 +1,6 @@
 // Looking up 10,000 uids among 10, 1,000 and 100,000 ancestors, and among as many uids in a hash set: what the looks cost
 // is the difference between a test that looks and the one that only makes what is looked at (docs/PERFORMANCE.md).
+use super::{beside, pushed};
 use cedar_entity::entity::Entity;
 use cedar_ids::entity::EntityUID;
 use std::alloc::Global;
@@ -9,7 +10,9 @@ use std::test::Fail;
 // The uid of a number; those of seven digits ascend as their numbers do.
 fn numbered(alloc: Global, number: u32) -> Result<EntityUID, Fail> {
     let eid = (1_000_000 + u64::from(number)).to_string(alloc)?;
-    Ok(EntityUID::with_eid_and_type(alloc, "User", eid.as_str())?)
+    let uid = EntityUID::with_eid_and_type(alloc, "User", eid.as_str());
+    drop(eid);
+    Ok(uid?)
 }
 
 fn add_all(alloc: Global, entity: &mut Entity, count: u32) -> Result<(), Fail> {
@@ -31,7 +34,7 @@ fn spread(alloc: Global, count: u32) -> Result<Vec<EntityUID>, Fail> {
     let mut uids = Vec::new(alloc);
     for look in 0..10_000u32 {
         let number = look.wrapping_mul(7_919).checked_rem(count);
-        uids.push(numbered(alloc, number.unwrap_or(0))?)?;
+        uids = pushed(uids, numbered(alloc, number.unwrap_or(0)))?;
     }
     Ok(uids)
 }
@@ -54,11 +57,33 @@ fn found_hashed(set: &HashSet<EntityUID>, uids: &[EntityUID]) -> u32 {
     times
 }
 
+// The entity with so many indirect ancestors.
+fn grown(alloc: Global, count: u32) -> Result<Entity, Fail> {
+    let mut entity = Entity::with_uid(alloc, numbered(alloc, count)?);
+    match add_all(alloc, &mut entity, count) {
+        Ok(()) => Ok(entity),
+        Err(fail) => {
+            drop(entity);
+            Err(fail)
+        }
+    }
+}
+
+// The hash set of so many uids.
+fn hashed(alloc: Global, count: u32) -> Result<HashSet<EntityUID>, Fail> {
+    let mut set = HashSet::new(alloc);
+    match put_all(alloc, &mut set, count) {
+        Ok(()) => Ok(set),
+        Err(fail) => {
+            drop(set);
+            Err(fail)
+        }
+    }
+}
+
 // How many of 10,000 uids are found among so many ancestors, if they are looked for.
 fn looks_among(alloc: Global, count: u32, looks: bool) -> Result<u32, Fail> {
-    let uids = spread(alloc, count)?;
-    let mut entity = Entity::with_uid(alloc, numbered(alloc, count)?);
-    add_all(alloc, &mut entity, count)?;
+    let (uids, entity) = beside(spread(alloc, count)?, grown(alloc, count))?;
     let times = if looks { found(&entity, &uids) } else { 0 };
     drop(entity);
     drop(uids);
@@ -67,9 +92,7 @@ fn looks_among(alloc: Global, count: u32, looks: bool) -> Result<u32, Fail> {
 
 // How many of 10,000 uids are found in a hash set of so many, if they are looked for.
 fn looks_among_hashed(alloc: Global, count: u32, looks: bool) -> Result<u32, Fail> {
-    let uids = spread(alloc, count)?;
-    let mut set = HashSet::new(alloc);
-    put_all(alloc, &mut set, count)?;
+    let (uids, set) = beside(spread(alloc, count)?, hashed(alloc, count))?;
     let times = if looks { found_hashed(&set, &uids) } else { 0 };
     drop(set);
     drop(uids);

@@ -1,7 +1,7 @@
 // Sets beside plain lists of numbers.
 use super::{
-    becomes, beside, eids, filled, found, in_order, is, pointers, put_in, row, shared, stepped,
-    take_out, twice, uid,
+    Range, becomes, beside, eids, filled, filled_row, found, in_order, is, pointers, put_in, row,
+    rows_in_order, shared, stepped, take_out, twice, uid,
 };
 use cedar_uid_sets::{SharedUid, UidSet};
 use std::alloc::{AllocError, Global};
@@ -20,20 +20,23 @@ fn keeps(alloc: Global, set: &mut UidSet, numbers: &[u32], want: &str) -> Result
 
 // The same of the set that is filled with them.
 fn is_filled(alloc: Global, numbers: &[u32]) -> Result<bool, Fail> {
-    let want = in_order(alloc, numbers)?;
-    match filled(alloc, numbers) {
-        Ok(mut set) => {
-            let told = keeps(alloc, &mut set, numbers, want.as_str());
-            drop(set);
-            told
-        }
-        Err(fail) => Err(fail),
-    }
+    let (want, mut set) = beside(in_order(alloc, numbers)?, filled(alloc, numbers))?;
+    let told = keeps(alloc, &mut set, numbers, want.as_str());
+    drop(set);
+    drop(want);
+    told
+}
+
+// The same of numbers a step apart.
+fn steps_are_filled(alloc: Global, n: u32, start: u32, step: u32) -> Result<bool, Fail> {
+    let numbers = stepped(alloc, n, start, step)?;
+    let told = is_filled(alloc, numbers.as_slice());
+    drop(numbers);
+    told
 }
 
 #[test]
 fn a_set_is_filled_in_any_order(rt: HostRuntime) -> Result<(), Fail> {
-    let alloc = rt.alloc();
     for (n, start, step) in [
         (0, 0, 1),
         (1, 0, 1),
@@ -43,10 +46,20 @@ fn a_set_is_filled_in_any_order(rt: HostRuntime) -> Result<(), Fail> {
         (1000, 999, 999),
         (1000, 3, 387),
     ] {
-        let numbers = stepped(alloc, n, start, step)?;
-        assert!(rt; is_filled(alloc, numbers.as_slice())?, "{n} from {start}");
+        assert!(rt;
+            steps_are_filled(rt.alloc(), n, start, step)?,
+            "{n} from {start}"
+        );
     }
     Ok(())
+}
+
+// The eids of the numbers of a range.
+fn row_in_order(alloc: Global, range: Range) -> Result<String, Fail> {
+    let numbers = row(alloc, range)?;
+    let text = in_order(alloc, numbers.as_slice());
+    drop(numbers);
+    text
 }
 
 // Takes out the uids of these numbers, but those of each third, and such as are not there.
@@ -60,25 +73,29 @@ fn take_most_out(alloc: Global, set: &mut UidSet, numbers: &[u32]) -> Result<(),
     Ok(())
 }
 
+// The same of a thousand numbers in a turned order.
+fn take_most_of_a_thousand_out(alloc: Global, set: &mut UidSet) -> Result<(), Fail> {
+    let numbers = stepped(alloc, 1000, 7, 387)?;
+    let told = take_most_out(alloc, set, numbers.as_slice());
+    drop(numbers);
+    told
+}
+
 // Whether a set of a thousand has these uids when most are taken out, and none when it is cleared.
 fn is_emptied(alloc: Global, set: &mut UidSet, want: &str) -> Result<bool, Fail> {
-    let numbers = stepped(alloc, 1000, 7, 387)?;
-    take_most_out(alloc, set, numbers.as_slice())?;
+    take_most_of_a_thousand_out(alloc, set)?;
     let told = is(alloc, set, want)?;
     set.clear();
     Ok(told && set.is_empty())
 }
 
 fn thousand_is_emptied(alloc: Global) -> Result<bool, Fail> {
-    let want = in_order(alloc, row(alloc, (0, 1000, 3))?.as_slice())?;
-    match filled(alloc, row(alloc, (0, 1000, 1))?.as_slice()) {
-        Ok(mut set) => {
-            let told = is_emptied(alloc, &mut set, want.as_str());
-            drop(set);
-            told
-        }
-        Err(fail) => Err(fail),
-    }
+    let want = row_in_order(alloc, (0, 1000, 3))?;
+    let (want, mut set) = beside(want, filled_row(alloc, (0, 1000, 1)))?;
+    let told = is_emptied(alloc, &mut set, want.as_str());
+    drop(set);
+    drop(want);
+    told
 }
 
 #[test]
@@ -87,17 +104,42 @@ fn uids_are_taken_out_one_by_one(rt: HostRuntime) -> Result<(), Fail> {
     Ok(())
 }
 
-// The set of these numbers without the uids of the others.
-fn without(alloc: Global, numbers: &[u32], others: &[u32]) -> Result<UidSet, Fail> {
-    let (mut set, others) = beside(filled(alloc, numbers)?, filled(alloc, others))?;
+// The set of a range without the uids of another one.
+fn without(alloc: Global, of: Range, others: Range) -> Result<UidSet, Fail> {
+    let (mut set, others) = beside(filled_row(alloc, of)?, filled_row(alloc, others))?;
     set.difference(&others);
     drop(others);
     Ok(set)
 }
 
+// The eids of these numbers without the others.
+fn rest_in_order(alloc: Global, numbers: &[u32], others: &[u32]) -> Result<String, Fail> {
+    let mut rest = numbers.to_vec(alloc)?;
+    rest.retain(|n| !others.contains(n));
+    let text = in_order(alloc, rest.as_slice());
+    drop(rest);
+    text
+}
+
+// The same of two ranges.
+fn rest_of(alloc: Global, of: Range, others: Range) -> Result<String, Fail> {
+    let (numbers, others) = beside(row(alloc, of)?, row(alloc, others))?;
+    let text = rest_in_order(alloc, numbers.as_slice(), others.as_slice());
+    drop(numbers);
+    drop(others);
+    text
+}
+
+// Whether the set of a range loses the uids of another one.
+fn loses(alloc: Global, of: Range, others: Range) -> Result<bool, Fail> {
+    let want = rest_of(alloc, of, others)?;
+    let told = becomes(alloc, without(alloc, of, others), want.as_str());
+    drop(want);
+    told
+}
+
 #[test]
 fn other_uids_are_taken_out_at_once(rt: HostRuntime) -> Result<(), Fail> {
-    let alloc = rt.alloc();
     for (of, others) in [
         ((0, 1000, 1), (500, 503, 1)),
         ((0, 1000, 1), (0, 1000, 7)),
@@ -107,13 +149,7 @@ fn other_uids_are_taken_out_at_once(rt: HostRuntime) -> Result<(), Fail> {
         ((0, 5, 1), (0, 0, 1)),
         ((0, 0, 1), (0, 5, 1)),
     ] {
-        let others = row(alloc, others)?;
-        let numbers = row(alloc, of)?;
-        let mut left = numbers.to_vec(alloc)?;
-        left.retain(|n| !others.contains(n));
-        let want = in_order(alloc, left.as_slice())?;
-        let set = without(alloc, numbers.as_slice(), others.as_slice());
-        assert!(rt; becomes(alloc, set, want.as_str())?, "of {of:?}");
+        assert!(rt; loses(rt.alloc(), of, others)?, "of {of:?}");
     }
     Ok(())
 }
@@ -139,17 +175,32 @@ fn is_merged(
     Ok(is(alloc, set, want)? && merged)
 }
 
-// The same of the uids of some numbers and the set of others.
-fn are_merged(alloc: Global, numbers: &[u32], others: &[u32], want: &str) -> Result<bool, Fail> {
-    let (uids, mut set) = beside(pointers(alloc, others)?, filled(alloc, numbers))?;
+// The uids of a range.
+fn pointers_of_row(alloc: Global, range: Range) -> Result<Vec<SharedUid>, Fail> {
+    let numbers = row(alloc, range)?;
+    let uids = pointers(alloc, numbers.as_slice());
+    drop(numbers);
+    uids
+}
+
+// The same of the uids of a range and the set of another one.
+fn row_is_merged(alloc: Global, of: Range, others: Range, want: &str) -> Result<bool, Fail> {
+    let (uids, mut set) = beside(pointers_of_row(alloc, others)?, filled_row(alloc, of))?;
     let told = is_merged(alloc, &mut set, uids, want);
     drop(set);
     told
 }
 
+// The same, where the set is to have the numbers of both.
+fn are_merged(alloc: Global, of: Range, others: Range) -> Result<bool, Fail> {
+    let want = rows_in_order(alloc, of, others)?;
+    let told = row_is_merged(alloc, of, others, want.as_str());
+    drop(want);
+    told
+}
+
 #[test]
 fn ascending_uids_are_merged_in(rt: HostRuntime) -> Result<(), Fail> {
-    let alloc = rt.alloc();
     for (of, others) in [
         ((0, 1000, 2), (0, 1000, 3)),
         ((0, 1000, 3), (0, 1000, 2)),
@@ -161,15 +212,7 @@ fn ascending_uids_are_merged_in(rt: HostRuntime) -> Result<(), Fail> {
         ((0, 0, 1), (0, 5, 1)),
         ((4, 5, 1), (4, 5, 1)),
     ] {
-        let numbers = row(alloc, of)?;
-        let others = row(alloc, others)?;
-        let mut all = numbers.to_vec(alloc)?;
-        all.extend_from_slice(others.as_slice())?;
-        let want = in_order(alloc, all.as_slice())?;
-        assert!(rt;
-            are_merged(alloc, numbers.as_slice(), others.as_slice(), want.as_str())?,
-            "of {of:?}"
-        );
+        assert!(rt; are_merged(rt.alloc(), of, others)?, "of {of:?}");
     }
     Ok(())
 }
@@ -187,9 +230,9 @@ fn keep_some(alloc: Global, set: &mut UidSet, n: u32) -> Result<(), Fail> {
     Ok(())
 }
 
-// The set of a thousand numbers of which some are kept.
-fn some_kept(alloc: Global) -> Result<UidSet, Fail> {
-    let mut set = filled(alloc, stepped(alloc, 1000, 3, 387)?.as_slice())?;
+// The set of these numbers of which some are kept.
+fn some_kept(alloc: Global, numbers: &[u32]) -> Result<UidSet, Fail> {
+    let mut set = filled(alloc, numbers)?;
     match keep_some(alloc, &mut set, 500) {
         Ok(()) => Ok(set),
         Err(fail) => {
@@ -199,11 +242,25 @@ fn some_kept(alloc: Global) -> Result<UidSet, Fail> {
     }
 }
 
+// Whether the set of a thousand numbers in a turned order has these eids where some are kept.
+fn keeps_some(alloc: Global, want: &str) -> Result<bool, Fail> {
+    let numbers = stepped(alloc, 1000, 3, 387)?;
+    let told = becomes(alloc, some_kept(alloc, numbers.as_slice()), want);
+    drop(numbers);
+    told
+}
+
+// The same of every second one below 500.
+fn half_are_kept(alloc: Global) -> Result<bool, Fail> {
+    let want = row_in_order(alloc, (0, 500, 2))?;
+    let told = keeps_some(alloc, want.as_str());
+    drop(want);
+    told
+}
+
 #[test]
 fn a_test_keeps_uids_from_the_least_up(rt: HostRuntime) -> Result<(), Fail> {
-    let alloc = rt.alloc();
-    let want = in_order(alloc, row(alloc, (0, 500, 2))?.as_slice())?;
-    assert!(rt; becomes(alloc, some_kept(alloc), want.as_str())?);
+    assert!(rt; half_are_kept(rt.alloc())?);
     Ok(())
 }
 
@@ -220,20 +277,25 @@ fn are_apart(alloc: Global, set: &mut UidSet, copy: &mut UidSet, want: &str) -> 
     Ok(equal && differ && stays && differ_still && *copy == *set)
 }
 
-fn copy_is_apart(alloc: Global, numbers: &[u32], want: &str) -> Result<bool, Fail> {
-    let (mut set, mut copy) = twice(filled(alloc, numbers)?)?;
+// The same of the set of a range.
+fn row_is_apart(alloc: Global, range: Range, want: &str) -> Result<bool, Fail> {
+    let (mut set, mut copy) = twice(filled_row(alloc, range)?)?;
     let told = are_apart(alloc, &mut set, &mut copy, want);
     drop(set);
     drop(copy);
     told
 }
 
+fn ten_are_apart(alloc: Global) -> Result<bool, Fail> {
+    let want = row_in_order(alloc, (0, 10, 1))?;
+    let told = row_is_apart(alloc, (0, 10, 1), want.as_str());
+    drop(want);
+    told
+}
+
 #[test]
 fn a_copy_and_its_source_are_changed_apart(rt: HostRuntime) -> Result<(), Fail> {
-    let alloc = rt.alloc();
-    let numbers = row(alloc, (0, 10, 1))?;
-    let want = in_order(alloc, numbers.as_slice())?;
-    assert!(rt; copy_is_apart(alloc, numbers.as_slice(), want.as_str())?);
+    assert!(rt; ten_are_apart(rt.alloc())?);
     Ok(())
 }
 
@@ -264,20 +326,26 @@ fn stays(alloc: Global, set: UidSet, want: &str) -> Result<bool, Fail> {
     Ok(second? && first && same)
 }
 
+// The same of the set of these numbers, made of a hash set.
+fn hashed_stays(alloc: Global, numbers: &[u32]) -> Result<bool, Fail> {
+    let (want, set) = beside(in_order(alloc, numbers)?, from_hashed(alloc, numbers))?;
+    let told = stays(alloc, set, want.as_str());
+    drop(want);
+    told
+}
+
+// The same of the first numbers in a turned order.
+fn first_stay(alloc: Global, n: u32) -> Result<bool, Fail> {
+    let numbers = stepped(alloc, n, 3, 387)?;
+    let told = hashed_stays(alloc, numbers.as_slice());
+    drop(numbers);
+    told
+}
+
 #[test]
 fn a_hash_set_becomes_a_set(rt: HostRuntime) -> Result<(), Fail> {
-    let alloc = rt.alloc();
     for n in [0, 1, 2, 30, 1000] {
-        let numbers = stepped(alloc, n, 3, 387)?;
-        let want = in_order(alloc, numbers.as_slice())?;
-        assert!(rt;
-            stays(
-                alloc,
-                from_hashed(alloc, numbers.as_slice())?,
-                want.as_str()
-            )?,
-            "{n}"
-        );
+        assert!(rt; first_stay(rt.alloc(), n)?, "{n}");
     }
     Ok(())
 }
@@ -336,11 +404,9 @@ fn is_as_it_was(
 }
 
 fn four_are_as_they_were(alloc: Global) -> Result<bool, Fail> {
-    let set = filled(alloc, row(alloc, (0, 4, 1))?.as_slice())?;
-    let (set, other) = beside(set, shared(alloc, 9))?;
-    let row = row(alloc, (1, 8, 1));
-    let ((set, other), row) = beside((set, other), row)?;
-    let ((mut set, other), uids) = beside((set, other), pointers(alloc, row.as_slice()))?;
+    let (set, other) = beside(filled_row(alloc, (0, 4, 1))?, shared(alloc, 9))?;
+    let uids = pointers_of_row(alloc, (1, 8, 1));
+    let ((mut set, other), uids) = beside((set, other), uids)?;
     let told = is_as_it_was(alloc, &mut set, other, uids);
     drop(set);
     told

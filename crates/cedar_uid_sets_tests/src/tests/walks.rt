@@ -1,5 +1,5 @@
 // Sets of uids in any order, and two sets in one walk, beside plain lists of numbers.
-use super::{becomes, beside, filled, in_order, pointers, row, stepped};
+use super::{Range, becomes, beside, filled_row, in_order, pointers, rows_in_order, stepped};
 use cedar_uid_sets::UidSet;
 use std::alloc::Global;
 use std::fmt::Write;
@@ -13,12 +13,46 @@ fn gathered(alloc: Global, numbers: &[u32]) -> Result<UidSet, Fail> {
 // Whether the set of these numbers has each of them once.
 fn is_gathered(alloc: Global, numbers: &[u32]) -> Result<bool, Fail> {
     let want = in_order(alloc, numbers)?;
-    becomes(alloc, gathered(alloc, numbers), want.as_str())
+    let told = becomes(alloc, gathered(alloc, numbers), want.as_str());
+    drop(want);
+    told
+}
+
+// The same of numbers a step apart.
+fn steps_are_gathered(alloc: Global, n: u32, start: u32, step: u32) -> Result<bool, Fail> {
+    let numbers = stepped(alloc, n, start, step)?;
+    let told = is_gathered(alloc, numbers.as_slice());
+    drop(numbers);
+    told
+}
+
+// The numbers a step apart, each twice.
+fn stepped_twice(alloc: Global, n: u32, start: u32, step: u32) -> Result<Vec<u32>, Fail> {
+    let numbers = stepped(alloc, n, start, step)?;
+    let (mut numbers, mut again) = beside(numbers, stepped(alloc, n, start, step))?;
+    match numbers.append(&mut again) {
+        Ok(()) => {
+            drop(again);
+            Ok(numbers)
+        }
+        Err(error) => {
+            drop(again);
+            drop(numbers);
+            Err(Fail::from(error))
+        }
+    }
+}
+
+// Whether their set has each of them once.
+fn repeats_are_gathered(alloc: Global, n: u32, start: u32, step: u32) -> Result<bool, Fail> {
+    let numbers = stepped_twice(alloc, n, start, step)?;
+    let told = is_gathered(alloc, numbers.as_slice());
+    drop(numbers);
+    told
 }
 
 #[test]
 fn uids_in_any_order_become_a_set(rt: HostRuntime) -> Result<(), Fail> {
-    let alloc = rt.alloc();
     for (n, start, step) in [
         (0, 0, 1),
         (1, 0, 1),
@@ -27,12 +61,12 @@ fn uids_in_any_order_become_a_set(rt: HostRuntime) -> Result<(), Fail> {
         (500, 499, 499),
         (500, 3, 387),
     ] {
-        let mut numbers = stepped(alloc, n, start, step)?;
-        assert!(rt; is_gathered(alloc, numbers.as_slice())?, "{n} from {start}");
-        let mut again = stepped(alloc, n, start, step)?;
-        numbers.append(&mut again)?;
         assert!(rt;
-            is_gathered(alloc, numbers.as_slice())?,
+            steps_are_gathered(rt.alloc(), n, start, step)?,
+            "{n} from {start}"
+        );
+        assert!(rt;
+            repeats_are_gathered(rt.alloc(), n, start, step)?,
             "{n} from {start}, each twice"
         );
     }
@@ -49,18 +83,27 @@ fn walked(alloc: Global, one: &UidSet, other: &UidSet) -> Result<String, Fail> {
     Ok(text)
 }
 
-// The eids of the sets of these numbers in one walk.
-fn walked_both(alloc: Global, numbers: &[u32], others: &[u32]) -> Result<String, Fail> {
-    let (one, other) = beside(filled(alloc, numbers)?, filled(alloc, others))?;
+// The eids of the sets of two ranges in one walk.
+fn walked_both(alloc: Global, of: Range, others: Range) -> Result<String, Fail> {
+    let (one, other) = beside(filled_row(alloc, of)?, filled_row(alloc, others))?;
     let text = walked(alloc, &one, &other);
     drop(one);
     drop(other);
     text
 }
 
+// Whether these are the numbers of both, each once.
+fn are_walked(alloc: Global, of: Range, others: Range) -> Result<bool, Fail> {
+    let want = rows_in_order(alloc, of, others)?;
+    let (want, text) = beside(want, walked_both(alloc, of, others))?;
+    let told = text.as_str() == want.as_str();
+    drop(want);
+    drop(text);
+    Ok(told)
+}
+
 #[test]
 fn two_sets_are_walked_in_order(rt: HostRuntime) -> Result<(), Fail> {
-    let alloc = rt.alloc();
     for (of, others) in [
         ((0, 300, 2), (0, 300, 3)),
         ((0, 5, 1), (5, 10, 1)),
@@ -70,12 +113,7 @@ fn two_sets_are_walked_in_order(rt: HostRuntime) -> Result<(), Fail> {
         ((0, 0, 1), (0, 5, 1)),
         ((4, 5, 1), (4, 5, 1)),
     ] {
-        let mut numbers = row(alloc, of)?;
-        let mut others = row(alloc, others)?;
-        let text = walked_both(alloc, numbers.as_slice(), others.as_slice())?;
-        numbers.append(&mut others)?;
-        let want = in_order(alloc, numbers.as_slice())?;
-        assert_eq!(rt; text.as_str(), want.as_str(), "of {of:?}");
+        assert!(rt; are_walked(rt.alloc(), of, others)?, "of {of:?}");
     }
     Ok(())
 }
