@@ -2,6 +2,7 @@
 // order of the numbers. Each helper lets go by a written drop what it holds, on each path: a drop that is not written is
 // dear to prove at a type as large as a set of uids.
 
+mod either;
 mod fronts;
 mod one_uid;
 mod sets;
