@@ -3,12 +3,14 @@
 mod looking_up;
 mod nodes;
 mod parts;
+mod shared_parents;
 mod texts;
 mod valid;
 
 use cedar_entity::entity::Entity;
 use cedar_ids::entity::EntityUID;
 use cedar_terms::{Literal, PartialValue, Value, ValueKind};
+use cedar_uid_sets::SharedUid;
 use std::alloc::Global;
 use std::collections::HashSet;
 use std::fmt::Display;
@@ -107,6 +109,11 @@ fn owned(alloc: Global, text: &str) -> Result<String, Fail> {
 // The uid with this text.
 fn uid(alloc: Global, text: &str) -> Result<EntityUID, Fail> {
     Ok(EntityUID::from_normalized_str(alloc, text)?)
+}
+
+// The same, to be shared.
+fn shared(alloc: Global, text: &str) -> Result<SharedUid, Fail> {
+    Ok(SharedUid::new(alloc, uid(alloc, text)?)?)
 }
 
 // The uids with these texts, which stand apart by blanks.

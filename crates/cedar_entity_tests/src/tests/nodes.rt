@@ -3,7 +3,7 @@ ghost use Rattle.std.specs.Prelude.{◌≡◌, IfOk, OnOk};
 ghost use Rattle.cedar_graph.specs.Graph.{KeysMatch};
 ghost use Rattle.cedar_ids.specs.UidOf.{same_uid};
 
-use super::{beside, related, says, tried, twice, uid, uids};
+use super::{beside, related, says, shared, tried, twice, uid, uids};
 use cedar_entity::entity::Entity;
 use cedar_entity::node::SharedEntity;
 use cedar_graph::{TCNode, compute_tc, enforce_tc_and_dag, repair_tc};
@@ -267,11 +267,6 @@ fn grows<V: TCNode<EntityUID>>(alloc: Global, node: &mut V) -> Result<bool, Fail
     lead(alloc, node, uid(alloc, "A::\"d\""))?;
     lead(alloc, node, uid(alloc, "A::\"b\""))?;
     has_three::<EntityUID, V>(alloc, node)
-}
-
-// The uid with this text, to be shared.
-fn shared(alloc: Global, text: &str) -> Result<SharedUid, Fail> {
-    Ok(SharedUid::new(alloc, uid(alloc, text)?)?)
 }
 
 // The same with shared uids.

@@ -1,7 +1,7 @@
 // Readers, changes and comparisons of entities.
 use super::{
-    Fields, asked, beside, built, joined, keyed, known, owned, pushed, related, says, tried, twice,
-    uid, worked,
+    Fields, asked, beside, built, joined, keyed, known, owned, pushed, related, says, shared,
+    tried, twice, uid, worked,
 };
 use cedar_entity::entity::Entity;
 use cedar_entity::iters::{Keys, Pairs};
@@ -282,15 +282,12 @@ fn loses_shared(entity: &mut Entity, shared: &SharedUid) -> bool {
 }
 
 fn loses_by_shared(alloc: Global, entity: &mut Entity) -> Result<bool, Fail> {
-    match uid(alloc, "A::\"b\"") {
-        Ok(name) => match SharedUid::new(alloc, name) {
-            Ok(shared) => {
-                let lost = loses_shared(entity, &shared);
-                drop(shared);
-                Ok(lost)
-            }
-            Err(error) => Err(Fail::from(error)),
-        },
+    match shared(alloc, "A::\"b\"") {
+        Ok(shared) => {
+            let lost = loses_shared(entity, &shared);
+            drop(shared);
+            Ok(lost)
+        }
         Err(fail) => Err(fail),
     }
 }
