@@ -1,4 +1,5 @@
 // Uids whose types and eids are short, long or alike at the front, beside their places in a table.
+use super::{beside, pushed};
 use cedar_ids::entity::{Eid, EntityType, EntityUID};
 use cedar_uid_sets::{SharedUid, UidSet};
 use std::alloc::{AllocError, Global};
@@ -40,7 +41,7 @@ fn of_row(alloc: Global, row: &(&str, &str)) -> Result<SharedUid, Fail> {
 fn in_rows(alloc: Global) -> Result<Vec<SharedUid>, Fail> {
     let mut uids = Vec::new(alloc);
     for row in &ROWS {
-        uids.push(of_row(alloc, row)?)?;
+        uids = pushed(uids, of_row(alloc, row))?;
     }
     Ok(uids)
 }
@@ -80,15 +81,26 @@ fn has_each(set: &UidSet, uids: &[SharedUid], step: usize) -> bool {
     true
 }
 
-// The set of those, which are put in from the greatest down.
-fn set_of(alloc: Global, uids: &[SharedUid], step: usize) -> Result<UidSet, AllocError> {
-    let mut set = UidSet::new(alloc);
+// Puts those in, from the greatest down.
+fn put_in(set: &mut UidSet, uids: &[SharedUid], step: usize) -> Result<(), AllocError> {
     for (place, one) in uids.iter().enumerate().rev() {
         if place.is_multiple_of(step) {
             set.insert(one.clone()?)?;
         }
     }
-    Ok(set)
+    Ok(())
+}
+
+// The set of those.
+fn set_of(alloc: Global, uids: &[SharedUid], step: usize) -> Result<UidSet, AllocError> {
+    let mut set = UidSet::new(alloc);
+    match put_in(&mut set, uids, step) {
+        Ok(()) => Ok(set),
+        Err(error) => {
+            drop(set);
+            Err(error)
+        }
+    }
 }
 
 // Takes every uid out, one as shared and the next as a plain one, and says whether each went and no other did.
@@ -113,7 +125,7 @@ fn is_emptied(mut set: UidSet, uids: &[SharedUid], step: usize) -> bool {
     empty
 }
 
-// Whether all that holds of sets of every so many uids.
+// Whether the set of every so many of these uids has them, finds them and loses them.
 fn sets_are_right(alloc: Global, uids: &[SharedUid], step: usize) -> bool {
     match set_of(alloc, uids, step) {
         Ok(set) => {
@@ -126,9 +138,11 @@ fn sets_are_right(alloc: Global, uids: &[SharedUid], step: usize) -> bool {
 
 // Whether the uids stand in the order of the rows, also beside others that are made anew.
 fn rows_ascend(alloc: Global) -> Result<bool, Fail> {
-    let uids = in_rows(alloc)?;
-    let others = in_rows(alloc)?;
-    Ok(UidSet::is_ascending(&uids) && all_stand(&uids, &others))
+    let (uids, others) = beside(in_rows(alloc)?, in_rows(alloc))?;
+    let told = UidSet::is_ascending(&uids) && all_stand(&uids, &others);
+    drop(uids);
+    drop(others);
+    Ok(told)
 }
 
 #[test]
@@ -137,13 +151,18 @@ fn uids_stand_in_the_order_of_types_and_eids(rt: HostRuntime) -> Result<(), Fail
     Ok(())
 }
 
+// Whether that is so of the uids of the rows.
+fn are_looked_up(alloc: Global, step: usize) -> Result<bool, Fail> {
+    let uids = in_rows(alloc)?;
+    let right = sets_are_right(alloc, &uids, step);
+    drop(uids);
+    Ok(right)
+}
+
 #[test]
 fn sets_of_few_and_of_many_are_looked_up(rt: HostRuntime) -> Result<(), Fail> {
-    let alloc = rt.alloc();
-    let uids = in_rows(alloc)?;
     for step in [1, 2, 3, 7, 20] {
-        let right = sets_are_right(alloc, &uids, step);
-        assert!(rt; right, "every {step}");
+        assert!(rt; are_looked_up(rt.alloc(), step)?, "every {step}");
     }
     Ok(())
 }
