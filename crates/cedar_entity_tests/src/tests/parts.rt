@@ -378,13 +378,16 @@ fn differ(pair: &(Entity, Entity)) -> bool {
     pair.0 != pair.1
 }
 
+// The entity a with all that it has, beside one with this uid and nothing else.
+fn beside_bare(alloc: Global, name: &str) -> Result<(Entity, Entity), Fail> {
+    let entity = worked(alloc)?;
+    beside(entity, related(alloc, name, "", ""))
+}
+
 #[test]
 fn equality_and_hash_look_at_the_uid_alone(rt: HostRuntime) -> Result<(), Fail> {
-    let alloc = rt.alloc();
-    let alike = beside(worked(alloc)?, related(alloc, "A::\"a\"", "", ""));
-    assert!(rt; asked(alike, agree)?);
-    let others = beside(worked(alloc)?, related(alloc, "A::\"b\"", "", ""));
-    assert!(rt; asked(others, differ)?);
+    assert!(rt; asked(beside_bare(rt.alloc(), "A::\"a\""), agree)?);
+    assert!(rt; asked(beside_bare(rt.alloc(), "A::\"b\""), differ)?);
     Ok(())
 }
 
@@ -456,18 +459,22 @@ fn second<A: Drop, B: Drop>(both: Result<(A, B), Fail>) -> Result<B, Fail> {
     Ok(other)
 }
 
+// The entity of a uid at a place, beside that of the uid alone.
+fn beside_unplaced(alloc: Global) -> Result<(Entity, Entity), Fail> {
+    let entity = bare(alloc, placed(alloc))?;
+    beside(entity, related(alloc, "A::\"a\"", "", ""))
+}
+
+// A copy of what is made for it.
+fn copy<T: Clone + Drop>(made: Result<T, Fail>) -> Result<T, Fail> {
+    second(twice(made?))
+}
+
 #[test]
 fn locations_are_kept_and_not_looked_at(rt: HostRuntime) -> Result<(), Fail> {
     let alloc = rt.alloc();
-    let entity = bare(alloc, placed(alloc))?;
-    assert!(rt;
-        asked(
-            beside(entity, related(alloc, "A::\"a\"", "", "")),
-            is_no_other
-        )?
-    );
-    let entity = bare(alloc, placed(alloc))?;
-    assert!(rt; asked(second(twice(entity)), has_a_placed_uid)?);
+    assert!(rt; asked(beside_unplaced(alloc), is_no_other)?);
+    assert!(rt; asked(copy(bare(alloc, placed(alloc))), has_a_placed_uid)?);
     Ok(())
 }
 
@@ -516,6 +523,6 @@ fn has_one_parent(entity: &Entity) -> bool {
 fn attributes_and_parents_keep_their_locations(rt: HostRuntime) -> Result<(), Fail> {
     let alloc = rt.alloc();
     assert!(rt; asked(with_places(alloc), has_places)?);
-    assert!(rt; asked(second(twice(with_places(alloc)?)), has_one_parent)?);
+    assert!(rt; asked(copy(with_places(alloc)), has_one_parent)?);
     Ok(())
 }
