@@ -204,9 +204,21 @@ fn take_out(alloc: Global, set: &mut UidSet, n: u32) -> Result<(), Fail> {
     }
 }
 
+// Whether a text that is made for it is this one.
+fn reads(made: Result<String, Fail>, want: &str) -> Result<bool, Fail> {
+    match made {
+        Ok(text) => {
+            let told = text.as_str() == want;
+            drop(text);
+            Ok(told)
+        }
+        Err(fail) => Err(fail),
+    }
+}
+
 // Whether the eids of a set are these.
 fn is(alloc: Global, set: &UidSet, want: &str) -> Result<bool, Fail> {
-    Ok(eids(alloc, set)?.as_str() == want)
+    reads(eids(alloc, set), want)
 }
 
 // The same of a set that is made for it.

@@ -6,14 +6,19 @@ use cedar_uid_sets::{SharedUid, UidSet};
 use std::alloc::{AllocError, Global};
 use std::test::Fail;
 
-// The uid of a place, to be shared.
-fn at(alloc: Global, place: u32) -> Result<SharedUid, Fail> {
-    let (ty, last) = match place % 4 {
+// The type of a place, and the end of its eid.
+fn ends(place: u32) -> (&'static str, &'static str) {
+    match place % 4 {
         0 => ("A", "a"),
         1 => ("A", "b"),
         2 => ("A", ""),
         _ => ("N::A", "a"),
-    };
+    }
+}
+
+// The uid of a place, to be shared.
+fn at(alloc: Global, place: u32) -> Result<SharedUid, Fail> {
+    let (ty, last) = ends(place);
     let first = 10_000_000 + u64::from(place / 4);
     let text = format!(in alloc; "{ty}::\"{first}{last}\"")?;
     let uid = EntityUID::from_normalized_str(alloc, text.as_str())?;

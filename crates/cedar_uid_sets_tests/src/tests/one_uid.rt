@@ -1,5 +1,5 @@
 // Uids that are shared.
-use super::{beside, equal, shared, twice, uid};
+use super::{beside, equal, reads, shared, twice, uid};
 use cedar_uid_sets::SharedUid;
 use std::alloc::Global;
 use std::cmp::Ordering;
@@ -7,13 +7,18 @@ use std::collections::HashMap;
 use std::hash::Hash;
 use std::test::Fail;
 
+// The text of a shared uid.
+fn written(alloc: Global, one: &SharedUid) -> Result<String, Fail> {
+    Ok(one.to_string(alloc)?)
+}
+
 // Whether a shared uid is written so.
 fn is_written(alloc: Global, made: Result<SharedUid, Fail>, want: &str) -> Result<bool, Fail> {
     match made {
         Ok(one) => {
-            let text = one.to_string(alloc);
+            let text = written(alloc, &one);
             drop(one);
-            Ok(text?.as_str() == want)
+            reads(text, want)
         }
         Err(fail) => Err(fail),
     }
@@ -66,13 +71,23 @@ fn are_made_into(alloc: Global, n: u32) -> Result<bool, Fail> {
     Ok(first && second)
 }
 
+// Whether it is equal to another one of the same number.
+fn is_its_like(alloc: Global, n: u32) -> Result<bool, Fail> {
+    equal(shared(alloc, n)?, shared(alloc, n))
+}
+
+// Whether it stands before that of another number.
+fn is_before(alloc: Global, n: u32, other: u32) -> Result<bool, Fail> {
+    are_ordered(shared(alloc, n)?, shared(alloc, other), Ordering::Less)
+}
+
 #[test]
 fn a_shared_uid_is_its_uid(rt: HostRuntime) -> Result<(), Fail> {
     let alloc = rt.alloc();
     assert!(rt; is_written(alloc, shared(alloc, 1), "A::\"1001\"")?);
     assert!(rt; is_its_copy(alloc, 1)?);
-    assert!(rt; equal(shared(alloc, 1)?, shared(alloc, 1))?);
-    assert!(rt; are_ordered(shared(alloc, 1)?, shared(alloc, 2), Ordering::Less)?);
+    assert!(rt; is_its_like(alloc, 1)?);
+    assert!(rt; is_before(alloc, 1, 2)?);
     assert!(rt; are_made_into(alloc, 1)?);
     Ok(())
 }

@@ -1,7 +1,7 @@
 // Sets beside plain lists of numbers.
 use super::{
-    Range, becomes, beside, eids, filled, filled_row, found, in_order, is, pointers, put_in, row,
-    rows_in_order, shared, stepped, take_out, twice, uid,
+    Range, becomes, beside, eids, filled, filled_row, found, in_order, is, pointers, put_in, reads,
+    row, rows_in_order, shared, stepped, take_out, twice, uid,
 };
 use cedar_uid_sets::{SharedUid, UidSet};
 use std::alloc::{AllocError, Global};
@@ -14,7 +14,7 @@ fn keeps(alloc: Global, set: &mut UidSet, numbers: &[u32], want: &str) -> Result
     let first = is(alloc, set, want)?;
     put_in(alloc, set, numbers)?;
     let same = set.len() == numbers.len();
-    let finds = found(alloc, set, 1002)?.as_str() == want;
+    let finds = reads(found(alloc, set, 1002), want)?;
     Ok(first && same && finds)
 }
 
