@@ -119,7 +119,7 @@ fn are_right(alloc: Global, rows: (usize, usize)) -> Result<bool, Fail> {
 
 #[test]
 fn a_shared_uid_is_looked_for_in_two_sets(rt: HostRuntime) -> Result<(), Fail> {
-    for rows in [
+    for rows in &[
         (0, 0),
         (0, 1),
         (0, 8),
@@ -139,7 +139,7 @@ fn a_shared_uid_is_looked_for_in_two_sets(rt: HostRuntime) -> Result<(), Fail> {
         (20, 8),
         (20, 20),
     ] {
-        assert!(rt; are_right(rt.alloc(), rows)?, "{rows:?}");
+        assert!(rt; are_right(rt.alloc(), *rows)?, "{rows:?}");
     }
     Ok(())
 }

@@ -161,8 +161,8 @@ fn are_looked_up(alloc: Global, step: usize) -> Result<bool, Fail> {
 
 #[test]
 fn sets_of_few_and_of_many_are_looked_up(rt: HostRuntime) -> Result<(), Fail> {
-    for step in [1, 2, 3, 7, 20] {
-        assert!(rt; are_looked_up(rt.alloc(), step)?, "every {step}");
+    for step in &[1, 2, 3, 7, 20] {
+        assert!(rt; are_looked_up(rt.alloc(), *step)?, "every {step}");
     }
     Ok(())
 }

@@ -37,7 +37,7 @@ fn steps_are_filled(alloc: Global, n: u32, start: u32, step: u32) -> Result<bool
 
 #[test]
 fn a_set_is_filled_in_any_order(rt: HostRuntime) -> Result<(), Fail> {
-    for (n, start, step) in [
+    for (n, start, step) in &[
         (0, 0, 1),
         (1, 0, 1),
         (2, 0, 1),
@@ -47,7 +47,7 @@ fn a_set_is_filled_in_any_order(rt: HostRuntime) -> Result<(), Fail> {
         (1000, 3, 387),
     ] {
         assert!(rt;
-            steps_are_filled(rt.alloc(), n, start, step)?,
+            steps_are_filled(rt.alloc(), *n, *start, *step)?,
             "{n} from {start}"
         );
     }
@@ -140,7 +140,7 @@ fn loses(alloc: Global, of: Range, others: Range) -> Result<bool, Fail> {
 
 #[test]
 fn other_uids_are_taken_out_at_once(rt: HostRuntime) -> Result<(), Fail> {
-    for (of, others) in [
+    for (of, others) in &[
         ((0, 1000, 1), (500, 503, 1)),
         ((0, 1000, 1), (0, 1000, 7)),
         ((0, 1002, 1), (1, 1001, 1)),
@@ -149,7 +149,7 @@ fn other_uids_are_taken_out_at_once(rt: HostRuntime) -> Result<(), Fail> {
         ((0, 5, 1), (0, 0, 1)),
         ((0, 0, 1), (0, 5, 1)),
     ] {
-        assert!(rt; loses(rt.alloc(), of, others)?, "of {of:?}");
+        assert!(rt; loses(rt.alloc(), *of, *others)?, "of {of:?}");
     }
     Ok(())
 }
@@ -201,7 +201,7 @@ fn are_merged(alloc: Global, of: Range, others: Range) -> Result<bool, Fail> {
 
 #[test]
 fn ascending_uids_are_merged_in(rt: HostRuntime) -> Result<(), Fail> {
-    for (of, others) in [
+    for (of, others) in &[
         ((0, 1000, 2), (0, 1000, 3)),
         ((0, 1000, 3), (0, 1000, 2)),
         ((0, 5, 1), (5, 10, 1)),
@@ -212,7 +212,7 @@ fn ascending_uids_are_merged_in(rt: HostRuntime) -> Result<(), Fail> {
         ((0, 0, 1), (0, 5, 1)),
         ((4, 5, 1), (4, 5, 1)),
     ] {
-        assert!(rt; are_merged(rt.alloc(), of, others)?, "of {of:?}");
+        assert!(rt; are_merged(rt.alloc(), *of, *others)?, "of {of:?}");
     }
     Ok(())
 }
@@ -344,8 +344,8 @@ fn first_stay(alloc: Global, n: u32) -> Result<bool, Fail> {
 
 #[test]
 fn a_hash_set_becomes_a_set(rt: HostRuntime) -> Result<(), Fail> {
-    for n in [0, 1, 2, 30, 1000] {
-        assert!(rt; first_stay(rt.alloc(), n)?, "{n}");
+    for n in &[0, 1, 2, 30, 1000] {
+        assert!(rt; first_stay(rt.alloc(), *n)?, "{n}");
     }
     Ok(())
 }
@@ -360,15 +360,14 @@ fn ascend(alloc: Global, numbers: &[u32]) -> Result<bool, Fail> {
 
 #[test]
 fn uids_that_do_not_ascend_are_told(rt: HostRuntime) -> Result<(), Fail> {
-    let alloc = rt.alloc();
-    for (numbers, want) in [
+    for (numbers, want) in &[
         ([1, 2, 3], true),
         ([1, 1, 3], false),
         ([1, 3, 3], false),
         ([2, 1, 3], false),
         ([1, 3, 2], false),
     ] {
-        assert_eq!(rt; ascend(alloc, numbers.as_slice())?, want, "{numbers:?}");
+        assert!(rt; ascend(rt.alloc(), numbers)? == *want, "{numbers:?}");
     }
     Ok(())
 }

@@ -53,7 +53,7 @@ fn repeats_are_gathered(alloc: Global, n: u32, start: u32, step: u32) -> Result<
 
 #[test]
 fn uids_in_any_order_become_a_set(rt: HostRuntime) -> Result<(), Fail> {
-    for (n, start, step) in [
+    for (n, start, step) in &[
         (0, 0, 1),
         (1, 0, 1),
         (2, 1, 1),
@@ -62,11 +62,11 @@ fn uids_in_any_order_become_a_set(rt: HostRuntime) -> Result<(), Fail> {
         (500, 3, 387),
     ] {
         assert!(rt;
-            steps_are_gathered(rt.alloc(), n, start, step)?,
+            steps_are_gathered(rt.alloc(), *n, *start, *step)?,
             "{n} from {start}"
         );
         assert!(rt;
-            repeats_are_gathered(rt.alloc(), n, start, step)?,
+            repeats_are_gathered(rt.alloc(), *n, *start, *step)?,
             "{n} from {start}, each twice"
         );
     }
@@ -104,7 +104,7 @@ fn are_walked(alloc: Global, of: Range, others: Range) -> Result<bool, Fail> {
 
 #[test]
 fn two_sets_are_walked_in_order(rt: HostRuntime) -> Result<(), Fail> {
-    for (of, others) in [
+    for (of, others) in &[
         ((0, 300, 2), (0, 300, 3)),
         ((0, 5, 1), (5, 10, 1)),
         ((5, 10, 1), (0, 5, 1)),
@@ -113,7 +113,7 @@ fn two_sets_are_walked_in_order(rt: HostRuntime) -> Result<(), Fail> {
         ((0, 0, 1), (0, 5, 1)),
         ((4, 5, 1), (4, 5, 1)),
     ] {
-        assert!(rt; are_walked(rt.alloc(), of, others)?, "of {of:?}");
+        assert!(rt; are_walked(rt.alloc(), *of, *others)?, "of {of:?}");
     }
     Ok(())
 }
