@@ -260,15 +260,19 @@ fn loses_all(alloc: Global, entity: &mut Entity) -> Result<bool, Fail> {
     }
 }
 
-#[test]
-fn what_is_removed_goes_from_its_set_alone(rt: HostRuntime) -> Result<(), Fail> {
-    let entity = related(
-        rt.alloc(),
+// An entity with two parents and three indirect ancestors, of which one is a parent too.
+fn with_five(alloc: Global) -> Result<Entity, Fail> {
+    related(
+        alloc,
         "A::\"a\"",
         "A::\"b\" A::\"c\"",
         "A::\"b\" A::\"d\" A::\"e\"",
-    );
-    assert!(rt; tried(rt.alloc(), entity, loses_all)?);
+    )
+}
+
+#[test]
+fn what_is_removed_goes_from_its_set_alone(rt: HostRuntime) -> Result<(), Fail> {
+    assert!(rt; tried(rt.alloc(), with_five(rt.alloc()), loses_all)?);
     Ok(())
 }
 
@@ -294,13 +298,7 @@ fn loses_by_shared(alloc: Global, entity: &mut Entity) -> Result<bool, Fail> {
 
 #[test]
 fn what_is_removed_as_shared_goes_from_its_set_alone(rt: HostRuntime) -> Result<(), Fail> {
-    let entity = related(
-        rt.alloc(),
-        "A::\"a\"",
-        "A::\"b\" A::\"c\"",
-        "A::\"b\" A::\"d\" A::\"e\"",
-    );
-    assert!(rt; tried(rt.alloc(), entity, loses_by_shared)?);
+    assert!(rt; tried(rt.alloc(), with_five(rt.alloc()), loses_by_shared)?);
     Ok(())
 }
 

@@ -6,26 +6,46 @@ use cedar_graph::{MissingTcEdge, TcError};
 use cedar_ids::entity::EntityUID;
 use cedar_terms::{Expr, Literal, PartialValue};
 use std::alloc::Global;
+use std::fmt::Display;
 use std::rc::Rc;
 use std::test::Fail;
 
+// Whether this is the text of what is made for it.
+fn is_written<T: Display + Drop>(
+    alloc: Global,
+    made: Result<T, Fail>,
+    want: &str,
+) -> Result<bool, Fail> {
+    says(alloc, made?, want)
+}
+
+// The entity of a uid alone.
+fn bare(alloc: Global) -> Result<Entity, Fail> {
+    related(alloc, "A::B::\"\"", "", "")
+}
+
 #[test]
 fn an_entity_is_written_on_three_lines(rt: HostRuntime) -> Result<(), Fail> {
+    let alloc = rt.alloc();
     let want = "A::\"a\":\n  attrs:k: 1\n  ancestors:A::\"b\", A::\"c\"";
-    assert!(rt; says(rt.alloc(), worked(rt.alloc())?, want)?);
-    let bare = related(rt.alloc(), "A::B::\"\"", "", "")?;
-    assert!(rt; says(rt.alloc(), bare, "A::B::\"\":\n  attrs:\n  ancestors:")?);
+    assert!(rt; is_written(alloc, worked(alloc), want)?);
+    let want = "A::B::\"\":\n  attrs:\n  ancestors:";
+    assert!(rt; is_written(alloc, bare(alloc), want)?);
     Ok(())
+}
+
+// An entity with ancestors in no order, of which one is a parent and an indirect one.
+fn with_ancestors(alloc: Global) -> Result<Entity, Fail> {
+    let parents = "Z::\"a\" A::\"z\" B::\"m\"";
+    let indirect = "A::\"z\" A::\"b\" B::A::\"x\" C::\"0\"";
+    related(alloc, "T::\"t\"", parents, indirect)
 }
 
 #[test]
 fn ancestors_are_written_in_order_and_once(rt: HostRuntime) -> Result<(), Fail> {
-    let parents = "Z::\"a\" A::\"z\" B::\"m\"";
-    let indirect = "A::\"z\" A::\"b\" B::A::\"x\" C::\"0\"";
-    let entity = related(rt.alloc(), "T::\"t\"", parents, indirect)?;
     let want = "T::\"t\":\n  attrs:\n  \
         ancestors:A::\"b\", A::\"z\", B::A::\"x\", B::\"m\", C::\"0\", Z::\"a\"";
-    assert!(rt; says(rt.alloc(), entity, want)?);
+    assert!(rt; is_written(rt.alloc(), with_ancestors(rt.alloc()), want)?);
     Ok(())
 }
 
@@ -48,17 +68,32 @@ fn partly_known(alloc: Global) -> Result<Entity, Fail> {
 #[test]
 fn attributes_are_written_in_order_and_past_ascii(rt: HostRuntime) -> Result<(), Fail> {
     let want = "A::\"a\":\n  attrs:a: !A::\"é\"; naïve \"é\": 7; z: -5\n  ancestors:";
-    assert!(rt; says(rt.alloc(), partly_known(rt.alloc())?, want)?);
+    assert!(rt; is_written(rt.alloc(), partly_known(rt.alloc()), want)?);
     Ok(())
+}
+
+// That a uid stands in a store already.
+fn doubled(alloc: Global) -> Result<EntitiesError, Fail> {
+    Ok(EntitiesError::Duplicate(uid(alloc, "A::\"a\"")?))
+}
+
+// Whether both say that memory is wanting.
+fn memory_is_told(alloc: Global) -> Result<bool, Fail> {
+    let want = "out of memory";
+    let closure = says(
+        alloc,
+        EntitiesError::TransitiveClosureError(TcError::Memory),
+        want,
+    )?;
+    let memory = says(alloc, EntitiesError::Memory, want)?;
+    Ok(closure && memory)
 }
 
 #[test]
 fn refusals_of_stores_are_told(rt: HostRuntime) -> Result<(), Fail> {
-    let twice = EntitiesError::Duplicate(uid(rt.alloc(), "A::\"a\"")?);
-    assert!(rt; says(rt.alloc(), twice, "duplicate entity `A::\"a\"`")?);
-    let closure = EntitiesError::TransitiveClosureError(TcError::Memory);
-    assert!(rt; says(rt.alloc(), closure, "out of memory")?);
-    assert!(rt; says(rt.alloc(), EntitiesError::Memory, "out of memory")?);
+    let want = "duplicate entity `A::\"a\"`";
+    assert!(rt; is_written(rt.alloc(), doubled(rt.alloc()), want)?);
+    assert!(rt; memory_is_told(rt.alloc())?);
     Ok(())
 }
 

@@ -26,9 +26,18 @@ fn judged(alloc: Global, made: Result<Entity, Fail>, want: &str) -> Result<bool,
     }
 }
 
+// A uid, the parents, the indirect ancestors, and what `validate` says of the entity that has these alone.
+type Row = (&'static str, &'static str, &'static str, &'static str);
+
+// Whether it says so.
+fn is_so(alloc: Global, row: &Row) -> Result<bool, Fail> {
+    let (name, parents, indirect, want) = row;
+    judged(alloc, related(alloc, name, parents, indirect), want)
+}
+
 #[test]
 fn ancestors_are_looked_at(rt: HostRuntime) -> Result<(), Fail> {
-    for (name, parents, indirect, want) in &[
+    for row in &[
         (
             "T::\"self\"",
             "T::\"self\"",
@@ -67,15 +76,14 @@ fn ancestors_are_looked_at(rt: HostRuntime) -> Result<(), Fail> {
             "entity `Action::\"v\"` has `T::\"z\"` as parent and as indirect ancestor",
         ),
     ] {
-        let entity = related(rt.alloc(), name, parents, indirect);
-        assert!(rt; judged(rt.alloc(), entity, want)?);
+        assert!(rt; is_so(rt.alloc(), row)?);
     }
     Ok(())
 }
 
 #[test]
 fn ancestors_of_actions_are_looked_at(rt: HostRuntime) -> Result<(), Fail> {
-    for (name, parents, indirect, want) in &[
+    for row in &[
         (
             "Action::\"view\"",
             "User::\"x\"",
@@ -102,8 +110,7 @@ fn ancestors_of_actions_are_looked_at(rt: HostRuntime) -> Result<(), Fail> {
             "action `N::Action::\"v\"` has the ancestor `S::\"z\"`, which is not an action",
         ),
     ] {
-        let entity = related(rt.alloc(), name, parents, indirect);
-        assert!(rt; judged(rt.alloc(), entity, want)?);
+        assert!(rt; is_so(rt.alloc(), row)?);
     }
     Ok(())
 }
@@ -147,9 +154,15 @@ fn in_sets(alloc: Global, key: &str) -> Result<Value, Fail> {
     set(alloc, inner)
 }
 
+// Whether `validate` says this of the key in a record, and of the same in sets.
+fn are_told(alloc: Global, key: &str, want: &str) -> Result<bool, Fail> {
+    let bare = judged(alloc, tagged(alloc, one_at(alloc, key)), want)?;
+    let within = judged(alloc, tagged(alloc, in_sets(alloc, key)), want)?;
+    Ok(bare && within)
+}
+
 #[test]
 fn reserved_keys_in_records_are_refused(rt: HostRuntime) -> Result<(), Fail> {
-    let alloc = rt.alloc();
     for (key, want) in &[
         ("__extn", "the key `__extn` is reserved"),
         ("__expr", "the key `__expr` is reserved"),
@@ -157,8 +170,7 @@ fn reserved_keys_in_records_are_refused(rt: HostRuntime) -> Result<(), Fail> {
         ("ordinary", "valid"),
         ("__extn_", "valid"),
     ] {
-        assert!(rt; judged(alloc, tagged(alloc, one_at(alloc, key)), want)?);
-        assert!(rt; judged(alloc, tagged(alloc, in_sets(alloc, key)), want)?);
+        assert!(rt; are_told(rt.alloc(), key, want)?, "{key}");
     }
     Ok(())
 }
@@ -271,17 +283,14 @@ fn is_given_back(alloc: Global, entity: &mut Entity) -> Result<bool, Fail> {
     }
 }
 
+// The entity a with an attribute, a parent and an indirect ancestor.
+fn valid(alloc: Global) -> Result<Entity, Fail> {
+    built(alloc, "A::\"a\"", &[("k", 1)], &[], "A::\"b\"", "A::\"c\"")
+}
+
 #[test]
 fn a_valid_entity_is_given_back(rt: HostRuntime) -> Result<(), Fail> {
-    let entity = built(
-        rt.alloc(),
-        "A::\"a\"",
-        &[("k", 1)],
-        &[],
-        "A::\"b\"",
-        "A::\"c\"",
-    );
-    assert!(rt; tried(rt.alloc(), entity, is_given_back)?);
+    assert!(rt; tried(rt.alloc(), valid(rt.alloc()), is_given_back)?);
     Ok(())
 }
 
