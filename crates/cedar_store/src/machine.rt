@@ -94,12 +94,15 @@ fn push_refusal(alloc: Global, out: &mut Vec<u8>, error: &EntitiesError) -> Resu
     }
 }
 
-// Adds a tab and a uid.
-fn push_field(alloc: Global, out: &mut Vec<u8>, uid: &EntityUID) -> Result<(), AllocError>
+// Room for so many bytes is made for a field, so that most don't grow.
+const FIELD: usize = 64;
+
+// Adds a tab and a uid. What the text is before says nothing: it is set to that of the field.
+fn push_field(out: &mut Vec<u8>, text: &mut String, uid: &EntityUID) -> Result<(), AllocError>
     ensures { OnOk result (IsAsciiUid uid.now → out.new.items ≡ out.old.items ++ field_of uid.now) }
 {
-    out.push(b'\t')?;
-    let text = uid.to_string(alloc)?;
+    text.clear();
+    write!(text, "\t{uid}")?;
     out.extend_from_slice(text.as_bytes())
 }
 
@@ -112,8 +115,9 @@ fn push_fields(
     ensures { OnOk result (AreAsciiUids (map (λ x. x.now) uids.entry.keys) →
         out.new.items ≡ out.old.items ++ flat_map field_of (map (λ x. x.now) uids.entry.keys)) }
 {
+    let mut text = String::with_capacity(alloc, FIELD)?;
     for uid in uids {
-        push_field(alloc, out, uid)?;
+        push_field(out, &mut text, uid)?;
     }
     Ok(())
 }
