@@ -70,10 +70,18 @@ fn all_stand(uids: &[SharedUid], others: &[SharedUid]) -> bool {
     true
 }
 
-// Whether a set has those of the uids whose places the step divides, and no others.
-fn has_each(set: &UidSet, uids: &[SharedUid], step: usize) -> bool {
+// The place behind the last member, and how many places are passed from one member to the next.
+type Members = (usize, usize);
+
+// Whether a place is that of a member.
+fn is_in(place: usize, (end, step): Members) -> bool {
+    place < end && place.is_multiple_of(step)
+}
+
+// Whether a set has those of the uids that are to be members, and no others.
+fn has_each(set: &UidSet, uids: &[SharedUid], members: Members) -> bool {
     for (place, one) in uids.iter().enumerate() {
-        let want = place.is_multiple_of(step);
+        let want = is_in(place, members);
         if set.contains_shared(one) != want || set.contains(one.uid()) != want {
             return false;
         }
@@ -82,9 +90,9 @@ fn has_each(set: &UidSet, uids: &[SharedUid], step: usize) -> bool {
 }
 
 // Puts those in, from the greatest down.
-fn put_in(set: &mut UidSet, uids: &[SharedUid], step: usize) -> Result<(), AllocError> {
+fn put_in(set: &mut UidSet, uids: &[SharedUid], members: Members) -> Result<(), AllocError> {
     for (place, one) in uids.iter().enumerate().rev() {
-        if place.is_multiple_of(step) {
+        if is_in(place, members) {
             set.insert(one.clone()?)?;
         }
     }
@@ -92,9 +100,9 @@ fn put_in(set: &mut UidSet, uids: &[SharedUid], step: usize) -> Result<(), Alloc
 }
 
 // The set of those.
-fn set_of(alloc: Global, uids: &[SharedUid], step: usize) -> Result<UidSet, AllocError> {
+fn set_of(alloc: Global, uids: &[SharedUid], members: Members) -> Result<UidSet, AllocError> {
     let mut set = UidSet::new(alloc);
-    match put_in(&mut set, uids, step) {
+    match put_in(&mut set, uids, members) {
         Ok(()) => Ok(set),
         Err(error) => {
             drop(set);
@@ -104,7 +112,7 @@ fn set_of(alloc: Global, uids: &[SharedUid], step: usize) -> Result<UidSet, Allo
 }
 
 // Takes every uid out, one as shared and the next as a plain one, and says whether each went and no other did.
-fn is_emptied(mut set: UidSet, uids: &[SharedUid], step: usize) -> bool {
+fn is_emptied(mut set: UidSet, uids: &[SharedUid], members: Members) -> bool {
     let mut left = set.len();
     for (place, one) in uids.iter().enumerate() {
         if place % 2 == 0 {
@@ -112,7 +120,7 @@ fn is_emptied(mut set: UidSet, uids: &[SharedUid], step: usize) -> bool {
         } else {
             set.remove(one.uid());
         }
-        if place.is_multiple_of(step) {
+        if is_in(place, members) {
             left = left.wrapping_sub(1);
         }
         if set.len() != left {
@@ -125,12 +133,12 @@ fn is_emptied(mut set: UidSet, uids: &[SharedUid], step: usize) -> bool {
     empty
 }
 
-// Whether the set of every so many of these uids has them, finds them and loses them.
-fn sets_are_right(alloc: Global, uids: &[SharedUid], step: usize) -> bool {
-    match set_of(alloc, uids, step) {
+// Whether the set of these members among the uids has them, finds them and loses them.
+fn sets_are_right(alloc: Global, uids: &[SharedUid], members: Members) -> bool {
+    match set_of(alloc, uids, members) {
         Ok(set) => {
-            let right = has_each(&set, uids, step) && UidSet::is_ascending(set.pointers());
-            right & is_emptied(set, uids, step)
+            let right = has_each(&set, uids, members) && UidSet::is_ascending(set.pointers());
+            right & is_emptied(set, uids, members)
         }
         Err(_) => false,
     }
@@ -152,17 +160,29 @@ fn uids_stand_in_the_order_of_types_and_eids(rt: HostRuntime) -> Result<(), Fail
 }
 
 // Whether that is so of the uids of the rows.
-fn are_looked_up(alloc: Global, step: usize) -> Result<bool, Fail> {
+fn are_looked_up(alloc: Global, members: Members) -> Result<bool, Fail> {
     let uids = in_rows(alloc)?;
-    let right = sets_are_right(alloc, &uids, step);
+    let right = sets_are_right(alloc, &uids, members);
     drop(uids);
     Ok(right)
 }
 
 #[test]
 fn sets_of_few_and_of_many_are_looked_up(rt: HostRuntime) -> Result<(), Fail> {
-    for step in &[1, 2, 3, 7, 20] {
-        assert!(rt; are_looked_up(rt.alloc(), *step)?, "every {step}");
+    for members in &[
+        (20, 1),
+        (20, 2),
+        (20, 3),
+        (20, 7),
+        (20, 20),
+        (8, 1),
+        (9, 1),
+        (15, 1),
+        (16, 1),
+        (17, 1),
+        (18, 2),
+    ] {
+        assert!(rt; are_looked_up(rt.alloc(), *members)?, "{members:?}");
     }
     Ok(())
 }
