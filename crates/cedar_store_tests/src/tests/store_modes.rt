@@ -86,7 +86,7 @@ fn refused(alloc: Global, calls: &str) -> Result<String, Fail> {
 
 #[test]
 fn refusals_tell_what_is_wrong(rt: HostRuntime) -> Result<(), Fail> {
-    for (calls, want) in [
+    for (calls, want) in &[
         ("from: a, a b", "duplicate entity `A::\"a\"`"),
         ("from: é, é b", "duplicate entity `A::\"é\"`"),
         (
@@ -100,7 +100,7 @@ fn refusals_tell_what_is_wrong(rt: HostRuntime) -> Result<(), Fail> {
         ),
         ("from: a, a", ""),
     ] {
-        assert_eq!(rt; refused(rt.alloc(), calls)?.as_str(), want);
+        assert_eq!(rt; refused(rt.alloc(), calls)?.as_str(), *want);
     }
     Ok(())
 }
