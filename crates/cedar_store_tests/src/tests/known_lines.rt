@@ -125,7 +125,7 @@ fn types_that_begin_alike_are_told_apart(rt: HostRuntime) {
     let alloc = rt.alloc();
     let input =
         "ent\tA::\"x\"\tAB::\"x\"\tA::B::\"x\"\tA::B::C::\"x\"\nbuild\nanc\tA::\"x\"\nanc\tAB::\"x\"\nanc\tA::B::\"x\"\n";
-    let want = "ok 1\nanc\tA::B::\"x\"\tA::B::C::\"x\"\tAB::\"x\"\nno entity\nno entity\n";
+    let want = "ok 1\nanc\tAB::\"x\"\tA::B::\"x\"\tA::B::C::\"x\"\nno entity\nno entity\n";
     assert!(rt; writes(alloc, input, want));
 }
 
