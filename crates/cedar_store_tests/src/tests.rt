@@ -208,7 +208,7 @@ fn the_first_line_that_is_no_command_ends_the_run(rt: HostRuntime) -> Result<(),
 
 #[test]
 fn lines_of_another_form_are_no_commands(rt: HostRuntime) -> Result<(), Fail> {
-    let lines: [&[u8]; 32] = [
+    let lines: &[&[u8]] = &[
         b"build\r",
         b"build\t",
         b"build ",

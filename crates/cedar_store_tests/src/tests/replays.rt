@@ -143,7 +143,7 @@ fn wrong(alloc: Global, table: &[(&str, &str)]) -> Result<String, Fail> {
 
 #[test]
 fn calls_are_made_in_turn(rt: HostRuntime) -> Result<(), Fail> {
-    let table = [
+    let table = &[
         ("from: a b, b c, c; remove: b", "a, c"),
         ("from: a b d, b c, d c, c; remove: b", "a d | c, c, d c"),
         ("from: a b", "a b"),
@@ -158,13 +158,13 @@ fn calls_are_made_in_turn(rt: HostRuntime) -> Result<(), Fail> {
         ("from: a b; upsert: a c, a d", "a d"),
         ("from: a b, b c, c; add: a b c", "a b | c, b c, c"),
     ];
-    assert_eq!(rt; wrong(rt.alloc(), &table)?.as_str(), "");
+    assert_eq!(rt; wrong(rt.alloc(), table)?.as_str(), "");
     Ok(())
 }
 
 #[test]
 fn the_first_refusal_ends_the_calls(rt: HostRuntime) -> Result<(), Fail> {
-    let table = [
+    let table = &[
         ("from: a b; add: b a; from: c", "1 cycle a / 1 cycle b"),
         ("from: a a", "0 cycle a"),
         ("from: a b, b c, c; add: a b", "1 duplicate a"),
@@ -175,20 +175,20 @@ fn the_first_refusal_ends_the_calls(rt: HostRuntime) -> Result<(), Fail> {
         ("add: a b, a c", "0 duplicate a"),
         ("partial; remove: z; add: b; from: b c, b", "3 duplicate b"),
     ];
-    assert_eq!(rt; wrong(rt.alloc(), &table)?.as_str(), "");
+    assert_eq!(rt; wrong(rt.alloc(), table)?.as_str(), "");
     Ok(())
 }
 
 #[test]
 fn a_store_starts_anew_and_becomes_partial(rt: HostRuntime) -> Result<(), Fail> {
-    let table = [
+    let table = &[
         ("from: a b; from: c", "c"),
         ("partial", "partial "),
         ("partial; add: a", "partial a"),
         ("from: a; partial; upsert: b a; remove: a", "partial b"),
         ("partial; from: a", "a"),
     ];
-    assert_eq!(rt; wrong(rt.alloc(), &table)?.as_str(), "");
+    assert_eq!(rt; wrong(rt.alloc(), table)?.as_str(), "");
     Ok(())
 }
 

@@ -101,7 +101,8 @@ fn type_of(alloc: Global, unknowns: &[&Unknown]) -> Result<String, Fail> {
     if unknowns.len() != 1 {
         return owned(alloc, "not one");
     }
-    match &unknowns[0].type_annotation {
+    let unknown = unknowns[0];
+    match &unknown.type_annotation {
         Some(StaticType::Entity { ty }) => Ok(ty.to_string(alloc)?),
         _ => Ok(String::new(alloc)),
     }
@@ -214,16 +215,18 @@ fn stores_are_compared(rt: HostRuntime) -> Result<(), Fail> {
     Ok(())
 }
 
-// How many entities the iterator of a store gives.
-fn count(store: &Entities) -> usize {
-    store.iter().count()
+// Whether a store has so many entities, and its iterator gives so many.
+fn counts(store: &Entities, len: usize) -> bool {
+    let has = store.len();
+    let given = store.iter().count();
+    has == len && given == len
 }
 
 // Whether a store has so many entities, its iterator gives so many, it is empty where these are none, and it is
 // partial or not.
 fn measures(alloc: Global, calls: &str, len: usize, partial: bool) -> Result<bool, Fail> {
     let store = store_of(alloc, calls)?;
-    let counted = store.len() == len && count(&store) == len && store.is_empty() == (len == 0);
+    let counted = counts(&store, len) && store.is_empty() == (len == 0);
     let told = counted && store.is_partial() == partial;
     drop(store);
     Ok(told)
