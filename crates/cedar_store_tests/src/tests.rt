@@ -18,20 +18,20 @@ use std::io::{ErrorKind, Read, Write};
 use std::process::Abort;
 use std::test::Fail;
 
-// What a run writes, and its status.
-fn answer(alloc: Global, input: &[u8]) -> Result<(Vec<u8>, u8), RunError> {
+// Whether a run writes this, and ends with this status.
+fn is_answered(alloc: Global, input: &[u8], output: &[u8], status: u8) -> bool {
     let mut reader = input;
     let mut out = Vec::new(alloc);
-    let status = run(alloc, &mut reader, &mut out)?;
-    Ok((out, status))
+    let found = run(alloc, &mut reader, &mut out);
+    let told = matches!(found, Ok(found) if found == status) && out.as_slice() == output;
+    drop(out);
+    told
 }
 
 // Each input, with what is written and the status that are due.
 fn shows(rt: &impl Abort, alloc: Global, cases: &[(&[u8], &[u8], u8)]) -> Result<(), Fail> {
     for (input, output, status) in cases {
-        let (out, found) = answer(alloc, input)?;
-        assert!(rt; out.as_slice() == *output, "{input:?} writes {out:?}");
-        assert!(rt; found == *status, "{input:?} ends with {found}");
+        assert!(rt; is_answered(alloc, input, output, *status), "{input:?}");
     }
     Ok(())
 }
@@ -208,7 +208,7 @@ fn the_first_line_that_is_no_command_ends_the_run(rt: HostRuntime) -> Result<(),
 
 #[test]
 fn lines_of_another_form_are_no_commands(rt: HostRuntime) -> Result<(), Fail> {
-    let lines: [&[u8]; 32] = [
+    let lines: &[&[u8]] = &[
         b"build\r",
         b"build\t",
         b"build ",
@@ -243,12 +243,10 @@ fn lines_of_another_form_are_no_commands(rt: HostRuntime) -> Result<(), Fail> {
         b"\x0c",
     ];
     for line in lines {
-        let (out, status) = answer(rt.alloc(), line)?;
         assert!(rt;
-            out.as_slice() == b"line 1: not a command\n".as_slice(),
-            "{line:?} writes {out:?}"
+            is_answered(rt.alloc(), line, b"line 1: not a command\n", 2),
+            "{line:?}"
         );
-        assert!(rt; status == 2, "{line:?} ends with {status}");
     }
     Ok(())
 }
@@ -286,30 +284,27 @@ impl Read for Failing<'_> {
     }
 }
 
+// Whether a run whose reader fails after so many good reads writes nothing and is refused for it, and one that
+// needs no more writes all.
+fn is_read_whole(alloc: Global, good: usize) -> bool {
+    let left = b"ent\tA::\"a\"\nbuild\nanc\tA::\"a\"\n".as_slice();
+    let mut out = Vec::new(alloc);
+    let answer = run(alloc, &mut Failing { left, good }, &mut out);
+    // The input takes six reads, and one more tells that it is at its end.
+    let told = match answer {
+        Ok(status) => status == 0 && out.as_slice() == b"ok 1\nanc\n".as_slice() && good >= 7,
+        Err(RunError::Read) => out.is_empty() && good < 7,
+        Err(_) => false,
+    };
+    drop(out);
+    told
+}
+
 #[test]
-fn a_failed_read_writes_nothing(rt: HostRuntime) -> Result<(), Fail> {
-    let alloc = rt.alloc();
-    let input = b"ent\tA::\"a\"\nbuild\nanc\tA::\"a\"\n".as_slice();
+fn a_failed_read_writes_nothing(rt: HostRuntime) {
     for good in 0..20 {
-        let mut out = Vec::new(alloc);
-        match run(alloc, &mut Failing { left: input, good }, &mut out) {
-            Ok(status) => {
-                assert_eq!(rt; status, 0);
-                assert_eq!(rt; out.as_slice(), b"ok 1\nanc\n".as_slice());
-                // The input takes six reads, and one more tells that it is at its end.
-                assert!(rt; good >= 7);
-            }
-            Err(error) => {
-                assert!(rt;
-                    matches!(error, RunError::Read),
-                    "after {good} reads: {error:?}"
-                );
-                assert!(rt; out.is_empty());
-                assert!(rt; good < 7);
-            }
-        }
+        assert!(rt; is_read_whole(rt.alloc(), good), "after {good} reads");
     }
-    Ok(())
 }
 
 // A writer that takes a few bytes at a time, and fails at one of its writes or at the flush.
@@ -340,38 +335,48 @@ impl Write for Full {
     }
 }
 
+// Whether a run whose writer takes so many good writes, and flushes or not, is refused for it where it needs more.
+fn is_written_whole(alloc: Global, good: usize, flushes: bool) -> bool {
+    let mut reader = b"ent\tA::\"a\"\nbuild\nanc\tA::\"a\"\n".as_slice();
+    let mut writer = Full {
+        taken: 0,
+        good,
+        flushes,
+    };
+    let answer = run(alloc, &mut reader, &mut writer);
+    // Nine bytes are three writes.
+    if good >= 3 && flushes {
+        matches!(answer, Ok(0)) && writer.taken == 9
+    } else {
+        matches!(answer, Err(RunError::Write))
+    }
+}
+
 #[test]
-fn a_failed_write_or_flush_is_a_write_fault(rt: HostRuntime) -> Result<(), Fail> {
-    let alloc = rt.alloc();
+fn a_failed_write_or_flush_is_a_write_fault(rt: HostRuntime) {
     for good in 0..6 {
         for flushes in [true, false] {
-            let mut reader = b"ent\tA::\"a\"\nbuild\nanc\tA::\"a\"\n".as_slice();
-            let mut writer = Full {
-                taken: 0,
-                good,
-                flushes,
-            };
-            let answer = run(alloc, &mut reader, &mut writer);
-            // Nine bytes are three writes.
-            if good >= 3 && flushes {
-                assert!(rt; matches!(answer, Ok(0)), "{answer:?}");
-                assert_eq!(rt; writer.taken, 9);
-            } else {
-                assert!(rt; matches!(answer, Err(RunError::Write)), "{answer:?}");
-            }
+            assert!(rt;
+                is_written_whole(rt.alloc(), good, flushes),
+                "{good} {flushes}"
+            );
         }
     }
-    Ok(())
+}
+
+// Whether a fault has this text.
+fn says(alloc: Global, fault: RunError, want: &str) -> Result<bool, Fail> {
+    let text = fault.to_string(alloc)?;
+    let told = text.as_str() == want;
+    drop(text);
+    Ok(told)
 }
 
 #[test]
 fn faults_have_their_texts(rt: HostRuntime) -> Result<(), Fail> {
     let alloc = rt.alloc();
-    assert_eq!(rt; RunError::Read.to_string(alloc)?.as_str(), "read fault");
-    assert_eq!(rt; RunError::Write.to_string(alloc)?.as_str(), "write fault");
-    assert_eq!(rt;
-        RunError::Memory.to_string(alloc)?.as_str(),
-        "out of memory"
-    );
+    assert!(rt; says(alloc, RunError::Read, "read fault")?);
+    assert!(rt; says(alloc, RunError::Write, "write fault")?);
+    assert!(rt; says(alloc, RunError::Memory, "out of memory")?);
     Ok(())
 }

@@ -30,7 +30,7 @@ fn is_any_id(alloc: Global, text: &str) -> bool {
 #[test]
 fn an_identifier_is_read(rt: HostRuntime) {
     let alloc = rt.alloc();
-    for text in [
+    for text in &[
         "a", "Z", "_", "a1", "__", "A_b_9", "iff", "i", "True", "has_", "__cedar1",
     ] {
         assert!(rt; is_id(alloc, text), "the id {text}");
@@ -41,7 +41,7 @@ fn an_identifier_is_read(rt: HostRuntime) {
 #[test]
 fn a_reserved_word_is_any_id_and_no_id(rt: HostRuntime) {
     let alloc = rt.alloc();
-    for text in [
+    for text in &[
         "true", "false", "if", "then", "else", "in", "is", "like", "has", "__cedar",
     ] {
         assert!(rt;
@@ -55,7 +55,7 @@ fn a_reserved_word_is_any_id_and_no_id(rt: HostRuntime) {
 #[test]
 fn what_is_no_identifier_is_refused(rt: HostRuntime) {
     let alloc = rt.alloc();
-    for text in [
+    for text in &[
         "", "1", "9a", "a b", " a", "a ", "a-b", "a.b", "a::b", "a:", "é", "aé", "@", "[", "`",
         "{", "a/", "a:b", "a\n", "\"a\"",
     ] {

@@ -55,7 +55,7 @@ fn both_go_to(alloc: Global, text: &str, namespace: &str, want: &str) -> bool {
 #[test]
 fn a_name_is_read_and_printed(rt: HostRuntime) {
     let alloc = rt.alloc();
-    for (text, basename) in [
+    for (text, basename) in &[
         ("A", "A"),
         ("A::B", "B"),
         ("test_entity_type", "test_entity_type"),
@@ -81,7 +81,7 @@ fn a_name_is_read_and_printed(rt: HostRuntime) {
 #[test]
 fn what_is_no_name_is_refused(rt: HostRuntime) {
     let alloc = rt.alloc();
-    for text in [
+    for text in &[
         "",
         "::",
         "A::",
@@ -128,7 +128,7 @@ fn an_unqualified_name_is_one_identifier(rt: HostRuntime) {
     let alloc = rt.alloc();
     let name = Name::parse_unqualified_name(alloc, "Unspecified");
     assert!(rt; shows(alloc, name, "Unspecified"));
-    for text in ["A::B", "", "::", "A::", "if", "__cedar", " A", "A "] {
+    for text in &["A::B", "", "::", "A::", "if", "__cedar", " A", "A "] {
         assert!(rt;
             is_no_name(Name::parse_unqualified_name(alloc, text)),
             "the name {text:?}"
@@ -139,7 +139,7 @@ fn an_unqualified_name_is_one_identifier(rt: HostRuntime) {
 #[test]
 fn a_name_without_a_path_goes_into_the_namespace(rt: HostRuntime) {
     let alloc = rt.alloc();
-    for (name, namespace, want) in [
+    for (name, namespace, want) in &[
         ("A", "N", "N::A"),
         ("A", "N::M", "N::M::A"),
         ("A", "L::N::M", "L::N::M::A"),
@@ -157,7 +157,7 @@ fn a_name_without_a_path_goes_into_the_namespace(rt: HostRuntime) {
 #[test]
 fn a_name_stays_where_there_is_no_namespace(rt: HostRuntime) {
     let alloc = rt.alloc();
-    for name in ["A", "B::A"] {
+    for name in &["A", "B::A"] {
         assert!(rt; name_goes_to(alloc, name, None, name), "{name}");
         assert!(rt; type_goes_to(alloc, name, None, name), "{name}");
     }

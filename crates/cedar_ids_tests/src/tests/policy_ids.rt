@@ -32,7 +32,7 @@ fn takes_a_text(alloc: Global, text: &str) -> bool {
 #[test]
 fn a_policy_id_is_any_text(rt: HostRuntime) {
     let alloc = rt.alloc();
-    for text in ["policy0", "", "it's", "é", "a b\n"] {
+    for text in &["policy0", "", "it's", "é", "a b\n"] {
         assert!(rt; keeps_its_text(alloc, text), "the id {text:?}");
         assert!(rt;
             copies(PolicyID::from_string(alloc, text)),
@@ -45,7 +45,7 @@ fn a_policy_id_is_any_text(rt: HostRuntime) {
 #[test]
 fn a_policy_id_prints_escaped_with_no_quotes(rt: HostRuntime) {
     let alloc = rt.alloc();
-    for (text, want) in [
+    for (text, want) in &[
         ("policy0", "policy0"),
         ("", ""),
         ("it's \"x\"\n", "it\\'s \\\"x\\\"\\n"),

@@ -32,7 +32,7 @@ fn reads_back(alloc: Global, eid: &str) -> bool {
 #[test]
 fn a_printed_uid_reads_back(rt: HostRuntime) {
     let alloc = rt.alloc();
-    for eid in [
+    for eid in &[
         "",
         "eid",
         "it's\t\"\\\0\r\n\u{1}\u{7f}",

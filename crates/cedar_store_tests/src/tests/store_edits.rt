@@ -4,7 +4,7 @@ use std::test::Fail;
 
 #[test]
 fn a_removed_entity_leads_nowhere(rt: HostRuntime) -> Result<(), Fail> {
-    let table = [
+    let table = &[
         ("from: a b, b c, c; remove: b", "a, c"),
         ("from: a b d, b c, d c, c; remove: b", "a d | c, c, d c"),
         ("from: a b d, b c, d c, c e; remove: b d", "a, c e"),
@@ -18,13 +18,13 @@ fn a_removed_entity_leads_nowhere(rt: HostRuntime) -> Result<(), Fail> {
         ("from: a b, b c; remove:", "a b | c, b c"),
         ("from: a b, b, c b; remove: b b z b", "a, c"),
     ];
-    assert_eq!(rt; wrong(rt.alloc(), &table)?.as_str(), "");
+    assert_eq!(rt; wrong(rt.alloc(), table)?.as_str(), "");
     Ok(())
 }
 
 #[test]
 fn an_absent_parent_is_an_ancestor_that_leads_no_indirect(rt: HostRuntime) -> Result<(), Fail> {
-    let table = [
+    let table = &[
         ("from: a b", "a b"),
         ("from: a b; remove: b", "a b"),
         ("from: a b; add: b c", "a b | c, b c"),
@@ -33,13 +33,13 @@ fn an_absent_parent_is_an_ancestor_that_leads_no_indirect(rt: HostRuntime) -> Re
         ("from: a b; add: b c; remove: b; add: b c", "a, b c"),
         ("from: a b, c a; remove: a; remove: b", "c"),
     ];
-    assert_eq!(rt; wrong(rt.alloc(), &table)?.as_str(), "");
+    assert_eq!(rt; wrong(rt.alloc(), table)?.as_str(), "");
     Ok(())
 }
 
 #[test]
 fn the_last_of_a_uid_is_put_over_the_store(rt: HostRuntime) -> Result<(), Fail> {
-    let table = [
+    let table = &[
         ("from: a b, b c, c; upsert: c b, b", "a b, b, c b"),
         ("from: a b; upsert: a c, a d", "a d"),
         ("from: a b; upsert: b a, b", "a b, b"),
@@ -53,13 +53,13 @@ fn the_last_of_a_uid_is_put_over_the_store(rt: HostRuntime) -> Result<(), Fail> 
         ("from: a b; upsert: b c | d", "a b | c d, b c | d"),
         ("from: a b; upsert:", "a b"),
     ];
-    assert_eq!(rt; wrong(rt.alloc(), &table)?.as_str(), "");
+    assert_eq!(rt; wrong(rt.alloc(), table)?.as_str(), "");
     Ok(())
 }
 
 #[test]
 fn the_first_of_a_uid_stays(rt: HostRuntime) -> Result<(), Fail> {
-    let table = [
+    let table = &[
         ("from: a b, b c, c; add: a b c", "a b | c, b c, c"),
         ("from: a b, b c, a b", "a b | c, b c"),
         ("from: a b c, b c; add: a b c, b c", "a b c, b c"),
@@ -72,13 +72,13 @@ fn the_first_of_a_uid_stays(rt: HostRuntime) -> Result<(), Fail> {
         ("from: a b; from: c d", "c d"),
         ("from: a; add:", "a"),
     ];
-    assert_eq!(rt; wrong(rt.alloc(), &table)?.as_str(), "");
+    assert_eq!(rt; wrong(rt.alloc(), table)?.as_str(), "");
     Ok(())
 }
 
 #[test]
 fn the_first_that_differs_is_named(rt: HostRuntime) -> Result<(), Fail> {
-    let table = [
+    let table = &[
         ("from: a b, b c, c; add: a b", "duplicate a"),
         ("from: a, b; add: b x, a x", "duplicate b"),
         ("from: a, b; add: a x, b x", "duplicate a"),
@@ -93,25 +93,25 @@ fn the_first_that_differs_is_named(rt: HostRuntime) -> Result<(), Fail> {
         ("from: B.a, B.a x", "duplicate B.a"),
         ("from: a, B.a x", "B.a x, a"),
     ];
-    assert_eq!(rt; wrong(rt.alloc(), &table)?.as_str(), "");
+    assert_eq!(rt; wrong(rt.alloc(), table)?.as_str(), "");
     Ok(())
 }
 
 #[test]
 fn a_differing_entity_is_refused_before_a_cycle(rt: HostRuntime) -> Result<(), Fail> {
-    let table = [
+    let table = &[
         ("from: a b; add: b a, a c", "duplicate a"),
         ("from: a a, a b", "duplicate a"),
         ("from enforce: a b, b c, a c", "duplicate a"),
         ("from assume: a b, a c", "duplicate a"),
     ];
-    assert_eq!(rt; wrong(rt.alloc(), &table)?.as_str(), "");
+    assert_eq!(rt; wrong(rt.alloc(), table)?.as_str(), "");
     Ok(())
 }
 
 #[test]
 fn a_cycle_is_refused(rt: HostRuntime) -> Result<(), Fail> {
-    let table = [
+    let table = &[
         ("from: a b; add: b a", "cycle a / cycle b"),
         ("from: a a", "cycle a"),
         ("from: a b, b; upsert: b a", "cycle a / cycle b"),
@@ -124,6 +124,6 @@ fn a_cycle_is_refused(rt: HostRuntime) -> Result<(), Fail> {
         ("from: a | a", "cycle a"),
         ("from: a b; add: b | a", "cycle a / cycle b"),
     ];
-    assert_eq!(rt; wrong(rt.alloc(), &table)?.as_str(), "");
+    assert_eq!(rt; wrong(rt.alloc(), table)?.as_str(), "");
     Ok(())
 }

@@ -5,7 +5,7 @@ use std::test::Fail;
 
 #[test]
 fn missing_ancestors_are_refused_where_they_are_checked(rt: HostRuntime) -> Result<(), Fail> {
-    let table = [
+    let table = &[
         ("from enforce: a b, b c", "missing a b c"),
         ("from enforce: a b, b c, c", "missing a b c"),
         ("from enforce: a b | c, b c", "a b | c, b c"),
@@ -17,13 +17,13 @@ fn missing_ancestors_are_refused_where_they_are_checked(rt: HostRuntime) -> Resu
         ("from enforce: a b | a, b a | b", "cycle a / cycle b"),
         ("from enforce: a b, b b", "cycle b"),
     ];
-    assert_eq!(rt; wrong(rt.alloc(), &table)?.as_str(), "");
+    assert_eq!(rt; wrong(rt.alloc(), table)?.as_str(), "");
     Ok(())
 }
 
 #[test]
 fn the_whole_store_is_checked(rt: HostRuntime) -> Result<(), Fail> {
-    let table = [
+    let table = &[
         ("from enforce: a b; add enforce: b c", "missing a b c"),
         ("from assume: a b, b c; add enforce: d", "missing a b c"),
         ("from assume: a a; add enforce: d", "cycle a"),
@@ -37,13 +37,13 @@ fn the_whole_store_is_checked(rt: HostRuntime) -> Result<(), Fail> {
         ),
         ("from: a b, b c; add enforce:", "a b | c, b c"),
     ];
-    assert_eq!(rt; wrong(rt.alloc(), &table)?.as_str(), "");
+    assert_eq!(rt; wrong(rt.alloc(), table)?.as_str(), "");
     Ok(())
 }
 
 #[test]
 fn ancestors_are_taken_as_they_are(rt: HostRuntime) -> Result<(), Fail> {
-    let table = [
+    let table = &[
         ("from assume: a b, b c", "a b, b c"),
         ("from assume: a a", "a a"),
         ("from assume: a b, b a", "a b, b a"),
@@ -53,19 +53,19 @@ fn ancestors_are_taken_as_they_are(rt: HostRuntime) -> Result<(), Fail> {
         ("from assume: a b, b c; add assume: a b c", "duplicate a"),
         ("from assume: a b, b c; add assume: a b", "a b, b c"),
     ];
-    assert_eq!(rt; wrong(rt.alloc(), &table)?.as_str(), "");
+    assert_eq!(rt; wrong(rt.alloc(), table)?.as_str(), "");
     Ok(())
 }
 
 #[test]
 fn what_was_taken_as_it_is_can_be_computed_later(rt: HostRuntime) -> Result<(), Fail> {
-    let table = [
+    let table = &[
         ("from assume: a b, b c; add: d a", "a b, b c, d a | b"),
         ("from assume: a b, b a; add: d", "a b, b a, d"),
         ("from assume: a b; add: b c", "a b | c, b c"),
         ("from: a b | c, c d", "a b | c d, c d"),
     ];
-    assert_eq!(rt; wrong(rt.alloc(), &table)?.as_str(), "");
+    assert_eq!(rt; wrong(rt.alloc(), table)?.as_str(), "");
     Ok(())
 }
 
@@ -86,7 +86,7 @@ fn refused(alloc: Global, calls: &str) -> Result<String, Fail> {
 
 #[test]
 fn refusals_tell_what_is_wrong(rt: HostRuntime) -> Result<(), Fail> {
-    for (calls, want) in [
+    for (calls, want) in &[
         ("from: a, a b", "duplicate entity `A::\"a\"`"),
         ("from: é, é b", "duplicate entity `A::\"é\"`"),
         (
@@ -100,7 +100,7 @@ fn refusals_tell_what_is_wrong(rt: HostRuntime) -> Result<(), Fail> {
         ),
         ("from: a, a", ""),
     ] {
-        assert_eq!(rt; refused(rt.alloc(), calls)?.as_str(), want);
+        assert_eq!(rt; refused(rt.alloc(), calls)?.as_str(), *want);
     }
     Ok(())
 }

@@ -1,12 +1,12 @@
 // Look-ups, comparisons, copies and texts of stores.
 use super::store_script::{
-    beside, entity_of, named, pushed, shared_of, store_of, text_of, texts_of, uids_of,
+    beside, entity_of, named, owned, pushed, shared_of, store_of, text_of, texts_of, uids_of,
 };
 use cedar_entities::dereference::Dereference;
 use cedar_entities::entities::{Entities, TCComputation};
 use cedar_entity::entity::Entity;
 use cedar_ids::entity::EntityUID;
-use cedar_terms::{Expr, StaticType};
+use cedar_terms::{Expr, StaticType, Unknown};
 use std::alloc::Global;
 use std::rc::Rc;
 use std::test::Fail;
@@ -42,10 +42,14 @@ fn answered_again(alloc: Global, store: &Entities, uid: &EntityUID) -> Result<St
     let answer = store.entity(alloc, uid)?;
     let copy: Result<_, _> = answer.clone();
     drop(answer);
-    let copy = copy?;
-    let text = looked_up(alloc, &copy);
-    drop(copy);
-    text
+    match copy {
+        Ok(copy) => {
+            let text = looked_up(alloc, &copy);
+            drop(copy);
+            text
+        }
+        Err(error) => Err(Fail::from(error)),
+    }
 }
 
 // What a copy of the answer has, of a store that these calls leave and a name.
@@ -59,19 +63,19 @@ fn found_again(alloc: Global, calls: &str, name: &str) -> Result<String, Fail> {
 
 #[test]
 fn a_look_up_is_copied(rt: HostRuntime) -> Result<(), Fail> {
-    for (calls, name, want) in [
+    for (calls, name, want) in &[
         ("new", "a", "none"),
         ("from: a b | | k=1", "a", "a b | | k=1"),
         ("partial", "a", "unknown(\"A::\\\"a\\\"\")"),
     ] {
-        assert_eq!(rt; found_again(rt.alloc(), calls, name)?.as_str(), want);
+        assert_eq!(rt; found_again(rt.alloc(), calls, name)?.as_str(), *want);
     }
     Ok(())
 }
 
 #[test]
 fn a_look_up_finds_what_is_there(rt: HostRuntime) -> Result<(), Fail> {
-    for (calls, name, want) in [
+    for (calls, name, want) in &[
         ("new", "z", "none"),
         ("partial", "z", "unknown(\"A::\\\"z\\\"\")"),
         ("from: a b, b c", "a", "a b | c"),
@@ -87,19 +91,29 @@ fn a_look_up_finds_what_is_there(rt: HostRuntime) -> Result<(), Fail> {
         ("from: a", "B.a", "none"),
         ("partial", "T.é", "unknown(\"T::\\\"é\\\"\")"),
     ] {
-        assert_eq!(rt; found(rt.alloc(), calls, name)?.as_str(), want);
+        assert_eq!(rt; found(rt.alloc(), calls, name)?.as_str(), *want);
     }
     Ok(())
 }
 
+// The type of the one unknown of a list, as a text.
+fn type_of(alloc: Global, unknowns: &[&Unknown]) -> Result<String, Fail> {
+    if unknowns.len() != 1 {
+        return owned(alloc, "not one");
+    }
+    let unknown = unknowns[0];
+    match &unknown.type_annotation {
+        Some(StaticType::Entity { ty }) => Ok(ty.to_string(alloc)?),
+        _ => Ok(String::new(alloc)),
+    }
+}
+
 // The type of the one unknown that an expression is, as a text.
 fn type_in(alloc: Global, expr: &Expr) -> Result<String, Fail> {
-    for unknown in expr.unknowns(alloc)? {
-        if let Some(StaticType::Entity { ty }) = &unknown.type_annotation {
-            return Ok(ty.to_string(alloc)?);
-        }
-    }
-    Ok(String::new(alloc))
+    let unknowns = expr.unknowns(alloc)?;
+    let text = type_of(alloc, &unknowns);
+    drop(unknowns);
+    text
 }
 
 // The type of the unknown that a store answers, as a text.
@@ -164,23 +178,19 @@ fn what_was_found_is_taken_out(rt: HostRuntime) -> Result<(), Fail> {
     Ok(())
 }
 
-// Whether two stores are deeply equal and whether they are equal, the one way and the other.
-fn compared(alloc: Global, one: &str, other: &str) -> Result<[bool; 4], Fail> {
+// Whether two stores are deeply equal or not, and equal or not, the one way and the other.
+fn compare(alloc: Global, one: &str, other: &str, deep: bool, same: bool) -> Result<bool, Fail> {
     let (one, other) = beside(store_of(alloc, one)?, store_of(alloc, other))?;
-    let answers = [
-        one.deep_eq(&other),
-        other.deep_eq(&one),
-        one == other,
-        other == one,
-    ];
+    let deeply = one.deep_eq(&other) == deep && other.deep_eq(&one) == deep;
+    let plainly = (one == other) == same && (other == one) == same;
     drop(one);
     drop(other);
-    Ok(answers)
+    Ok(deeply && plainly)
 }
 
 #[test]
 fn stores_are_compared(rt: HostRuntime) -> Result<(), Fail> {
-    for (one, other, deep, same) in [
+    for (one, other, deep, same) in &[
         ("new", "new", true, true),
         ("new", "partial", false, false),
         ("new", "from: a", false, false),
@@ -198,30 +208,33 @@ fn stores_are_compared(rt: HostRuntime) -> Result<(), Fail> {
         ("from: a", "from: B.a", false, false),
     ] {
         assert!(rt;
-            compared(rt.alloc(), one, other)? == [deep, deep, same, same],
+            compare(rt.alloc(), one, other, *deep, *same)?,
             "{one} {other}"
         );
     }
     Ok(())
 }
 
-// How many entities a store has, how many its iterator gives, whether it is empty, and whether it
-// is partial.
-fn measured(alloc: Global, calls: &str) -> Result<(usize, usize, bool, bool), Fail> {
+// Whether a store has so many entities, and its iterator gives so many.
+fn counts(store: &Entities, len: usize) -> bool {
+    let has = store.len();
+    let given = store.iter().count();
+    has == len && given == len
+}
+
+// Whether a store has so many entities, its iterator gives so many, it is empty where these are none, and it is
+// partial or not.
+fn measures(alloc: Global, calls: &str, len: usize, partial: bool) -> Result<bool, Fail> {
     let store = store_of(alloc, calls)?;
-    let answers = (
-        store.len(),
-        store.iter().count(),
-        store.is_empty(),
-        store.is_partial(),
-    );
+    let counted = counts(&store, len) && store.is_empty() == (len == 0);
+    let told = counted && store.is_partial() == partial;
     drop(store);
-    Ok(answers)
+    Ok(told)
 }
 
 #[test]
 fn stores_are_counted_and_keep_their_mode(rt: HostRuntime) -> Result<(), Fail> {
-    for (calls, len, partial) in [
+    for (calls, len, partial) in &[
         ("new", 0, false),
         ("partial", 0, true),
         ("from:", 0, false),
@@ -234,8 +247,7 @@ fn stores_are_counted_and_keep_their_mode(rt: HostRuntime) -> Result<(), Fail> {
         ("partial; from: a", 1, false),
         ("partial; partial", 0, true),
     ] {
-        let want = (len, len, len == 0, partial);
-        assert!(rt; measured(rt.alloc(), calls)? == want, "{calls}");
+        assert!(rt; measures(rt.alloc(), calls, *len, *partial)?, "{calls}");
     }
     Ok(())
 }
@@ -255,23 +267,26 @@ fn without_b(alloc: Global, store: Entities) -> Result<String, Fail> {
     text
 }
 
-// What a store was, is without `A::"b"`, and a copy of it then is.
-fn before_and_after(alloc: Global, store: Entities, copy: Entities) -> Result<[String; 3], Fail> {
+// Whether a store changes where `A::"b"` is taken out, and a copy is then as the store was.
+fn changes_apart(alloc: Global, store: Entities, copy: &Entities) -> Result<bool, Fail> {
     let was = texts_of(alloc, &store);
-    let ((store, copy), was) = beside((store, copy), was)?;
-    let ((was, copy), changed) = beside((was, copy), without_b(alloc, store))?;
-    let is = texts_of(alloc, &copy);
-    drop(copy);
-    let ((was, changed), is) = beside((was, changed), is)?;
-    Ok([was, changed, is])
+    let (store, was) = beside(store, was)?;
+    let (was, changed) = beside(was, without_b(alloc, store))?;
+    let ((was, changed), is) = beside((was, changed), texts_of(alloc, copy))?;
+    let apart = changed != was && is == was;
+    drop(was);
+    drop(changed);
+    drop(is);
+    Ok(apart)
 }
 
 // Whether a copy is as the store was, also after the store has changed.
 fn stays_apart(alloc: Global, calls: &str) -> Result<bool, Fail> {
     let (store, copy) = with_copy(store_of(alloc, calls)?)?;
     let equal = copy.deep_eq(&store) && store.deep_eq(&copy) && copy == store;
-    let [was, changed, is] = before_and_after(alloc, store, copy)?;
-    Ok(equal && changed != was && is == was)
+    let apart = changes_apart(alloc, store, &copy);
+    drop(copy);
+    Ok(apart? && equal)
 }
 
 #[test]
@@ -285,7 +300,7 @@ fn a_copy_is_equal_and_stays_as_it_is(rt: HostRuntime) -> Result<(), Fail> {
 fn taken_out(alloc: Global, store: Entities) -> Result<String, Fail> {
     let mut list = Vec::new(alloc);
     for entity in store {
-        list.push(entity?)?;
+        list = pushed(list, entity.map_err(Fail::from))?;
     }
     let again = Entities::from_entities(alloc, list, TCComputation::AssumeAlreadyComputed)?;
     let text = texts_of(alloc, &again);
@@ -299,7 +314,10 @@ fn gives(alloc: Global, calls: &str, want: &str) -> Result<bool, Fail> {
     let (store, copy) = with_copy(store_of(alloc, calls)?)?;
     let (copy, shared) = beside(copy, taken_out(alloc, store))?;
     let (shared, alone) = beside(shared, taken_out(alloc, copy))?;
-    Ok(shared.as_str() == want && alone.as_str() == want)
+    let told = shared.as_str() == want && alone.as_str() == want;
+    drop(shared);
+    drop(alone);
+    Ok(told)
 }
 
 #[test]
@@ -334,7 +352,10 @@ fn given_shared(alloc: Global) -> Result<String, Fail> {
     let outside = text_of(alloc, &entity);
     drop(entity);
     let (within, outside) = beside(within, outside)?;
-    Ok(format!(in alloc; "{within}; {outside}")?)
+    let text = format!(in alloc; "{within}; {outside}");
+    drop(within);
+    drop(outside);
+    Ok(text?)
 }
 
 #[test]
@@ -353,7 +374,7 @@ fn written(alloc: Global, calls: &str) -> Result<String, Fail> {
 
 #[test]
 fn stores_are_written(rt: HostRuntime) -> Result<(), Fail> {
-    for (calls, want) in [
+    for (calls, want) in &[
         ("new", "<empty Entities>"),
         ("partial", "<empty Entities>"),
         ("from: a; remove: a", "<empty Entities>"),
@@ -374,7 +395,7 @@ fn stores_are_written(rt: HostRuntime) -> Result<(), Fail> {
              A::\"é\":\n  attrs:a: 2; ñ: -1\n  ancestors:A::\"ß\"\n",
         ),
     ] {
-        assert_eq!(rt; written(rt.alloc(), calls)?.as_str(), want);
+        assert_eq!(rt; written(rt.alloc(), calls)?.as_str(), *want);
     }
     Ok(())
 }

@@ -8,18 +8,22 @@
 // A call is a word and, after a colon, its entities or uids: `from`, `add` or `upsert`, `remove`,
 // `partial`. A second word says the mode: `from assume`, `add enforce`. Calls are parted by
 // semicolons. The first starts from the store without entities.
-ghost use Rattle.std.specs.Prelude.{◌≡◌, IfOk};
-ghost use Rattle.cedar_entities.specs.Plain.{entities_in};
+//
+// Each helper lets go by a written drop what it holds, on each path: a drop that is not written is dear to prove at a
+// type as large as a store.
+ghost use Rattle.std.specs.Prelude.{◌≡◌, IfOk, map};
 
 use cedar_entities::entities::{Entities, TCComputation};
 use cedar_entity::entity::Entity;
 use cedar_entity::err::EntitiesError;
 use cedar_entity::iters::{Pairs, Uids};
-use cedar_graph::TcError;
+use cedar_graph::{MissingTcEdge, TcError};
 use cedar_ids::entity::EntityUID;
 use cedar_terms::{Literal, PartialValue, Value, ValueKind};
 use std::alloc::Global;
 use std::collections::HashSet;
+use std::fmt::Write;
+use std::hash::Hash;
 use std::rc::Rc;
 use std::test::Fail;
 
@@ -44,6 +48,35 @@ pub(super) fn pushed<T: Drop>(list: Vec<T>, one: Result<T, Fail>) -> Result<Vec<
     Ok(list)
 }
 
+// The text that is added to, if it could be.
+pub(super) fn ended(text: String, added: Result<(), Fail>) -> Result<String, Fail> {
+    match added {
+        Ok(()) => Ok(text),
+        Err(fail) => {
+            drop(text);
+            Err(fail)
+        }
+    }
+}
+
+// The set with one thing more.
+fn joined<T: Eq + Hash + Drop>(set: HashSet<T>, one: Result<T, Fail>) -> Result<HashSet<T>, Fail> {
+    let mut set = set;
+    set.insert(one?)?;
+    Ok(set)
+}
+
+// The things, to be shared.
+pub(super) fn shared<T: Drop>(alloc: Global, list: Vec<T>) -> Result<Vec<Rc<T>>, Fail>
+    ensures { IfOk result (λ v. map (λ r. r.value) v.items ≡ list.items) }
+{
+    let mut shared = Vec::new(alloc);
+    for one in list {
+        shared.push(Rc::new(alloc, one)?)?;
+    }
+    Ok(shared)
+}
+
 pub(super) fn owned(alloc: Global, text: &str) -> Result<String, Fail> {
     Ok(String::from_str(alloc, text)?)
 }
@@ -65,7 +98,7 @@ pub(super) fn named(alloc: Global, name: &str) -> Result<EntityUID, Fail> {
 fn set_of(alloc: Global, names: &str) -> Result<HashSet<EntityUID>, Fail> {
     let mut set = HashSet::new(alloc);
     for name in names.split_whitespace() {
-        set.insert(named(alloc, name)?)?;
+        set = joined(set, named(alloc, name))?;
     }
     Ok(set)
 }
@@ -82,10 +115,9 @@ pub(super) fn uids_of(alloc: Global, names: &str) -> Result<Vec<EntityUID>, Fail
 // A number at a key.
 fn field_of(alloc: Global, text: &str) -> Result<(String, PartialValue), Fail> {
     let (key, number) = text.split_once('=').unwrap_or((text, ""));
-    Ok((
-        owned(alloc, key)?,
-        PartialValue::Value(long(number.parse::<i64>()?)),
-    ))
+    let number = number.parse::<i64>()?;
+    let key = owned(alloc, key)?;
+    Ok((key, PartialValue::Value(long(number))))
 }
 
 // Numbers at keys.
@@ -123,17 +155,6 @@ pub(super) fn entities_of(alloc: Global, texts: &str) -> Result<Vec<Entity>, Fai
         }
     }
     Ok(list)
-}
-
-// The entities, to be shared.
-pub(super) fn shared(alloc: Global, list: Vec<Entity>) -> Result<Vec<Rc<Entity>>, Fail>
-    ensures { IfOk result (λ v. entities_in v.items ≡ list.items) }
-{
-    let mut shared = Vec::new(alloc);
-    for entity in list {
-        shared.push(Rc::new(alloc, entity)?)?;
-    }
-    Ok(shared)
 }
 
 // The entities with these texts, to be shared.
@@ -202,56 +223,94 @@ pub(super) fn store_of(alloc: Global, calls: &str) -> Result<Entities, Fail> {
     Ok(run(alloc, calls)??)
 }
 
-// The name of a uid.
-fn name_of(alloc: Global, uid: &EntityUID) -> Result<String, Fail> {
-    let ty = uid.entity_type();
-    let eid = uid.eid().as_ref();
-    let whole = format!(in alloc; "{ty}.{eid}")?;
-    match whole.strip_prefix("A.") {
-        Some(name) => owned(alloc, name),
+// A text of which the start is cut off, if it is there.
+fn cut(alloc: Global, whole: Result<String, Fail>, start: &str) -> Result<String, Fail> {
+    let whole = whole?;
+    match whole.strip_prefix(start) {
+        Some(rest) => owned(alloc, rest),
         None => Ok(whole),
     }
 }
 
-// Texts in their order, each behind this one.
-fn joined(alloc: Global, texts: Vec<String>, before: &str) -> Result<String, Fail> {
-    let mut texts = texts;
-    texts.sort_unstable();
+// The name of a uid.
+fn name_of(alloc: Global, uid: &EntityUID) -> Result<String, Fail> {
     let mut whole = String::new(alloc);
-    for text in texts {
-        whole.push_str(before)?;
-        whole.push_str(&text)?;
-    }
-    Ok(whole)
+    let ty = uid.entity_type();
+    let eid = uid.eid().as_ref();
+    write!(whole, "{ty}.{eid}")?;
+    cut(alloc, Ok(whole), "A.")
 }
 
-// The names of some uids in order, each behind a blank.
-fn names_of(alloc: Global, uids: Uids<'_>) -> Result<String, Fail> {
+// Adds texts, each behind this one.
+fn add_all(whole: &mut String, texts: &[String], before: &str) -> Result<(), Fail> {
+    for text in texts {
+        whole.push_str(before)?;
+        whole.push_str(text)?;
+    }
+    Ok(())
+}
+
+// Adds the names of some uids in order, each behind a blank.
+fn add_names(alloc: Global, whole: &mut String, uids: Uids<'_>) -> Result<(), Fail> {
     let mut names = Vec::new(alloc);
     for uid in uids {
         names = pushed(names, name_of(alloc, uid))?;
     }
-    joined(alloc, names, " ")
+    names.sort_unstable();
+    let added = add_all(whole, &names, " ");
+    drop(names);
+    added
 }
 
-// Attributes or tags in order, each behind a blank.
-fn pairs_of(alloc: Global, pairs: Pairs<'_>) -> Result<String, Fail> {
-    let mut whole = String::new(alloc);
+// Adds attributes or tags in order, each behind a blank.
+fn add_pairs(whole: &mut String, pairs: Pairs<'_>) -> Result<(), Fail> {
     for (key, value) in pairs {
-        whole.push_str(format!(in alloc; " {key}={value}")?.as_str())?;
+        write!(whole, " {key}={value}")?;
     }
-    Ok(whole)
+    Ok(())
+}
+
+// Adds the parts of an entity behind its name.
+fn add_parts(alloc: Global, whole: &mut String, entity: &Entity) -> Result<(), Fail> {
+    add_names(alloc, whole, entity.parents())?;
+    whole.push_str(" |")?;
+    add_names(alloc, whole, entity.indirect_ancestors())?;
+    whole.push_str(" |")?;
+    add_pairs(whole, entity.attrs())?;
+    whole.push_str(" |")?;
+    add_pairs(whole, entity.tags())
 }
 
 // The text of an entity, without the empty parts behind the last that is not empty.
 pub(super) fn text_of(alloc: Global, entity: &Entity) -> Result<String, Fail> {
-    let name = name_of(alloc, entity.uid())?;
-    let parents = names_of(alloc, entity.parents())?;
-    let indirect = names_of(alloc, entity.indirect_ancestors())?;
-    let attrs = pairs_of(alloc, entity.attrs())?;
-    let tags = pairs_of(alloc, entity.tags())?;
-    let whole = format!(in alloc; "{name}{parents} |{indirect} |{attrs} |{tags}")?;
-    owned(alloc, whole.trim_end_matches(&[' ', '|']))
+    let mut whole = name_of(alloc, entity.uid())?;
+    match add_parts(alloc, &mut whole, entity) {
+        Ok(()) => {
+            let text = owned(alloc, whole.trim_end_matches(&[' ', '|']));
+            drop(whole);
+            text
+        }
+        Err(fail) => {
+            drop(whole);
+            Err(fail)
+        }
+    }
+}
+
+// Texts in their order, with commas between them.
+fn in_order(alloc: Global, texts: Vec<String>) -> Result<String, Fail> {
+    let mut texts = texts;
+    texts.sort_unstable();
+    let mut whole = String::new(alloc);
+    let added = add_all(&mut whole, &texts, ", ");
+    drop(texts);
+    match added {
+        Ok(()) => cut(alloc, Ok(whole), ", "),
+        Err(fail) => {
+            drop(whole);
+            Err(fail)
+        }
+    }
 }
 
 // The texts of the entities of a store, in order.
@@ -260,25 +319,37 @@ pub(super) fn texts_of(alloc: Global, store: &Entities) -> Result<String, Fail> 
     for entity in store.iter() {
         texts = pushed(texts, text_of(alloc, entity))?;
     }
-    let whole = joined(alloc, texts, ", ")?;
-    owned(alloc, whole.trim_start_matches(", "))
+    in_order(alloc, texts)
+}
+
+// A word with the name of a uid.
+fn worded(alloc: Global, word: &str, uid: &EntityUID) -> Result<String, Fail> {
+    let name = name_of(alloc, uid)?;
+    let text = format!(in alloc; "{word} {name}");
+    drop(name);
+    Ok(text?)
+}
+
+// The names of the uids of an edge that is missing.
+fn missing(alloc: Global, edge: &MissingTcEdge<EntityUID>) -> Result<String, Fail> {
+    let text = worded(alloc, "missing", &edge.child)?;
+    let (text, parent) = beside(text, name_of(alloc, &edge.parent))?;
+    let ((text, parent), grandparent) = beside((text, parent), name_of(alloc, &edge.grandparent))?;
+    let whole = format!(in alloc; "{text} {parent} {grandparent}");
+    drop(text);
+    drop(parent);
+    drop(grandparent);
+    Ok(whole?)
 }
 
 // What a refusal says, in short.
 pub(super) fn refusal_of(alloc: Global, error: &EntitiesError) -> Result<String, Fail> {
     match error {
-        EntitiesError::Duplicate(uid) => {
-            Ok(format!(in alloc; "duplicate {}", name_of(alloc, uid)?)?)
-        }
+        EntitiesError::Duplicate(uid) => worded(alloc, "duplicate", uid),
         EntitiesError::TransitiveClosureError(TcError::HasCycle(cycle)) => {
-            Ok(format!(in alloc; "cycle {}", name_of(alloc, cycle.vertex_with_loop())?)?)
+            worded(alloc, "cycle", cycle.vertex_with_loop())
         }
-        EntitiesError::TransitiveClosureError(TcError::MissingTcEdge(edge)) => {
-            let child = name_of(alloc, &edge.child)?;
-            let parent = name_of(alloc, &edge.parent)?;
-            let grandparent = name_of(alloc, &edge.grandparent)?;
-            Ok(format!(in alloc; "missing {child} {parent} {grandparent}")?)
-        }
+        EntitiesError::TransitiveClosureError(TcError::MissingTcEdge(edge)) => missing(alloc, edge),
         other => Ok(other.to_string(alloc)?),
     }
 }
@@ -306,7 +377,10 @@ pub(super) fn is_one_of(said: &str, want: &str) -> bool {
 
 // Whether this is what the calls leave, or one of several texts with a slash between them.
 pub(super) fn leaves(alloc: Global, calls: &str, want: &str) -> Result<bool, Fail> {
-    Ok(is_one_of(&told(alloc, calls)?, want))
+    let said = told(alloc, calls)?;
+    let is_so = is_one_of(&said, want);
+    drop(said);
+    Ok(is_so)
 }
 
 // The first of these lists of calls that leaves something else than what stands beside it, or

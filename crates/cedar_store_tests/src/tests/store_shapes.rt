@@ -3,31 +3,27 @@ use super::store_script::leaves;
 use std::alloc::Global;
 use std::test::Fail;
 
+// Whether the call with this word and this graph leaves this.
+fn makes(alloc: Global, word: &str, graph: &str, want: &str) -> Result<bool, Fail> {
+    let call = format!(in alloc; "{word}: {graph}")?;
+    let told = leaves(alloc, &call, want);
+    drop(call);
+    told
+}
+
 // Whether a graph without some of its ancestors is built to this one, which then passes the check
 // that the first fails; and whether both are taken as they are.
 fn closes(alloc: Global, given: &str, sorted: &str, closed: &str) -> Result<bool, Fail> {
-    let computed = leaves(alloc, format!(in alloc; "from: {given}")?.as_str(), closed)?;
-    let checked = leaves(
-        alloc,
-        format!(in alloc; "from enforce: {closed}")?.as_str(),
-        closed,
-    )?;
-    let passes = leaves(
-        alloc,
-        format!(in alloc; "from enforce: {given}")?.as_str(),
-        sorted,
-    )?;
-    let taken = leaves(
-        alloc,
-        format!(in alloc; "from assume: {given}")?.as_str(),
-        sorted,
-    )?;
+    let computed = makes(alloc, "from", given, closed)?;
+    let checked = makes(alloc, "from enforce", closed, closed)?;
+    let passes = makes(alloc, "from enforce", given, sorted)?;
+    let taken = makes(alloc, "from assume", given, sorted)?;
     Ok(computed && checked && taken && !passes)
 }
 
 #[test]
 fn chains_are_closed_in_whatever_order_they_stand(rt: HostRuntime) -> Result<(), Fail> {
-    for (given, sorted, closed) in [
+    for (given, sorted, closed) in &[
         ("k l, l m, m", "k l, l m, m", "k l | m, l m, m"),
         ("m, l m, k l", "k l, l m, m", "k l | m, l m, m"),
         (
@@ -48,7 +44,7 @@ fn chains_are_closed_in_whatever_order_they_stand(rt: HostRuntime) -> Result<(),
 
 #[test]
 fn branches_are_closed(rt: HostRuntime) -> Result<(), Fail> {
-    for (given, closed) in [
+    for (given, closed) in &[
         ("k l n, l m, m, n o, o", "k l n | m o, l m, m, n o, o"),
         (
             "k l p, l m n, m, n o, o r, p q, q o, r",
@@ -71,18 +67,14 @@ fn branches_are_closed(rt: HostRuntime) -> Result<(), Fail> {
 // Whether a graph with a cycle is refused by a cycle where ancestors are computed, and taken where
 // they are not looked at.
 fn goes_round(alloc: Global, given: &str, cycle: &str) -> Result<bool, Fail> {
-    let computed = leaves(alloc, format!(in alloc; "from: {given}")?.as_str(), cycle)?;
-    let taken = leaves(
-        alloc,
-        format!(in alloc; "from assume: {given}")?.as_str(),
-        given,
-    )?;
+    let computed = makes(alloc, "from", given, cycle)?;
+    let taken = makes(alloc, "from assume", given, given)?;
     Ok(computed && taken)
 }
 
 #[test]
 fn cycles_are_refused_wherever_they_lie(rt: HostRuntime) -> Result<(), Fail> {
-    for (given, cycle) in [
+    for (given, cycle) in &[
         ("k l, l l", "cycle l"),
         ("k k l, l m, m", "cycle k"),
         ("k l, l m n, m k, n", "cycle k / cycle l / cycle m"),
@@ -102,7 +94,7 @@ fn cycles_are_refused_wherever_they_lie(rt: HostRuntime) -> Result<(), Fail> {
 
 #[test]
 fn a_closed_cycle_is_refused_by_the_check(rt: HostRuntime) -> Result<(), Fail> {
-    for (given, cycle) in [
+    for (given, cycle) in &[
         ("from enforce: k l, l l", "cycle l"),
         ("from enforce: k k l | m, l m, m", "cycle k"),
         (

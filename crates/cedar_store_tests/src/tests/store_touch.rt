@@ -4,7 +4,7 @@ use std::test::Fail;
 
 #[test]
 fn overwriting_strips_and_repairs_as_the_mode_says(rt: HostRuntime) -> Result<(), Fail> {
-    let table = [
+    let table = &[
         ("from: a b, b c, c; upsert assume: b c", "a b, b c, c"),
         ("from: a b, b c, c; upsert enforce: b c", "missing a b c"),
         ("from: a b, b c, c; upsert: b c", "a b | c, b c, c"),
@@ -38,13 +38,13 @@ fn overwriting_strips_and_repairs_as_the_mode_says(rt: HostRuntime) -> Result<()
         ),
         ("from: a b, b c, c; upsert: b c, b, c a", "a b, b, c a | b"),
     ];
-    assert_eq!(rt; wrong(rt.alloc(), &table)?.as_str(), "");
+    assert_eq!(rt; wrong(rt.alloc(), table)?.as_str(), "");
     Ok(())
 }
 
 #[test]
 fn removal_repairs_in_each_mode(rt: HostRuntime) -> Result<(), Fail> {
-    let table = [
+    let table = &[
         (
             "from: a b c, b d, c d, d; remove assume: b",
             "a c | d, c d, d",
@@ -63,13 +63,13 @@ fn removal_repairs_in_each_mode(rt: HostRuntime) -> Result<(), Fail> {
         ),
         ("from assume: a b, b c, d; remove assume: d", "a b, b c"),
     ];
-    assert_eq!(rt; wrong(rt.alloc(), &table)?.as_str(), "");
+    assert_eq!(rt; wrong(rt.alloc(), table)?.as_str(), "");
     Ok(())
 }
 
 #[test]
 fn what_is_not_touched_stays(rt: HostRuntime) -> Result<(), Fail> {
-    let table = [
+    let table = &[
         ("from assume: x y, y z, d; upsert: d e", "d e, x y, y z"),
         (
             "from assume: x y, y z, d; upsert: d e; add: f",
@@ -86,18 +86,18 @@ fn what_is_not_touched_stays(rt: HostRuntime) -> Result<(), Fail> {
             "x y | q, y z",
         ),
     ];
-    assert_eq!(rt; wrong(rt.alloc(), &table)?.as_str(), "");
+    assert_eq!(rt; wrong(rt.alloc(), table)?.as_str(), "");
     Ok(())
 }
 
 #[test]
 fn an_absent_uid_that_is_added_is_followed(rt: HostRuntime) -> Result<(), Fail> {
-    let table = [
+    let table = &[
         ("from: a x, b a x; add: x y", "a x | y, b a x | y, x y"),
         ("from: a x, b a x; add: x y; remove: x", "a, b a"),
         ("from: a x, b a x; add: x y; remove: x; add: x", "a, b a, x"),
         ("from: a b, b x; add: x y", "a b | x y, b x | y, x y"),
     ];
-    assert_eq!(rt; wrong(rt.alloc(), &table)?.as_str(), "");
+    assert_eq!(rt; wrong(rt.alloc(), table)?.as_str(), "");
     Ok(())
 }

@@ -1,4 +1,5 @@
 // Readers and writers of several buffers, and a writer that sends out at the flush alone.
+use super::store_script::{beside, ended};
 use cedar_store::run;
 use std::alloc::Global;
 use std::io;
@@ -6,37 +7,53 @@ use std::io::{Read, Write};
 use std::test::Fail;
 
 // Adds the fields of the groups 10 to 69, which stand in their order.
-fn push_groups(alloc: Global, text: &mut String) -> Result<(), Fail> {
+fn push_groups(text: &mut String) -> Result<(), Fail> {
     for i in 10..70 {
-        text.push_str(format!(in alloc; "\tGroup::\"g{i}\"")?.as_str())?;
+        write!(text, "\tGroup::\"g{i}\"")?;
     }
     Ok(())
 }
 
-// A user with 60 parents and `n` entities without, built, and the ancestors of the user `n` times.
-fn many(alloc: Global, n: usize) -> Result<String, Fail> {
-    let mut input = String::from_str(alloc, "ent\tUser::\"u\"")?;
-    push_groups(alloc, &mut input)?;
+// Adds `n` entities without parents.
+fn push_users(text: &mut String, n: usize) -> Result<(), Fail> {
     for i in 0..n {
-        input.push_str(format!(in alloc; "\nent\tUser::\"user number {i}\"")?.as_str())?;
+        write!(text, "\nent\tUser::\"user number {i}\"")?;
     }
-    input.push_str("\nbuild\n")?;
-    for _ in 0..n {
-        input.push_str("anc\tUser::\"u\"\n")?;
-    }
-    Ok(input)
+    Ok(())
 }
 
-// What is due for `many`.
-fn due(alloc: Global, n: usize) -> Result<String, Fail> {
-    let count = n.saturating_add(1);
-    let mut output = format!(in alloc; "ok {count}\n")?;
+// Adds a user with 60 parents and `n` entities without, built, and the ancestors of the user `n` times.
+fn push_many(text: &mut String, n: usize) -> Result<(), Fail> {
+    text.push_str("ent\tUser::\"u\"")?;
+    push_groups(text)?;
+    push_users(text, n)?;
+    text.push_str("\nbuild\n")?;
     for _ in 0..n {
-        output.push_str("anc")?;
-        push_groups(alloc, &mut output)?;
-        output.push_str("\n")?;
+        text.push_str("anc\tUser::\"u\"\n")?;
     }
-    Ok(output)
+    Ok(())
+}
+
+// Adds what is due for these.
+fn push_due(text: &mut String, n: usize) -> Result<(), Fail> {
+    let count = n.saturating_add(1);
+    write!(text, "ok {count}\n")?;
+    for _ in 0..n {
+        text.push_str("anc")?;
+        push_groups(text)?;
+        text.push_str("\n")?;
+    }
+    Ok(())
+}
+
+// A user with 60 parents and `n` entities without, and what is due for them.
+fn many(alloc: Global, n: usize) -> Result<(String, String), Fail> {
+    let mut input = String::new(alloc);
+    let added = push_many(&mut input, n);
+    let input = ended(input, added)?;
+    let mut output = String::new(alloc);
+    let added = push_due(&mut output, n);
+    beside(input, ended(output, added))
 }
 
 // A reader that gives at most `most` bytes at a read.
@@ -55,23 +72,33 @@ impl Read for Slow<'_> {
     }
 }
 
+// Whether more than an input's and an output's buffer are read and written whole, so many bytes at a read.
+fn is_whole(alloc: Global, input: &str, want: &str, most: usize) -> bool {
+    let mut reader = Slow {
+        left: input.as_bytes(),
+        most,
+    };
+    let mut out = Vec::new(alloc);
+    let status = run(alloc, &mut reader, &mut out);
+    let told = matches!(status, Ok(0)) && out.as_slice() == want.as_bytes();
+    drop(out);
+    told && input.len() > 32768 && want.len() > 65536
+}
+
+// The same of 800 entities.
+fn many_are_whole(alloc: Global, most: usize) -> Result<bool, Fail> {
+    let (input, want) = many(alloc, 800)?;
+    let told = is_whole(alloc, &input, &want, most);
+    drop(input);
+    drop(want);
+    Ok(told)
+}
+
 #[test]
 fn inputs_and_outputs_of_several_buffers_are_whole(rt: HostRuntime) -> Result<(), Fail> {
-    let alloc = rt.alloc();
     // Three bytes, one byte, and as much as the buffer takes.
     for most in [3, 1, usize::MAX] {
-        let input = many(alloc, 800)?;
-        assert!(rt; input.len() > 32768);
-        let want = due(alloc, 800)?;
-        assert!(rt; want.len() > 65536);
-        let mut reader = Slow {
-            left: input.as_bytes(),
-            most,
-        };
-        let mut out = Vec::new(alloc);
-        let status = run(alloc, &mut reader, &mut out)?;
-        assert_eq!(rt; status, 0);
-        assert!(rt; out.as_slice() == want.as_bytes(), "by {most} bytes a read");
+        assert!(rt; many_are_whole(rt.alloc(), most)?, "by {most} bytes a read");
     }
     Ok(())
 }
@@ -100,19 +127,31 @@ impl Write for Kept {
     }
 }
 
-#[test]
-fn the_flush_comes_after_the_last_byte(rt: HostRuntime) -> Result<(), Fail> {
-    let alloc = rt.alloc();
-    let input = many(alloc, 3)?;
-    let want = due(alloc, 3)?;
+// Whether all is sent at the flush, and nothing is kept then.
+fn is_sent(alloc: Global, input: &str, want: &str) -> bool {
     let mut reader = input.as_bytes();
     let mut writer = Kept {
         kept: Vec::new(alloc),
         sent: Vec::new(alloc),
     };
-    let status = run(alloc, &mut reader, &mut writer)?;
-    assert_eq!(rt; status, 0);
-    assert!(rt; writer.sent.as_slice() == want.as_bytes());
-    assert!(rt; writer.kept.is_empty());
+    let status = run(alloc, &mut reader, &mut writer);
+    let told = matches!(status, Ok(0)) && writer.sent.as_slice() == want.as_bytes();
+    let kept = writer.kept.is_empty();
+    drop(writer);
+    told && kept
+}
+
+// The same of three entities.
+fn three_are_sent(alloc: Global) -> Result<bool, Fail> {
+    let (input, want) = many(alloc, 3)?;
+    let told = is_sent(alloc, &input, &want);
+    drop(input);
+    drop(want);
+    Ok(told)
+}
+
+#[test]
+fn the_flush_comes_after_the_last_byte(rt: HostRuntime) -> Result<(), Fail> {
+    assert!(rt; three_are_sent(rt.alloc())?);
     Ok(())
 }

@@ -407,10 +407,10 @@ fn refused_for(alloc: Global, made: Option<Expr>, want: &str) -> bool {
 #[test]
 fn four_functions_are_known(rt: HostRuntime) {
     let alloc = rt.alloc();
-    for known in ["ip", "decimal", "datetime", "duration"] {
+    for known in &["ip", "decimal", "datetime", "duration"] {
         assert!(rt; refused_for(alloc, call(alloc, known), ""), "{known}");
     }
-    for other in ["f", "i", "ipp", "Ip", "A::ip", "ip::decimal2", "durations"] {
+    for other in &["f", "i", "ipp", "Ip", "A::ip", "ip::decimal2", "durations"] {
         assert!(rt; refused_for(alloc, call(alloc, other), other), "{other}");
     }
     assert!(rt; refused_for(alloc, two_is_not_one(alloc), ""));

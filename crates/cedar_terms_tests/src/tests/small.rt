@@ -147,10 +147,10 @@ fn unknowns_are_told_apart_by_name_and_type(rt: HostRuntime) {
 
 #[test]
 fn three_keys_are_reserved(rt: HostRuntime) {
-    for key in ["__extn", "__expr", "__entity"] {
+    for key in &["__extn", "__expr", "__entity"] {
         assert!(rt; is_reserved_key(key), "{key}");
     }
-    for key in ["", "extn", "__ext", "__extn_", "__Expr", "ordinary", "é"] {
+    for key in &["", "extn", "__ext", "__extn_", "__Expr", "ordinary", "é"] {
         assert!(rt; !is_reserved_key(key), "{key}");
     }
 }
