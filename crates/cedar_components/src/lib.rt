@@ -43,8 +43,11 @@ pub struct Reached {
 
 /// Finds what each of the numbers below `count` reaches over one or more arcs, where the arc at
 /// place `k` leads from `from[k]` to `to[k]`. A number reaches itself only where it lies on a
-/// cycle. Each list comes in the order that `order` has, which are the numbers below `count`, each
-/// once; no clause says so, and no member depends on it.
+/// cycle. Each list comes in the order that `order` has; no clause says so, and no member depends
+/// on it.
+///
+/// `from` and `to` have to be equally long, with numbers below `count` alone, and `order` has to have
+/// each number below `count` once.
 ///
 /// Takes memory for lists in the number of numbers and arcs, and for the lists of what is reached;
 /// refused only where that is. Looks at each arc a few times, copies the list of a component once

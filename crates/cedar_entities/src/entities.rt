@@ -521,8 +521,9 @@ impl Entities {
     ///
     /// An indirect ancestor that an entity was given with counts as one that it has. What is touched is what
     /// was inserted, and what has one of that among its ancestors; the others stay as they are in every mode.
-    /// It takes memory. It looks up each entity of the list once and walks over the store once, with up to 16
-    /// looks an entity or one for each of its ancestors; then it closes what is touched, or checks the whole.
+    /// It takes memory. It looks up each entity of the list a few times and walks over the store once, with up to
+    /// 16 looks an entity or one for each of its ancestors; then it closes what is touched, or checks the whole.
+    /// A store without entities is not walked, and is closed as a whole.
     pub fn add_entities(
         self,
         alloc: Global,

@@ -31,8 +31,8 @@ use std::marker::Model;
 ///
 /// `==` and the hash look at the uid alone; [`Entity::deep_eq`] looks at the rest too.
 ///
-/// A key is looked up in the logarithm of the number of keys, and a uid by its hash. The iterators
-/// give references and copy nothing.
+/// A key is looked up in the logarithm of the number of keys. A uid is looked for among at most sixteen one by
+/// one, and among more in the logarithm of their number. The iterators give references and copy nothing.
 #[derive(Debug, Drop)]
 pub struct Entity {
     uid: EntityUID,
@@ -183,8 +183,8 @@ impl Entity {
     /// An entity with these attributes and tags, indirect ancestors and parents. Of several pairs with one
     /// key the last counts. Whether parents and indirect ancestors are apart is not looked at.
     ///
-    /// It takes memory, and is refused only where that is; it looks a key up for each pair. Room that the
-    /// parents do not need is given back.
+    /// It takes memory, and is refused only where that is; it looks a key up for each pair, and sorts the
+    /// uids of both sets.
     pub fn new_with_attr_partial_value(
         alloc: Global,
         uid: EntityUID,
@@ -294,28 +294,28 @@ impl Entity {
         self.tags.len()
     }
 
-    /// Whether a uid is a parent. It takes no memory.
+    /// Whether a uid is a parent: one look-up. It takes no memory.
     pub fn is_child_of(&self, other: &EntityUID) -> bool
         ensures { result ≡ set.contains self.now.parents other.now }
     {
         self.parents.contains(other)
     }
 
-    /// Whether a uid is an indirect ancestor. It takes no memory.
+    /// Whether a uid is an indirect ancestor: one look-up. It takes no memory.
     pub fn is_indirect_descendant_of(&self, other: &EntityUID) -> bool
         ensures { result ≡ set.contains self.now.indirect other.now }
     {
         self.indirect_ancestors.contains(other)
     }
 
-    /// Whether a uid is an ancestor: a parent or an indirect one. It takes no memory.
+    /// Whether a uid is an ancestor, a parent or an indirect one: at most two look-ups. It takes no memory.
     pub fn is_descendant_of(&self, other: &EntityUID) -> bool
         ensures { result ≡ has_ancestor self.now other.now }
     {
         self.is_child_of(other) || self.is_indirect_descendant_of(other)
     }
 
-    /// The same of a uid that is shared, which costs less.
+    /// The same of a uid that is shared, which costs less. It takes no memory.
     pub fn is_descendant_of_shared(&self, other: &SharedUid) -> bool
         ensures { result ≡ has_ancestor self.now other.now }
     {
@@ -572,7 +572,8 @@ impl Entity {
         self.fault().is_none()
     }
 
-    /// The entity as it is, where [`Entity::validate`] finds nothing, and else its error.
+    /// The entity as it is, where [`Entity::validate`] finds nothing, and else its error; the entity is let go
+    /// then. It takes memory as that does.
     pub fn try_validate(self, alloc: Global) -> Result<Entity, EntitiesError>
         ensures ok { IfOk result (λ e. (e ≡ self) × IsValid self) }
         ensures err { IfErr result (IsFault self) }
@@ -652,7 +653,7 @@ impl Entity {
         self.indirect_ancestors.remove(uid);
     }
 
-    /// The same of a uid that is shared, which costs less.
+    /// The same of a uid that is shared, which costs less. It takes no memory.
     pub fn remove_shared_ancestor(&mut self, shared: &SharedUid)
         ensures { self.new ≡ record self.old { indirect = set.remove self.old.indirect shared.now } }
     {
@@ -666,7 +667,7 @@ impl Entity {
         self.parents.remove(uid);
     }
 
-    /// The same of a uid that is shared, which costs less.
+    /// The same of a uid that is shared, which costs less. It takes no memory.
     pub fn remove_shared_parent(&mut self, shared: &SharedUid)
         ensures { self.new ≡ record self.old { parents = set.remove self.old.parents shared.now } }
     {

@@ -17,7 +17,7 @@ pub enum EntitiesError {
     /// Two versions of an entity differ by `Entity::deep_eq`.
     #[error("duplicate entity `{0}`")]
     Duplicate(EntityUID),
-    /// The closure of the store was refused. Want of memory is never told here by a call of this crate.
+    /// The closure of the store was refused. Want of memory is never told here by a call on the store.
     #[error("{0}")]
     TransitiveClosureError(TcError<EntityUID>),
     /// The entity is among its own ancestors.

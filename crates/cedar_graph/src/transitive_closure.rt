@@ -1,4 +1,4 @@
-//! Nodes with edges, and the three closure calls over a map of them.
+//! Nodes with edges, and the closure calls over a map of them.
 ghost use Rattle.std.specs.Prelude.{
   ◌≡◌,
   Bool,
@@ -244,8 +244,8 @@ pub fn compute_tc<K: Clone + Eq + Hash + Debug + Display, V: TCNode<K>>(
     Ok(())
 }
 
-/// As [`compute_tc`], and counts: lists the edges of each node at most once, and visits each node
-/// at most twice. The counts stay at `usize::MAX` once there.
+/// As [`compute_tc`], and counts: at most as many listings of edges as the map has nodes, and at
+/// most twice as many visits. The counts stay at `usize::MAX` once there.
 ///
 /// The original counts nothing.
 #[tactic(auto, using(crate::specs::NodeLaws::keys_match_kept, crate::proofs::Reaches::no_cycle_where_asked))]
@@ -344,8 +344,8 @@ pub fn repair_tc<K: Clone + Eq + Hash + Debug + Display, V: TCNode<K>>(
     Ok(())
 }
 
-/// As [`repair_tc`], and counts: visits each key of `nodes_to_fix` that the map has at least once
-/// and at most twice. The counts stay at `usize::MAX` once there.
+/// As [`repair_tc`], and counts: at most twice as many visits as `nodes_to_fix` has keys, and at
+/// least as many as it has where the map has all of them. The counts stay at `usize::MAX` once there.
 ///
 /// The original counts nothing.
 #[tactic(auto, using(crate::specs::NodeLaws::keys_match_kept))]

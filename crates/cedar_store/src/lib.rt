@@ -1,5 +1,5 @@
-//! The store layer of the Cedar authorization language: one crate with every public name of the layers below it,
-//! and the program over them.
+//! The store layer of the Cedar authorization language: one crate with the public names of the layers below it, but
+//! for some helpers, and the program over them.
 //!
 //! The names stand at the original's module paths: [`ast`] has ids, values, expressions, entities, templates, policies
 //! and their sets, [`entities`] the store, [`transitive_closure`] the closure calls. Beside them are this project's own:

@@ -106,9 +106,10 @@ fn run_by<R: Read, W: Write>(
 /// `Read` comes where a read failed and `Memory` where a growth was refused, and then nothing was written;
 /// `Write` comes where the write or the flush failed.
 ///
-/// Takes memory. Reading and writing take time linear in the input and the output; each line that changes the
-/// store takes that of the closure of the whole store besides, and `anc` the sorting of the ancestors that it
-/// writes. The program is this project's own.
+/// Takes memory. Reading and writing take time linear in the input and the output. Besides, `build` closes the
+/// whole store; `add`, `upsert` and `remove` walk over the store and close what they touch; `anc` sorts the
+/// ancestors that it writes; and a line on policy sets costs what the call on the set does. The program is this
+/// project's own.
 pub fn run<R: Read, W: Write>(alloc: Global, reader: &mut R, writer: &mut W) -> Result<u8, RunError>
     // Where the reader and the writer tell their bytes, what was written is the output of what was read,
     // and so is the status.

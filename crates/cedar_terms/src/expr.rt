@@ -124,7 +124,7 @@ impl Expr {
         Ok(Expr::of(ExprKind::Slot(id)))
     }
 
-    /// The expression of an unknown.
+    /// The expression of an unknown. Takes memory, and is refused only where that is.
     pub fn unknown(alloc: Global, unknown: Unknown) -> Result<Expr, AllocError>
         ensures { IfOk result (λ e. e ≡ unknown_node unknown) }
     {
@@ -132,7 +132,7 @@ impl Expr {
         Ok(Expr::of(ExprKind::Unknown(unknown)))
     }
 
-    /// The set of some expressions, in the order given.
+    /// The set of some expressions, in the order given. Takes memory, and is refused only where that is.
     pub fn set(alloc: Global, exprs: Vec<Expr>) -> Result<Expr, AllocError>
         ensures { IfOk result (λ e. e ≡ set_node (expr_trees exprs.items)) }
     {
@@ -140,8 +140,8 @@ impl Expr {
         Ok(Expr::of(ExprKind::Set(exprs)))
     }
 
-    /// The call of an extension function on some arguments. The original calls this
-    /// `call_extension_fn`.
+    /// The call of an extension function on some arguments. Takes memory, and is refused only where
+    /// that is. The original calls this `call_extension_fn`.
     pub fn call(alloc: Global, name: Name, args: Vec<Expr>) -> Result<Expr, AllocError>
         ensures { IfOk result (λ e. e ≡ call_node name (expr_trees args.items)) }
     {
@@ -149,7 +149,7 @@ impl Expr {
         Ok(Expr::of(ExprKind::Call(name, args)))
     }
 
-    /// That an expression does not hold.
+    /// That an expression does not hold. Takes memory, and is refused only where that is.
     pub fn not(alloc: Global, operand: Expr) -> Result<Expr, AllocError>
         ensures { IfOk result (λ e. e ≡ not_node operand) }
     {
@@ -157,28 +157,29 @@ impl Expr {
         Ok(Expr::of(ExprKind::Not(operand)))
     }
 
-    /// That both expressions hold. It always makes a node of its own.
+    /// That both expressions hold: always a node of its own. Takes memory, and is refused only where
+    /// that is.
     pub fn and(alloc: Global, left: Expr, right: Expr) -> Result<Expr, AllocError>
         ensures { IfOk result (λ e. e ≡ and_node left right) }
     {
         Expr::binary(alloc, BinaryOp::And, left, right)
     }
 
-    /// That two expressions are equal.
+    /// That two expressions are equal. Takes memory, and is refused only where that is.
     pub fn is_eq(alloc: Global, left: Expr, right: Expr) -> Result<Expr, AllocError>
         ensures { IfOk result (λ e. e ≡ eq_node left right) }
     {
         Expr::binary(alloc, BinaryOp::Eq, left, right)
     }
 
-    /// That the first expression is in the second.
+    /// That the first expression is in the second. Takes memory, and is refused only where that is.
     pub fn is_in(alloc: Global, left: Expr, right: Expr) -> Result<Expr, AllocError>
         ensures { IfOk result (λ e. e ≡ in_node left right) }
     {
         Expr::binary(alloc, BinaryOp::In, left, right)
     }
 
-    /// That an expression is of an entity type.
+    /// That an expression is of an entity type. Takes memory, and is refused only where that is.
     pub fn is_entity_type(alloc: Global, operand: Expr, ty: EntityType) -> Result<Expr, AllocError>
         ensures { IfOk result (λ e. e ≡ is_node operand (type_name ty)) }
     {

@@ -2,7 +2,7 @@
 //!
 //! A [`SharedUid`] is a uid behind a counted pointer, and contracts see the uid. A [`UidSet`] holds such pointers
 //! in the order of the uids, each uid once, and contracts see a finite set of uids. So a set costs a pointer a uid,
-//! a copy of it copies no uid, and a look-up is a binary search.
+//! a copy of it copies no uid, and a look-up among more than sixteen uids is a binary search.
 //!
 //! Proved: each call of both types as a step on the uid or on the finite set, and that a `HashMap` with shared
 //! uids as its keys is looked up by a plain one.

@@ -49,7 +49,7 @@ impl SharedUid {
         self.0.uid()
     }
 
-    /// The uid: a copy where it is still shared.
+    /// The uid: a copy where it is still shared, which takes memory, and is refused only where that is.
     pub fn into_uid(self) -> Result<EntityUID, AllocError>
         ensures { IfOk result (λ u. u ≡ self) }
     {

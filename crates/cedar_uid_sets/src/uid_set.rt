@@ -198,8 +198,8 @@ impl UidSet {
         self.uids.clear();
     }
 
-    /// Keeps the uids at which the closure answers `true`. It is asked of each once, from the least up. It takes no
-    /// memory.
+    /// Keeps the uids at which the closure answers `true`. It is asked of each once, from the least up, and may have
+    /// no condition of its own. It takes no memory.
     pub fn retain<F: FnMut(&SharedUid) -> bool>(&mut self, f: F)
         requires { F.IsAlwaysCallable f }
         ensures { Retains (CalledAt F.FnMut) f self.old self.new }
