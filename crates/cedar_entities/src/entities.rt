@@ -203,8 +203,7 @@ fn shared_all(alloc: Global, list: Vec<Entity>) -> Result<Vec<Rc<Entity>>, Alloc
 // Checks that the ancestors are closed and that no entity is its own.
 fn check(alloc: Global, entities: &HashMap<SharedUid, SharedEntity>) -> Result<(), EntitiesError>
     requires { UidsMatch entities.now }
-    ensures ok { OnOk result ((held_map entities.now ≡ held_map entities.now)
-        × IsSound (held_map entities.now)) }
+    ensures ok { OnOk result (IsSound (held_map entities.now)) }
     ensures err { IfErr result (λ e. MatchRefusal e (λ _. ⊥)
         (IsClosureRefused EnforceAlreadyComputed (held_map entities.now))) }
 {

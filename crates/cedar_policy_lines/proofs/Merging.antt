@@ -8,8 +8,8 @@ use Rattle.cedar_policy_set.specs.declared.err.PolicySetError.{PolicySetError}
 use Rattle.cedar_policy_set.specs.declared.err.PolicySetError.TheVariants.{Occupied, Memory}
 use Rattle.cedar_policy_lines.specs.Boards.{Boards, with_current}
 use Rattle.cedar_policy_lines.specs.PolicyCommand.{Merge}
-use Rattle.cedar_policy_lines.specs.PolicyOutput.{merged_line, refused_line}
-use Rattle.cedar_policy_lines.specs.laws.Machines.{SaidMerged, Takes}
+use Rattle.cedar_policy_lines.specs.PolicyOutput.{merged_line, refused_line, Takes}
+use Rattle.cedar_policy_lines.specs.laws.Machines.{SaidMerged}
 
 pub merge_takes : {A : Type 0} (entries : A → List (List ℕ × List ℕ)) (r : Result A PolicySetError) (rename : Bool) (old : Boards) (now : Board) (before after : List ℕ)
     → sets.Merges entries r old.current old.aside rename now → SaidMerged entries r before after → Takes (Merge rename) old (with_current old now) before after

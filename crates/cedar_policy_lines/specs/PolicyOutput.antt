@@ -114,3 +114,7 @@ PolicyGives (Unlink i) old new out = TakesOut (unlink_step old.current i) i old 
 PolicyGives Other old new out = (new ≡ swapped old) × (out ≡ ok_line)
 PolicyGives (Merge rename) old new out = Merges rename old new out
 PolicyGives Ids old new out = (new ≡ old) × (out ≡ ids_lines old.current)
+
+-- a command makes these boards of those, and adds what it writes
+abbrev pub Takes : PolicyCommand → Boards → Boards → List ℕ → List ℕ → Type 0
+Takes c old new before after = (text : List ℕ) × PolicyGives c old new text × (after ≡ before ++ text)

@@ -5,7 +5,8 @@ ghost use Rattle.cedar_ids.specs.UidOf.{uid_parts};
 ghost use Rattle.cedar_terms.specs.declared.slot.SlotId.TheVariants.{Principal, Resource};
 ghost use Rattle.cedar_binding.specs.Views.{env_of};
 ghost use Rattle.cedar_policy_lines.specs.PolicyCommand.{only, one_bound, two_bound, bindings_of, static_line, template_line, link_line, unlink_line, merge_line, bare_line, command_by, policy_command, Other, Ids};
-ghost use Rattle.cedar_policy_lines.specs.laws.Lines.{command_of, bound_more};
+ghost use Rattle.cedar_policy_lines.specs.PolicyLines.{command_of};
+ghost use Rattle.cedar_policy_lines.specs.laws.Lines.{bound_more};
 
 use crate::field::{binding_of, effect_of, renaming_of, slots_of};
 use cedar_binding::no_bindings;

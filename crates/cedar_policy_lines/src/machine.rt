@@ -3,8 +3,8 @@ ghost use Rattle.std.specs.Prelude.{◌≡◌, OnOk};
 ghost use Rattle.cedar_binding.specs.Views.{env_of};
 ghost use Rattle.cedar_policy_lines.specs.Boards.{no_boards};
 ghost use Rattle.cedar_policy_lines.specs.PolicyCommand.{Static as static_command, Template as template_command, Link as link_command, Unlink as unlink_command, Other as other_command, Merge as merge_command, Ids as ids_command};
-ghost use Rattle.cedar_policy_lines.specs.laws.Lines.{command_of};
-ghost use Rattle.cedar_policy_lines.specs.laws.Machines.{Takes};
+ghost use Rattle.cedar_policy_lines.specs.PolicyLines.{command_of};
+ghost use Rattle.cedar_policy_lines.specs.PolicyOutput.{Takes};
 
 use crate::lines::PolicyLine;
 use crate::making::{link, static_policy, template};

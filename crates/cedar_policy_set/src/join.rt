@@ -4,10 +4,10 @@ ghost use Rattle.cedar_body.specs.BodyEquality.{same_body};
 ghost use Rattle.cedar_body.specs.Bodies.{body_slots};
 ghost use Rattle.cedar_binding.specs.Checks.{Binds};
 ghost use Rattle.cedar_binding.specs.Views.{env_of};
-ghost use Rattle.cedar_policy_set.specs.Boards.{empty_board, bound_at, without, Template as template_binding};
+ghost use Rattle.cedar_policy_set.specs.Boards.{empty_board, bound_at, without, CanJoinBoth, Template as template_binding};
 ghost use Rattle.cedar_policy_set.specs.Refusals.{IsRefusal, Steps, Makes, told_by_set, told_by_linking};
 ghost use Rattle.cedar_policy_set.specs.Steps.{add_static_step, add_template_step, add_step, link_onto, link_step, add_then};
-ghost use Rattle.cedar_policy_set.specs.laws.Joins.{CanJoinBoth, HasNoTemplate, Stands, StandsThere};
+ghost use Rattle.cedar_policy_set.specs.laws.Joins.{HasNoTemplate, Stands, StandsThere};
 
 use crate::err::PolicySetError;
 use crate::found::Found;

@@ -29,7 +29,7 @@ use Rattle.cedar_entities.specs.laws.Worlds.{get_added, get_overwritten, get_del
 use Rattle.cedar_policy_lines.specs.Boards.{Boards}
 use Rattle.cedar_policy_lines.specs.PolicyCommand.{PolicyCommand}
 use Rattle.cedar_policy_lines.specs.PolicyOutput.{PolicyGives}
-use Rattle.cedar_policy_lines.specs.laws.Machines as policies
+use Rattle.cedar_policy_lines.specs.PolicyOutput as policies
 use Rattle.cedar_store.specs.Output.{State, Adds, Overwrites, AreAncestors, ShowsAncestors, count_line, written_line, uid_text, field_of}
 use Rattle.cedar_store.specs.laws.Machines.{IsAsciiUid, IsAsciiGiven, IsAsciiWorld, AreAsciiUids, Refused, Holds, Takes, HasAsciiUids, Settles, waits}
 use Rattle.cedar_store.specs.Command.{Command, Nothing, Ent, Build, Add, Upsert, Remove, Anc, Policy, AreTexts, IsCommand}

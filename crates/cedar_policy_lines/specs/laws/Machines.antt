@@ -3,9 +3,7 @@ use Rattle.std.specs.Prelude.{◌≡◌, ℕ, List, ◌++◌, Option, Some, None
 use Rattle.cedar_policy_set.specs.declared.err.PolicySetError.{PolicySetError}
 use Rattle.cedar_policy_set.specs.Refusals.{told_by_set}
 use Rattle.cedar_policy_set.specs.Steps.{Refusal}
-use Rattle.cedar_policy_lines.specs.Boards.{Boards}
-use Rattle.cedar_policy_lines.specs.PolicyCommand.{PolicyCommand}
-use Rattle.cedar_policy_lines.specs.PolicyOutput.{PolicyGives, written_line, ok_line, merged_line, refused_line}
+use Rattle.cedar_policy_lines.specs.PolicyOutput.{written_line, ok_line, merged_line, refused_line}
 
 -- that a call was refused, by words and an id
 abbrev pub refused_with : List ℕ → List ℕ → List ℕ
@@ -25,7 +23,3 @@ Said told (Err e) old new = SaidBy (told e) old new
 abbrev pub SaidMerged : {A : Type 0} → (A → List (List ℕ × List ℕ)) → Result A PolicySetError → List ℕ → List ℕ → Type 0
 SaidMerged entries (Ok a) old new = new ≡ old ++ merged_line (entries a)
 SaidMerged entries (Err e) old new = SaidBy (told_by_set e) old new
-
--- a command makes these boards of those, and adds what it writes
-abbrev pub Takes : PolicyCommand → Boards → Boards → List ℕ → List ℕ → Type 0
-Takes c old new before after = (text : List ℕ) × PolicyGives c old new text × (after ≡ before ++ text)

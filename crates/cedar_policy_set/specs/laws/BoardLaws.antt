@@ -18,11 +18,11 @@ use Rattle.cedar_binding.specs.declared.err.LinkingError.TheVariants as links
 use Rattle.cedar_binding.specs.laws.Fits.{fits, nothing_left_over}
 use Rattle.cedar_terms.specs.declared.slot.SlotId.{SlotId}
 use Rattle.cedar_policy.specs.Policies.{PolicyParts, policy_id}
-use Rattle.cedar_policy_set.specs.Boards.{Board, Binding, Static, Template, Link, bound_at, bound_among, is_bound, is_body_at, is_policy_at, links_to, has_links, policy_binding, binding_by, with_template, with_policy, with_both, without, IsHeldBy, IsHeld, AreHeld, IsBoard}
+use Rattle.cedar_policy_set.specs.Boards.{Board, Binding, Static, Template, Link, bound_at, bound_among, is_bound, is_body_at, is_policy_at, links_to, has_links, policy_binding, binding_by, with_template, with_policy, with_both, without, CanJoinBoth, CanJoinBothBy, IsHeldBy, IsHeld, AreHeld, IsBoard}
 use Rattle.cedar_policy_set.specs.Refusals.{IsRefusal, told_by_linking}
 use Rattle.cedar_policy_set.specs.Steps.{Refusal, arity, no_such_template, add_by, add_link_at, fitting, link_at, linked_at, get_linked_step}
 use Rattle.cedar_policy_set.specs.Lists.{ids_in}
-use Rattle.cedar_policy_set.specs.laws.Joins.{CanJoin, CanJoinBy, CanJoinBoth, CanJoinBothBy, HasNoTemplate, Stands}
+use Rattle.cedar_policy_set.specs.laws.Joins.{CanJoin, CanJoinBy, HasNoTemplate, Stands}
 use Rattle.cedar_policy_set.specs.laws.OnceLaws.{once_more, once-push, once-filter, filter_none, any-filter_none, none_is, find-unless, find-push, find-filter, found_passes}
 
 abbrev body_id : BodyParts → List ℕ

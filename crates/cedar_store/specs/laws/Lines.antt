@@ -1,6 +1,6 @@
 -- What the program's line holds, as the command that it is.
 pub use Rattle.cedar_policy_lines.specs.Reads.{ReadsAs}
-use Rattle.cedar_policy_lines.specs.laws.Lines as policies
+use Rattle.cedar_policy_lines.specs.PolicyLines as policies
 use Rattle.cedar_store.specs.Command.{Command, Nothing, Ent, Build, Add, Upsert, Remove, Anc, Policy}
 use Rattle.cedar_store.specs.declared.line.Line.{Line}
 use Rattle.cedar_store.specs.declared.line.Line.TheVariants as lines

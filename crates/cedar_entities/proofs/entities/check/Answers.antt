@@ -1,4 +1,3 @@
-use Rattle.std.proofs.Common.{refl}
 use Rattle.cedar_entities.proofs.Closures.{closed_seen, closed_told, refused_as}
 use Rattle.cedar_entities.proofs.entities.check.Goals as goal
 
@@ -8,4 +7,4 @@ returns-in_err-enforce_tc_and_dag-clause-err c =
     (closed_told c.args.entities.now c.in_err-enforce_tc_and_dag.field-0.0 c.in_err-enforce_tc_and_dag.ensures.err)
 
 pub returns-clause-ok : goal.returns-clause-ok
-returns-clause-ok c = (refl, closed_seen c.args.entities.now c.in_ok-enforce_tc_and_dag.ensures.ok)
+returns-clause-ok c = closed_seen c.args.entities.now c.in_ok-enforce_tc_and_dag.ensures.ok
