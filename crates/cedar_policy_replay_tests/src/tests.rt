@@ -1,13 +1,13 @@
 // Lists of calls: worked rows, and each kind of call with and without a refusal.
 mod script;
 
-use script::wrong;
+use script::tells;
 use std::test::Fail;
 
 #[test]
 fn ids_that_conflict_are_renamed_or_refused(rt: HostRuntime) -> Result<(), Fail> {
     let alloc = rt.alloc();
-    let table = [
+    let table = &[
         (
             "static policy1; static policy2",
             "static policy0; forbid policy1; keep",
@@ -19,38 +19,35 @@ fn ids_that_conflict_are_renamed_or_refused(rt: HostRuntime) -> Result<(), Fail>
             "ok; ok; policy1 to policy3; unable to unlink policy id `x` because it does not exist | policy0 policy1 policy3 policy2 | policy0 policy1 policy3 policy2",
         ),
     ];
-    assert_eq!(rt; wrong(alloc, &table)?.as_str(), "");
-    Ok(())
+    tells(alloc, table)
 }
 
 #[test]
 fn a_template_with_links_stays(rt: HostRuntime) -> Result<(), Fail> {
     let alloc = rt.alloc();
-    let table = [(
+    let table = &[(
         "",
         "template t; link t l x; link t m y; remove_static l; remove_template t; unlink l; remove_template t; unlink m; remove_template t",
         "ok; ok; ok; unable to remove static policy id `l` from template list because it does not exist; unable to remove template id `t` from template list because it still has active links; l; unable to remove template id `t` from template list because it still has active links; m; t | |",
     )];
-    assert_eq!(rt; wrong(alloc, &table)?.as_str(), "");
-    Ok(())
+    tells(alloc, table)
 }
 
 #[test]
 fn equal_bindings_merge_into_one(rt: HostRuntime) -> Result<(), Fail> {
     let alloc = rt.alloc();
-    let table = [(
+    let table = &[(
         "template t; link t l x; link t m y",
         "template t; link t l x; keep; remove_template t",
         "ok; ok; merged; unable to remove template id `t` from template list because it still has active links | t | l m",
     )];
-    assert_eq!(rt; wrong(alloc, &table)?.as_str(), "");
-    Ok(())
+    tells(alloc, table)
 }
 
 #[test]
 fn each_call_answers_in_its_turn(rt: HostRuntime) -> Result<(), Fail> {
     let alloc = rt.alloc();
-    let table = [
+    let table = &[
         ("", "", " | |"),
         (
             "",
@@ -58,6 +55,5 @@ fn each_call_answers_in_its_turn(rt: HostRuntime) -> Result<(), Fail> {
             "ok; duplicate template or policy id `a`; ok; duplicate template or policy id `a`; duplicate template or policy id `a`; ok; failed to find a template with id `a`; ok; template-linked policy id `l` conflicts with an existing policy id; a; unable to remove static policy id `a` from link list because it does not exist | b t | b l",
         ),
     ];
-    assert_eq!(rt; wrong(alloc, &table)?.as_str(), "");
-    Ok(())
+    tells(alloc, table)
 }

@@ -1,6 +1,9 @@
 // Lists of calls by short texts, parted by semicolons: `static a`, `forbid a`, `template t`, `add a`, `link t l x`,
 // `unlink l`, `remove_static a`, `remove_template t`, and `keep` or `rename` to merge the other set in. A static policy
 // has no constraint and no clause, a template is one on the principal's slot, and a link binds that to a uid of type `A`.
+//
+// No function holds a set, a policy, a call or an answer over a step that may fail, and none leaves one to the end of its
+// body: what is at hand goes to `beside` or `kept`, or is let go by a written `drop`.
 use cedar_ids::entity::EntityUID;
 use cedar_ids::policy_id::PolicyID;
 use cedar_policy::{Effect, Policy, SlotEnv, StaticPolicy, Template};
@@ -15,6 +18,34 @@ use std::fmt::Display;
 use std::mem;
 use std::test::Fail;
 
+// Both of two things, where the other could be made too; else the one is let go.
+fn beside<A: Drop, B>(one: A, other: Result<B, Fail>) -> Result<(A, B), Fail> {
+    match other {
+        Ok(other) => Ok((one, other)),
+        Err(fail) => {
+            drop(one);
+            Err(fail)
+        }
+    }
+}
+
+// A thing, where what was done with it went well; else it is let go.
+fn kept<A: Drop, B: Drop>(one: A, done: Result<B, Fail>) -> Result<A, Fail> {
+    match done {
+        Ok(_) => Ok(one),
+        Err(fail) => {
+            drop(one);
+            Err(fail)
+        }
+    }
+}
+
+// Puts a thing last, if it could be made.
+fn put<T: Drop>(all: &mut Vec<T>, one: Result<T, Fail>) -> Result<(), Fail> {
+    all.push(one?)?;
+    Ok(())
+}
+
 fn id_of(alloc: Global, text: &str) -> Result<PolicyID, Fail> {
     Ok(PolicyID::from_smolstr(String::from_str(alloc, text)?))
 }
@@ -25,7 +56,7 @@ fn template_of(
     effect: Effect,
     principal: PrincipalConstraint,
 ) -> Result<Template, Fail> {
-    let id = id_of(alloc, text)?;
+    let (principal, id) = beside(principal, id_of(alloc, text))?;
     let template = Template::new(
         alloc,
         id,
@@ -45,23 +76,32 @@ fn static_of(alloc: Global, text: &str, effect: Effect) -> Result<StaticPolicy, 
     Ok(StaticPolicy::try_from(template)?)
 }
 
-fn values_of(alloc: Global, eid: &str) -> Result<SlotEnv, Fail> {
+// Binds the principal's slot.
+fn bind(alloc: Global, values: &mut SlotEnv, eid: &str) -> Result<(), Fail> {
     let value = EntityUID::with_eid_and_type(alloc, "A", eid)?;
-    let mut values = HashMap::new(alloc);
     drop(values.insert(SlotId::Principal, value)?);
-    Ok(values)
+    Ok(())
 }
 
-fn link_of(alloc: Global, text: &str) -> Result<PolicyCall, Fail> {
+fn values_of(alloc: Global, eid: &str) -> Result<SlotEnv, Fail> {
+    let mut values = HashMap::new(alloc);
+    let done = bind(alloc, &mut values, eid);
+    kept(values, done)
+}
+
+fn static_call(alloc: Global, text: &str, effect: Effect) -> Result<PolicyCall, Fail> {
+    Ok(PolicyCall::AddStatic(static_of(alloc, text, effect)?))
+}
+
+fn link_call(alloc: Global, text: &str) -> Result<PolicyCall, Fail> {
     let (template, rest) = text.split_once(' ').unwrap_or((text, ""));
     let (id, eid) = rest.split_once(' ').unwrap_or((rest, ""));
-    let template = id_of(alloc, template)?;
-    let id = id_of(alloc, id)?;
-    let values = values_of(alloc, eid)?;
+    let named = beside(id_of(alloc, template)?, id_of(alloc, id))?;
+    let ((template, id), values) = beside(named, values_of(alloc, eid))?;
     Ok(PolicyCall::Link(template, id, values))
 }
 
-fn add_of(alloc: Global, text: &str) -> Result<PolicyCall, Fail> {
+fn add_call(alloc: Global, text: &str) -> Result<PolicyCall, Fail> {
     let policy = static_of(alloc, text, Effect::Permit)?;
     Ok(PolicyCall::Add(Policy::from_static(alloc, policy)?))
 }
@@ -71,127 +111,233 @@ fn template_call(alloc: Global, text: &str) -> Result<PolicyCall, Fail> {
     Ok(PolicyCall::AddTemplate(template_of(alloc, text, Effect::Permit, slot)?))
 }
 
+// The merge of the other set, for which an empty one is left.
+fn merge_call(alloc: Global, other: &mut PolicySet, rename: bool) -> PolicyCall {
+    PolicyCall::Merge(mem::replace(other, PolicySet::new(alloc)), rename)
+}
+
 // The call with a text. The other set goes into a merge.
 fn call_of(alloc: Global, text: &str, other: &mut PolicySet) -> Result<PolicyCall, Fail> {
     let (word, rest) = text.split_once(' ').unwrap_or((text, ""));
     match word {
-        "static" => Ok(PolicyCall::AddStatic(static_of(alloc, rest, Effect::Permit)?)),
-        "forbid" => Ok(PolicyCall::AddStatic(static_of(alloc, rest, Effect::Forbid)?)),
+        "static" => static_call(alloc, rest, Effect::Permit),
+        "forbid" => static_call(alloc, rest, Effect::Forbid),
         "template" => template_call(alloc, rest),
-        "add" => add_of(alloc, rest),
-        "link" => link_of(alloc, rest),
+        "add" => add_call(alloc, rest),
+        "link" => link_call(alloc, rest),
         "unlink" => Ok(PolicyCall::Unlink(id_of(alloc, rest)?)),
         "remove_static" => Ok(PolicyCall::RemoveStatic(id_of(alloc, rest)?)),
         "remove_template" => Ok(PolicyCall::RemoveTemplate(id_of(alloc, rest)?)),
-        _ => Ok(PolicyCall::Merge(mem::replace(other, PolicySet::new(alloc)), word == "rename")),
+        _ => Ok(merge_call(alloc, other, word == "rename")),
     }
 }
 
-fn calls_of(alloc: Global, texts: &str, mut other: PolicySet) -> Result<Vec<PolicyCall>, Fail> {
-    let mut calls = Vec::new(alloc);
+fn put_calls(
+    alloc: Global,
+    calls: &mut Vec<PolicyCall>,
+    texts: &str,
+    other: &mut PolicySet,
+) -> Result<(), Fail> {
     for text in texts.split(';') {
         if !text.trim().is_empty() {
-            calls.push(call_of(alloc, text.trim(), &mut other)?)?;
+            put(calls, call_of(alloc, text.trim(), other))?;
         }
     }
-    Ok(calls)
+    Ok(())
+}
+
+// The calls with these texts. The other set, which goes into a merge, is let go if there is none.
+fn calls_of(alloc: Global, texts: &str, mut other: PolicySet) -> Result<Vec<PolicyCall>, Fail> {
+    let mut calls = Vec::new(alloc);
+    let done = put_calls(alloc, &mut calls, texts, &mut other);
+    drop(other);
+    kept(calls, done)
+}
+
+fn put_word(text: &mut String, word: &str) -> Result<(), Fail> {
+    text.push_str(word)?;
+    Ok(())
 }
 
 fn text_of<T: Display>(alloc: Global, value: &T) -> Result<String, Fail> {
-    Ok(format!(in alloc; "{value}")?)
+    Ok(value.to_string(alloc)?)
 }
 
-// What merging answered: the ids that were renamed.
-fn renamed_text(alloc: Global, renaming: &IndexMap<PolicyID, PolicyID>) -> Result<String, Fail> {
-    let mut text = String::from_str(alloc, "merged")?;
+// Writes a thing.
+fn put_shown<T: Display>(alloc: Global, text: &mut String, value: &T) -> Result<(), Fail> {
+    let shown = text_of(alloc, value)?;
+    put_word(text, shown.as_str())
+}
+
+// Writes a renamed id and its new one, behind a mark where others stand before.
+fn put_pair(
+    alloc: Global,
+    text: &mut String,
+    later: bool,
+    old: &PolicyID,
+    new: &PolicyID,
+) -> Result<(), Fail> {
+    if later {
+        put_word(text, ", ")?;
+    }
+    put_shown(alloc, text, old)?;
+    put_word(text, " to ")?;
+    put_shown(alloc, text, new)
+}
+
+// Writes what merging answered: the ids that were renamed.
+fn put_renamed(
+    alloc: Global,
+    text: &mut String,
+    renaming: &IndexMap<PolicyID, PolicyID>,
+) -> Result<(), Fail> {
+    if renaming.is_empty() {
+        return put_word(text, "merged");
+    }
+    let mut later = false;
     for (old, new) in renaming {
-        text = format!(in alloc; "{old} to {new}")?;
+        put_pair(alloc, text, later, old, new)?;
+        later = true;
     }
-    Ok(text)
+    Ok(())
 }
 
-// What a call answered.
-fn answer_text(alloc: Global, answer: &Answer) -> Result<String, Fail> {
+// Writes what a call answered that gives nothing.
+fn put_done<E: Display>(
+    alloc: Global,
+    text: &mut String,
+    answer: &Result<(), E>,
+) -> Result<(), Fail> {
     match answer {
-        Answer::AddStatic(Ok(())) => Ok(String::from_str(alloc, "ok")?),
-        Answer::AddStatic(Err(error)) => text_of(alloc, error),
-        Answer::AddTemplate(Ok(())) => Ok(String::from_str(alloc, "ok")?),
-        Answer::AddTemplate(Err(error)) => text_of(alloc, error),
-        Answer::Add(Ok(())) => Ok(String::from_str(alloc, "ok")?),
-        Answer::Add(Err(error)) => text_of(alloc, error),
-        Answer::Link(Ok(())) => Ok(String::from_str(alloc, "ok")?),
-        Answer::Link(Err(error)) => text_of(alloc, error),
-        Answer::Unlink(Ok(policy)) => text_of(alloc, policy.id()),
-        Answer::Unlink(Err(error)) => text_of(alloc, error),
-        Answer::RemoveStatic(Ok(policy)) => text_of(alloc, policy.id()),
-        Answer::RemoveStatic(Err(error)) => text_of(alloc, error),
-        Answer::RemoveTemplate(Ok(template)) => text_of(alloc, template.id()),
-        Answer::RemoveTemplate(Err(error)) => text_of(alloc, error),
-        Answer::Merge(Ok(renaming)) => renamed_text(alloc, renaming),
-        Answer::Merge(Err(error)) => text_of(alloc, error),
+        Ok(()) => put_word(text, "ok"),
+        Err(error) => put_shown(alloc, text, error),
     }
 }
 
-// What the calls answered, parted by semicolons.
-fn answers_text(alloc: Global, answers: &[Answer]) -> Result<String, Fail> {
-    let mut text = String::new(alloc);
+// Writes the id of a policy that was taken out, or why there is none.
+fn put_policy<E: Display>(
+    alloc: Global,
+    text: &mut String,
+    answer: &Result<Policy, E>,
+) -> Result<(), Fail> {
+    match answer {
+        Ok(policy) => put_shown(alloc, text, policy.id()),
+        Err(error) => put_shown(alloc, text, error),
+    }
+}
+
+// Writes what a call answered.
+fn put_answer(alloc: Global, text: &mut String, answer: &Answer) -> Result<(), Fail> {
+    match answer {
+        Answer::AddStatic(done) => put_done(alloc, text, done),
+        Answer::AddTemplate(done) => put_done(alloc, text, done),
+        Answer::Add(done) => put_done(alloc, text, done),
+        Answer::Link(done) => put_done(alloc, text, done),
+        Answer::Unlink(taken) => put_policy(alloc, text, taken),
+        Answer::RemoveStatic(taken) => put_policy(alloc, text, taken),
+        Answer::RemoveTemplate(Ok(template)) => put_shown(alloc, text, template.id()),
+        Answer::RemoveTemplate(Err(error)) => put_shown(alloc, text, error),
+        Answer::Merge(Ok(renaming)) => put_renamed(alloc, text, renaming),
+        Answer::Merge(Err(error)) => put_shown(alloc, text, error),
+    }
+}
+
+// Writes what the calls answered, parted by semicolons.
+fn put_answers(alloc: Global, text: &mut String, answers: &[Answer]) -> Result<(), Fail> {
     for answer in answers {
         if !text.is_empty() {
-            text.push_str("; ")?;
+            put_word(text, "; ")?;
         }
-        text.push_str(answer_text(alloc, answer)?.as_str())?;
+        put_answer(alloc, text, answer)?;
     }
-    Ok(text)
+    Ok(())
 }
 
-// The ids of bodies, each behind a blank.
-fn bodies_text(alloc: Global, set: &PolicySet) -> Result<String, Fail> {
-    let mut text = String::new(alloc);
+// Writes the ids of bodies, each behind a blank.
+fn put_bodies(text: &mut String, set: &PolicySet) -> Result<(), Fail> {
     for template in set.all_templates() {
-        text.push(' ')?;
-        text.push_str(template.id().as_ref())?;
+        put_word(text, " ")?;
+        put_word(text, template.id().as_ref())?;
     }
-    Ok(text)
+    Ok(())
 }
 
-// The ids of policies, each behind a blank.
-fn policies_text(alloc: Global, set: &PolicySet) -> Result<String, Fail> {
-    let mut text = String::new(alloc);
+// Writes the ids of policies, each behind a blank.
+fn put_policies(text: &mut String, set: &PolicySet) -> Result<(), Fail> {
     for policy in set.policies() {
-        text.push(' ')?;
-        text.push_str(policy.id().as_ref())?;
+        put_word(text, " ")?;
+        put_word(text, policy.id().as_ref())?;
     }
-    Ok(text)
+    Ok(())
+}
+
+// Writes what calls answered, and both orders of the set that they left.
+fn put_told(
+    alloc: Global,
+    text: &mut String,
+    set: &PolicySet,
+    answers: &[Answer],
+) -> Result<(), Fail> {
+    put_answers(alloc, text, answers)?;
+    put_word(text, " |")?;
+    put_bodies(text, set)?;
+    put_word(text, " |")?;
+    put_policies(text, set)
+}
+
+// That as a text.
+fn told_text(alloc: Global, set: &PolicySet, answers: &[Answer]) -> Result<String, Fail> {
+    let mut text = String::new(alloc);
+    let done = put_told(alloc, &mut text, set, answers);
+    kept(text, done)
 }
 
 // What the calls answer on a set, and both orders after them.
+fn told_on(alloc: Global, set: &mut PolicySet, calls: Vec<PolicyCall>) -> Result<String, Fail> {
+    let answers = replay_policies(alloc, set, calls)?;
+    let told = told_text(alloc, set, &answers);
+    drop(answers);
+    told
+}
+
+// The same on the empty set.
 fn told(alloc: Global, other: PolicySet, texts: &str) -> Result<String, Fail> {
     let calls = calls_of(alloc, texts, other)?;
     let mut set = PolicySet::new(alloc);
-    let answers = replay_policies(alloc, &mut set, calls)?;
-    let said = answers_text(alloc, &answers)?;
-    let bodies = bodies_text(alloc, &set)?;
-    let policies = policies_text(alloc, &set)?;
-    Ok(format!(in alloc; "{said} |{bodies} |{policies}")?)
+    let told = told_on(alloc, &mut set, calls);
+    drop(set);
+    told
+}
+
+// Makes calls on a set.
+fn run(alloc: Global, set: &mut PolicySet, calls: Vec<PolicyCall>) -> Result<(), Fail> {
+    drop(replay_policies(alloc, set, calls)?);
+    Ok(())
 }
 
 // The set that some calls leave.
 fn set_of(alloc: Global, texts: &str) -> Result<PolicySet, Fail> {
     let calls = calls_of(alloc, texts, PolicySet::new(alloc))?;
     let mut set = PolicySet::new(alloc);
-    drop(replay_policies(alloc, &mut set, calls)?);
-    Ok(set)
+    let done = run(alloc, &mut set, calls);
+    kept(set, done)
 }
 
-// The first of these lists of calls, each beside the set that it merges in, of which another thing is told than stands
-// beside it, or nothing.
-pub(super) fn wrong(alloc: Global, table: &[(&str, &str, &str)]) -> Result<String, Fail> {
+// Fails with what was asked and what was told, where that is not what was wanted.
+fn is_told(calls: &str, told: Result<String, Fail>, want: &str) -> Result<(), Fail> {
+    let told = told?;
+    if told.as_str() == want {
+        return Ok(());
+    }
+    Err(Fail::new(format_args!("{calls}: {told}")))
+}
+
+// Fails with the first of these lists of calls, each beside the set that it merges in, of which another thing is told
+// than stands beside it.
+pub(super) fn tells(alloc: Global, table: &[(&str, &str, &str)]) -> Result<(), Fail> {
     for (other, calls, want) in table {
         let other = set_of(alloc, other)?;
-        let told = told(alloc, other, calls)?;
-        if told.as_str() != *want {
-            return Ok(format!(in alloc; "{calls}: {told}")?);
-        }
+        is_told(calls, told(alloc, other, calls), want)?;
     }
-    Ok(String::new(alloc))
+    Ok(())
 }

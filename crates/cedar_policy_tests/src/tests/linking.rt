@@ -86,11 +86,11 @@ fn two_slots_are_left_unbound_the_resource_first(rt: HostRuntime) -> Result<(), 
 #[test]
 fn a_slot_that_is_not_there_is_bound_in_vain(rt: HostRuntime) -> Result<(), Fail> {
     let alloc = rt.alloc();
-    let other = [(RESOURCE, "a")];
-    assert!(rt; refuses(alloc, on_principal(), &other, &[PRINCIPAL], &[RESOURCE])?);
-    let both = [(RESOURCE, "a"), (PRINCIPAL, "b")];
-    assert!(rt; refuses(alloc, on_principal(), &both, &[], &[RESOURCE])?);
-    assert!(rt; refuses(alloc, free(), &both, &[], &[PRINCIPAL, RESOURCE])?);
+    let other = &[(RESOURCE, "a")];
+    assert!(rt; refuses(alloc, on_principal(), other, &[PRINCIPAL], &[RESOURCE])?);
+    let both = &[(RESOURCE, "a"), (PRINCIPAL, "b")];
+    assert!(rt; refuses(alloc, on_principal(), both, &[], &[RESOURCE])?);
+    assert!(rt; refuses(alloc, free(), both, &[], &[PRINCIPAL, RESOURCE])?);
     Ok(())
 }
 
@@ -225,19 +225,26 @@ fn moved(alloc: Global) -> Result<Option<Policy>, Fail> {
     Ok(policy.new_template_id(alloc, u)?)
 }
 
-// Whether the ids of a link, which is let go, and of its template are these.
+// Whether the ids of a link and of its template are these.
+fn are_ids(policy: &Policy, link: &str, template: &str) -> bool {
+    policy.id().as_ref() == link && policy.template().id().as_ref() == template
+}
+
+// The same of one that is let go.
 fn has_ids(policy: Policy, link: &str, template: &str) -> bool {
-    let told = policy.id().as_ref() == link && policy.template().id().as_ref() == template;
+    let told = are_ids(&policy, link, template);
     drop(policy);
     told
 }
 
 // The same of one that there may be.
 fn some_has_ids(policy: Option<Policy>, link: &str, template: &str) -> bool {
-    match policy {
-        Some(policy) => has_ids(policy, link, template),
+    let told = match &policy {
+        Some(policy) => are_ids(policy, link, template),
         None => false,
-    }
+    };
+    drop(policy);
+    told
 }
 
 #[test]

@@ -12,7 +12,7 @@ use cedar_scope::{
 };
 use cedar_terms::expr::Expr;
 use cedar_terms::literal::Literal;
-use cedar_terms::slot::SlotId;
+use cedar_terms::slot::{Slot, SlotId};
 use std::alloc::Global;
 use std::rc::{Rc, RcStr};
 use std::test::Fail;
@@ -59,18 +59,14 @@ fn made(
 type Found = Option<(SlotId, Option<usize>)>;
 
 fn found(answer: Result<StaticPolicy, UnexpectedSlotError>) -> Found {
-    match answer {
-        Ok(policy) => {
-            drop(policy);
-            None
-        }
+    let told = match &answer {
         Err(UnexpectedSlotError::FoundSlot(slot)) => {
-            let told = Some((slot.id, start_of(slot.loc.as_ref())));
-            drop(slot);
-            told
+            Some((slot.id, start_of(slot.loc.as_ref())))
         }
-        Err(UnexpectedSlotError::Memory) => None,
-    }
+        _ => None,
+    };
+    drop(answer);
+    told
 }
 
 // The slot, at this place.
@@ -182,13 +178,30 @@ fn a_static_policy_takes_another_id(rt: HostRuntime) -> Result<(), Fail> {
     Ok(())
 }
 
-// Where the nodes of an expression that the walk meets begin, of as many as are asked for.
-fn starts(alloc: Global, expr: &Expr, count: usize) -> Result<Vec<Option<usize>>, Fail> {
-    let mut all = Vec::new(alloc);
-    for node in expr.subexpressions(alloc)?.iter().take(count) {
-        all.push(start_of(node.source_loc()))?;
+// Whether a node of an expression begins here.
+fn begins(node: &Expr, start: Option<usize>) -> bool {
+    start_of(node.source_loc()) == start
+}
+
+// Whether of the nodes that a walk meets the first three begin at the place 9, and the fourth is at no place.
+fn begin_at_nine(nodes: &[&Expr]) -> bool {
+    match nodes {
+        [first, second, third, fourth, ..] => {
+            begins(first, Some(9))
+                && begins(second, Some(9))
+                && begins(third, Some(9))
+                && begins(fourth, None)
+        }
+        _ => false,
     }
-    Ok(all)
+}
+
+// The same of the nodes of an expression.
+fn is_at_nine(alloc: Global, expr: &Expr) -> Result<bool, Fail> {
+    let nodes = expr.subexpressions(alloc)?;
+    let told = begin_at_nine(&nodes);
+    drop(nodes);
+    Ok(told)
 }
 
 // The condition of the policy at the place 9.
@@ -199,28 +212,35 @@ fn condition_at_place(alloc: Global) -> Result<Expr, Fail> {
     Ok(condition?)
 }
 
-fn starts_of_condition(alloc: Global) -> Result<Vec<Option<usize>>, Fail> {
+// Whether the nodes of that do.
+fn condition_is_at_nine(alloc: Global) -> Result<bool, Fail> {
     let condition = condition_at_place(alloc)?;
-    let found = starts(alloc, &condition, 4);
+    let told = is_at_nine(alloc, &condition);
     drop(condition);
-    found
+    told
 }
 
 #[test]
 fn the_three_nodes_of_a_condition_stand_where_the_policy_does(rt: HostRuntime) -> Result<(), Fail> {
-    let alloc = rt.alloc();
-    let found = starts_of_condition(alloc)?;
-    assert!(rt; found.as_slice() == [Some(9), Some(9), Some(9), None].as_slice());
+    assert!(rt; condition_is_at_nine(rt.alloc())?);
     Ok(())
 }
 
-// Where the slots of a condition stand, in the order of the walk.
-fn slot_starts(alloc: Global, template: &Template) -> Result<Vec<Option<usize>>, Fail> {
-    let mut all = Vec::new(alloc);
-    for slot in template.slots() {
-        all.push(start_of(slot.loc.as_ref()))?;
+// Whether a slot stands here.
+fn stands(slot: Option<&Slot>, start: usize) -> bool {
+    match slot {
+        Some(slot) => start_of(slot.loc.as_ref()) == Some(start),
+        None => false,
     }
-    Ok(all)
+}
+
+// Whether a template has three slots, and they stand at the places 7, 5 and 3, in the order of the walk.
+fn stand_at_places(template: &Template) -> bool {
+    let mut slots = template.slots();
+    stands(slots.next(), 7)
+        && stands(slots.next(), 5)
+        && stands(slots.next(), 3)
+        && slots.next().is_none()
 }
 
 // The template with three slots, each at a place.
@@ -229,18 +249,17 @@ fn placed_template(alloc: Global) -> Result<Template, Fail> {
     permits(alloc, scope, Some(clause))
 }
 
-fn starts_of_slots(alloc: Global) -> Result<Vec<Option<usize>>, Fail> {
+// Whether its slots do.
+fn placed_slots_stand(alloc: Global) -> Result<bool, Fail> {
     let template = placed_template(alloc)?;
-    let found = slot_starts(alloc, &template);
+    let told = stand_at_places(&template);
     drop(template);
-    found
+    Ok(told)
 }
 
 #[test]
 fn the_slots_of_a_template_stand_where_their_references_do(rt: HostRuntime) -> Result<(), Fail> {
-    let alloc = rt.alloc();
-    let found = starts_of_slots(alloc)?;
-    assert!(rt; found.as_slice() == [Some(7), Some(5), Some(3)].as_slice());
+    assert!(rt; placed_slots_stand(rt.alloc())?);
     Ok(())
 }
 

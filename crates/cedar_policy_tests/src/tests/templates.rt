@@ -174,21 +174,22 @@ fn each_template_is_equal_to_one_built_of_its_parts(rt: HostRuntime) -> Result<(
     Ok(())
 }
 
+// Whether a template with this many slots, which calls itself static or not, may make this of itself.
+fn fits(answer: Result<StaticPolicy, UnexpectedSlotError>, count: usize, is_static: bool) -> bool {
+    let told = match &answer {
+        Ok(_policy) => count == 0 && is_static,
+        Err(UnexpectedSlotError::FoundSlot(_slot)) => count > 0 && !is_static,
+        Err(UnexpectedSlotError::Memory) => false,
+    };
+    drop(answer);
+    told
+}
+
 // Whether it makes a static policy exactly where it has no slots.
 fn is_static_without_slots(template: Template) -> bool {
     let count = template.slots().count();
     let is_static = template.is_static();
-    match StaticPolicy::try_from(template) {
-        Ok(policy) => {
-            drop(policy);
-            count == 0 && is_static
-        }
-        Err(UnexpectedSlotError::FoundSlot(slot)) => {
-            drop(slot);
-            count > 0 && !is_static
-        }
-        Err(UnexpectedSlotError::Memory) => false,
-    }
+    fits(StaticPolicy::try_from(template), count, is_static)
 }
 
 #[test]
@@ -198,17 +199,6 @@ fn a_template_is_static_exactly_without_slots(rt: HostRuntime) -> Result<(), Fai
         assert!(rt; is_static_without_slots(nth(alloc, n)?));
     }
     Ok(())
-}
-
-// The static policy of the template at a place, if it has no slots.
-fn nth_static(alloc: Global, n: usize) -> Result<Option<StaticPolicy>, Fail> {
-    match StaticPolicy::try_from(nth(alloc, n)?) {
-        Ok(policy) => Ok(Some(policy)),
-        Err(error) => {
-            drop(error);
-            Ok(None)
-        }
-    }
 }
 
 // How many of the templates have no slots.
@@ -234,15 +224,25 @@ fn says_the_same_as(alloc: Global, policy: StaticPolicy, n: usize) -> Result<boo
     told
 }
 
+// The same of its own static policy, or nothing where it has slots.
+fn nth_says_the_same(alloc: Global, n: usize) -> Result<Option<bool>, Fail> {
+    match StaticPolicy::try_from(nth(alloc, n)?) {
+        Ok(policy) => Ok(Some(says_the_same_as(alloc, policy, n)?)),
+        Err(error) => {
+            drop(error);
+            Ok(None)
+        }
+    }
+}
+
 // Whether the static policies have, if there are so many.
 fn all_say_the_same(alloc: Global) -> Result<bool, Fail> {
     let mut count: usize = 0;
     for n in 0..TEMPLATES {
-        if let Some(policy) = nth_static(alloc, n)? {
-            if !says_the_same_as(alloc, policy, n)? {
-                return Ok(false);
-            }
-            count = count.saturating_add(1);
+        match nth_says_the_same(alloc, n)? {
+            Some(true) => count = count.saturating_add(1),
+            Some(false) => return Ok(false),
+            None => {}
         }
     }
     Ok(count == STATICS)
@@ -271,13 +271,22 @@ fn gives_nth_back(alloc: Global, policy: StaticPolicy, n: usize) -> Result<bool,
     told
 }
 
+// The same of its own static policy, if it has no slots.
+fn nth_comes_back(alloc: Global, n: usize) -> Result<bool, Fail> {
+    match StaticPolicy::try_from(nth(alloc, n)?) {
+        Ok(policy) => gives_nth_back(alloc, policy, n),
+        Err(error) => {
+            drop(error);
+            Ok(true)
+        }
+    }
+}
+
 #[test]
 fn a_static_policy_gives_its_template_back(rt: HostRuntime) -> Result<(), Fail> {
     let alloc = rt.alloc();
     for n in 0..TEMPLATES {
-        if let Some(policy) = nth_static(alloc, n)? {
-            assert!(rt; gives_nth_back(alloc, policy, n)?);
-        }
+        assert!(rt; nth_comes_back(alloc, n)?);
     }
     Ok(())
 }
@@ -327,13 +336,22 @@ fn is_static_rebuilt(alloc: Global, one: StaticPolicy) -> Result<bool, Fail> {
     same(one, other)
 }
 
+// The same of the static policy of the template at a place, if it has no slots.
+fn nth_is_rebuilt(alloc: Global, n: usize) -> Result<bool, Fail> {
+    match StaticPolicy::try_from(nth(alloc, n)?) {
+        Ok(policy) => is_static_rebuilt(alloc, policy),
+        Err(error) => {
+            drop(error);
+            Ok(true)
+        }
+    }
+}
+
 #[test]
 fn each_static_policy_is_equal_to_one_built_of_its_parts(rt: HostRuntime) -> Result<(), Fail> {
     let alloc = rt.alloc();
     for n in 0..TEMPLATES {
-        if let Some(policy) = nth_static(alloc, n)? {
-            assert!(rt; is_static_rebuilt(alloc, policy)?);
-        }
+        assert!(rt; nth_is_rebuilt(alloc, n)?);
     }
     Ok(())
 }

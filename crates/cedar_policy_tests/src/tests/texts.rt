@@ -141,9 +141,9 @@ fn both(alloc: Global, pairs: &[(SlotId, &str)]) -> Result<Policy, Fail> {
 fn the_binding_of_the_principal_is_written_first(rt: HostRuntime) -> Result<(), Fail> {
     let alloc = rt.alloc();
     let want = "Template Instance of t, slots: [?principal -> A::\"p\",?resource -> A::\"r\"]";
-    let one = [(SlotId::Principal, "p"), (SlotId::Resource, "r")];
-    assert!(rt; shows(alloc, both(alloc, &one), want)?);
-    let other = [(SlotId::Resource, "r"), (SlotId::Principal, "p")];
-    assert!(rt; shows(alloc, both(alloc, &other), want)?);
+    let one = &[(SlotId::Principal, "p"), (SlotId::Resource, "r")];
+    assert!(rt; shows(alloc, both(alloc, one), want)?);
+    let other = &[(SlotId::Resource, "r"), (SlotId::Principal, "p")];
+    assert!(rt; shows(alloc, both(alloc, other), want)?);
     Ok(())
 }

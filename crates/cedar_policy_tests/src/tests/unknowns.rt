@@ -72,8 +72,8 @@ fn holds(alloc: Global, found: &HashSet<EntityUID>, eid: &str) -> Result<bool, F
 #[test]
 fn an_unknown_with_a_type_and_a_printed_uid_names_it(rt: HostRuntime) -> Result<(), Fail> {
     let alloc = rt.alloc();
-    let three = [("A::\"a\"", "A"), ("A :: \"b\"", "A"), ("A::\"c\"", "")];
-    assert!(rt; name(alloc, &three, &["a"])?);
+    let three = &[("A::\"a\"", "A"), ("A :: \"b\"", "A"), ("A::\"c\"", "")];
+    assert!(rt; name(alloc, three, &["a"])?);
     assert!(rt; name(alloc, &[], &[])?);
     Ok(())
 }
@@ -81,26 +81,26 @@ fn an_unknown_with_a_type_and_a_printed_uid_names_it(rt: HostRuntime) -> Result<
 #[test]
 fn each_uid_is_named_once(rt: HostRuntime) -> Result<(), Fail> {
     let alloc = rt.alloc();
-    let four = [
+    let four = &[
         ("A::\"a\"", "A"),
         ("A::\"b\"", "B"),
         ("A::\"a\"", "A"),
         ("A::\"\"", "A"),
     ];
-    assert!(rt; name(alloc, &four, &["a", "b", ""])?);
+    assert!(rt; name(alloc, four, &["a", "b", ""])?);
     Ok(())
 }
 
 #[test]
 fn an_eid_past_ascii_is_named_too(rt: HostRuntime) -> Result<(), Fail> {
     let alloc = rt.alloc();
-    let three = [
+    let three = &[
         ("A::\"é\"", "A"),
         ("A::\"it\\'s\"", "A"),
         ("if::\"a\"", "A"),
     ];
-    assert!(rt; name(alloc, &three, &["é", "it's"])?);
-    let escaped = [("A::\"\\u{e9}\"", "A"), ("alice", "A"), ("A::\"a\" ", "A")];
-    assert!(rt; name(alloc, &escaped, &[])?);
+    assert!(rt; name(alloc, three, &["é", "it's"])?);
+    let escaped = &[("A::\"\\u{e9}\"", "A"), ("alice", "A"), ("A::\"a\" ", "A")];
+    assert!(rt; name(alloc, escaped, &[])?);
     Ok(())
 }
