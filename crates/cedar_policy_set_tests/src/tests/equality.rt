@@ -19,7 +19,7 @@ fn are_equal(alloc: Global, one: &str, other: &str) -> Result<Option<bool>, Fail
 #[test]
 fn sets_of_equal_orders_are_equal(rt: HostRuntime) -> Result<(), Fail> {
     let alloc = rt.alloc();
-    let table = [
+    let table = &[
         ("", "static a; remove_static a"),
         ("static a", "add a"),
         ("add l=t1+1x", "template t1; link l=t+1x"),
@@ -38,7 +38,7 @@ fn sets_of_equal_orders_are_equal(rt: HostRuntime) -> Result<(), Fail> {
 #[test]
 fn sets_of_other_orders_or_values_are_not(rt: HostRuntime) -> Result<(), Fail> {
     let alloc = rt.alloc();
-    let table = [
+    let table = &[
         ("", "template a"),
         ("static a", "static a; static b"),
         ("static a; static b", "static b; static a"),

@@ -6,7 +6,7 @@ use std::test::Fail;
 #[test]
 fn a_static_policy_asks_for_a_free_id(rt: HostRuntime) -> Result<(), Fail> {
     let alloc = rt.alloc();
-    let table = [
+    let table = &[
         ("static a", "ok | a | a"),
         ("static a; static a", "occupied a | a | a"),
         ("static a; static a!", "occupied a | a | a"),
@@ -14,13 +14,13 @@ fn a_static_policy_asks_for_a_free_id(rt: HostRuntime) -> Result<(), Fail> {
         ("template a1; static a", "occupied a | a1 |"),
         ("add a=t1+1x; static a", "occupied a | t1 | a=t1+1x"),
     ];
-    tells(alloc, &table)
+    tells(alloc, table)
 }
 
 #[test]
 fn a_template_asks_for_a_free_id(rt: HostRuntime) -> Result<(), Fail> {
     let alloc = rt.alloc();
-    let table = [
+    let table = &[
         ("template a", "ok | a |"),
         ("template a1", "ok | a1 |"),
         ("static a; template a", "occupied a | a | a"),
@@ -32,13 +32,13 @@ fn a_template_asks_for_a_free_id(rt: HostRuntime) -> Result<(), Fail> {
         ("add a=t1+1x; template a", "occupied a | t1 | a=t1+1x"),
         ("add a=t1+1x; template a1", "occupied a | t1 | a=t1+1x"),
     ];
-    tells(alloc, &table)
+    tells(alloc, table)
 }
 
 #[test]
 fn a_static_policy_that_is_added_asks_for_a_free_id(rt: HostRuntime) -> Result<(), Fail> {
     let alloc = rt.alloc();
-    let table = [
+    let table = &[
         ("add a", "ok | a | a"),
         ("static a; add a", "occupied a | a | a"),
         ("static a; add a!", "occupied a | a | a"),
@@ -46,14 +46,14 @@ fn a_static_policy_that_is_added_asks_for_a_free_id(rt: HostRuntime) -> Result<(
         ("template a1; add a", "occupied a | a1 |"),
         ("add a=t1+1x; add a", "occupied a | t1 | a=t1+1x"),
     ];
-    tells(alloc, &table)
+    tells(alloc, table)
 }
 
 // The template of the link has the id.
 #[test]
 fn a_link_that_is_added_asks_for_an_equal_template(rt: HostRuntime) -> Result<(), Fail> {
     let alloc = rt.alloc();
-    let table = [
+    let table = &[
         ("add l=a", "ok | a | l=a"),
         ("static a; add l=a", "occupied a | a | a"),
         ("static a; add l=a1+1x", "occupied a | a | a"),
@@ -66,14 +66,14 @@ fn a_link_that_is_added_asks_for_an_equal_template(rt: HostRuntime) -> Result<()
         ("add a=t1+1x; add l=a", "occupied a | t1 | a=t1+1x"),
         ("add a=t1+1x; add l=a1+1x", "occupied a | t1 | a=t1+1x"),
     ];
-    tells(alloc, &table)
+    tells(alloc, table)
 }
 
 // The link itself has the id; its template is missing, or there, or another's.
 #[test]
 fn a_link_that_is_added_asks_for_a_free_id(rt: HostRuntime) -> Result<(), Fail> {
     let alloc = rt.alloc();
-    let table = [
+    let table = &[
         ("static a; add a=t", "occupied a | a | a"),
         ("template a; add a=t", "occupied a | a |"),
         ("template a1; add a=t", "occupied a | a1 |"),
@@ -85,13 +85,13 @@ fn a_link_that_is_added_asks_for_a_free_id(rt: HostRuntime) -> Result<(), Fail> 
         ("static t; static a; add a=t", "occupied t | t a | t a"),
         ("static t; add a=u; add a=t", "occupied t | t u | t a=u"),
     ];
-    tells(alloc, &table)
+    tells(alloc, table)
 }
 
 #[test]
 fn linking_asks_for_a_template(rt: HostRuntime) -> Result<(), Fail> {
     let alloc = rt.alloc();
-    let table = [
+    let table = &[
         ("link l=a", "no such template a | |"),
         ("static a; link l=a", "no such template a | a | a"),
         ("template a; link l=a", "l=a | a | l=a"),
@@ -99,13 +99,13 @@ fn linking_asks_for_a_template(rt: HostRuntime) -> Result<(), Fail> {
         ("add a=t; link l=a", "no such template a | t | a=t"),
         ("add a=t; link a=a", "no such template a | t | a=t"),
     ];
-    tells(alloc, &table)
+    tells(alloc, table)
 }
 
 #[test]
 fn linking_asks_for_a_free_id(rt: HostRuntime) -> Result<(), Fail> {
     let alloc = rt.alloc();
-    let table = [
+    let table = &[
         ("template t; link a=t", "a=t | t | a=t"),
         ("template t; static a; link a=t", "conflict a | t a | a"),
         ("template t; template a; link a=t", "conflict a | t a |"),
@@ -116,13 +116,13 @@ fn linking_asks_for_a_free_id(rt: HostRuntime) -> Result<(), Fail> {
             "conflict a | u1 t | a=u1+1x",
         ),
     ];
-    tells(alloc, &table)
+    tells(alloc, table)
 }
 
 #[test]
 fn each_kind_is_taken_out_by_its_own_call(rt: HostRuntime) -> Result<(), Fail> {
     let alloc = rt.alloc();
-    let table = [
+    let table = &[
         ("unlink a", "no link a | |"),
         ("static a; unlink a", "not a link a | a | a"),
         ("template a1; unlink a", "not a link a | a1 |"),
@@ -136,5 +136,5 @@ fn each_kind_is_taken_out_by_its_own_call(rt: HostRuntime) -> Result<(), Fail> {
         ("template a1; remove_template a", "a1 | |"),
         ("add a=t; remove_template a", "not a template a | t | a=t"),
     ];
-    tells(alloc, &table)
+    tells(alloc, table)
 }

@@ -37,7 +37,7 @@ fn made_text(alloc: Global, texts: &str) -> Result<String, Fail> {
 #[test]
 fn policies_join_one_after_another(rt: HostRuntime) -> Result<(), Fail> {
     let alloc = rt.alloc();
-    let table = [
+    let table = &[
         ("", "ok | |"),
         ("b a", "ok | b a | b a"),
         ("l=t1+1x a m=t1+1y", "ok | t1 a | l=t1+1x a m=t1+1y"),
@@ -46,7 +46,7 @@ fn policies_join_one_after_another(rt: HostRuntime) -> Result<(), Fail> {
         ("a l=a", "duplicate template or policy id `a`"),
     ];
     for (texts, want) in table {
-        is_told(texts, made_text(alloc, texts), want)?;
+        is_told(*texts, made_text(alloc, texts), want)?;
     }
     Ok(())
 }
@@ -74,7 +74,7 @@ fn is_added(alloc: Global, text: &str, calls: &str) -> Result<bool, Fail> {
 #[test]
 fn a_set_of_one_policy_is_what_adding_it_leaves(rt: HostRuntime) -> Result<(), Fail> {
     let alloc = rt.alloc();
-    let table = [
+    let table = &[
         ("a", "add a", true),
         ("a!", "static a!", true),
         ("l=t1+1x", "add l=t1+1x", true),
@@ -82,7 +82,7 @@ fn a_set_of_one_policy_is_what_adding_it_leaves(rt: HostRuntime) -> Result<(), F
         ("l=t", "template t", false),
     ];
     for (text, calls, want) in table {
-        assert!(rt; is_added(alloc, text, calls)? == want);
+        assert!(rt; is_added(alloc, text, calls)? == *want);
     }
     Ok(())
 }

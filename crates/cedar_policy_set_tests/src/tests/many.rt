@@ -294,8 +294,8 @@ fn merged(alloc: Global, here: u32, there: u32, by: u32) -> Result<(usize, bool,
 #[test]
 fn a_hundred_ids_are_renamed(rt: HostRuntime) -> Result<(), Fail> {
     let alloc = rt.alloc();
-    for (there, count) in [(100, 200), (101, 201)] {
-        assert!(rt; merged(alloc, 100, there, there)? == (100, true, count));
+    for (there, count) in &[(100, 200), (101, 201)] {
+        assert!(rt; merged(alloc, 100, *there, *there)? == (100, true, *count));
     }
     Ok(())
 }

@@ -81,7 +81,7 @@ fn tells(alloc: Global, rename: bool, table: &[(&str, &str, &str)]) -> Result<()
 #[test]
 fn ids_that_conflict_are_renamed(rt: HostRuntime) -> Result<(), Fail> {
     let alloc = rt.alloc();
-    let table = [
+    let table = &[
         ("static a", "static a!", "aP ok | a P! | a P!"),
         ("static a", "template a", "aP ok | a P | a"),
         ("template a", "static a", "aP ok | a P | P"),
@@ -125,13 +125,13 @@ fn ids_that_conflict_are_renamed(rt: HostRuntime) -> Result<(), Fail> {
         ),
         ("static a", "static a!; static P", "aQ ok | a Q! P | a Q! P"),
     ];
-    tells(alloc, true, &table)
+    tells(alloc, true, table)
 }
 
 #[test]
 fn the_first_conflict_is_refused_where_ids_keep_theirs(rt: HostRuntime) -> Result<(), Fail> {
     let alloc = rt.alloc();
-    let table = [
+    let table = &[
         ("static a", "static a!", "occupied a | a | a"),
         ("static a", "template a", "occupied a | a | a"),
         ("template a", "static a", "occupied a | a |"),
@@ -159,13 +159,13 @@ fn the_first_conflict_is_refused_where_ids_keep_theirs(rt: HostRuntime) -> Resul
             "occupied a | b a | b a",
         ),
     ];
-    tells(alloc, false, &table)
+    tells(alloc, false, table)
 }
 
 #[test]
 fn what_is_bound_alike_stays_and_the_rest_joins(rt: HostRuntime) -> Result<(), Fail> {
     let alloc = rt.alloc();
-    let table = [
+    let table = &[
         ("", "", "ok | |"),
         (
             "",
@@ -185,19 +185,19 @@ fn what_is_bound_alike_stays_and_the_rest_joins(rt: HostRuntime) -> Result<(), F
             "ok | t1 | l=t1+1x m=t1+1y",
         ),
     ];
-    tells(alloc, false, &table)?;
-    tells(alloc, true, &table)
+    tells(alloc, false, table)?;
+    tells(alloc, true, table)
 }
 
 #[test]
 fn ids_are_renamed_group_after_group(rt: HostRuntime) -> Result<(), Fail> {
     let alloc = rt.alloc();
-    let table = [(
+    let table = &[(
         "static a; template t1; link b=t+1x; link c=t+1x",
         "template u1; link t=u+1x; template b2; static c; static a!",
         "aP cQ bR tS ok | a t1 u1 R2 Q P! | a b=t1+1x c=t1+1x S=u1+1x Q P!",
     )];
-    tells(alloc, true, &table)
+    tells(alloc, true, table)
 }
 
 // Writes what merging a set into another answers, and both orders after it, twice in turn.
@@ -357,28 +357,28 @@ fn merging_is_as_the_model_says(rt: HostRuntime) -> Result<(), Fail> {
 #[test]
 fn sets_with_one_policy_in_common_merge(rt: HostRuntime) -> Result<(), Fail> {
     let alloc = rt.alloc();
-    let table = [(
+    let table = &[(
         "static P; static Q!",
         "static P; static R%",
         "ok | P Q! R% | P Q! R%",
     )];
-    tells(alloc, false, &table)
+    tells(alloc, false, table)
 }
 
 // The original's test: the one id that conflicts is refused, and then renamed alone.
 #[test]
 fn the_one_conflict_is_refused_or_renamed(rt: HostRuntime) -> Result<(), Fail> {
     let alloc = rt.alloc();
-    let keep = [(
+    let keep = &[(
         "static P; static Q!",
         "static Q; static R%",
         "occupied Q | P Q! | P Q!",
     )];
-    tells(alloc, false, &keep)?;
-    let rename = [(
+    tells(alloc, false, keep)?;
+    let rename = &[(
         "static P; static Q!",
         "static Q; static R%",
         "QS ok | P Q! S R% | P Q! S R%",
     )];
-    tells(alloc, true, &rename)
+    tells(alloc, true, rename)
 }

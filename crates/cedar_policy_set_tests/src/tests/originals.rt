@@ -8,20 +8,20 @@ use std::test::Fail;
 #[test]
 fn a_link_conflicts_with_a_static_policy(rt: HostRuntime) -> Result<(), Fail> {
     let alloc = rt.alloc();
-    let table = [
+    let table = &[
         (
             "static i; template t1; link i=t+1x",
             "conflict i | i t1 | i",
         ),
         ("static i; static i~", "occupied i | i | i"),
     ];
-    tells(alloc, &table)
+    tells(alloc, table)
 }
 
 #[test]
 fn policies_are_added_one_after_another(rt: HostRuntime) -> Result<(), Fail> {
     let alloc = rt.alloc();
-    let table = [
+    let table = &[
         ("add i; add l=t1+1x", "ok | i t1 | i l=t1+1x"),
         (
             "add i; add l=t1+1x; add l=t1+1y",
@@ -36,13 +36,13 @@ fn policies_are_added_one_after_another(rt: HostRuntime) -> Result<(), Fail> {
             "occupied t | i t1 | i l=t1+1x m=t1+1y",
         ),
     ];
-    tells(alloc, &table)
+    tells(alloc, table)
 }
 
 #[test]
 fn templates_are_linked(rt: HostRuntime) -> Result<(), Fail> {
     let alloc = rt.alloc();
-    let table = [
+    let table = &[
         ("link l=t", "no such template t | |"),
         ("link l=t; template t; link l=t", "l=t | t | l=t"),
         (
@@ -52,13 +52,13 @@ fn templates_are_linked(rt: HostRuntime) -> Result<(), Fail> {
         ("static i!", "ok | i! | i!"),
         ("template t1!; link l=t+1e", "l=t1!+1e | t1! | l=t1!+1e"),
     ];
-    tells(alloc, &table)
+    tells(alloc, table)
 }
 
 #[test]
 fn a_set_takes_each_id_once(rt: HostRuntime) -> Result<(), Fail> {
     let alloc = rt.alloc();
-    let table = [
+    let table = &[
         ("static i; static i", "occupied i | i | i"),
         ("static i; template t; template t", "occupied t | i t | i"),
         (
@@ -66,7 +66,7 @@ fn a_set_takes_each_id_once(rt: HostRuntime) -> Result<(), Fail> {
             "l=u1+1e | i t j! u1 | i j! l=u1+1e",
         ),
     ];
-    tells(alloc, &table)
+    tells(alloc, table)
 }
 
 // How many bodies, bodies with slots, static policies and policies there are.
@@ -106,7 +106,7 @@ fn counted(alloc: Global, calls: &str) -> Result<(usize, usize, usize, usize), F
 #[test]
 fn bodies_and_policies_are_counted(rt: HostRuntime) -> Result<(), Fail> {
     let alloc = rt.alloc();
-    let table = [
+    let table = &[
         ("", (0, 0, 0, 0)),
         ("template t1; static s", (2, 1, 1, 1)),
         ("template t1; static s; link i=t+1e", (2, 1, 1, 2)),
@@ -116,7 +116,7 @@ fn bodies_and_policies_are_counted(rt: HostRuntime) -> Result<(), Fail> {
         ),
     ];
     for (calls, want) in table {
-        assert!(rt; counted(alloc, calls)? == want);
+        assert!(rt; counted(alloc, calls)? == *want);
     }
     Ok(())
 }

@@ -216,16 +216,16 @@ fn maps_of_a_template_and_its_link_are_the_set_that_calls_make(
     rt: HostRuntime,
 ) -> Result<(), Fail> {
     let alloc = rt.alloc();
-    for (text, calls) in [("l=t1+1x", "template t1; link l=t+1x"), ("a!", "static a!")] {
+    for (text, calls) in &[("l=t1+1x", "template t1; link l=t+1x"), ("a!", "static a!")] {
         assert!(rt; is_raw(alloc, text, calls)?);
     }
-    for (calls, want) in [
+    for (calls, want) in &[
         ("links t", "l | t1 | l=t1+1x"),
         ("links t; unlink l", "l=t1+1x | t1 |"),
         ("links t; unlink l; links t", " | t1 |"),
         ("links t; unlink l; links t; remove_template t", "t1 | |"),
     ] {
-        is_told(calls, told_raw(alloc, "l=t1+1x", calls), want)?;
+        is_told(*calls, told_raw(alloc, "l=t1+1x", calls), want)?;
     }
     Ok(())
 }
@@ -250,7 +250,7 @@ fn told_crossed(alloc: Global, calls: &str) -> Result<String, Fail> {
 fn maps_keep_the_orders_that_they_have(rt: HostRuntime) -> Result<(), Fail> {
     let alloc = rt.alloc();
     assert!(rt; !is_crossed(alloc, "static a; static b!")?);
-    for (calls, want) in [
+    for (calls, want) in &[
         ("links b", "b | a b! | b! a"),
         ("template t; link l=t; remove_static a", "a | b! t | b! l=t"),
         (
@@ -258,7 +258,7 @@ fn maps_keep_the_orders_that_they_have(rt: HostRuntime) -> Result<(), Fail> {
             "a | b! t a | b! l=t a",
         ),
     ] {
-        is_told(calls, told_crossed(alloc, calls), want)?;
+        is_told(*calls, told_crossed(alloc, calls), want)?;
     }
     Ok(())
 }

@@ -39,7 +39,7 @@ fn filtered_text(alloc: Global, calls: &str) -> Result<String, Fail> {
 #[test]
 fn templates_have_slots_and_static_policies_no_link(rt: HostRuntime) -> Result<(), Fail> {
     let alloc = rt.alloc();
-    let table = [
+    let table = &[
         ("", "ok | |"),
         ("template t1; static s", "ok | t1 | s"),
         ("template t1; static s; link l=t+1x", "ok | t1 | s"),
@@ -50,7 +50,7 @@ fn templates_have_slots_and_static_policies_no_link(rt: HostRuntime) -> Result<(
         ("template t1?", "ok | t1? |"),
     ];
     for (calls, want) in table {
-        is_told(calls, filtered_text(alloc, calls), want)?;
+        is_told(*calls, filtered_text(alloc, calls), want)?;
     }
     Ok(())
 }
@@ -73,7 +73,7 @@ fn apart_text(alloc: Global, calls: &str) -> Result<String, Fail> {
 #[test]
 fn a_set_falls_apart_into_its_policies(rt: HostRuntime) -> Result<(), Fail> {
     let alloc = rt.alloc();
-    let table = [
+    let table = &[
         ("template t", "ok | |"),
         ("add d; add b; add c; add a", "ok | | d b c a"),
         (
@@ -82,7 +82,7 @@ fn a_set_falls_apart_into_its_policies(rt: HostRuntime) -> Result<(), Fail> {
         ),
     ];
     for (calls, want) in table {
-        is_told(calls, apart_text(alloc, calls), want)?;
+        is_told(*calls, apart_text(alloc, calls), want)?;
     }
     Ok(())
 }
@@ -130,7 +130,7 @@ fn found_text(alloc: Global, calls: &str, letter: u8) -> Result<String, Fail> {
 fn an_id_finds_its_policy_and_its_body(rt: HostRuntime) -> Result<(), Fail> {
     let alloc = rt.alloc();
     let calls = "static b; template t; static a!; add l=u1+1x; link m=u+1y";
-    let table = [
+    let table = &[
         (b'a', "ok | a! | a!"),
         (b'b', "ok | b | b"),
         (b't', "ok | t |"),
@@ -140,7 +140,7 @@ fn an_id_finds_its_policy_and_its_body(rt: HostRuntime) -> Result<(), Fail> {
         (b'n', "ok | |"),
     ];
     for (letter, want) in table {
-        is_told(char::from(letter), found_text(alloc, calls, letter), want)?;
+        is_told(char::from(*letter), found_text(alloc, calls, *letter), want)?;
     }
     Ok(())
 }
@@ -155,7 +155,7 @@ fn is_empty(alloc: Global, calls: &str) -> Result<bool, Fail> {
 #[test]
 fn a_set_without_a_binding_is_empty(rt: HostRuntime) -> Result<(), Fail> {
     let alloc = rt.alloc();
-    let table = [
+    let table = &[
         ("", true),
         ("static a; remove_static a", true),
         ("static a", false),
@@ -163,7 +163,7 @@ fn a_set_without_a_binding_is_empty(rt: HostRuntime) -> Result<(), Fail> {
         ("add l=t; unlink l", false),
     ];
     for (calls, want) in table {
-        assert!(rt; is_empty(alloc, calls)? == want);
+        assert!(rt; is_empty(alloc, calls)? == *want);
     }
     Ok(())
 }

@@ -5,31 +5,31 @@ use std::test::Fail;
 #[test]
 fn a_static_policy_is_no_template_to_link(rt: HostRuntime) -> Result<(), Fail> {
     let alloc = rt.alloc();
-    let table = [
+    let table = &[
         ("static i; link l=i", "no such template i | i | i"),
         ("static s; link s=t+1x", "no such template t | s | s"),
         ("static s; add s=s", "occupied s | s | s"),
         ("static s; add l=s", "occupied s | s | s"),
     ];
-    tells(alloc, &table)
+    tells(alloc, table)
 }
 
 #[test]
 fn a_link_may_not_have_its_templates_id(rt: HostRuntime) -> Result<(), Fail> {
     let alloc = rt.alloc();
-    let table = [
+    let table = &[
         ("add u=u", "occupied u | |"),
         ("add u=u1+1x", "occupied u | |"),
         ("template u1; add u=u1+1x", "occupied u | u1 |"),
         ("template u1; link u=u+1x", "conflict u | u1 |"),
     ];
-    tells(alloc, &table)
+    tells(alloc, table)
 }
 
 #[test]
 fn a_template_with_links_stays(rt: HostRuntime) -> Result<(), Fail> {
     let alloc = rt.alloc();
-    let table = [
+    let table = &[
         (
             "template t1; link l=t+1x; link m=t+1y; remove_static l",
             "not static l | t1 | l=t1+1x m=t1+1y",
@@ -52,13 +52,13 @@ fn a_template_with_links_stays(rt: HostRuntime) -> Result<(), Fail> {
         ),
         ("template t1; link l=t+1x; unlink l; links t", " | t1 |"),
     ];
-    tells(alloc, &table)
+    tells(alloc, table)
 }
 
 #[test]
 fn what_is_taken_out_leaves_no_gap(rt: HostRuntime) -> Result<(), Fail> {
     let alloc = rt.alloc();
-    let table = [
+    let table = &[
         (
             "static a; static b; static c; remove_static a",
             "a | b c | b c",
@@ -80,13 +80,13 @@ fn what_is_taken_out_leaves_no_gap(rt: HostRuntime) -> Result<(), Fail> {
             "a | t b | b",
         ),
     ];
-    tells(alloc, &table)
+    tells(alloc, table)
 }
 
 #[test]
 fn a_link_that_is_added_brings_its_template(rt: HostRuntime) -> Result<(), Fail> {
     let alloc = rt.alloc();
-    let table = [
+    let table = &[
         ("add l=t1+1x", "ok | t1 | l=t1+1x"),
         ("add l=t1+1x; add l=t1+1y", "occupied l | t1 | l=t1+1x"),
         ("add l=t1+1x; add m=t1+1y", "ok | t1 | l=t1+1x m=t1+1y"),
@@ -95,13 +95,13 @@ fn a_link_that_is_added_brings_its_template(rt: HostRuntime) -> Result<(), Fail>
         ("static a; add l=t; add m=t", "ok | a t | a l=t m=t"),
         ("static l; add l=t1+1x", "occupied l | l | l"),
     ];
-    tells(alloc, &table)
+    tells(alloc, table)
 }
 
 #[test]
 fn bindings_are_looked_at_before_the_new_id(rt: HostRuntime) -> Result<(), Fail> {
     let alloc = rt.alloc();
-    let table = [
+    let table = &[
         (
             "static a; template t1; link a=t",
             "unbound 1 extra 0 | a t1 | a",
@@ -121,13 +121,13 @@ fn bindings_are_looked_at_before_the_new_id(rt: HostRuntime) -> Result<(), Fail>
         ),
         ("template t; link l=t", "l=t | t | l=t"),
     ];
-    tells(alloc, &table)
+    tells(alloc, table)
 }
 
 #[test]
 fn policies_on_a_body_are_listed_in_their_order(rt: HostRuntime) -> Result<(), Fail> {
     let alloc = rt.alloc();
-    let table = [
+    let table = &[
         ("static a; links a", "a | a | a"),
         ("static a; links b", "no body b | a | a"),
         ("add l=t; links l", "no body l | t | l=t"),
@@ -141,13 +141,13 @@ fn policies_on_a_body_are_listed_in_their_order(rt: HostRuntime) -> Result<(), F
             "lm | t u | k=u l=t m=t",
         ),
     ];
-    tells(alloc, &table)
+    tells(alloc, table)
 }
 
 #[test]
 fn a_link_that_is_taken_out_leaves_the_former_set(rt: HostRuntime) -> Result<(), Fail> {
     let alloc = rt.alloc();
-    let table = [
+    let table = &[
         (
             "static a; template t1; static b; link l=t+1x; unlink l",
             "l=t1+1x | a t1 b | a b",
@@ -157,5 +157,5 @@ fn a_link_that_is_taken_out_leaves_the_former_set(rt: HostRuntime) -> Result<(),
             "l=t1+1x | t1 | k=t1+1y",
         ),
     ];
-    tells(alloc, &table)
+    tells(alloc, table)
 }

@@ -33,7 +33,7 @@ const BOTH: &str =
 #[test]
 fn a_set_is_written_by_its_two_orders(rt: HostRuntime) -> Result<(), Fail> {
     let alloc = rt.alloc();
-    let table = [
+    let table = &[
         ("", EMPTY),
         ("static a", ONE),
         ("template t1", TEMPLATE),

@@ -33,7 +33,7 @@ fn tells(alloc: Global, table: &[(&str, &str)]) -> Result<(), Fail> {
 #[test]
 fn a_valid_set_comes_back(rt: HostRuntime) -> Result<(), Fail> {
     let alloc = rt.alloc();
-    let table = [
+    let table = &[
         ("", "ok | |"),
         ("template p%; template q%", "ok | p% q% |"),
         ("static a; template t; template u21", "ok | a t u21 | a"),
@@ -42,7 +42,7 @@ fn a_valid_set_comes_back(rt: HostRuntime) -> Result<(), Fail> {
             "ok | a% t1 u | a% l=t1+1x",
         ),
     ];
-    tells(alloc, &table)
+    tells(alloc, table)
 }
 
 const NO_SLOTS: &str = "link `l` references template `t` which has no slots";
@@ -50,7 +50,7 @@ const NO_SLOTS: &str = "link `l` references template `t` which has no slots";
 #[test]
 fn links_come_first(rt: HostRuntime) -> Result<(), Fail> {
     let alloc = rt.alloc();
-    let table = [
+    let table = &[
         ("template t; link l=t", NO_SLOTS),
         ("template b@; template t; link l=t", NO_SLOTS),
         ("static a~; add l=t", NO_SLOTS),
@@ -58,7 +58,7 @@ fn links_come_first(rt: HostRuntime) -> Result<(), Fail> {
         ("add k=u1+1x; static a; add l=t", NO_SLOTS),
         ("template t@; link l=t", NO_SLOTS),
     ];
-    tells(alloc, &table)
+    tells(alloc, table)
 }
 
 const SLOT: &str = "invalid template `t`: found slot `?principal` in a condition clause";
@@ -73,7 +73,7 @@ const FUNCTION: &str = "invalid template `t`: `foo` is not a known function";
 #[test]
 fn the_first_body_that_is_not_valid_is_named(rt: HostRuntime) -> Result<(), Fail> {
     let alloc = rt.alloc();
-    let table = [
+    let table = &[
         ("template t1?", SLOT),
         ("template t11?", SLOT),
         ("template t2?", RESOURCE),
@@ -85,5 +85,5 @@ fn the_first_body_that_is_not_valid_is_named(rt: HostRuntime) -> Result<(), Fail
         ("static b; template t~; static a@; template u1?", FUNCTION),
         ("static b; template t1?; static a~", SLOT),
     ];
-    tells(alloc, &table)
+    tells(alloc, table)
 }
