@@ -12,7 +12,8 @@ use Rattle.std.specs.FinMap as finmap
 use Rattle.cedar_graph.specs.Graph.{Reach, KeepsEdges, AddsOnlyReached}
 use Rattle.cedar_graph.specs.ReachLaws.{reach_edge, reach_over_reach}
 use Rattle.cedar_graph.specs.declared.err.TcError.{TcError}
-use Rattle.cedar_ids.specs.UidOf.{same_uid, same_uid_decides, same_uid_equiv, uid_order, uid_order_total}
+use Rattle.cedar_ids.specs.UidOf.{same_uid, uid_order}
+use Rattle.cedar_ids.specs.laws.UidOfLaws.{same_uid_decides, same_uid_equiv, uid_order_total}
 use Rattle.cedar_ids.specs.declared.entity.EntityUID.{EntityUID}
 use Rattle.cedar_entity.specs.UidSets.{one_equal, same_tests}
 use Rattle.cedar_entity.specs.View.{EntityView, has_ancestor, IsDeepEqual, deep_equality, parents_are_ancestors}

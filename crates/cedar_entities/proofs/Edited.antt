@@ -9,7 +9,8 @@ use Rattle.std.specs.List.{AllByRecursion, list_any}
 use Rattle.std.specs.Set.{is_member}
 use Rattle.std.specs.FinSet as set
 use Rattle.std.specs.FinMap as finmap
-use Rattle.cedar_ids.specs.UidOf.{same_uid, uid_order_total}
+use Rattle.cedar_ids.specs.UidOf.{same_uid}
+use Rattle.cedar_ids.specs.laws.UidOfLaws.{uid_order_total}
 use Rattle.cedar_ids.specs.declared.entity.EntityUID.{EntityUID}
 use Rattle.cedar_entity.specs.UidSets.{one_equal}
 use Rattle.cedar_entity.specs.laws.UidSets.{kept_in}

@@ -6,7 +6,8 @@ use Rattle.std.specs.HashMap.{HashMap, get, keys}
 use Rattle.std.specs.List.{AllByRecursion, All, IsDistinct}
 use Rattle.std.proofs.lemmas.List.Elements.{recursion_from_All}
 use Rattle.std.specs.FinMap as finmap
-use Rattle.cedar_ids.specs.UidOf.{same_uid, same_uid_decides}
+use Rattle.cedar_ids.specs.UidOf.{same_uid}
+use Rattle.cedar_ids.specs.laws.UidOfLaws.{same_uid_decides}
 use Rattle.cedar_ids.specs.declared.entity.EntityUID.{EntityUID}
 use Rattle.cedar_entity.specs.declared.node.SharedEntity.{SharedEntity}
 use Rattle.cedar_entities.specs.Answers.{ListsHeld}

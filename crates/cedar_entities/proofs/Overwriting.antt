@@ -9,7 +9,8 @@ use Rattle.std.specs.FinSet as set
 use Rattle.std.specs.FinMap as finmap
 use Rattle.cedar_graph.specs.Graph.{Reach, AddsOnlyReached}
 use Rattle.cedar_graph.specs.ReachLaws.{reach_edge}
-use Rattle.cedar_ids.specs.UidOf.{same_uid, uid_order, same_uid_decides}
+use Rattle.cedar_ids.specs.UidOf.{same_uid, uid_order}
+use Rattle.cedar_ids.specs.laws.UidOfLaws.{same_uid_decides}
 use Rattle.cedar_ids.specs.declared.entity.EntityUID.{EntityUID}
 use Rattle.cedar_entity.specs.UidSets.{same_tests}
 use Rattle.cedar_entity.specs.laws.UidSets.{kept_in}

@@ -12,7 +12,8 @@ use Rattle.cedar_graph.specs.Graph.{Reach, KeepsEdges, AddsOnlyReached}
 use Rattle.cedar_graph.specs.ReachLaws.{reach_edge, reach_over_reach, reach_trans}
 use Rattle.cedar_graph.specs.declared.err.TcError.{TcError}
 use Rattle.cedar_graph.specs.declared.err.TcError.TheVariants as tc
-use Rattle.cedar_ids.specs.UidOf.{same_uid, same_uid_decides, same_uid_equiv}
+use Rattle.cedar_ids.specs.UidOf.{same_uid}
+use Rattle.cedar_ids.specs.laws.UidOfLaws.{same_uid_decides, same_uid_equiv}
 use Rattle.cedar_ids.specs.declared.entity.EntityUID.{EntityUID}
 use Rattle.cedar_entity.specs.laws.UidSets.{kept_in}
 use Rattle.cedar_entity.specs.View.{EntityView, has_ancestor}

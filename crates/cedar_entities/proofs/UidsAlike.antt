@@ -13,7 +13,8 @@ use Rattle.std.specs.List.{list_any}
 use Rattle.std.specs.Ordering.{eq_by_cmp}
 use Rattle.std.specs.FinSet as set
 use Rattle.std.specs.FinMap as finmap
-use Rattle.cedar_ids.specs.UidOf.{same_uid, same_uid_decides, uid_order, uid_order_total}
+use Rattle.cedar_ids.specs.UidOf.{same_uid, uid_order}
+use Rattle.cedar_ids.specs.laws.UidOfLaws.{same_uid_decides, uid_order_total}
 use Rattle.cedar_ids.specs.declared.entity.EntityUID.{EntityUID}
 use Rattle.cedar_entity.specs.declared.node.SharedEntity.{SharedEntity}
 use Rattle.cedar_entities.specs.laws.Held.{held_map, shared}

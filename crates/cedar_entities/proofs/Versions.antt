@@ -5,7 +5,8 @@ use Rattle.std.specs.Option.{option_or, option_map, unwrap_or, IfSome, is_some}
 use Rattle.std.specs.FinMap as finmap
 use Rattle.std.specs.List.{AllByRecursion}
 use Rattle.std.specs.Ordering.{eq_by_cmp}
-use Rattle.cedar_ids.specs.UidOf.{same_uid, uid_order, same_uid_decides, same_uid_equiv}
+use Rattle.cedar_ids.specs.UidOf.{same_uid, uid_order}
+use Rattle.cedar_ids.specs.laws.UidOfLaws.{same_uid_decides, same_uid_equiv}
 use Rattle.cedar_ids.specs.declared.entity.EntityUID.{EntityUID}
 use Rattle.cedar_entity.specs.UidSets.{same_tests}
 use Rattle.cedar_entity.specs.View.{EntityView, IsDeepEqual, deep_equality}

@@ -3,7 +3,7 @@
 //! Proved: what each call makes of any store and, over a world of entities that bring no indirect ancestors, that it
 //! leaves the plain store of the world that plain adding, overwriting or deletion makes. The entity itself is of
 //! `cedar_entity`, whose names stand here too.
-#![tactic(auto, using(cedar_ids::specs::UidOf::same_uid_decides))]
+#![tactic(auto, using(cedar_ids::specs::laws::UidOfLaws::same_uid_decides))]
 
 pub mod dereference;
 pub mod entities;

@@ -4,7 +4,8 @@ use Rattle.std.proofs.Common.{ap, sym, refl, ◌∙◌}
 use Rattle.std.specs.FinSet as set
 use Rattle.std.specs.Ordering.{eq_by_cmp}
 use Rattle.std.specs.Set.{is_member}
-use Rattle.cedar_ids.specs.UidOf.{same_uid, uid_order, uid_order_total, same_uid_decides, same_uid_equiv}
+use Rattle.cedar_ids.specs.UidOf.{same_uid, uid_order}
+use Rattle.cedar_ids.specs.laws.UidOfLaws.{uid_order_total, same_uid_decides, same_uid_equiv}
 use Rattle.cedar_ids.specs.declared.entity.EntityUID.{EntityUID}
 use Rattle.cedar_entity.specs.UidSets.{contains_listed, same_tests, one_equal}
 use Rattle.cedar_graph.specs.Graph.{Grows}

@@ -5,7 +5,8 @@ use Rattle.std.specs.Ordering.{eq_by_cmp, is_eq}
 use Rattle.std.specs.List.{list_any}
 use Rattle.std.specs.FinSet as set
 use Rattle.std.specs.Set.{is_member}
-use Rattle.cedar_ids.specs.UidOf.{same_uid, uid_order, uid_order_total, uid_order_ties, same_uid_decides}
+use Rattle.cedar_ids.specs.UidOf.{same_uid, uid_order}
+use Rattle.cedar_ids.specs.laws.UidOfLaws.{uid_order_total, uid_order_ties, same_uid_decides}
 use Rattle.cedar_ids.specs.declared.entity.EntityUID.{EntityUID}
 
 abbrev pub UidSet : Type 0

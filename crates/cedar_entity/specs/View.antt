@@ -3,7 +3,8 @@ use Rattle.std.specs.Prelude.{◌≡◌, Bool, true, ◌||◌, if◌then◌else�
 use Rattle.std.proofs.Common.{refl, ap, sym, ◌∙◌}
 use Rattle.std.specs.Coded.{Coded, code_by, coded×}
 use Rattle.std.specs.FinSet as set
-use Rattle.cedar_ids.specs.UidOf.{same_uid, same_uid_decides}
+use Rattle.cedar_ids.specs.UidOf.{same_uid}
+use Rattle.cedar_ids.specs.laws.UidOfLaws.{same_uid_decides}
 use Rattle.cedar_ids.specs.declared.entity.EntityUID.{EntityUID}
 use Rattle.cedar_ids.specs.Codes.{uid_code}
 use Rattle.cedar_entity.specs.laws.Codes.{uid_set_code, fields_code}

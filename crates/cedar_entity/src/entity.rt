@@ -76,7 +76,8 @@ impl Clone for Entity {
 
 impl PartialEq for Entity {
     ghost use Rattle.std.specs.Cmp.{on_per, partial_equiv_from_equiv};
-    ghost use Rattle.cedar_ids.specs.UidOf.{same_uid, same_uid_equiv};
+    ghost use Rattle.cedar_ids.specs.UidOf.{same_uid};
+    ghost use Rattle.cedar_ids.specs.laws.UidOfLaws.{same_uid_equiv};
 
     ghost eq = { λ x y. same_uid x.uid y.uid };
 
@@ -90,13 +91,14 @@ impl PartialEq for Entity {
 
 impl Eq for Entity {
     ghost use Rattle.std.specs.Cmp.{on_equiv};
-    ghost use Rattle.cedar_ids.specs.UidOf.{same_uid_equiv};
+    ghost use Rattle.cedar_ids.specs.laws.UidOfLaws.{same_uid_equiv};
 
     ghost laws = { on_equiv (λ (e : EntityView). e.uid) same_uid_equiv };
 }
 
 impl Hash for Entity {
-    ghost use Rattle.cedar_ids.specs.UidOf.{uid_hash, uid_hash_respects};
+    ghost use Rattle.cedar_ids.specs.UidOf.{uid_hash};
+    ghost use Rattle.cedar_ids.specs.laws.UidOfLaws.{uid_hash_respects};
 
     ghost hash_input = { λ e. uid_hash e.uid };
 

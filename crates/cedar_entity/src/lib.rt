@@ -3,7 +3,7 @@
 //! Proved: each reader and mutator of [`Entity`] as a step on a uid, two lists of fields with ascending keys and two
 //! sets of uids; that `validate` names the first fault in a stated order; that [`Entity`] and [`SharedEntity`] are
 //! lawful nodes, whose edges are the ancestors. The store of entities stands above, in `cedar_entities`.
-#![tactic(auto, using(cedar_ids::specs::UidOf::same_uid_decides))]
+#![tactic(auto, using(cedar_ids::specs::laws::UidOfLaws::same_uid_decides))]
 
 pub mod entity;
 mod entity_text;

@@ -6,7 +6,8 @@ use Rattle.std.specs.Cmp.{first_so, second_so}
 use Rattle.std.specs.List.{list_all}
 use Rattle.std.specs.Str.{bytes_eq}
 use Rattle.std.proofs.lemmas.Slice.Eq.{bytes_eq-Decides}
-use Rattle.cedar_ids.specs.Escape.{escape, escaped, is_ascii, is_ascii_byte, is_plain_byte, escaped_output}
+use Rattle.cedar_ids.specs.Escape.{escape, escaped, is_ascii, is_ascii_byte, escaped_output}
+use Rattle.cedar_ids.specs.laws.PlainBytes.{is_plain_byte}
 use Rattle.cedar_ids.specs.laws.Decode.{eid_of}
 use Rattle.cedar_ids.specs.laws.Eids.{ascii_text}
 use Rattle.cedar_ids.specs.laws.EscapeLaws.{all_below, below_at, eid_of-escaped}

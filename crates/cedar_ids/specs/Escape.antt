@@ -1,5 +1,5 @@
 -- How the characters of an eid are written.
-use Rattle.std.specs.Prelude.{ℕ, List, [], ◌∷◌, ◌++◌, Bool, Option, Some, None, false, if◌then◌else◌, ◌==◌, nat_lt, ◌||◌, ◌&&◌, not, nat_le, codes}
+use Rattle.std.specs.Prelude.{ℕ, List, [], ◌∷◌, ◌++◌, Bool, Option, Some, None, false, if◌then◌else◌, ◌==◌, nat_lt, ◌||◌, codes}
 use Rattle.std.specs.List.{flat_map, list_all}
 use Rattle.std.specs.Fmt.{digits}
 
@@ -31,7 +31,3 @@ is_ascii text = list_all is_ascii_byte text
 -- what is known of the text of any text
 abbrev pub escaped_output : List ℕ → Option (List ℕ)
 escaped_output text = if is_ascii text then Some (escaped text) else None
-
--- a byte that is written as it is
-abbrev pub is_plain_byte : ℕ → Bool
-is_plain_byte c = nat_le 32 c && nat_lt c 127 && not (c == 39) && not (c == 34) && not (c == 92)

@@ -7,7 +7,10 @@ pub mod NameLaws
 pub mod NameReading
 pub mod NameTextLaws
 pub mod NameTexts
+pub mod PlainBytes
 pub mod PrintedLaws
+pub mod TextLaws
 pub mod UidLaws
+pub mod UidOfLaws
 pub mod UidReading
 pub mod UidTexts

@@ -3,7 +3,8 @@ ghost use Rattle.std.specs.Prelude.{◌≡◌, ◌<◌};
 ghost use Rattle.std.specs.List.{list_all};
 ghost use Rattle.std.specs.Str.{IsAscii};
 ghost use Rattle.std.specs.Fmt.{WritesOnOk};
-ghost use Rattle.cedar_ids.specs.Escape.{escape, escaped, escaped_output, is_plain_byte};
+ghost use Rattle.cedar_ids.specs.Escape.{escape, escaped, escaped_output};
+ghost use Rattle.cedar_ids.specs.laws.PlainBytes.{is_plain_byte};
 
 use std::fmt;
 

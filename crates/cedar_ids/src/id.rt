@@ -1,12 +1,13 @@
 //! Identifiers: those that are no reserved word, and any.
 ghost use Rattle.std.specs.Prelude.{◌≡◌, Some, List, ℕ, IsTrue};
 ghost use Rattle.std.specs.Rc.{rc_str_bytes};
-ghost use Rattle.std.specs.Ordering.{nat_cmp};
+ghost use Rattle.std.specs.Ordering.{as_partial_cmp};
 ghost use Rattle.std.specs.Cmp.{partial_equiv_from_equiv};
-ghost use Rattle.std.specs.Cmp.Lexicographic.{slice_cmp, nat_list_eq_equiv, nat_list_cmp_total, texts_ties, texts_po};
+ghost use Rattle.std.specs.Cmp.Lexicographic.{texts_ties, texts_po};
 ghost use Rattle.std.specs.Hash as fed;
 ghost use Rattle.std.specs.List.{list_all};
-ghost use Rattle.cedar_ids.specs.Texts.{same_text};
+ghost use Rattle.cedar_ids.specs.Texts.{same_text, text_order};
+ghost use Rattle.cedar_ids.specs.laws.TextLaws.{same_text_equiv, text_order_total};
 ghost use Rattle.cedar_ids.specs.Reading.{is_id_start, is_id_part, is_identifier, is_reserved, is_id};
 ghost use Rattle.cedar_ids.specs.TextOf.{IsIdText, IsIdentifierText};
 ghost use Rattle.cedar_ids.specs.Reads.{Reads};
@@ -130,7 +131,7 @@ impl Clone for Id {
 impl PartialEq for Id {
     ghost eq = { same_text };
 
-    ghost laws = { partial_equiv_from_equiv nat_list_eq_equiv };
+    ghost laws = { partial_equiv_from_equiv same_text_equiv };
 
     fn eq(&self, other: &Id) -> bool {
         self.text == other.text
@@ -138,11 +139,11 @@ impl PartialEq for Id {
 }
 
 impl Eq for Id {
-    ghost laws = { nat_list_eq_equiv };
+    ghost laws = { same_text_equiv };
 }
 
 impl PartialOrd for Id {
-    ghost partial_cmp = { λ x y. Some (slice_cmp nat_cmp x y) };
+    ghost partial_cmp = { as_partial_cmp text_order };
 
     ghost laws = { texts_po };
 
@@ -152,9 +153,9 @@ impl PartialOrd for Id {
 }
 
 impl Ord for Id {
-    ghost cmp = { slice_cmp nat_cmp };
+    ghost cmp = { text_order };
 
-    ghost total = { nat_list_cmp_total };
+    ghost total = { text_order_total };
 
     ghost matches_partial_cmp = { λ x y. refl };
 
@@ -243,7 +244,7 @@ impl Clone for AnyId {
 impl PartialEq for AnyId {
     ghost eq = { same_text };
 
-    ghost laws = { partial_equiv_from_equiv nat_list_eq_equiv };
+    ghost laws = { partial_equiv_from_equiv same_text_equiv };
 
     fn eq(&self, other: &AnyId) -> bool {
         self.word == other.word
@@ -251,11 +252,11 @@ impl PartialEq for AnyId {
 }
 
 impl Eq for AnyId {
-    ghost laws = { nat_list_eq_equiv };
+    ghost laws = { same_text_equiv };
 }
 
 impl PartialOrd for AnyId {
-    ghost partial_cmp = { λ x y. Some (slice_cmp nat_cmp x y) };
+    ghost partial_cmp = { as_partial_cmp text_order };
 
     ghost laws = { texts_po };
 
@@ -265,9 +266,9 @@ impl PartialOrd for AnyId {
 }
 
 impl Ord for AnyId {
-    ghost cmp = { slice_cmp nat_cmp };
+    ghost cmp = { text_order };
 
-    ghost total = { nat_list_cmp_total };
+    ghost total = { text_order_total };
 
     ghost matches_partial_cmp = { λ x y. refl };
 

@@ -1,13 +1,14 @@
 //! Ids of policies and templates: any text.
-ghost use Rattle.std.specs.Prelude.{◌≡◌, Some, List, ℕ, IfOk};
+ghost use Rattle.std.specs.Prelude.{◌≡◌, List, ℕ, IfOk};
 ghost use Rattle.std.specs.String.{string_bytes};
-ghost use Rattle.std.specs.Ordering.{nat_cmp};
+ghost use Rattle.std.specs.Ordering.{as_partial_cmp};
 ghost use Rattle.std.specs.Cmp.{partial_equiv_from_equiv};
-ghost use Rattle.std.specs.Cmp.Lexicographic.{slice_cmp, nat_list_eq_equiv, nat_list_cmp_total, texts_ties, texts_po};
+ghost use Rattle.std.specs.Cmp.Lexicographic.{texts_ties, texts_po};
 ghost use Rattle.std.specs.Hash as fed;
 ghost use Rattle.std.specs.Cmp.Rules.{hashing};
 ghost use Rattle.std.proofs.Common.{rules, refl};
-ghost use Rattle.cedar_ids.specs.Texts.{same_text};
+ghost use Rattle.cedar_ids.specs.Texts.{same_text, text_order};
+ghost use Rattle.cedar_ids.specs.laws.TextLaws.{same_text_equiv, text_order_total};
 ghost use Rattle.cedar_ids.specs.Escape.{escaped_output};
 
 use crate::escape::Escaped;
@@ -79,7 +80,7 @@ impl Clone for PolicyID {
 impl PartialEq for PolicyID {
     ghost eq = { same_text };
 
-    ghost laws = { partial_equiv_from_equiv nat_list_eq_equiv };
+    ghost laws = { partial_equiv_from_equiv same_text_equiv };
 
     fn eq(&self, other: &PolicyID) -> bool {
         self.text == other.text
@@ -87,11 +88,11 @@ impl PartialEq for PolicyID {
 }
 
 impl Eq for PolicyID {
-    ghost laws = { nat_list_eq_equiv };
+    ghost laws = { same_text_equiv };
 }
 
 impl PartialOrd for PolicyID {
-    ghost partial_cmp = { λ x y. Some (slice_cmp nat_cmp x y) };
+    ghost partial_cmp = { as_partial_cmp text_order };
 
     ghost laws = { texts_po };
 
@@ -101,9 +102,9 @@ impl PartialOrd for PolicyID {
 }
 
 impl Ord for PolicyID {
-    ghost cmp = { slice_cmp nat_cmp };
+    ghost cmp = { text_order };
 
-    ghost total = { nat_list_cmp_total };
+    ghost total = { text_order_total };
 
     ghost matches_partial_cmp = { λ x y. refl };
 

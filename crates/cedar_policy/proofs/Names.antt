@@ -6,9 +6,11 @@ use Rattle.cedar_ids.specs.Escape.{is_ascii}
 use Rattle.cedar_ids.specs.Printed.{printed_uid}
 use Rattle.cedar_ids.specs.Reading.{is_id}
 use Rattle.cedar_ids.specs.TextOf.{IsPrinted}
-use Rattle.cedar_ids.specs.Texts.{same_text, same_text_decides}
+use Rattle.cedar_ids.specs.Texts.{same_text}
+use Rattle.cedar_ids.specs.laws.TextLaws.{same_text_decides}
 use Rattle.cedar_ids.specs.Uid.{UidParts}
-use Rattle.cedar_ids.specs.UidOf.{uid_parts, same_uid, same_uid_decides}
+use Rattle.cedar_ids.specs.UidOf.{uid_parts, same_uid}
+use Rattle.cedar_ids.specs.laws.UidOfLaws.{same_uid_decides}
 use Rattle.cedar_ids.specs.declared.entity.EntityUID.{EntityUID}
 use Rattle.cedar_policy.specs.Unknowns.{is_name}
 use Rattle.cedar_policy.specs.laws.UnknownSteps.{is_printed_uid}

@@ -4,7 +4,8 @@ use Rattle.std.specs.Map.{lookup}
 use Rattle.std.specs.Option.{option_map}
 use Rattle.std.proofs.lemmas.Map.Made.{lookup-map_values}
 use Rattle.std.proofs.Common.{cond, sym, ap, ◌∙◌, subst}
-use Rattle.cedar_ids.specs.Texts.{same_text, same_text_equiv}
+use Rattle.cedar_ids.specs.Texts.{same_text}
+use Rattle.cedar_ids.specs.laws.TextLaws.{same_text_equiv}
 use Rattle.cedar_body.specs.Bodies.{BodyParts, body_slots}
 use Rattle.cedar_policy.specs.Policies.{PolicyParts, policy_id, static_policy}
 use Rattle.cedar_policy_set.specs.Maps.{Maps, DoAgree}

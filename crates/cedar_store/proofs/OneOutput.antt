@@ -12,7 +12,8 @@ use Rattle.std.specs.Set.{is_member}
 use Rattle.std.specs.FinMap as finmap
 use Rattle.std.specs.Ordering.{is_eq}
 use Rattle.std.specs.declared.cmp.Ordering.TheVariants.{Less}
-use Rattle.cedar_ids.specs.UidOf.{uid_parts, uid_order, same_uid, same_uid_decides, same_uid_equiv, uid_order_total}
+use Rattle.cedar_ids.specs.UidOf.{uid_parts, uid_order, same_uid}
+use Rattle.cedar_ids.specs.laws.UidOfLaws.{same_uid_decides, same_uid_equiv, uid_order_total}
 use Rattle.cedar_ids.specs.laws.PrintedLaws.{printed_uid_injective}
 use Rattle.cedar_ids.specs.declared.entity.EntityUID.{EntityUID}
 use Rattle.cedar_ids.specs.declared.entity.EntityUID.TheVariants as uids

@@ -15,7 +15,8 @@ use Rattle.std.specs.Ordering.{eq_by_cmp}
 use Rattle.std.specs.Cmp.{first_so}
 use Rattle.cedar_graph.specs.Graph.{Reach, Path}
 use Rattle.cedar_graph.specs.declared.err.TcError.TheVariants as tc
-use Rattle.cedar_ids.specs.UidOf.{uid_order, same_uid, same_uid_equiv, same_uid_decides}
+use Rattle.cedar_ids.specs.UidOf.{uid_order, same_uid}
+use Rattle.cedar_ids.specs.laws.UidOfLaws.{same_uid_equiv, same_uid_decides}
 use Rattle.cedar_ids.specs.declared.entity.EntityUID.{EntityUID}
 use Rattle.cedar_entity.specs.Fields.{Fields, AreFieldsOf, field_at}
 use Rattle.cedar_entity.specs.UidSets.{contains_listed}

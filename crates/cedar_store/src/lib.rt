@@ -6,7 +6,7 @@
 //! [`replay_entities`] makes a list of calls on a store and [`replay_policies`] one on a policy set, and their contracts
 //! say what that leaves; [`run`] reads lines and writes their answers, and its contract says that what is written is the
 //! output of what was read, by `specs/Output.antt`, and that each input has exactly one.
-#![tactic(auto, using(cedar_ids::specs::UidOf::same_uid_decides))]
+#![tactic(auto, using(cedar_ids::specs::laws::UidOfLaws::same_uid_decides))]
 
 mod line;
 mod machine;

@@ -1,7 +1,7 @@
 //! Reading uids of which many have one type: the types that were read are known by their texts, and shared.
 ghost use Rattle.std.specs.Prelude.{◌≡◌, ◌++◌, List, ℕ, IfOk, MatchOption, IfSome, IsTrue, codes};
 ghost use Rattle.std.specs.List.{list_all};
-ghost use Rattle.cedar_ids.specs.Escape.{is_plain_byte};
+ghost use Rattle.cedar_ids.specs.laws.PlainBytes.{is_plain_byte};
 ghost use Rattle.cedar_ids.specs.Name.{NameParts};
 ghost use Rattle.cedar_ids.specs.TextOf.{IsNameText, IsPrinted};
 ghost use Rattle.cedar_ids.specs.UidOf.{uid_parts};

@@ -15,7 +15,8 @@ use Rattle.cedar_ids.specs.Name.{NameParts, name_cmp, name_eq}
 use Rattle.cedar_ids.specs.laws.NameLaws.{name_cmp_total, name_eq_equiv}
 use Rattle.cedar_ids.specs.Reading.{is_id, is_id_start, is_id_part}
 use Rattle.cedar_ids.specs.TextOf.{IsName}
-use Rattle.cedar_ids.specs.UidOf.{uid_parts, uid_order, same_uid, same_uid_decides}
+use Rattle.cedar_ids.specs.UidOf.{uid_parts, uid_order, same_uid}
+use Rattle.cedar_ids.specs.laws.UidOfLaws.{same_uid_decides}
 use Rattle.cedar_ids.specs.declared.entity.EntityUID.{EntityUID}
 use Rattle.cedar_uid_sets.specs.declared.fronts.Writes.{Writes}
 use Rattle.cedar_uid_sets.specs.laws.Fronts.{number, AreDigits, front, BeginsWithBytes, is_none, is_short, kind, same_numbers, Abbreviate}

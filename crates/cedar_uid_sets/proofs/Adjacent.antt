@@ -6,7 +6,8 @@ use Rattle.std.specs.List.Sorted.{IsStrictlySortedBy}
 use Rattle.std.specs.Ordering.{is_lt}
 use Rattle.std.proofs.lemmas.Bool.{false≢true}
 use Rattle.std.proofs.lemmas.Map.Keys.{Less-from_sorted, sorted_from_all_adjacent}
-use Rattle.cedar_ids.specs.UidOf.{uid_order, uid_order_total}
+use Rattle.cedar_ids.specs.UidOf.{uid_order}
+use Rattle.cedar_ids.specs.laws.UidOfLaws.{uid_order_total}
 use Rattle.cedar_ids.specs.declared.entity.EntityUID.{EntityUID}
 use Rattle.cedar_uid_sets.specs.UidSets.{Ascend}
 use Rattle.cedar_uid_sets.proofs.Search.{less}

@@ -9,7 +9,8 @@ use Rattle.std.specs.FinSet as set
 use Rattle.std.specs.Set.{is_member}
 use Rattle.std.proofs.lemmas.Map.Views.{any-filter_same}
 use Rattle.std.proofs.lemmas.List.Folds.{list_any_more}
-use Rattle.cedar_ids.specs.UidOf.{uid_order, same_uid, uid_order_total, same_uid_decides}
+use Rattle.cedar_ids.specs.UidOf.{uid_order, same_uid}
+use Rattle.cedar_ids.specs.laws.UidOfLaws.{uid_order_total, same_uid_decides}
 use Rattle.cedar_ids.specs.declared.entity.EntityUID.{EntityUID}
 use Rattle.cedar_uid_sets.specs.UidSets.{Ascend, UidValues}
 use Rattle.cedar_uid_sets.specs.laws.Sets.{contains_listed, same_members, same_tests}

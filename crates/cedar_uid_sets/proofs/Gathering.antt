@@ -3,7 +3,8 @@ use Rattle.std.specs.Prelude.{◌≡◌, Bool, true, false, ◌||◌, List, [], 
 use Rattle.std.proofs.Common.{ap, sym, refl, ◌∙◌}
 use Rattle.std.specs.FinSet as set
 use Rattle.std.specs.Set.{is_member}
-use Rattle.cedar_ids.specs.UidOf.{uid_order, same_uid, uid_order_total}
+use Rattle.cedar_ids.specs.UidOf.{uid_order, same_uid}
+use Rattle.cedar_ids.specs.laws.UidOfLaws.{uid_order_total}
 use Rattle.cedar_ids.specs.declared.entity.EntityUID.{EntityUID}
 use Rattle.cedar_uid_sets.specs.UidSets.{UidValues}
 use Rattle.cedar_uid_sets.specs.laws.Sets.{contains_listed, same_members, same_tests}

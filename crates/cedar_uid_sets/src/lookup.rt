@@ -1,6 +1,7 @@
 //! The look-up of a shared uid by a plain one.
 ghost use Rattle.std.specs.Prelude.{◌≡◌};
-ghost use Rattle.cedar_ids.specs.UidOf.{same_uid, uid_hash_respects, same_uid_equiv};
+ghost use Rattle.cedar_ids.specs.UidOf.{same_uid};
+ghost use Rattle.cedar_ids.specs.laws.UidOfLaws.{uid_hash_respects, same_uid_equiv};
 
 use crate::shared_uid::SharedUid;
 use cedar_ids::entity::EntityUID;

@@ -4,7 +4,7 @@ use Rattle.std.proofs.Common.{ap, sym, ◌∙◌}
 use Rattle.std.specs.Bool.{Decides}
 use Rattle.std.specs.Cmp.{IsEquivalence, on_equiv, and_equiv, first_so, second_so}
 use Rattle.std.specs.Cmp.Lexicographic.{options_equiv}
-use Rattle.cedar_ids.specs.Texts.{same_text_equiv, same_text_decides}
+use Rattle.cedar_ids.specs.laws.TextLaws.{same_text_equiv, same_text_decides}
 use Rattle.cedar_terms.specs.ExprTree.{ExprTree}
 use Rattle.cedar_terms.specs.laws.ExprLaws.{same_expr_equiv, same_expr_decides}
 use Rattle.cedar_scope.specs.laws.AnnotationOrders.{same_annotations_equiv, same_annotations_decides}

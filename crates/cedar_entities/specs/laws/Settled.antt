@@ -20,7 +20,8 @@ use Rattle.std.specs.FinMap as finmap
 use Rattle.std.specs.FinMap.Entries.{is_sorted, below_all, is_some-find}
 use Rattle.cedar_graph.specs.Graph.{Reach}
 use Rattle.cedar_graph.specs.laws.Deciding.{Respects, LeaveOnly, closure, closure_is, has_cycle, decides_cycle, reached_from}
-use Rattle.cedar_ids.specs.UidOf.{uid_order, uid_order_ties, uid_order_total, same_uid, same_uid_decides, same_uid_equiv}
+use Rattle.cedar_ids.specs.UidOf.{uid_order, same_uid}
+use Rattle.cedar_ids.specs.laws.UidOfLaws.{uid_order_ties, uid_order_total, same_uid_decides, same_uid_equiv}
 use Rattle.cedar_ids.specs.declared.entity.EntityUID.{EntityUID}
 use Rattle.cedar_entity.specs.Fields.{Fields}
 use Rattle.cedar_entity.specs.UidSets.{UidSet, same_tests, one_equal, contains_listed, is_member-append}

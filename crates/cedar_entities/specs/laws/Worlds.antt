@@ -4,7 +4,8 @@ use Rattle.std.proofs.Common.{ap, sym, refl, ◌∙◌}
 use Rattle.std.specs.Option.{option_or, option_map}
 use Rattle.std.specs.FinMap as finmap
 use Rattle.std.specs.Ordering.{eq_by_cmp}
-use Rattle.cedar_ids.specs.UidOf.{uid_order, uid_order_total}
+use Rattle.cedar_ids.specs.UidOf.{uid_order}
+use Rattle.cedar_ids.specs.laws.UidOfLaws.{uid_order_total}
 use Rattle.cedar_ids.specs.declared.entity.EntityUID.{EntityUID}
 use Rattle.cedar_entity.specs.UidSets.{one_equal}
 use Rattle.cedar_entities.specs.World.{World, Given, entry_of, first, added, overwritten, deleted, reversed, goes, without}

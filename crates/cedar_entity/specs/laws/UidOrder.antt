@@ -4,7 +4,8 @@ use Rattle.std.proofs.Common.{refl}
 use Rattle.std.specs.Ordering.{is_lt, ordering_reverse}
 use Rattle.std.specs.declared.cmp.Ordering.{Ordering}
 use Rattle.std.specs.declared.cmp.Ordering.TheVariants.{Less, Equal, Greater}
-use Rattle.cedar_ids.specs.UidOf.{uid_order, uid_order_total}
+use Rattle.cedar_ids.specs.UidOf.{uid_order}
+use Rattle.cedar_ids.specs.laws.UidOfLaws.{uid_order_total}
 use Rattle.cedar_ids.specs.declared.entity.EntityUID.{EntityUID}
 
 self_less : (o : Ordering) → o ≡ ordering_reverse o → o ≡ Less → ⊥

@@ -1,4 +1,4 @@
--- Reading a name piece by piece, as the program does. What is read stands in Laws and Reads.
+-- Reading a name piece by piece, as the program does. What reading answers is said in Reads.
 use Rattle.std.specs.Prelude.{ℕ, List, [], ◌∷◌, ◌++◌, ◌&&◌, Option, Some, None, if◌then◌else◌, ◌==◌}
 use Rattle.cedar_ids.specs.Name.{NameParts}
 use Rattle.cedar_ids.specs.Reading.{is_id}

@@ -1,4 +1,4 @@
--- Reading a uid, as the program does. What is read stands in Laws and ReadsUid.
+-- Reading a uid, as the program does. What reading answers is said in Reads and ReadsUid.
 use Rattle.std.specs.Prelude.{ℕ, List, [], ◌∷◌, length, drop, Option, Some, None, Result, Ok, Err, if◌then◌else◌, ◌==◌, nat_eq, codes, option_and_then}
 use Rattle.std.specs.Option.{option_map}
 use Rattle.std.specs.List.{starts_with}

@@ -7,7 +7,8 @@ use Rattle.std.proofs.lemmas.Bool.{or_parts}
 use Rattle.std.proofs.lemmas.List.{append-nil}
 use Rattle.std.proofs.lemmas.List.Folds.{list_any-append}
 use Rattle.std.proofs.lemmas.List.Elements.{filter-append}
-use Rattle.cedar_ids.specs.Texts.{same_text, same_text_equiv, same_text_decides}
+use Rattle.cedar_ids.specs.Texts.{same_text}
+use Rattle.cedar_ids.specs.laws.TextLaws.{same_text_equiv, same_text_decides}
 use Rattle.cedar_body.specs.Bodies.{BodyParts, body_slots}
 use Rattle.cedar_body.specs.BodyEquality.{same_body}
 use Rattle.cedar_body.specs.laws.BodyLaws.{same_body_decides}

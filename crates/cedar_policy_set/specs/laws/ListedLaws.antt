@@ -8,7 +8,8 @@ use Rattle.indexmap.specs.IndexSet.{insert_key}
 use Rattle.std.proofs.lemmas.Bool.{or_parts, false≢true}
 use Rattle.std.proofs.lemmas.List.{map-append, append-nil}
 use Rattle.std.proofs.lemmas.List.Elements.{filter-append}
-use Rattle.cedar_ids.specs.Texts.{same_text, same_text_equiv}
+use Rattle.cedar_ids.specs.Texts.{same_text}
+use Rattle.cedar_ids.specs.laws.TextLaws.{same_text_equiv}
 use Rattle.cedar_policy_set.specs.Boards.{AreOnce}
 use Rattle.cedar_policy_set.specs.laws.OnceLaws.{is_at, no_other, filter_none, any-filter_none, any-map}
 

@@ -6,7 +6,8 @@ use Rattle.std.specs.Map.{values_of, lookup, remove_entry}
 use Rattle.std.specs.Option.{option_map, unwrap_or}
 use Rattle.std.proofs.lemmas.Bool.{or_parts, false≢true}
 use Rattle.std.proofs.lemmas.List.{map-append}
-use Rattle.cedar_ids.specs.Texts.{same_text, same_text_equiv, same_text_decides}
+use Rattle.cedar_ids.specs.Texts.{same_text}
+use Rattle.cedar_ids.specs.laws.TextLaws.{same_text_equiv, same_text_decides}
 use Rattle.cedar_body.specs.Bodies.{BodyParts}
 use Rattle.cedar_policy.specs.Policies.{PolicyParts, policy_id}
 use Rattle.cedar_policy_set.specs.Boards.{Board, empty_board, AreOnce, is_bound, is_body_at, is_policy_at, links_to, has_links, with_template, with_policy, with_both, without, CanJoinBoth, IsHeldBy, AreHeld, IsBoard}

@@ -6,7 +6,8 @@ use Rattle.std.specs.Option.{option_eq, option_map, unwrap_or}
 use Rattle.std.proofs.lemmas.Bool.{false≢true, or_parts}
 use Rattle.std.proofs.lemmas.Grind.{common_steps}
 use Rattle.std.proofs.lemmas.List.Folds.{list_any-append}
-use Rattle.cedar_ids.specs.Texts.{same_text, same_text_equiv, same_text_decides}
+use Rattle.cedar_ids.specs.Texts.{same_text}
+use Rattle.cedar_ids.specs.laws.TextLaws.{same_text_equiv, same_text_decides}
 use Rattle.cedar_body.specs.Bodies.{BodyParts}
 use Rattle.cedar_body.specs.BodyEquality.{same_body}
 use Rattle.cedar_body.specs.laws.BodyLaws.{same_body_decides}

@@ -9,7 +9,8 @@ use Rattle.std.proofs.lemmas.Grind.{common_steps}
 use Rattle.std.proofs.lemmas.Option.{slice_get_past, slice_get-get_or}
 use Rattle.std.proofs.lemmas.List.{take-map, drop-map, map-append, length-map}
 use Rattle.std.proofs.lemmas.List.Folds.{list_any-append, find_at}
-use Rattle.cedar_ids.specs.Texts.{same_text, same_text_equiv, same_text_decides}
+use Rattle.cedar_ids.specs.Texts.{same_text}
+use Rattle.cedar_ids.specs.laws.TextLaws.{same_text_equiv, same_text_decides}
 use Rattle.cedar_policy_set.specs.Boards.{AreOnce}
 
 -- whether something has an id

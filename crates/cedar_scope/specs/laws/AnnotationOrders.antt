@@ -5,7 +5,8 @@ use Rattle.std.specs.Bool.{Decides}
 use Rattle.std.specs.Ordering.{eq_by_cmp}
 use Rattle.std.specs.Cmp.{IsTotalOrder, IsEquivalence, on_equiv, on_total, and_equiv, then_total, both_tied, first_so, second_so}
 use Rattle.std.specs.Cmp.Lexicographic.{pointwise_decides, lists_equiv, lists_total, lists_ties, texts_ties}
-use Rattle.cedar_ids.specs.Texts.{same_text, text_order, same_text_equiv, same_text_decides, text_order_total}
+use Rattle.cedar_ids.specs.Texts.{same_text, text_order}
+use Rattle.cedar_ids.specs.laws.TextLaws.{same_text_equiv, same_text_decides, text_order_total}
 use Rattle.cedar_scope.specs.Annotations.{AnnotationsView}
 use Rattle.cedar_scope.specs.AnnotationOrder.{same_pair, pair_cmp, same_annotations, annotations_cmp, annotations_hash}
 

@@ -9,7 +9,8 @@ use Rattle.std.specs.FinSet as set
 use Rattle.std.specs.Set.{is_member}
 use Rattle.std.proofs.lemmas.List.Folds.{list_any-append}
 use Rattle.std.proofs.lemmas.Map.Keys.{IsDistinct-from_sorted}
-use Rattle.cedar_ids.specs.UidOf.{same_uid, uid_order, uid_order_total, uid_order_ties, same_uid_decides}
+use Rattle.cedar_ids.specs.UidOf.{same_uid, uid_order}
+use Rattle.cedar_ids.specs.laws.UidOfLaws.{uid_order_total, uid_order_ties, same_uid_decides}
 use Rattle.cedar_ids.specs.declared.entity.EntityUID.{EntityUID}
 use Rattle.cedar_uid_sets.specs.UidSets.{UidValues, Ascend, same_uids}
 

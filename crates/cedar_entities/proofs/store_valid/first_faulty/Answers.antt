@@ -2,7 +2,7 @@ use Rattle.std.specs.Option.{option_copied}
 use Rattle.std.specs.Map.Iter.{deref_pair}
 use Rattle.std.proofs.Common.{subst}
 use Rattle.std.proofs.lemmas.Map.Iter.{iter_end, hash_map_turn}
-use Rattle.cedar_ids.specs.UidOf.{same_uid_equiv}
+use Rattle.cedar_ids.specs.laws.UidOfLaws.{same_uid_equiv}
 use Rattle.cedar_entities.specs.laws.Held.{held, shared}
 use Rattle.cedar_entities.specs.StoreFaults.{TakesFaulty}
 use Rattle.cedar_entities.proofs.FirstFaults.{at_own_uid, first_step, first_of_all}

@@ -6,7 +6,8 @@ use Rattle.std.specs.HashMap.{get}
 use Rattle.std.specs.Option.{option_map}
 use Rattle.std.specs.Set.{is_member}
 use Rattle.std.proofs.lemmas.Map.Iter.{iter_end, hash_map_turn}
-use Rattle.cedar_ids.specs.UidOf.{same_uid, same_uid_equiv}
+use Rattle.cedar_ids.specs.UidOf.{same_uid}
+use Rattle.cedar_ids.specs.laws.UidOfLaws.{same_uid_equiv}
 use Rattle.cedar_entity.specs.View.{has_ancestor}
 use Rattle.cedar_entities.specs.Modes.{is_ancestor_in}
 use Rattle.cedar_entities.specs.laws.Held.{held, shared}

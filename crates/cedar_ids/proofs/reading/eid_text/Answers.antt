@@ -1,7 +1,7 @@
 use Rattle.std.proofs.Common.{◌≡◌, true, sym, ap, ◌∙◌}
 use Rattle.std.specs.List.{list_all}
 use Rattle.cedar_ids.specs.laws.Eids.{ascii_text}
-use Rattle.cedar_ids.specs.Escape.{is_plain_byte}
+use Rattle.cedar_ids.specs.laws.PlainBytes.{is_plain_byte}
 use Rattle.cedar_ids.proofs.PlainTexts.{plain_eid}
 use Rattle.cedar_ids.proofs.reading.eid_text.Goals as goal
 

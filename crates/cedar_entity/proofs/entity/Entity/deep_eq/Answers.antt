@@ -1,5 +1,5 @@
 use Rattle.std.proofs.Common.{ap, sym, ◌∙◌}
-use Rattle.cedar_ids.specs.UidOf.{same_uid_decides}
+use Rattle.cedar_ids.specs.laws.UidOfLaws.{same_uid_decides}
 use Rattle.cedar_entity.specs.View.{EntityView}
 use Rattle.cedar_entity.proofs.entity.Entity.deep_eq.Goals as goal
 

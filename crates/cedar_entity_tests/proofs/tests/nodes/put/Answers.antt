@@ -3,7 +3,8 @@ use Rattle.std.proofs.Common.{ap, sym, refl, subst, ◌∙◌}
 use Rattle.std.specs.HashMap.{HashMap, get}
 use Rattle.std.specs.Option.{IfSome}
 use Rattle.cedar_graph.specs.Graph.{KeysMatch}
-use Rattle.cedar_ids.specs.UidOf.{same_uid, same_uid_decides}
+use Rattle.cedar_ids.specs.UidOf.{same_uid}
+use Rattle.cedar_ids.specs.laws.UidOfLaws.{same_uid_decides}
 use Rattle.cedar_ids.specs.declared.entity.EntityUID.{EntityUID}
 use Rattle.cedar_entity.specs.View.{EntityView}
 use Rattle.cedar_entity_tests.proofs.tests.nodes.put.Goals as goal

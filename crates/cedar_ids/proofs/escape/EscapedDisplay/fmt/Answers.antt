@@ -1,6 +1,6 @@
 use Rattle.std.proofs.Common.{rules, ◌≡◌, true, sym, ap, ◌∙◌}
 use Rattle.std.specs.List.{list_all}
-use Rattle.cedar_ids.specs.Escape.{is_plain_byte}
+use Rattle.cedar_ids.specs.laws.PlainBytes.{is_plain_byte}
 use Rattle.cedar_ids.proofs.PlainTexts.{plain_output}
 use Rattle.cedar_ids.proofs.escape.EscapedDisplay.fmt.Goals as goal
 

@@ -3,7 +3,7 @@ use Rattle.std.proofs.Common.{ap, sym, ◌∙◌}
 use Rattle.std.specs.Bool.{Decides, one_answer}
 use Rattle.std.specs.FinSet as set
 use Rattle.std.proofs.lemmas.Slice.Eq.{slice_eq-Decides}
-use Rattle.cedar_ids.specs.UidOf.{same_uid_decides}
+use Rattle.cedar_ids.specs.laws.UidOfLaws.{same_uid_decides}
 use Rattle.cedar_uid_sets.specs.laws.Sets.{same_uids_decides}
 use Rattle.cedar_uid_sets.proofs.Same.{one_listing}
 use Rattle.cedar_uid_sets.proofs.uid_set.UidSetPartialEq.eq.Goals as goal
