@@ -4,7 +4,7 @@ use Rattle.std.specs.declared.rc.Rc.{Rc}
 use Rattle.std.specs.Option.{option_eq, option_map}
 use Rattle.std.specs.Hash as fed
 use Rattle.cedar_terms.specs.ExprTree.{ExprTree}
-use Rattle.cedar_terms.specs.laws.ExprLaws.{same_expr, expr_hash}
+use Rattle.cedar_terms.specs.ExprEquality.{same_expr, expr_hash}
 use Rattle.cedar_body.specs.BodyEquality.{same_clause, clause_hash}
 
 abbrev pub SharedClause : Type 0

@@ -3,7 +3,7 @@ use Rattle.std.specs.Prelude.{◌≡◌, ℕ, List, Bool, true, false, Option, r
 use Rattle.std.specs.Coded.{Coded, code_by, coded×, coded_bool, coded_option}
 use Rattle.cedar_ids.specs.Codes.{text_code}
 use Rattle.cedar_terms.specs.ExprTree.{ExprTree}
-use Rattle.cedar_terms.specs.laws.ExprKeys.{expr_code}
+use Rattle.cedar_terms.specs.Codes.{expr_code}
 use Rattle.cedar_scope.specs.Annotations.{AnnotationsView}
 use Rattle.cedar_scope.specs.Scope.{Constraint, ActionRule}
 use Rattle.cedar_scope.specs.Codes.{annotations_code, constraint_code, rule_code}

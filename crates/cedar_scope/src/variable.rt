@@ -2,8 +2,8 @@
 ghost use Rattle.std.specs.Prelude.{◌≡◌, Some};
 ghost use Rattle.std.specs.Ordering.{on};
 ghost use Rattle.std.specs.Cmp.{partial_equiv_from_equiv, on_equiv};
-ghost use Rattle.cedar_terms.specs.VarTree.{same_var, same_var_equiv, var_hash};
-ghost use Rattle.cedar_terms.specs.laws.VarLaws.{var_hash_respects};
+ghost use Rattle.cedar_terms.specs.VarTree.{same_var, var_hash};
+ghost use Rattle.cedar_terms.specs.laws.VarLaws.{var_hash_respects, same_var_equiv};
 ghost use Rattle.cedar_scope.specs.ScopeTrees.{var_of, slot_id_of};
 ghost use Rattle.cedar_scope.specs.ScopeTexts.{variable_text};
 ghost use Rattle.cedar_scope.specs.Variables.{variable_of};

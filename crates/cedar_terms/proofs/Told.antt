@@ -6,12 +6,15 @@ use Rattle.cedar_ids.specs.Name.{NameParts, name_eq}
 use Rattle.cedar_ids.specs.laws.NameLaws.{name_eq-Decides, is_eq-then, both}
 use Rattle.cedar_terms.specs.LiteralTree.{LiteralTree, same_literal}
 use Rattle.cedar_terms.specs.laws.LiteralLaws.{literal_key-cmp}
-use Rattle.cedar_terms.specs.UnknownParts.{UnknownParts, same_unknown, same_unknown_decides}
-use Rattle.cedar_terms.specs.laws.Key.{key_cmp, key_cmp-Equal, key_cmp-itself}
-use Rattle.cedar_terms.specs.laws.NameKeys.{name_key, name_key-inj}
+use Rattle.cedar_terms.specs.UnknownParts.{UnknownParts, same_unknown}
+use Rattle.cedar_terms.specs.laws.UnknownLaws.{same_unknown_decides}
+use Rattle.cedar_terms.specs.laws.KeyLaws.{key_cmp-Equal, key_cmp-itself}
+use Rattle.cedar_terms.specs.Keys.{key_cmp, name_key}
+use Rattle.cedar_terms.specs.laws.NameKeyLaws.{name_key-inj}
 use Rattle.cedar_terms.specs.ExprTree.{ExprTree, val_node, unknown_node, call_node, is_node, ExprTrees}
-use Rattle.cedar_terms.specs.laws.ExprKeys.{expr_key, exprs_key}
-use Rattle.cedar_terms.specs.laws.ExprLaws.{same_expr, same_exprs, same_expr_decides}
+use Rattle.cedar_terms.specs.ExprKeys.{expr_key, exprs_key}
+use Rattle.cedar_terms.specs.laws.ExprLaws.{same_expr_decides}
+use Rattle.cedar_terms.specs.ExprEquality.{same_expr, same_exprs}
 use Rattle.std.specs.Cmp.{Equal-is}
 
 in_val : (x y : LiteralTree) → val_node x ≡ val_node y → x ≡ y

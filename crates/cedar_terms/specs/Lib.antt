@@ -1,13 +1,16 @@
+pub mod Codes
+pub mod ExprEquality
+pub mod ExprKeys
 pub mod ExprTexts
 pub mod ExprTree
 pub mod ExprViews
 pub mod ExtensionParts
 pub mod Fields
+pub mod Keys
 pub mod LiteralTree
 pub mod PartialTexts
 pub mod PartialViews
 pub mod Reserved
-pub mod SlotLaws
 pub mod SlotTree
 pub mod TypeViews
 pub mod UnknownParts

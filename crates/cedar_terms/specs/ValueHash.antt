@@ -1,12 +1,10 @@
 -- What values feed to a hasher.
-use Rattle.std.specs.Prelude.{◌≡◌, ℕ, List, ◌++◌, true}
-use Rattle.std.proofs.Common.{ap}
+use Rattle.std.specs.Prelude.{ℕ, List, ◌++◌}
 use Rattle.std.specs.Hash as fed
 use Rattle.cedar_ids.specs.Name.{NameParts, name_hash_input}
 use Rattle.cedar_ids.specs.Uid.{uid_hash_input}
 use Rattle.cedar_terms.specs.LiteralTree.{LiteralTree, bool_literal, long_literal, string_literal, uid_literal}
-use Rattle.cedar_terms.specs.ValueTree.{ValueTree, literal_value, set_value, record_value, extension_value, ValueTrees, no_values, value_then, FieldTrees, no_fields, field_then, same_value}
-use Rattle.cedar_terms.specs.laws.ValueLaws.{same_value_decides}
+use Rattle.cedar_terms.specs.ValueTree.{ValueTree, literal_value, set_value, record_value, extension_value, ValueTrees, no_values, value_then, FieldTrees, no_fields, field_then}
 
 -- a literal: the place of its kind, then its content
 abbrev pub literal_hash : LiteralTree → List (List ℕ)
@@ -36,7 +34,3 @@ abbrev mutual
   pub fields_hash : FieldTrees → List (List ℕ)
   fields_hash no_fields = fed.u8 0
   fields_hash (field_then k v fs) = (fed.str k ++ value_hash v) ++ fields_hash fs
-
--- equal values hash alike
-pub value_hash_respects : (x y : ValueTree) → same_value x y ≡ true → value_hash x ≡ value_hash y
-value_hash_respects x y e = ap value_hash ((same_value_decides x y).0 e)

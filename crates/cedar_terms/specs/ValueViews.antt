@@ -1,11 +1,8 @@
 -- What callers see of values and of what stands in them.
-use Rattle.std.specs.Prelude.{◌≡◌, ℕ, List, [], ◌∷◌, Bool, true, String, string_bytes, map}
-use Rattle.std.proofs.Common.{ap}
+use Rattle.std.specs.Prelude.{ℕ, List, [], ◌∷◌, Bool, String, string_bytes, map}
 use Rattle.std.specs.Ordering.{on}
-use Rattle.std.specs.Cmp.{IsEquivalence, on_equiv}
 use Rattle.std.specs.declared.alloc.Global.{Global}
 use Rattle.cedar_terms.specs.ValueTree.{ValueTree, literal_value, set_value, record_value, extension_value, value_trees, FieldTrees, no_fields, field_then, same_value}
-use Rattle.cedar_terms.specs.laws.ValueLaws.{same_value_equiv, same_value_decides}
 use Rattle.cedar_terms.specs.ValueHash.{value_hash}
 use Rattle.cedar_terms.specs.Views.{literal_tree}
 use Rattle.cedar_terms.specs.declared.value.ValueKind.{ValueKind}
@@ -34,11 +31,3 @@ same_kind = on kind_tree same_value
 -- what the kind of a value feeds to a hasher
 abbrev pub kind_hash : ValueKind → List (List ℕ)
 kind_hash k = value_hash (kind_tree k)
-
--- `==` is an equivalence
-pub same_kind_equiv : IsEquivalence same_kind
-same_kind_equiv = on_equiv kind_tree same_value_equiv
-
--- equal kinds hash alike
-pub kind_hash_respects : (x y : ValueKind) → same_kind x y ≡ true → kind_hash x ≡ kind_hash y
-kind_hash_respects x y e = ap value_hash ((same_value_decides (kind_tree x) (kind_tree y)).0 e)

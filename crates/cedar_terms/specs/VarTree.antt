@@ -1,7 +1,6 @@
 -- Variables: their equality, hash and text.
 use Rattle.std.specs.Prelude.{ℕ, List, Bool, nat_eq, codes}
 use Rattle.std.specs.Ordering.{on}
-use Rattle.std.specs.Cmp.{IsEquivalence, on_equiv, nat_eq_equiv}
 use Rattle.std.specs.Hash as fed
 use Rattle.cedar_terms.specs.declared.var.Var.{Var}
 use Rattle.cedar_terms.specs.declared.var.Var.TheVariants.{Principal, Action, Resource, Context}
@@ -27,7 +26,3 @@ var_text Principal = codes "principal"
 var_text Action = codes "action"
 var_text Resource = codes "resource"
 var_text Context = codes "context"
-
--- `==` is an equivalence
-pub same_var_equiv : IsEquivalence same_var
-same_var_equiv = on_equiv var_index nat_eq_equiv

@@ -74,7 +74,7 @@ impl BinaryOp {
 
 impl Model for Expr {
     ghost use Rattle.cedar_terms.specs.ExprTree.{ExprTree, expr_size};
-    ghost use Rattle.cedar_terms.specs.laws.ExprKeys.{expr_code};
+    ghost use Rattle.cedar_terms.specs.Codes.{expr_code};
 
     ghost Value = { ExprTree };
 
@@ -248,7 +248,8 @@ impl Clone for Expr {
 }
 
 impl PartialEq for Expr {
-    ghost use Rattle.cedar_terms.specs.laws.ExprLaws.{same_expr, same_expr_equiv};
+    ghost use Rattle.cedar_terms.specs.laws.ExprLaws.{same_expr_equiv};
+    ghost use Rattle.cedar_terms.specs.ExprEquality.{same_expr};
 
     ghost eq = { same_expr };
 
@@ -266,7 +267,8 @@ impl Eq for Expr {
 }
 
 impl Hash for Expr {
-    ghost use Rattle.cedar_terms.specs.laws.ExprLaws.{expr_hash, expr_hash_respects};
+    ghost use Rattle.cedar_terms.specs.laws.ExprLaws.{expr_hash_respects};
+    ghost use Rattle.cedar_terms.specs.ExprEquality.{expr_hash};
 
     ghost hash_input = { expr_hash };
 

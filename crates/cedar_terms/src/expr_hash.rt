@@ -1,7 +1,7 @@
 //! What expressions feed to a hasher: the place of the kind, then what the expression holds.
 ghost use Rattle.std.specs.Prelude.{◌≡◌, fold};
 ghost use Rattle.cedar_terms.specs.ExprTree.{expr_trees};
-ghost use Rattle.cedar_terms.specs.laws.ExprLaws.{expr_hash, exprs_hash};
+ghost use Rattle.cedar_terms.specs.ExprEquality.{expr_hash, exprs_hash};
 
 use crate::expr::{Expr, ExprKind};
 use std::hash::{Hash, Hasher};

@@ -1,7 +1,7 @@
 //! Whether two expressions are equal, wherever they stand.
 ghost use Rattle.std.specs.Prelude.{◌≡◌};
 ghost use Rattle.cedar_terms.specs.ExprTree.{expr_trees};
-ghost use Rattle.cedar_terms.specs.laws.ExprLaws.{same_expr, same_exprs};
+ghost use Rattle.cedar_terms.specs.ExprEquality.{same_expr, same_exprs};
 
 use crate::expr::{Expr, ExprKind};
 

@@ -3,10 +3,10 @@ ghost use Rattle.std.specs.Prelude.{◌≡◌, IsTrue};
 ghost use Rattle.std.specs.Ordering.{on};
 ghost use Rattle.std.specs.Cmp.{partial_equiv_from_equiv, on_equiv};
 ghost use Rattle.cedar_terms.specs.LiteralTree.{literal_cmp, same_literal};
-ghost use Rattle.cedar_terms.specs.laws.LiteralLaws.{same_literal_equiv};
+ghost use Rattle.cedar_terms.specs.laws.LiteralLaws.{same_literal_equiv, literal_hash_respects};
 ghost use Rattle.cedar_terms.specs.ValueHash.{literal_hash};
 ghost use Rattle.cedar_terms.specs.ValueTexts.{literal_output};
-ghost use Rattle.cedar_terms.specs.Views.{literal_tree, literal_hash_respects};
+ghost use Rattle.cedar_terms.specs.Views.{literal_tree};
 
 use cedar_ids::entity::EntityUID;
 use cedar_ids::escape::Escaped;

@@ -2,7 +2,8 @@
 ghost use Rattle.std.specs.Prelude.{◌≡◌, IsTrue};
 ghost use Rattle.std.specs.Cmp.{partial_equiv_from_equiv};
 ghost use Rattle.cedar_terms.specs.PartialTexts.{partial_output};
-ghost use Rattle.cedar_terms.specs.PartialViews.{same_partial, same_partial_equiv, partial_hash, partial_hash_respects};
+ghost use Rattle.cedar_terms.specs.PartialViews.{same_partial, partial_hash};
+ghost use Rattle.cedar_terms.specs.laws.PartialLaws.{same_partial_equiv, partial_hash_respects};
 
 use crate::expr::Expr;
 use crate::value::Value;

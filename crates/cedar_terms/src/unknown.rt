@@ -1,7 +1,8 @@
 //! Unknowns: what stands for a value that is not known yet.
 ghost use Rattle.std.specs.Prelude.{◌≡◌, IsTrue, Some, None, string_bytes};
 ghost use Rattle.std.specs.Cmp.{partial_equiv_from_equiv};
-ghost use Rattle.cedar_terms.specs.UnknownParts.{UnknownParts, same_unknown, same_unknown_equiv, unknown_hash, unknown_hash_respects};
+ghost use Rattle.cedar_terms.specs.UnknownParts.{UnknownParts, same_unknown, unknown_hash};
+ghost use Rattle.cedar_terms.specs.laws.UnknownLaws.{same_unknown_equiv, unknown_hash_respects};
 
 use crate::static_type::StaticType;
 use cedar_ids::escape::Escaped;

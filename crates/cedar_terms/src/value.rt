@@ -5,7 +5,8 @@ ghost use Rattle.std.specs.Ordering.{as_partial_cmp};
 ghost use Rattle.std.specs.Cmp.{partial_equiv_from_equiv};
 ghost use Rattle.std.specs.List.Retain.{IsFiltered, DiffersFromLast};
 ghost use Rattle.cedar_terms.specs.ValueTree.{same_value};
-ghost use Rattle.cedar_terms.specs.ExtensionParts.{same_extension, same_extension_equiv, extension_parts_hash, extension_hash_respects};
+ghost use Rattle.cedar_terms.specs.ExtensionParts.{same_extension, extension_parts_hash};
+ghost use Rattle.cedar_terms.specs.laws.ExtensionLaws.{same_extension_equiv, extension_hash_respects};
 
 use crate::literal::Literal;
 use crate::value_hash::{feed, feed_kind};
@@ -57,7 +58,7 @@ pub enum ValueKind {
 
 impl Model for Value {
     ghost use Rattle.cedar_terms.specs.ValueTree.{ValueTree, value_size};
-    ghost use Rattle.cedar_terms.specs.laws.ValueLaws.{value_code};
+    ghost use Rattle.cedar_terms.specs.Codes.{value_code};
 
     ghost Value = { ValueTree };
 
@@ -189,7 +190,8 @@ impl Ord for Value {
 }
 
 impl Hash for Value {
-    ghost use Rattle.cedar_terms.specs.ValueHash.{value_hash, value_hash_respects};
+    ghost use Rattle.cedar_terms.specs.ValueHash.{value_hash};
+    ghost use Rattle.cedar_terms.specs.laws.ValueLaws.{value_hash_respects};
 
     ghost hash_input = { value_hash };
 
@@ -229,7 +231,8 @@ impl Clone for ValueKind {
 }
 
 impl PartialEq for ValueKind {
-    ghost use Rattle.cedar_terms.specs.ValueViews.{same_kind, same_kind_equiv};
+    ghost use Rattle.cedar_terms.specs.ValueViews.{same_kind};
+    ghost use Rattle.cedar_terms.specs.laws.KindLaws.{same_kind_equiv};
 
     ghost eq = { same_kind };
 
@@ -241,13 +244,14 @@ impl PartialEq for ValueKind {
 }
 
 impl Eq for ValueKind {
-    ghost use Rattle.cedar_terms.specs.ValueViews.{same_kind_equiv};
+    ghost use Rattle.cedar_terms.specs.laws.KindLaws.{same_kind_equiv};
 
     ghost laws = { same_kind_equiv };
 }
 
 impl Hash for ValueKind {
-    ghost use Rattle.cedar_terms.specs.ValueViews.{kind_hash, kind_hash_respects};
+    ghost use Rattle.cedar_terms.specs.ValueViews.{kind_hash};
+    ghost use Rattle.cedar_terms.specs.laws.KindLaws.{kind_hash_respects};
 
     ghost hash_input = { kind_hash };
 

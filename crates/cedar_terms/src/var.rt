@@ -1,8 +1,8 @@
 //! The four variables of a request.
 ghost use Rattle.std.specs.Prelude.{◌≡◌, Some, IsTrue};
 ghost use Rattle.std.specs.Cmp.{partial_equiv_from_equiv};
-ghost use Rattle.cedar_terms.specs.VarTree.{var_index, same_var, same_var_equiv, var_hash, var_text};
-ghost use Rattle.cedar_terms.specs.laws.VarLaws.{var_hash_respects};
+ghost use Rattle.cedar_terms.specs.VarTree.{var_index, same_var, var_hash, var_text};
+ghost use Rattle.cedar_terms.specs.laws.VarLaws.{var_hash_respects, same_var_equiv};
 
 use std::fmt;
 use std::hash::{Hash, Hasher};

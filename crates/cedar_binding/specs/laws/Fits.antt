@@ -2,7 +2,8 @@
 use Rattle.std.specs.Prelude.{◌≡◌, List, [], ◌∷◌, Bool, true, false, not, ◌&&◌, ◌||◌, refl}
 use Rattle.std.proofs.Common.{cond, sym, ap, ◌∙◌, ◌⊎◌, inl, inr}
 use Rattle.std.proofs.lemmas.Bool.{false≢true}
-use Rattle.cedar_terms.specs.SlotTree.{same_slot, same_slot_decides}
+use Rattle.cedar_terms.specs.SlotTree.{same_slot}
+use Rattle.cedar_terms.specs.laws.SlotIdLaws.{same_slot_decides}
 use Rattle.cedar_terms.specs.declared.slot.SlotId.{SlotId}
 use Rattle.cedar_terms.specs.declared.slot.SlotId.TheVariants.{Principal, Resource}
 use Rattle.cedar_binding.specs.Bindings.{EnvParts, is_bound, has_slot, unbound, extra, BindsExactly}

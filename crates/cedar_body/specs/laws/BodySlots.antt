@@ -6,7 +6,7 @@ use Rattle.std.proofs.lemmas.List.Folds.{list_any-append}
 use Rattle.std.proofs.lemmas.List.{append-nil, append_assoc}
 use Rattle.cedar_terms.specs.ExprTree.{ExprTree, and_node}
 use Rattle.cedar_terms.specs.Walk.{slots_of}
-use Rattle.cedar_terms.specs.SlotLaws.{slots_of-and}
+use Rattle.cedar_terms.specs.laws.SlotLaws.{slots_of-and}
 use Rattle.cedar_terms.specs.SlotTree.{same_slot}
 use Rattle.cedar_terms.specs.declared.slot.SlotId.{SlotId}
 use Rattle.cedar_terms.specs.declared.slot.SlotId.TheVariants as slots

@@ -6,8 +6,7 @@ use Rattle.std.specs.FinSet as set
 use Rattle.std.specs.Prelude.{◌⊎◌}
 use Rattle.std.proofs.Common.{inl, inr}
 use Rattle.std.specs.Coded.{coded⊎}
-use Rattle.cedar_terms.specs.laws.ExprKeys.{expr_code}
-use Rattle.cedar_terms.specs.laws.ValueLaws.{value_code}
+use Rattle.cedar_terms.specs.Codes.{value_code, expr_code}
 use Rattle.cedar_terms.specs.ValueTree.{ValueTree}
 use Rattle.cedar_terms.specs.ExprTree.{ExprTree}
 use Rattle.cedar_terms.specs.declared.partial_value.PartialValue.{PartialValue}

@@ -5,7 +5,8 @@ use Rattle.std.specs.Bool.{Decides}
 use Rattle.std.specs.Str.{bytes_eq}
 use Rattle.std.specs.Cmp.{first_so, second_so}
 use Rattle.std.specs.Cmp.Lexicographic.{bytes_decides}
-use Rattle.cedar_terms.specs.PartialViews.{same_partial, same_partial_decides}
+use Rattle.cedar_terms.specs.PartialViews.{same_partial}
+use Rattle.cedar_terms.specs.laws.PartialLaws.{same_partial_decides}
 use Rattle.cedar_terms.specs.declared.partial_value.PartialValue.{PartialValue}
 
 -- `==` on fields

@@ -12,8 +12,9 @@ use Rattle.cedar_ids.specs.Name.{NameParts, name_cmp}
 use Rattle.cedar_ids.specs.laws.NameLaws.{name_cmp_total}
 use Rattle.cedar_ids.specs.Uid.{UidParts, uid_cmp}
 use Rattle.cedar_ids.specs.laws.UidLaws.{uid_cmp_total}
-use Rattle.cedar_terms.specs.laws.Key.{Key, fork, key_cmp, key_cmp-Equal, key_cmp_total, nat_key, nat_key-inj, nat_key-cmp, right, list_key, list_key-inj, list_key-cmp}
-use Rattle.cedar_terms.specs.laws.NameKeys.{name_key, name_key-inj, name_key-cmp, uid_key, uid_key-inj, uid_key-cmp}
+use Rattle.cedar_terms.specs.laws.KeyLaws.{key_cmp-Equal, key_cmp_total, nat_key-inj, nat_key-cmp, right, list_key-inj, list_key-cmp}
+use Rattle.cedar_terms.specs.Keys.{Key, fork, key_cmp, nat_key, list_key, name_key, uid_key}
+use Rattle.cedar_terms.specs.laws.NameKeyLaws.{name_key-inj, name_key-cmp, uid_key-inj, uid_key-cmp}
 use Rattle.cedar_scope.specs.Scope.{Reference, to_uid, to_slot, Constraint, ActionRule}
 use Rattle.cedar_scope.specs.ScopeReads.{constraint_kind, stated_type, reference_in, rule_kind, rule_uids}
 use Rattle.cedar_scope.specs.ScopeOrder.{reference_cmp, constraint_cmp, rule_cmp, same_reference, same_constraint, same_rule, reference_hash, constraint_hash, rule_hash}

@@ -1,26 +1,15 @@
 -- The laws of an expression's equality and hash.
-use Rattle.std.specs.Prelude.{◌≡◌, ℕ, List, ◌++◌, Bool, true}
+use Rattle.std.specs.Prelude.{◌≡◌, true}
 use Rattle.std.proofs.Common.{ap, sym, ◌∙◌}
 use Rattle.std.specs.Bool.{Decides}
-use Rattle.std.specs.Hash as fed
-use Rattle.std.specs.Ordering.{is_eq, eq_by_cmp, on}
+use Rattle.std.specs.Ordering.{is_eq}
 use Rattle.std.specs.Cmp.{IsEquivalence, on_equiv, eq_by_cmp_equiv, Equal-is}
-use Rattle.cedar_ids.specs.Name.{name_hash_input}
-use Rattle.cedar_terms.specs.laws.Key.{key_cmp, key_cmp-Equal, key_cmp-itself, key_cmp_total}
-use Rattle.cedar_terms.specs.SlotTree.{slot_hash}
-use Rattle.cedar_terms.specs.VarTree.{var_hash}
-use Rattle.cedar_terms.specs.UnknownParts.{unknown_hash}
-use Rattle.cedar_terms.specs.ValueHash.{literal_hash}
-use Rattle.cedar_terms.specs.ExprTree.{Operator, operator_index, ExprTree, val_node, var_node, slot_node, unknown_node, set_node, call_node, not_node, binary_node, is_node, ExprTrees, no_exprs, expr_then}
-use Rattle.cedar_terms.specs.laws.ExprKeys.{expr_key, expr_key-inj, exprs_key}
-
--- what `==` answers: the keys are not told apart
-abbrev pub same_expr : ExprTree → ExprTree → Bool
-same_expr = on expr_key (eq_by_cmp key_cmp)
-
--- the same for lists of expressions
-abbrev pub same_exprs : ExprTrees → ExprTrees → Bool
-same_exprs = on exprs_key (eq_by_cmp key_cmp)
+use Rattle.cedar_terms.specs.laws.KeyLaws.{key_cmp-Equal, key_cmp-itself, key_cmp_total}
+use Rattle.cedar_terms.specs.Keys.{key_cmp}
+use Rattle.cedar_terms.specs.ExprTree.{ExprTree}
+use Rattle.cedar_terms.specs.laws.ExprKeyLaws.{expr_key-inj}
+use Rattle.cedar_terms.specs.ExprKeys.{expr_key}
+use Rattle.cedar_terms.specs.ExprEquality.{expr_hash, same_expr}
 
 -- `==` is an equivalence
 pub same_expr_equiv : IsEquivalence same_expr
@@ -32,28 +21,6 @@ same_expr_decides x y = (
   λ e. expr_key-inj x y (key_cmp-Equal (expr_key x) (expr_key y) ((Equal-is (key_cmp (expr_key x) (expr_key y))).0 e)),
   λ e. sym (ap (same_expr x) e) ∙ ap is_eq (key_cmp-itself (expr_key x)),
 )
-
--- an operator feeds its place
-abbrev pub operator_hash : Operator → List (List ℕ)
-operator_hash o = fed.u8 (operator_index o)
-
--- what an expression feeds to a hasher: the place of its kind, then what it holds
-abbrev mutual
-  pub expr_hash : ExprTree → List (List ℕ)
-  expr_hash (val_node l) = fed.u8 0 ++ literal_hash l
-  expr_hash (var_node v) = fed.u8 1 ++ var_hash v
-  expr_hash (slot_node s) = fed.u8 2 ++ slot_hash s
-  expr_hash (unknown_node u) = fed.u8 3 ++ unknown_hash u
-  expr_hash (set_node es) = fed.u8 4 ++ exprs_hash es
-  expr_hash (call_node f es) = fed.u8 5 ++ (name_hash_input f ++ exprs_hash es)
-  expr_hash (not_node e) = fed.u8 6 ++ expr_hash e
-  expr_hash (binary_node o x y) = fed.u8 7 ++ (operator_hash o ++ (expr_hash x ++ expr_hash y))
-  expr_hash (is_node e t) = fed.u8 8 ++ (expr_hash e ++ name_hash_input t)
-
-  -- its expressions in turn, and a mark after the last
-  pub exprs_hash : ExprTrees → List (List ℕ)
-  exprs_hash no_exprs = fed.u8 9
-  exprs_hash (expr_then e es) = expr_hash e ++ exprs_hash es
 
 -- equal expressions hash alike
 pub expr_hash_respects : (x y : ExprTree) → same_expr x y ≡ true → expr_hash x ≡ expr_hash y

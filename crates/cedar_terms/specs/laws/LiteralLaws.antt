@@ -1,17 +1,17 @@
--- The laws of a literal's equality and order.
-use Rattle.std.specs.Prelude.{◌≡◌, ℕ, zero, suc, ℤ, pos, Bool, true, false, refl}
+-- The laws of a literal's equality, order and hash.
+use Rattle.std.specs.Prelude.{◌≡◌, ℕ, zero, suc, pos, Bool, true, false, refl}
 use Rattle.std.proofs.Common.{ap, sym, ◌∙◌, subst}
 use Rattle.std.specs.Bool.{Decides}
-use Rattle.std.specs.Ordering.{bool_cmp, is_eq}
+use Rattle.std.specs.Ordering.{bool_cmp, is_eq, on}
 use Rattle.std.specs.Cmp.{IsTotalOrder, IsEquivalence, on_total, eq_by_cmp_equiv, Equal-is, tied_itself}
-use Rattle.cedar_terms.specs.laws.Key.{Key, tip, fork, key_cmp, key_cmp-Equal, key_cmp_total, left_at, right_at, read_back, nat_key, int_at, nat_at, text_key, text_at, text_at-text_key, text_key-cmp}
-use Rattle.cedar_terms.specs.laws.NameKeys.{uid_key, uid_at, uid_at-uid_key, uid_key-cmp}
+use Rattle.cedar_terms.specs.laws.KeyLaws.{key_cmp-Equal, key_cmp_total, left_at, right_at, read_back, int_at, nat_at, text_at, text_at-text_key, text_key-cmp}
+use Rattle.cedar_terms.specs.Keys.{Key, tip, key_cmp}
+use Rattle.cedar_terms.specs.laws.NameKeyLaws.{uid_at, uid_at-uid_key, uid_key-cmp}
 use Rattle.cedar_terms.specs.LiteralTree.{LiteralTree, bool_literal, long_literal, string_literal, uid_literal, literal_cmp, same_literal}
-
--- the key of a truth value
-abbrev pub bool_key : Bool → Key
-bool_key false = nat_key 0
-bool_key true = nat_key 1
+use Rattle.cedar_terms.specs.ExprKeys.{bool_key, literal_key}
+use Rattle.cedar_terms.specs.ValueHash.{literal_hash}
+use Rattle.cedar_terms.specs.declared.literal.Literal.{Literal}
+use Rattle.cedar_terms.specs.Views.{literal_tree}
 
 -- the truth value of a key
 abbrev pub bool_at : Key → Bool
@@ -27,13 +27,6 @@ bool_key-cmp false false = refl
 bool_key-cmp false true = refl
 bool_key-cmp true false = refl
 bool_key-cmp true true = refl
-
--- the key of a literal: the place of its kind, and that of its content
-abbrev pub literal_key : LiteralTree → Key
-literal_key (bool_literal b) = fork (nat_key 0) (bool_key b)
-literal_key (long_literal n) = fork (nat_key 1) (tip n)
-literal_key (string_literal s) = fork (nat_key 2) (text_key s)
-literal_key (uid_literal u) = fork (nat_key 3) (uid_key u)
 
 -- the literal of a kind and of the key of its content
 abbrev pub literal_of : ℕ → Key → LiteralTree
@@ -90,3 +83,7 @@ same_literal_decides x y = (
   λ e. literal_key-inj x y (key_cmp-Equal (literal_key x) (literal_key y) (literal_key-cmp x y ∙ (Equal-is (literal_cmp x y)).0 e)),
   λ e. ap (λ z. is_eq (literal_cmp x z)) (sym e) ∙ ap is_eq (tied_itself literal_cmp_total x),
 )
+
+-- equal literals hash alike
+pub literal_hash_respects : (x y : Literal) → on literal_tree same_literal x y ≡ true → literal_hash (literal_tree x) ≡ literal_hash (literal_tree y)
+literal_hash_respects x y e = ap literal_hash ((same_literal_decides (literal_tree x) (literal_tree y)).0 e)

@@ -1,15 +1,16 @@
--- The laws of a value's equality and order, and how a proof tells values apart.
-use Rattle.std.specs.Prelude.{◌≡◌, zero, suc, pos, refl}
+-- The laws of a value's equality, order and hash, and the keys of values.
+use Rattle.std.specs.Prelude.{◌≡◌, zero, suc, pos, refl, true}
 use Rattle.std.proofs.Common.{ap, sym, ◌∙◌, subst}
 use Rattle.std.specs.Bool.{Decides}
-use Rattle.std.specs.Coded.{Coded}
 use Rattle.std.specs.Ordering.{is_eq, ordering_then, as_partial_cmp}
 use Rattle.std.specs.Cmp.{IsTotalOrder, IsEquivalence, IsPartialOrder, on_total, eq_by_cmp_equiv, Equal-is, tied_itself, po}
-use base.Stored.{coded_via}
-use Rattle.cedar_terms.specs.laws.Key.{Key, tip, fork, key_cmp, key_cmp-Equal, key_cmp_total, key_code, left_at, right_at, read_back, nat_key, text_key, text_at, text_at-text_key, text_key-cmp}
-use Rattle.cedar_terms.specs.laws.NameKeys.{name_key, name_at, name_at-name_key, name_key-cmp}
-use Rattle.cedar_terms.specs.laws.LiteralLaws.{literal_key, literal_at, literal_at-literal_key, literal_key-cmp}
+use Rattle.cedar_terms.specs.laws.KeyLaws.{key_cmp-Equal, key_cmp_total, left_at, right_at, read_back, text_at, text_at-text_key, text_key-cmp}
+use Rattle.cedar_terms.specs.Keys.{Key, tip, fork, key_cmp, nat_key, text_key, name_key}
+use Rattle.cedar_terms.specs.laws.NameKeyLaws.{name_at, name_at-name_key, name_key-cmp}
+use Rattle.cedar_terms.specs.laws.LiteralLaws.{literal_at, literal_at-literal_key, literal_key-cmp}
+use Rattle.cedar_terms.specs.ExprKeys.{literal_key}
 use Rattle.cedar_terms.specs.ValueTree.{ValueTree, literal_value, set_value, record_value, extension_value, ValueTrees, no_values, value_then, FieldTrees, no_fields, field_then, value_cmp, values_cmp, fields_cmp, same_value}
+use Rattle.cedar_terms.specs.ValueHash.{value_hash}
 
 -- the key of a value: the place of its kind, and the keys of what it holds
 abbrev mutual
@@ -63,10 +64,6 @@ mutual
 pub value_key-inj : (x y : ValueTree) → value_key x ≡ value_key y → x ≡ y
 value_key-inj x y e = read_back value_key value_at value_at-value_key x y e
 
--- how a proof tells values apart
-abbrev pub value_code : Coded ValueTree
-value_code = coded_via key_code value_key value_key-inj
-
 -- values are ordered as their keys are
 mutual
   pub value_key-cmp : (x y : ValueTree) → key_cmp (value_key x) (value_key y) ≡ value_cmp x y
@@ -117,3 +114,7 @@ same_value_decides x y = (
   λ e. value_key-inj x y (key_cmp-Equal (value_key x) (value_key y) (value_key-cmp x y ∙ (Equal-is (value_cmp x y)).0 e)),
   λ e. ap (λ z. is_eq (value_cmp x z)) (sym e) ∙ ap is_eq (tied_itself value_cmp_total x),
 )
+
+-- equal values hash alike
+pub value_hash_respects : (x y : ValueTree) → same_value x y ≡ true → value_hash x ≡ value_hash y
+value_hash_respects x y e = ap value_hash ((same_value_decides x y).0 e)

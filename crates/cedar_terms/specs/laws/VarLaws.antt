@@ -1,11 +1,12 @@
--- Variables that are equal are the same.
+-- The laws of the equality and hash of variables.
 use Rattle.std.specs.Prelude.{◌≡◌, ℕ, zero, suc, true, refl, nat_eq}
 use Rattle.std.proofs.Common.{ap, ◌∙◌, sym}
 use Rattle.std.specs.Bool.{Decides}
 use Rattle.std.proofs.lemmas.Bool.{eqb-true}
 use Rattle.cedar_terms.specs.declared.var.Var.{Var}
 use Rattle.cedar_terms.specs.declared.var.Var.TheVariants.{Principal, Action, Resource, Context}
-use Rattle.cedar_terms.specs.VarTree.{var_index, same_var, same_var_equiv, var_hash}
+use Rattle.cedar_terms.specs.VarTree.{var_index, same_var, var_hash}
+use Rattle.std.specs.Cmp.{IsEquivalence, on_equiv, nat_eq_equiv}
 
 -- the variable at a place
 abbrev pub var_at : ℕ → Var
@@ -24,6 +25,10 @@ var_at-var_index Context = refl
 -- variables at one place are the same
 pub var_index-inj : (x y : Var) → var_index x ≡ var_index y → x ≡ y
 var_index-inj x y e = sym (var_at-var_index x) ∙ ap var_at e ∙ var_at-var_index y
+
+-- `==` is an equivalence
+pub same_var_equiv : IsEquivalence same_var
+same_var_equiv = on_equiv var_index nat_eq_equiv
 
 -- two variables are equal exactly where they are the same
 pub same_var_decides : (x y : Var) → Decides (same_var x y) (x ≡ y)

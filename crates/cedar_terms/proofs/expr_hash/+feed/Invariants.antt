@@ -1,7 +1,7 @@
 use Rattle.std.proofs.Common.{◌≡◌, ◌+◌, ◌*◌, ◌≤◌, drop}
 use Rattle.std.specs.Prelude.{fold}
 use Rattle.cedar_terms.specs.ExprTree.{expr_size, exprs_size, expr_trees}
-use Rattle.cedar_terms.specs.laws.ExprLaws.{exprs_hash}
+use Rattle.cedar_terms.specs.ExprEquality.{exprs_hash}
 use Rattle.cedar_terms.proofs.expr_hash.+feed.Given as goal
 
 abbrev pub decreases-feed : goal.decreases-feed

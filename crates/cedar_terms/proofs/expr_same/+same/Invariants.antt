@@ -1,7 +1,7 @@
 use Rattle.std.proofs.Common.{◌≡◌, ◌+◌, ◌*◌, ◌≤◌, drop}
 use Rattle.std.specs.Slice.Iter.{iter_rest}
 use Rattle.cedar_terms.specs.ExprTree.{expr_size, exprs_size, expr_trees}
-use Rattle.cedar_terms.specs.laws.ExprLaws.{same_exprs}
+use Rattle.cedar_terms.specs.ExprEquality.{same_exprs}
 use Rattle.cedar_terms.proofs.expr_same.+same.Given as goal
 
 abbrev pub decreases-same : goal.decreases-same

@@ -1,18 +1,11 @@
--- The keys of names and uids.
-use Rattle.std.specs.Prelude.{◌≡◌, ℕ, List}
+-- The laws of the keys of names and uids, and what is read back from these.
+use Rattle.std.specs.Prelude.{◌≡◌}
 use Rattle.std.specs.Ordering.{nat_cmp, ordering_then}
 use Rattle.std.specs.Cmp.Lexicographic.{slice_cmp}
 use Rattle.cedar_ids.specs.Name.{NameParts, name_cmp}
 use Rattle.cedar_ids.specs.Uid.{UidParts, uid_cmp}
-use Rattle.cedar_terms.specs.laws.Key.{Key, fork, key_cmp, left_at, right_at, read_back, list_key, list_at, list_at-list_key, list_key-cmp, text_key, text_at, text_at-text_key, text_key-cmp}
-
--- the key of a path
-abbrev pub path_key : List (List ℕ) → Key
-path_key p = list_key text_key p
-
--- the key of a name: its last component, then its path
-abbrev pub name_key : NameParts → Key
-name_key n = fork (text_key n.basename) (path_key n.path)
+use Rattle.cedar_terms.specs.laws.KeyLaws.{left_at, right_at, read_back, list_at, list_at-list_key, list_key-cmp, text_at, text_at-text_key, text_key-cmp}
+use Rattle.cedar_terms.specs.Keys.{Key, key_cmp, text_key, name_key, uid_key}
 
 -- the name of a key
 abbrev pub name_at : Key → NameParts
@@ -30,10 +23,6 @@ name_key-inj n m e = read_back name_key name_at name_at-name_key n m e
 pub name_key-cmp : (n m : NameParts) → key_cmp (name_key n) (name_key m) ≡ name_cmp n m
 name_key-cmp n m =
     λ i. ordering_then (text_key-cmp n.basename m.basename i) (list_key-cmp text_key (slice_cmp nat_cmp) text_key-cmp n.path m.path i)
-
--- the key of a uid: its type, then its eid
-abbrev pub uid_key : UidParts → Key
-uid_key u = fork (name_key u.name) (text_key u.eid)
 
 -- the uid of a key
 abbrev pub uid_at : Key → UidParts

@@ -1,28 +1,18 @@
--- The keys of expressions, and how a proof tells expressions apart.
+-- What is read back from the keys of expressions: expressions of one key are the same.
 use Rattle.std.specs.Prelude.{◌≡◌, ℕ, zero, suc, pos, Option, Some, None, refl}
 use Rattle.std.proofs.Common.{ap}
-use Rattle.std.specs.Coded.{Coded}
-use base.Stored.{coded_via}
 use Rattle.cedar_ids.specs.Name.{NameParts}
-use Rattle.cedar_terms.specs.laws.Key.{Key, tip, fork, key_code, left_at, right_at, read_back, nat_key, nat_at, text_key, text_at, text_at-text_key}
-use Rattle.cedar_terms.specs.laws.NameKeys.{name_key, name_at, name_at-name_key}
-use Rattle.cedar_terms.specs.laws.LiteralLaws.{literal_key, literal_at, literal_at-literal_key}
+use Rattle.cedar_terms.specs.laws.KeyLaws.{left_at, right_at, read_back, nat_at, text_at, text_at-text_key}
+use Rattle.cedar_terms.specs.Keys.{Key, tip, fork}
+use Rattle.cedar_terms.specs.laws.NameKeyLaws.{name_at, name_at-name_key}
+use Rattle.cedar_terms.specs.laws.LiteralLaws.{literal_at, literal_at-literal_key}
+use Rattle.cedar_terms.specs.ExprKeys.{annotation_key, expr_key, exprs_key, unknown_key}
 use Rattle.cedar_terms.specs.SlotTree.{slot_index}
-use Rattle.cedar_terms.specs.VarTree.{var_index}
 use Rattle.cedar_terms.specs.laws.VarLaws.{var_at, var_at-var_index}
 use Rattle.cedar_terms.specs.UnknownParts.{UnknownParts}
 use Rattle.cedar_terms.specs.ExprTree.{operator_index, Operator, and_operator, eq_operator, in_operator, ExprTree, val_node, var_node, slot_node, unknown_node, set_node, call_node, not_node, binary_node, is_node, ExprTrees, no_exprs, expr_then}
 use Rattle.cedar_terms.specs.declared.slot.SlotId.{SlotId}
 use Rattle.cedar_terms.specs.declared.slot.SlotId.TheVariants.{Principal, Resource}
-use Rattle.cedar_terms.specs.declared.var.Var.{Var}
-
--- the key of a variable: its place
-abbrev pub var_key : Var → Key
-var_key v = nat_key (var_index v)
-
--- the key of a slot id: its place
-abbrev pub slot_key : SlotId → Key
-slot_key s = nat_key (slot_index s)
 
 -- the slot id at a place
 abbrev pub slot_at : ℕ → SlotId
@@ -33,11 +23,6 @@ slot_at-slot_index : (s : SlotId) → slot_at (slot_index s) ≡ s
 slot_at-slot_index Principal = refl
 slot_at-slot_index Resource = refl
 
--- the key of an annotation, that of none before all others
-abbrev pub annotation_key : Option NameParts → Key
-annotation_key None = nat_key 0
-annotation_key (Some n) = fork (nat_key 1) (name_key n)
-
 -- the annotation of a key
 abbrev pub annotation_at : Key → Option NameParts
 annotation_at (tip n) = None
@@ -47,20 +32,12 @@ annotation_at-annotation_key : (x : Option NameParts) → annotation_at (annotat
 annotation_at-annotation_key None = refl
 annotation_at-annotation_key (Some n) = ap Some (name_at-name_key n)
 
--- the key of an unknown: its name and its annotation
-abbrev pub unknown_key : UnknownParts → Key
-unknown_key u = fork (text_key u.name) (annotation_key u.annotation)
-
 -- the unknown of a key
 abbrev pub unknown_at : Key → UnknownParts
 unknown_at k = record { name = text_at (left_at k); annotation = annotation_at (right_at k) }
 
 unknown_at-unknown_key : (u : UnknownParts) → unknown_at (unknown_key u) ≡ u
 unknown_at-unknown_key u = λ i. record { name = text_at-text_key u.name i; annotation = annotation_at-annotation_key u.annotation i }
-
--- the key of an operator: its place
-abbrev pub operator_key : Operator → Key
-operator_key o = nat_key (operator_index o)
 
 -- the operator at a place
 abbrev pub operator_at : ℕ → Operator
@@ -72,23 +49,6 @@ operator_at-operator_index : (o : Operator) → operator_at (operator_index o) �
 operator_at-operator_index and_operator = refl
 operator_at-operator_index eq_operator = refl
 operator_at-operator_index in_operator = refl
-
--- the key of an expression: the number of its kind, and the keys of its parts
-abbrev mutual
-  pub expr_key : ExprTree → Key
-  expr_key (val_node l) = fork (nat_key 0) (literal_key l)
-  expr_key (var_node v) = fork (nat_key 1) (var_key v)
-  expr_key (slot_node s) = fork (nat_key 2) (slot_key s)
-  expr_key (unknown_node u) = fork (nat_key 3) (unknown_key u)
-  expr_key (set_node es) = fork (nat_key 4) (exprs_key es)
-  expr_key (call_node f es) = fork (nat_key 5) (fork (name_key f) (exprs_key es))
-  expr_key (not_node e) = fork (nat_key 6) (expr_key e)
-  expr_key (binary_node o x y) = fork (nat_key 7) (fork (operator_key o) (fork (expr_key x) (expr_key y)))
-  expr_key (is_node e t) = fork (nat_key 8) (fork (expr_key e) (name_key t))
-
-  pub exprs_key : ExprTrees → Key
-  exprs_key no_exprs = nat_key 0
-  exprs_key (expr_then e es) = fork (expr_key e) (exprs_key es)
 
 -- the expression of a key
 abbrev mutual
@@ -128,7 +88,3 @@ mutual
 -- expressions of one key are the same
 pub expr_key-inj : (x y : ExprTree) → expr_key x ≡ expr_key y → x ≡ y
 expr_key-inj x y h = read_back expr_key expr_at expr_at-expr_key x y h
-
--- how a proof tells expressions apart
-abbrev pub expr_code : Coded ExprTree
-expr_code = coded_via key_code expr_key expr_key-inj

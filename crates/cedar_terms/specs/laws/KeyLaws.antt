@@ -1,7 +1,6 @@
--- Keys: binary trees of numbers, by which values and expressions are told apart and ordered.
+-- The laws of keys, and what is read back from a key.
 use Rattle.std.specs.Prelude.{◌≡◌, ℕ, ℤ, pos, List, [], ◌∷◌, refl}
 use Rattle.std.proofs.Common.{ap, sym, ◌∙◌, arith}
-use Rattle.std.specs.Coded.{Coded, coded_ℤ}
 use Rattle.std.specs.declared.cmp.Ordering.{Ordering}
 use Rattle.std.specs.declared.cmp.Ordering.TheVariants.{Less, Equal, Greater}
 use Rattle.std.specs.Ordering.{ordering_then, ordering_reverse, int_cmp, nat_cmp}
@@ -9,19 +8,7 @@ use Rattle.std.specs.Cmp.{IsTotalOrder, int_cmp_total, tied_itself}
 use Rattle.std.proofs.lemmas.Cmp.{int_ranked}
 use Rattle.std.proofs.lemmas.Bool.Decides.{nat_tests}
 use Rattle.std.specs.Cmp.Lexicographic.{slice_cmp}
-use base.Stored.{Gv, gnum, gcons}
-
--- a number, or two keys
-pub data Key : Type 0 where
-  tip : ℤ → Key
-  fork : Key → Key → Key
-
--- numbers by size, before pairs; pairs by the first part, then by the second
-abbrev pub key_cmp : Key → Key → Ordering
-key_cmp (tip a) (tip b) = int_cmp a b
-key_cmp (tip a) (fork c d) = Less
-key_cmp (fork a b) (tip c) = Greater
-key_cmp (fork a b) (fork c d) = ordering_then (key_cmp a c) (key_cmp b d)
+use Rattle.cedar_terms.specs.Keys.{Key, fork, key_cmp, list_key, nat_key, text_key, tip}
 
 then_reverse : (a b : Ordering) → ordering_reverse (ordering_then a b) ≡ ordering_then (ordering_reverse a) (ordering_reverse b)
 then_reverse Less b = refl
@@ -82,35 +69,7 @@ key_trans (fork a b) (fork c d) (fork e f) p q =
 pub key_cmp_total : IsTotalOrder key_cmp
 key_cmp_total = record { antisymm = key_antisymm; trans = key_trans; congr = λ x y z e. ap (λ k. key_cmp k z) (key_cmp-Equal x y e) }
 
--- ---- the code
-
--- a key as the data by which a proof tells it apart
-abbrev pub key_gv : Key → Gv
-key_gv (tip a) = gcons (gnum 0) (coded_ℤ.code a)
-key_gv (fork a b) = gcons (gnum 1) (gcons (key_gv a) (key_gv b))
-
--- pairs that are the same have the same second part
-pub second : (a b c d : Gv) → gcons a b ≡ gcons c d → b ≡ d
-second a b c d e = cc
-
--- and the same first part
-pub first : (a b c d : Gv) → gcons a b ≡ gcons c d → a ≡ c
-first a b c d e = cc
-
--- keys with the same data are the same
-pub key_gv_inj : (x y : Key) → key_gv x ≡ key_gv y → x ≡ y
-key_gv_inj (tip a) (tip b) e = ap tip (coded_ℤ.inj a b (second _ _ _ _ e))
-key_gv_inj (tip a) (fork c d) e = absurd (cc)
-key_gv_inj (fork a b) (tip c) e = absurd (cc)
-key_gv_inj (fork a b) (fork c d) e =
-    let s : gcons (key_gv a) (key_gv b) ≡ gcons (key_gv c) (key_gv d) = second _ _ _ _ e in
-    let q : a ≡ c = key_gv_inj a c (first _ _ _ _ s) in
-    let r : b ≡ d = key_gv_inj b d (second _ _ _ _ s) in
-    λ i. fork (q i) (r i)
-
--- how a proof tells keys apart
-abbrev pub key_code : Coded Key
-key_code = record { code = key_gv; inj = key_gv_inj }
+-- ---- the parts of a key
 
 -- keys that are the same have the same first part
 pub left : (a b c d : Key) → fork a b ≡ fork c d → a ≡ c
@@ -136,10 +95,6 @@ read_back f g h x y e = sym (h x) ∙ ap g e ∙ h y
 
 -- ---- keys of numbers and lists
 
--- the key of a number
-abbrev pub nat_key : ℕ → Key
-nat_key n = tip (pos n)
-
 -- the integer of a key
 abbrev pub int_at : Key → ℤ
 int_at (tip n) = n
@@ -157,11 +112,6 @@ nat_key-inj a b e = cc
 -- numbers are ordered as their keys are
 pub nat_key-cmp : (a b : ℕ) → key_cmp (nat_key a) (nat_key b) ≡ nat_cmp a b
 nat_key-cmp a b = grind (arith, nat_tests)
-
--- the key of a list: that of its first element and that of the rest
-abbrev pub list_key : {A : Type 0} → (A → Key) → List A → Key
-list_key f [] = nat_key 0
-list_key f (x ∷ xs) = fork (f x) (list_key f xs)
 
 -- the list of a key
 abbrev pub list_at : {A : Type 0} → (Key → A) → Key → List A
@@ -189,10 +139,6 @@ list_key-cmp f R h [] [] = refl
 list_key-cmp f R h [] (y ∷ ys) = refl
 list_key-cmp f R h (x ∷ xs) [] = refl
 list_key-cmp f R h (x ∷ xs) (y ∷ ys) = λ i. ordering_then (h x y i) (list_key-cmp f R h xs ys i)
-
--- the key of a text
-abbrev pub text_key : List ℕ → Key
-text_key s = list_key nat_key s
 
 -- the text of a key
 abbrev pub text_at : Key → List ℕ
