@@ -21,21 +21,21 @@ bound_to e Principal = e.principal
 bound_to e Resource = e.resource
 
 -- whether a slot is bound
-abbrev pub is_bound : EnvParts → SlotId → Bool
-is_bound e s = is_some (bound_to e s)
+abbrev pub binds : EnvParts → SlotId → Bool
+binds e s = is_some (bound_to e s)
 
 -- whether an id stands among some slots
-abbrev pub has_slot : List SlotId → SlotId → Bool
-has_slot slots s = list_any (same_slot s) slots
+abbrev pub is_among : List SlotId → SlotId → Bool
+is_among slots s = list_any (same_slot s) slots
 
 -- the bound ids are the ids of the slots
 abbrev pub BindsExactly : List SlotId → EnvParts → Type 0
-BindsExactly slots e = (s : SlotId) → is_bound e s ≡ has_slot slots s
+BindsExactly slots e = (s : SlotId) → binds e s ≡ is_among slots s
 
 -- the slots that are not bound, in their order, as often as they stand there
 abbrev pub unbound : List SlotId → EnvParts → List SlotId
-unbound slots e = filter (λ s. not (is_bound e s)) slots
+unbound slots e = filter (λ s. not (binds e s)) slots
 
 -- the bound ids that are no slots, the principal's first
 abbrev pub extra : List SlotId → EnvParts → List SlotId
-extra slots e = filter (λ s. is_bound e s && not (has_slot slots s)) (Principal ∷ Resource ∷ [])
+extra slots e = filter (λ s. binds e s && not (is_among slots s)) (Principal ∷ Resource ∷ [])

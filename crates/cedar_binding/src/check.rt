@@ -1,6 +1,6 @@
 //! Whether bindings fit the slots of a template.
 ghost use Rattle.std.specs.Prelude.{◌≡◌, ◌&&◌, ◌↔◌, [], not, IfOk, IsTrue};
-ghost use Rattle.cedar_binding.specs.Bindings.{is_bound, has_slot, unbound, extra};
+ghost use Rattle.cedar_binding.specs.Bindings.{binds, is_among, unbound, extra};
 ghost use Rattle.cedar_binding.specs.Checks.{Binds};
 ghost use Rattle.cedar_binding.specs.Views.{env_of};
 
@@ -30,14 +30,14 @@ pub fn check_bindings(alloc: Global, slots: &[Slot], values: &SlotEnv) -> Result
 
 // Whether a slot is bound.
 fn is_bound(values: &SlotEnv, id: SlotId) -> bool
-    ensures { result ≡ is_bound (env_of values.now) id }
+    ensures { result ≡ binds (env_of values.now) id }
 {
     values.contains_key(&id)
 }
 
 // Whether an id stands among some slots.
 fn has_slot(slots: &[Slot], id: SlotId) -> bool
-    ensures { result ≡ has_slot slots.now id }
+    ensures { result ≡ is_among slots.now id }
 {
     slots.iter().any(|slot| id == slot.id)
 }
@@ -57,7 +57,7 @@ fn unbound(alloc: Global, slots: &[Slot], values: &SlotEnv) -> Result<Vec<SlotId
 
 // Whether an id is bound and no slot.
 fn is_extra(slots: &[Slot], values: &SlotEnv, id: SlotId) -> bool
-    ensures { result ≡ (is_bound (env_of values.now) id && not (has_slot slots.now id)) }
+    ensures { result ≡ (binds (env_of values.now) id && not (is_among slots.now id)) }
 {
     is_bound(values, id) && !has_slot(slots, id)
 }

@@ -29,20 +29,15 @@ HasActions c a = HasPlainClause c × (non_actions a ≡ [])
 -- the first fault of a clause and an action's constraint: a slot in the clause, the first one; else uids that
 -- are no actions, all of them; else a function that is not known, the first one. Want of memory says nothing
 -- of them
-abbrev pub IsFault : TemplateValidationError → Option ExprTree → ActionRule → Type 0
-IsFault (SlotsInConditionClause s) c a = IsFirst s (clause_slots c)
-IsFault (InvalidActionType us) c a = HasPlainClause c × (map (λ u. uid_parts u.value) (all_of us) ≡ non_actions a)
-IsFault SlotCacheMismatch c a = ⊥
-IsFault (InvalidExpression (exprs.UnknownFunction f)) c a = HasActions c a × (clause_fault c ≡ Some f)
-IsFault (InvalidExpression exprs.Memory) c a = ⊥
-IsFault Memory c a = Unit {0}
-
--- `Ok` where there is no fault, else the first one
-abbrev pub Passes : {A : Type 0} → Result A TemplateValidationError → Option ExprTree → ActionRule → Type 0
-Passes (Ok x) c a = HasActions c a × (clause_fault c ≡ None)
-Passes (Err e) c a = IsFault e c a
+abbrev pub IsTemplateFault : TemplateValidationError → Option ExprTree → ActionRule → Type 0
+IsTemplateFault (SlotsInConditionClause s) c a = IsFirst s (clause_slots c)
+IsTemplateFault (InvalidActionType us) c a = HasPlainClause c × (map (λ u. uid_parts u.value) (all_of us) ≡ non_actions a)
+IsTemplateFault SlotCacheMismatch c a = ⊥
+IsTemplateFault (InvalidExpression (exprs.UnknownFunction f)) c a = HasActions c a × (clause_fault c ≡ Some f)
+IsTemplateFault (InvalidExpression exprs.Memory) c a = ⊥
+IsTemplateFault Memory c a = Unit {0}
 
 -- the template itself where there is no fault, else the first one
 abbrev pub Validated : Result BodyParts TemplateValidationError → BodyParts → Type 0
 Validated (Ok t) b = HasActions b.clause b.action × (clause_fault b.clause ≡ None) × (t ≡ b)
-Validated (Err e) b = IsFault e b.clause b.action
+Validated (Err e) b = IsTemplateFault e b.clause b.action

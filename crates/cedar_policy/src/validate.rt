@@ -4,8 +4,8 @@ ghost use Rattle.std.specs.Option.{option_copied};
 ghost use Rattle.cedar_scope.specs.ScopeReads.{non_actions};
 ghost use Rattle.cedar_scope.specs.Views.{rule_of};
 ghost use Rattle.cedar_body.specs.Bodies.{clause_slots};
-ghost use Rattle.cedar_policy.specs.Validation.{clause_fault, Passes};
-ghost use Rattle.cedar_policy.specs.laws.ValidationSteps.{HasNoSlot, HasOnlyActions, HasOnlyKnown};
+ghost use Rattle.cedar_policy.specs.Validation.{clause_fault};
+ghost use Rattle.cedar_policy.specs.laws.ValidationSteps.{HasNoSlot, HasOnlyActions, HasOnlyKnown, TellsFirstFault};
 
 use crate::err::TemplateValidationError;
 use cedar_scope::{ActionConstraint, ActionTypesError};
@@ -19,7 +19,7 @@ pub(crate) fn check(
     clause: Option<&Expr>,
     action: &ActionConstraint,
 ) -> Result<(), TemplateValidationError>
-    ensures { Passes result (option_copied clause.entry) (rule_of action.now) }
+    ensures { TellsFirstFault result (option_copied clause.entry) (rule_of action.now) }
 {
     check_no_slot(alloc, clause)?;
     check_actions(alloc, action)?;

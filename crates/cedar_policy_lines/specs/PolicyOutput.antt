@@ -7,7 +7,7 @@ use Rattle.cedar_scope.specs.Scope.{Constraint, any, equals, to_slot, any_action
 use Rattle.cedar_body.specs.Bodies.{BodyParts}
 use Rattle.cedar_body.specs.declared.effect.Effect.{Effect}
 use Rattle.cedar_body.specs.declared.effect.Effect.TheVariants.{Permit}
-use Rattle.cedar_policy_set.specs.Boards.{Board, Binding, without}
+use Rattle.cedar_policy_set.specs.Boards.{Board, Binding, without_id}
 use Rattle.cedar_policy_set.specs.Merge.{conflicts, merged, new_id, IsRenaming, body_ids, policy_ids}
 use Rattle.cedar_policy_set.specs.Steps.{Refusal, occupied, no_such_template, arity, id_conflict, no_link, not_a_link, add_static_step, add_template_step, link_step, unlink_step}
 use Rattle.cedar_policy_lines.specs.Boards.{Boards, with_current, swapped}
@@ -82,7 +82,7 @@ Joins (Err r) old new out = (new ≡ old) × (out ≡ refused_line r)
 
 -- what an id is bound to is taken out of the current board, or that is refused
 abbrev pub TakesOut : Result Binding Refusal → List ℕ → Boards → Boards → List ℕ → Type 0
-TakesOut (Ok b) i old new out = (new ≡ with_current old (without old.current i)) × (out ≡ ok_line)
+TakesOut (Ok b) i old new out = (new ≡ with_current old (without_id old.current i)) × (out ≡ ok_line)
 TakesOut (Err r) i old new out = (new ≡ old) × (out ≡ refused_line r)
 
 -- the first id that conflicts is refused, where ids keep theirs

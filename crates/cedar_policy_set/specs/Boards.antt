@@ -69,8 +69,8 @@ abbrev pub with_both : Board → BodyParts → PolicyParts → Board
 with_both b t p = record { bodies = b.bodies ++ t ∷ []; policies = b.policies ++ p ∷ [] }
 
 -- what an id was bound to is taken out, and the orders close up
-abbrev pub without : Board → List ℕ → Board
-without b i = record { bodies = filter (λ t. not (is_body_at i t)) b.bodies; policies = filter (λ p. not (is_policy_at i p)) b.policies }
+abbrev pub without_id : Board → List ℕ → Board
+without_id b i = record { bodies = filter (λ t. not (is_body_at i t)) b.bodies; policies = filter (λ p. not (is_policy_at i p)) b.policies }
 
 -- the policy that went last, if there is one
 abbrev pub last_policy : Board → Option PolicyParts

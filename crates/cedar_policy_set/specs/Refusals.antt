@@ -12,7 +12,7 @@ use Rattle.cedar_policy_set.specs.declared.err.PolicySetTemplateRemovalError.{Po
 use Rattle.cedar_policy_set.specs.declared.err.PolicySetTemplateRemovalError.TheVariants as templates
 use Rattle.cedar_policy_set.specs.declared.err.PolicySetUnlinkError.{PolicySetUnlinkError}
 use Rattle.cedar_policy_set.specs.declared.err.PolicySetUnlinkError.TheVariants as unlinks
-use Rattle.cedar_policy_set.specs.Boards.{Board, Binding, without}
+use Rattle.cedar_policy_set.specs.Boards.{Board, Binding, without_id}
 use Rattle.cedar_policy_set.specs.Steps.{Refusal, occupied, no_body, no_such_template, arity, id_conflict, no_link, not_a_link, no_template, with_links, not_a_template, no_static, not_static}
 
 -- what an error tells; want of memory tells nothing
@@ -58,9 +58,9 @@ Steps told (Err e) old new step = (new ≡ old) × IsRefusal (told e) step
 
 -- what was taken out is that of the step, and the board is without its id; or the step is refused, and the board is as
 -- it was
-abbrev pub TakesOut : {A E : Type 0} → (E → Option Refusal) → (A → Binding) → Result A E → Board → Board → List ℕ → Result Binding Refusal → Type 0
-TakesOut told binding (Ok a) old new i step = (step ≡ Ok (binding a)) × (new ≡ without old i)
-TakesOut told binding (Err e) old new i step = (new ≡ old) × IsRefusal (told e) step
+abbrev pub TakesFromBoard : {A E : Type 0} → (E → Option Refusal) → (A → Binding) → Result A E → Board → Board → List ℕ → Result Binding Refusal → Type 0
+TakesFromBoard told binding (Ok a) old new i step = (step ≡ Ok (binding a)) × (new ≡ without_id old i)
+TakesFromBoard told binding (Err e) old new i step = (new ≡ old) × IsRefusal (told e) step
 
 -- the board of an answer is that of the step; or the step is refused
 abbrev pub Makes : {E : Type 0} → (E → Option Refusal) → Result Board E → Result Board Refusal → Type 0

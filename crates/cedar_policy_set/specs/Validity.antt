@@ -4,7 +4,7 @@ use Rattle.std.specs.List.{find}
 use Rattle.cedar_terms.specs.declared.slot.SlotId.{SlotId}
 use Rattle.cedar_body.specs.Bodies.{BodyParts, body_slots}
 use Rattle.cedar_policy.specs.Policies.{PolicyParts, policy_id}
-use Rattle.cedar_policy.specs.Validation.{HasActions, IsFault, clause_fault}
+use Rattle.cedar_policy.specs.Validation.{HasActions, IsTemplateFault, clause_fault}
 use Rattle.cedar_policy_set.specs.declared.err.PolicySetValidationError.{PolicySetValidationError}
 use Rattle.cedar_policy_set.specs.declared.err.PolicySetValidationError.TheVariants.{InvalidTemplate, LinkToSlotlessTemplate, Memory}
 use Rattle.cedar_policy_set.specs.Boards.{Board}
@@ -34,7 +34,7 @@ IsSetFault (LinkToSlotlessTemplate l t) b =
 IsSetFault (InvalidTemplate i e) b =
     HasSlottedLinks b
     × (before : List BodyParts) × (t : BodyParts) × (after : List BodyParts)
-    × (b.bodies ≡ before ++ t ∷ after) × All IsValidBody before × (i ≡ t.id) × IsFault e t.clause t.action
+    × (b.bodies ≡ before ++ t ∷ after) × All IsValidBody before × (i ≡ t.id) × IsTemplateFault e t.clause t.action
 IsSetFault Memory b = Unit {0}
 
 -- the set itself where there is no fault, else the first one

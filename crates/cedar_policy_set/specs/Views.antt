@@ -3,13 +3,7 @@ use Rattle.std.specs.Prelude.{List, map}
 use Rattle.std.specs.declared.rc.Rc.{Rc}
 use Rattle.std.specs.declared.alloc.Global.{Global}
 use Rattle.cedar_body.specs.Bodies.{BodyParts}
-use Rattle.cedar_policy.specs.Policies.{PolicyParts}
-use Rattle.cedar_policy_set.specs.Boards.{Board}
 
 -- the bodies of shared templates
 abbrev pub bodies_of : List (Rc BodyParts Global) → List BodyParts
 bodies_of ts = map (λ t. t.value) ts
-
--- the board of these templates and policies
-abbrev pub board_of : List (Rc BodyParts Global) → List PolicyParts → Board
-board_of ts ps = record { bodies = bodies_of ts; policies = ps }

@@ -13,3 +13,4 @@ pub mod MergeLaws
 pub mod MergeSteps
 pub mod OnceLaws
 pub mod RenamingLaws
+pub mod SharedBoards

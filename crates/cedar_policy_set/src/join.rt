@@ -4,7 +4,7 @@ ghost use Rattle.cedar_body.specs.BodyEquality.{same_body};
 ghost use Rattle.cedar_body.specs.Bodies.{body_slots};
 ghost use Rattle.cedar_binding.specs.Checks.{Binds};
 ghost use Rattle.cedar_binding.specs.Views.{env_of};
-ghost use Rattle.cedar_policy_set.specs.Boards.{empty_board, bound_at, without, CanJoinBoth, Template as template_binding};
+ghost use Rattle.cedar_policy_set.specs.Boards.{empty_board, bound_at, without_id, CanJoinBoth, Template as template_binding};
 ghost use Rattle.cedar_policy_set.specs.Refusals.{IsRefusal, Steps, Makes, told_by_set, told_by_linking};
 ghost use Rattle.cedar_policy_set.specs.Steps.{add_static_step, add_template_step, add_step, link_onto, link_step, add_then};
 ghost use Rattle.cedar_policy_set.specs.laws.Joins.{HasNoTemplate, Stands, StandsThere};
@@ -229,7 +229,7 @@ impl PolicySet {
         values: SlotEnv,
     ) -> Result<(), LinkingError>
         ensures steps { Steps told_by_linking result self.old self.new (link_step self.old template_id new_id (env_of values)) }
-        ensures undone { OnOk result (without self.new new_id ≡ self.old) }
+        ensures undone { OnOk result (without_id self.new new_id ≡ self.old) }
         ensures there { OnOk result (0 < length self.new.policies) }
     {
         self.put_link(alloc, template_id, new_id, values)

@@ -2,9 +2,10 @@
 ghost use Rattle.std.specs.Prelude.{◌≡◌, OnOk, OnErr, Some, false, length, ◌<◌};
 ghost use Rattle.std.specs.List.{find, list_any};
 ghost use Rattle.std.specs.Option.{option_copied, option_map};
-ghost use Rattle.cedar_policy_set.specs.Boards.{bound_at, is_bound, is_body_at, is_policy_at, has_links, with_template, with_policy, with_both, without, last_policy, CanJoinBoth, IsBoard};
+ghost use Rattle.cedar_policy_set.specs.Boards.{bound_at, is_bound, is_body_at, is_policy_at, has_links, with_template, with_policy, with_both, without_id, last_policy, CanJoinBoth, IsBoard};
 ghost use Rattle.cedar_policy_set.specs.Lists.{ids_in};
-ghost use Rattle.cedar_policy_set.specs.Views.{bodies_of, board_of};
+ghost use Rattle.cedar_policy_set.specs.Views.{bodies_of};
+ghost use Rattle.cedar_policy_set.specs.laws.SharedBoards.{board_of};
 ghost use Rattle.cedar_policy_set.specs.laws.Founds.{found_binding};
 ghost use Rattle.cedar_policy_set.specs.laws.Joins.{CanJoin};
 ghost use Rattle.cedar_policy_set.specs.laws.MapLaws.{has_other};
@@ -175,7 +176,7 @@ impl PolicySet {
         requires { has_links self.old id.now ≡ false }
         ensures body { option_map (λ t. t.value) result.0 ≡ find (is_body_at id.now) self.old.bodies }
         ensures policy { result.1 ≡ find (is_policy_at id.now) self.old.policies }
-        ensures taken { self.new ≡ without self.old id.now }
+        ensures taken { self.new ≡ without_id self.old id.now }
     {
         let template = self.templates.shift_remove(id);
         let policy = self.links.shift_remove(id);

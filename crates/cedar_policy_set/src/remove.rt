@@ -1,7 +1,7 @@
 //! What leaves a policy set: links, static policies, templates.
 ghost use Rattle.std.specs.Prelude.{◌≡◌};
 ghost use Rattle.cedar_policy_set.specs.Boards.{policy_binding, Template as template_binding};
-ghost use Rattle.cedar_policy_set.specs.Refusals.{TakesOut, told_by_unlinking, told_by_removal, told_by_template_removal};
+ghost use Rattle.cedar_policy_set.specs.Refusals.{TakesFromBoard, told_by_unlinking, told_by_removal, told_by_template_removal};
 ghost use Rattle.cedar_policy_set.specs.Steps.{unlink_step, remove_static_step, remove_template_step};
 
 use crate::err::{
@@ -21,7 +21,7 @@ impl PolicySet {
     /// stands behind it moves up, in the map of policies and among its template's links; nothing is walked. The original
     /// ends the program where its map of links lacks the template.
     pub fn unlink(&mut self, id: &PolicyID) -> Result<Policy, PolicySetUnlinkError>
-        ensures { TakesOut told_by_unlinking policy_binding result self.old self.new id.now (unlink_step self.old id.now) }
+        ensures { TakesFromBoard told_by_unlinking policy_binding result self.old self.new id.now (unlink_step self.old id.now) }
     {
         let _ = &self.templates;
         match self.found(id) {
@@ -49,7 +49,7 @@ impl PolicySet {
     /// Takes memory only for the id that a refusal names; a refused call leaves both orders as they were. What stands
     /// behind it in the maps moves up; nothing is walked. In the original a refused call moves the link to the back.
     pub fn remove_static(&mut self, id: &PolicyID) -> Result<Policy, PolicySetPolicyRemovalError>
-        ensures { TakesOut told_by_removal policy_binding result self.old self.new id.now (remove_static_step self.old id.now) }
+        ensures { TakesFromBoard told_by_removal policy_binding result self.old self.new id.now (remove_static_step self.old id.now) }
     {
         let _ = &self.templates;
         match self.found(id) {
@@ -84,7 +84,7 @@ impl PolicySet {
         &mut self,
         id: &PolicyID,
     ) -> Result<Template, PolicySetTemplateRemovalError>
-        ensures { TakesOut told_by_template_removal template_binding result self.old self.new id.now (remove_template_step self.old id.now) }
+        ensures { TakesFromBoard told_by_template_removal template_binding result self.old self.new id.now (remove_template_step self.old id.now) }
     {
         let template = match self.found(id) {
             None => {

@@ -5,19 +5,19 @@ use Rattle.cedar_ids.specs.Name.{NameParts}
 use Rattle.cedar_ids.specs.Uid.{UidParts}
 use Rattle.cedar_ids.specs.Codes.{text_code, name_code, uid_parts_code}
 use Rattle.cedar_scope.specs.Scope.{Reference, to_uid, to_slot, Constraint, any, within, equals, of_type, of_type_within, ActionRule, any_action, among, just}
-use Rattle.cedar_scope.specs.ScopeReads.{uid_of, constraint_kind, stated_type, reference_in, rule_kind, rule_uids}
+use Rattle.cedar_scope.specs.ScopeReads.{referred_uid, constraint_kind, stated_type, reference_in, rule_kind, rule_uids}
 
 -- the reference of a uid, the slot where there is none
 abbrev pub reference_with : Option UidParts → Reference
 reference_with None = to_slot
 reference_with (Some u) = to_uid u
 
-pub reference_with-uid_of : (r : Reference) → reference_with (uid_of r) ≡ r
-reference_with-uid_of (to_uid u) = refl
-reference_with-uid_of to_slot = refl
+pub reference_with-referred_uid : (r : Reference) → reference_with (referred_uid r) ≡ r
+reference_with-referred_uid (to_uid u) = refl
+reference_with-referred_uid to_slot = refl
 
 abbrev pub reference_code : Coded Reference
-reference_code = code_by (Option UidParts) (coded_option uid_parts_code) uid_of reference_with reference_with-uid_of
+reference_code = code_by (Option UidParts) (coded_option uid_parts_code) referred_uid reference_with reference_with-referred_uid
 
 -- the constraint of a kind, with these parts
 abbrev pub constraint_with : ℕ → Option NameParts → Option Reference → Constraint

@@ -8,9 +8,9 @@ use Rattle.cedar_ids.specs.Uid.{UidParts, name_part}
 use Rattle.cedar_scope.specs.Scope.{Reference, to_uid, to_slot, Constraint, any, within, equals, of_type, of_type_within, ActionRule, any_action, among, just}
 
 -- the uid, if it is one
-abbrev pub uid_of : Reference → Option UidParts
-uid_of (to_uid u) = Some u
-uid_of to_slot = None
+abbrev pub referred_uid : Reference → Option UidParts
+referred_uid (to_uid u) = Some u
+referred_uid to_slot = None
 
 -- the place of a constraint's kind among the kinds
 abbrev pub constraint_kind : Constraint → ℕ
@@ -39,10 +39,10 @@ reference_in (of_type_within t r) = Some r
 -- the uid that is referred to, if one is
 abbrev pub constraint_uid : Constraint → Option UidParts
 constraint_uid any = None
-constraint_uid (within r) = uid_of r
-constraint_uid (equals r) = uid_of r
+constraint_uid (within r) = referred_uid r
+constraint_uid (equals r) = referred_uid r
 constraint_uid (of_type t) = None
-constraint_uid (of_type_within t r) = uid_of r
+constraint_uid (of_type_within t r) = referred_uid r
 
 -- the types that are named: that of the uid, then the stated one
 abbrev pub constraint_types : Constraint → List NameParts

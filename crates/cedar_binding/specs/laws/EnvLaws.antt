@@ -8,11 +8,11 @@ use Rattle.std.specs.Cmp.Lexicographic.{options_equiv}
 use Rattle.cedar_ids.specs.Uid.{UidParts, uid_eq}
 use Rattle.cedar_ids.specs.laws.UidLaws.{uid_eq_equiv, uid_eq-Decides}
 use Rattle.cedar_binding.specs.Bindings.{EnvParts}
-use Rattle.cedar_binding.specs.EnvEquality.{principal_of, resource_of, same_env}
+use Rattle.cedar_binding.specs.EnvEquality.{bound_principal, bound_resource, same_env}
 
 -- it is an equivalence
 pub same_env_equiv : IsEquivalence same_env
-same_env_equiv = and_equiv (on_equiv principal_of (options_equiv uid_eq_equiv)) (on_equiv resource_of (options_equiv uid_eq_equiv))
+same_env_equiv = and_equiv (on_equiv bound_principal (options_equiv uid_eq_equiv)) (on_equiv bound_resource (options_equiv uid_eq_equiv))
 
 same_bound : (x y : Option UidParts) → option_eq uid_eq x y ≡ true → x ≡ y
 same_bound None None e = refl

@@ -6,7 +6,7 @@ use Rattle.cedar_terms.specs.SlotTree.{same_slot}
 use Rattle.cedar_terms.specs.laws.SlotIdLaws.{same_slot_decides}
 use Rattle.cedar_terms.specs.declared.slot.SlotId.{SlotId}
 use Rattle.cedar_terms.specs.declared.slot.SlotId.TheVariants.{Principal, Resource}
-use Rattle.cedar_binding.specs.Bindings.{EnvParts, is_bound, has_slot, unbound, extra, BindsExactly}
+use Rattle.cedar_binding.specs.Bindings.{EnvParts, binds, is_among, unbound, extra, BindsExactly}
 
 same_answer : (a b : Bool) → (a ≡ true → b ≡ true) → (b ≡ true → a ≡ true) → a ≡ b
 same_answer true b f g = sym (f refl)
@@ -22,17 +22,17 @@ either : (a b : Bool) → (a || b) ≡ true → (a ≡ true) ⊎ (b ≡ true)
 either true b h = inl refl
 either false b h = inr h
 
-bound_among : (x : SlotId) (xs : List SlotId) (e : EnvParts) (s : SlotId) → is_bound e x ≡ true → (has_slot xs s ≡ true → is_bound e s ≡ true) →
-    (same_slot s x ≡ true) ⊎ (has_slot xs s ≡ true) → is_bound e s ≡ true
-bound_among x xs e s h f (inl p) = ap (is_bound e) ((same_slot_decides s x).0 p) ∙ h
+bound_among : (x : SlotId) (xs : List SlotId) (e : EnvParts) (s : SlotId) → binds e x ≡ true → (is_among xs s ≡ true → binds e s ≡ true) →
+    (same_slot s x ≡ true) ⊎ (is_among xs s ≡ true) → binds e s ≡ true
+bound_among x xs e s h f (inl p) = ap (binds e) ((same_slot_decides s x).0 p) ∙ h
 bound_among x xs e s h f (inr p) = f p
 
 -- where none is unbound each slot is bound
-slots_are_bound : (slots : List SlotId) (e : EnvParts) → unbound slots e ≡ [] → (s : SlotId) → has_slot slots s ≡ true → is_bound e s ≡ true
+slots_are_bound : (slots : List SlotId) (e : EnvParts) → unbound slots e ≡ [] → (s : SlotId) → is_among slots s ≡ true → binds e s ≡ true
 slots_are_bound [] e h s p = absurd (false≢true p)
 slots_are_bound (x ∷ xs) e h s p =
-    let b = first_bound (is_bound e x) x (unbound xs e) h in
-    bound_among x xs e s b.0 (slots_are_bound xs e b.1 s) (either (same_slot s x) (has_slot xs s) p)
+    let b = first_bound (binds e x) x (unbound xs e) h in
+    bound_among x xs e s b.0 (slots_are_bound xs e b.1 s) (either (same_slot s x) (is_among xs s) p)
 
 neither_listed : (a b : Bool) → cond a (Principal ∷ cond b (Resource ∷ []) []) (cond b (Resource ∷ []) []) ≡ [] → (a ≡ false) × (b ≡ false)
 neither_listed true b h = absurd (cc)
@@ -45,13 +45,13 @@ then_listed true false h p = absurd (cc)
 then_listed false b h p = absurd (cc)
 
 -- where none is extra each bound id is that of a slot
-bound_are_slots : (slots : List SlotId) (e : EnvParts) → extra slots e ≡ [] → (s : SlotId) → is_bound e s ≡ true → has_slot slots s ≡ true
-bound_are_slots slots e h Principal p = then_listed _ _ (neither_listed (is_bound e Principal && not (has_slot slots Principal)) (is_bound e Resource && not (has_slot slots Resource)) h).0 p
-bound_are_slots slots e h Resource p = then_listed _ _ (neither_listed (is_bound e Principal && not (has_slot slots Principal)) (is_bound e Resource && not (has_slot slots Resource)) h).1 p
+bound_are_slots : (slots : List SlotId) (e : EnvParts) → extra slots e ≡ [] → (s : SlotId) → binds e s ≡ true → is_among slots s ≡ true
+bound_are_slots slots e h Principal p = then_listed _ _ (neither_listed (binds e Principal && not (is_among slots Principal)) (binds e Resource && not (is_among slots Resource)) h).0 p
+bound_are_slots slots e h Resource p = then_listed _ _ (neither_listed (binds e Principal && not (is_among slots Principal)) (binds e Resource && not (is_among slots Resource)) h).1 p
 
 -- with nothing unbound and nothing extra the bindings fit
 pub fits : (slots : List SlotId) (e : EnvParts) → unbound slots e ≡ [] → extra slots e ≡ [] → BindsExactly slots e
-fits slots e u x s = same_answer (is_bound e s) (has_slot slots s) (bound_are_slots slots e x s) (slots_are_bound slots e u s)
+fits slots e u x s = same_answer (binds e s) (is_among slots s) (bound_are_slots slots e x s) (slots_are_bound slots e u s)
 
 on_the_left : (a b : Bool) → a ≡ true → (a || b) ≡ true
 on_the_left a b h = cc
@@ -60,7 +60,7 @@ on_the_right : (a b : Bool) → b ≡ true → (a || b) ≡ true
 on_the_right true b h = refl
 on_the_right false b h = h
 
-none_unbound : (slots : List SlotId) (e : EnvParts) → ((s : SlotId) → has_slot slots s ≡ true → is_bound e s ≡ true) → unbound slots e ≡ []
+none_unbound : (slots : List SlotId) (e : EnvParts) → ((s : SlotId) → is_among slots s ≡ true → binds e s ≡ true) → unbound slots e ≡ []
 none_unbound [] e f = refl
 none_unbound (x ∷ xs) e f =
     rw (f x (on_the_left _ _ ((same_slot_decides x x).1 refl))) (none_unbound xs e (λ s p. f s (on_the_right (same_slot s x) _ p)))

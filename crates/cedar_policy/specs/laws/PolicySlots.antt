@@ -17,8 +17,7 @@ use Rattle.cedar_scope.specs.laws.ScopeSlots.{constraint_slots}
 use Rattle.cedar_scope.specs.declared.variable.PrincipalOrResource.TheVariants as variables
 use Rattle.cedar_body.specs.Bodies.{BodyParts, body_slots, clause_slots}
 use Rattle.cedar_body.specs.laws.BodySlots.{body_slots-parts}
-use Rattle.cedar_binding.specs.Bindings as bindings
-use Rattle.cedar_binding.specs.Bindings.{BindsExactly}
+use Rattle.cedar_binding.specs.Bindings.{is_among, BindsExactly}
 use Rattle.cedar_binding.specs.laws.NoBindings.{nothing_bound}
 use Rattle.cedar_ids.specs.Uid.{UidParts}
 use Rattle.cedar_policy.specs.Policies.{PolicyParts, IsPolicy, static_policy, filled_by, principal_of, resource_of}
@@ -53,16 +52,16 @@ slots_in_turn b =
     ∙ sym (body_slots-parts b)
 
 -- where the principal's slot is none of a body's slots its constraint does not refer to it
-principal_without_slot : (b : BodyParts) → bindings.has_slot (body_slots b) Principal ≡ false → has_slot b.principal ≡ false
+principal_without_slot : (b : BodyParts) → is_among (body_slots b) Principal ≡ false → has_slot b.principal ≡ false
 principal_without_slot b h =
-    let parts = ap (λ xs. bindings.has_slot xs Principal) (sym (body_slots-parts b)) ∙ h in
+    let parts = ap (λ xs. is_among xs Principal) (sym (body_slots-parts b)) ∙ h in
     not_there Principal (has_slot b.principal)
     (not_after (same_slot Principal) (constraint_slots variables.Resource b.resource) _ (not_after (same_slot Principal) (clause_slots b.clause) _ parts))
 
 -- and so with the resource's
-resource_without_slot : (b : BodyParts) → bindings.has_slot (body_slots b) Resource ≡ false → has_slot b.resource ≡ false
+resource_without_slot : (b : BodyParts) → is_among (body_slots b) Resource ≡ false → has_slot b.resource ≡ false
 resource_without_slot b h =
-    let parts = ap (λ xs. bindings.has_slot xs Resource) (sym (body_slots-parts b)) ∙ h in
+    let parts = ap (λ xs. is_among xs Resource) (sym (body_slots-parts b)) ∙ h in
     not_there Resource (has_slot b.resource)
     (not_before (same_slot Resource) (constraint_slots variables.Resource b.resource) _ (not_after (same_slot Resource) (clause_slots b.clause) _ parts))
 

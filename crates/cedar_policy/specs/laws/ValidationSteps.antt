@@ -9,6 +9,9 @@ use Rattle.cedar_terms.specs.declared.slot.SlotId.{SlotId}
 use Rattle.cedar_policy.specs.Statics.{IsFirst}
 use Rattle.cedar_policy.specs.declared.err.TemplateValidationError.{TemplateValidationError}
 use Rattle.cedar_policy.specs.declared.err.TemplateValidationError.TheVariants.{SlotsInConditionClause, InvalidActionType, SlotCacheMismatch, InvalidExpression, Memory}
+use Rattle.cedar_terms.specs.ExprTree.{ExprTree}
+use Rattle.cedar_scope.specs.Scope.{ActionRule}
+use Rattle.cedar_policy.specs.Validation.{HasActions, IsTemplateFault, clause_fault}
 
 -- a check that refuses the first of some slots, and nothing but that
 abbrev pub HasNoSlot : {A : Type 0} → Result A TemplateValidationError → List SlotId → Type 0
@@ -37,3 +40,8 @@ HasOnlyKnown (Err SlotCacheMismatch) fault = ⊥
 HasOnlyKnown (Err (InvalidExpression (exprs.UnknownFunction f))) fault = fault ≡ Some f
 HasOnlyKnown (Err (InvalidExpression exprs.Memory)) fault = ⊥
 HasOnlyKnown (Err Memory) fault = Unit {0}
+
+-- `Ok` where there is no fault, else the first one
+abbrev pub TellsFirstFault : {A : Type 0} → Result A TemplateValidationError → Option ExprTree → ActionRule → Type 0
+TellsFirstFault (Ok x) c a = HasActions c a × (clause_fault c ≡ None)
+TellsFirstFault (Err e) c a = IsTemplateFault e c a

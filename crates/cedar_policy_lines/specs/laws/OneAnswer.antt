@@ -2,7 +2,7 @@
 use Rattle.std.specs.Prelude.{◌≡◌, ℕ, List, [], ◌∷◌, Bool, true, false, Result, Ok, Err}
 use Rattle.std.proofs.Common.{ap, sym, refl, ◌∙◌, inl, inr}
 use Rattle.std.proofs.lemmas.Bool.{false≢true}
-use Rattle.cedar_policy_set.specs.Boards.{Board, Binding, without}
+use Rattle.cedar_policy_set.specs.Boards.{Board, Binding, without_id}
 use Rattle.cedar_policy_set.specs.Merge.{conflicts, merged, new_id}
 use Rattle.cedar_policy_set.specs.Steps.{Refusal, occupied, add_static_step, add_template_step, link_step, unlink_step}
 use Rattle.cedar_policy_lines.specs.Boards.{Boards, with_current, swapped}
@@ -22,7 +22,7 @@ joins (Ok b) old = (with_current old b, ok_line, (refl, refl))
 joins (Err r) old = (old, refused_line r, (refl, refl))
 
 takes_out : (s : Result Binding Refusal) (i : List ℕ) (old : Boards) → Given (TakesOut s i old)
-takes_out (Ok b) i old = (with_current old (without old.current i), ok_line, (refl, refl))
+takes_out (Ok b) i old = (with_current old (without_id old.current i), ok_line, (refl, refl))
 takes_out (Err r) i old = (old, refused_line r, (refl, refl))
 
 kept : (old : Boards) (c : List (List ℕ)) → conflicts old.current old.aside ≡ c → Given (Merges false old)

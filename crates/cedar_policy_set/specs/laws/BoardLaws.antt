@@ -19,7 +19,7 @@ use Rattle.cedar_binding.specs.declared.err.LinkingError.TheVariants as links
 use Rattle.cedar_binding.specs.laws.Fits.{fits, nothing_left_over}
 use Rattle.cedar_terms.specs.declared.slot.SlotId.{SlotId}
 use Rattle.cedar_policy.specs.Policies.{PolicyParts, policy_id}
-use Rattle.cedar_policy_set.specs.Boards.{Board, Binding, Static, Template, Link, bound_at, bound_among, is_bound, is_body_at, is_policy_at, links_to, has_links, policy_binding, binding_by, with_template, with_policy, with_both, without, CanJoinBoth, CanJoinBothBy, IsHeldBy, IsHeld, AreHeld, IsBoard}
+use Rattle.cedar_policy_set.specs.Boards.{Board, Binding, Static, Template, Link, bound_at, bound_among, is_bound, is_body_at, is_policy_at, links_to, has_links, policy_binding, binding_by, with_template, with_policy, with_both, without_id, CanJoinBoth, CanJoinBothBy, IsHeldBy, IsHeld, AreHeld, IsBoard}
 use Rattle.cedar_policy_set.specs.Refusals.{IsRefusal, told_by_linking}
 use Rattle.cedar_policy_set.specs.Steps.{Refusal, arity, no_such_template, add_by, add_link_at, fitting, link_at, linked_at, get_linked_step}
 use Rattle.cedar_policy_set.specs.Lists.{ids_in}
@@ -167,7 +167,7 @@ kept_body b i j a = find-filter (λ t. not (is_body_at i t)) (is_body_at j) b.bo
 not_linked : (l : List ℕ) (v : Bool) → (true && v) ≡ false → v ≡ false
 not_linked l v e = e
 
-held_without : (o : Option (List ℕ)) (b : Board) (i : List ℕ) (p : PolicyParts) → same_text i (unwrap_or o p.template.id) ≡ false → (is_some o && same_text i p.template.id) ≡ false → IsHeldBy o b p → IsHeldBy o (without b i) p
+held_without : (o : Option (List ℕ)) (b : Board) (i : List ℕ) (p : PolicyParts) → same_text i (unwrap_or o p.template.id) ≡ false → (is_some o && same_text i p.template.id) ≡ false → IsHeldBy o b p → IsHeldBy o (without_id b i) p
 held_without None b i p a n h = (h.0, h.1, kept_body b i p.template.id a ∙ h.2)
 held_without (Some l) b i p a n h = (
   any-filter_none (λ t. not (is_body_at i t)) (is_body_at l) b.bodies h.0,
@@ -177,17 +177,17 @@ held_without (Some l) b i p a n h = (
 )
 
 kept_held : (v : Bool) (b : Board) (i : List ℕ) (p : PolicyParts) (ps : List PolicyParts) → same_text i (policy_id p) ≡ v → links_to i p ≡ false → IsHeld b p →
-    AreHeld (without b i) ps → AreHeld (without b i) (cond (not v) (p ∷ ps) ps)
+    AreHeld (without_id b i) ps → AreHeld (without_id b i) (cond (not v) (p ∷ ps) ps)
 kept_held true b i p ps a n h r = r
 kept_held false b i p ps a n h r = (held_without p.link b i p a n h, r)
 
-all_without : (b : Board) (i : List ℕ) (ps : List PolicyParts) → list_any (links_to i) ps ≡ false → AreHeld b ps → AreHeld (without b i) (filter (λ p. not (is_policy_at i p)) ps)
+all_without : (b : Board) (i : List ℕ) (ps : List PolicyParts) → list_any (links_to i) ps ≡ false → AreHeld b ps → AreHeld (without_id b i) (filter (λ p. not (is_policy_at i p)) ps)
 all_without b i [] n h = tt
 all_without b i (p ∷ ps) n h =
     kept_held (is_policy_at i p) b i p (filter (λ q. not (is_policy_at i q)) ps) refl (or_parts _ _ n).0 h.0 (all_without b i ps (or_parts _ _ n).1 h.1)
 
 -- where an id has no links, what it is bound to can be taken out
-pub taken_out : (b : Board) (i : List ℕ) → IsBoard b → has_links b i ≡ false → IsBoard (without b i)
+pub taken_out : (b : Board) (i : List ℕ) → IsBoard b → has_links b i ≡ false → IsBoard (without_id b i)
 taken_out b i h n = record {
   bodies_once = once-filter body_id (λ t. not (is_body_at i t)) b.bodies h.bodies_once;
   policies_once = once-filter policy_id (λ p. not (is_policy_at i p)) b.policies h.policies_once;
@@ -210,7 +210,7 @@ pub policy_has_no_links : (b : Board) (i : List ℕ) (q : PolicyParts) → IsBoa
 policy_has_no_links b i q h f = none_linked b i q b.policies f h.held
 
 -- what joined under a free id and is taken out again leaves the former board
-pub undone : (b : Board) (p : PolicyParts) → is_bound b (policy_id p) ≡ false → without (with_policy b p) (policy_id p) ≡ b
+pub undone : (b : Board) (p : PolicyParts) → is_bound b (policy_id p) ≡ false → without_id (with_policy b p) (policy_id p) ≡ b
 undone b p n =
     let ts : filter (λ t. not (is_body_at (policy_id p) t)) b.bodies ≡ b.bodies = filter_none (is_body_at (policy_id p)) b.bodies (no_body_at b (policy_id p) n) in
     let last : filter (λ q. not (is_policy_at (policy_id p) q)) (p ∷ []) ≡ [] = ap (λ v. cond (not v) (p ∷ []) []) (is_itself (policy_id p)) in

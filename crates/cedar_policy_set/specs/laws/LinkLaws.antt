@@ -5,7 +5,7 @@ use Rattle.cedar_terms.specs.declared.slot.SlotId.{SlotId}
 use Rattle.cedar_body.specs.Bodies.{BodyParts, body_slots}
 use Rattle.cedar_binding.specs.Bindings.{EnvParts, unbound, extra}
 use Rattle.cedar_policy.specs.Policies.{PolicyParts}
-use Rattle.cedar_policy_set.specs.Boards.{Board, Binding, Static, Template, Link, bound_at, is_bound, with_policy, without}
+use Rattle.cedar_policy_set.specs.Boards.{Board, Binding, Static, Template, Link, bound_at, is_bound, with_policy, without_id}
 use Rattle.cedar_policy_set.specs.Steps.{Refusal, id_conflict, fitting, link_at, link_step}
 use Rattle.cedar_policy_set.specs.laws.BoardLaws.{undone}
 
@@ -35,10 +35,10 @@ joined (Some (Template t)) b c i l e h =
     (t, f.0, f.1)
 
 -- to take a link out that joined leaves the former board
-pub link_undone : (b c : Board) (i l : List ℕ) (e : EnvParts) → link_step b i l e ≡ Ok c → without c l ≡ b
+pub link_undone : (b c : Board) (i l : List ℕ) (e : EnvParts) → link_step b i l e ≡ Ok c → without_id c l ≡ b
 link_undone b c i l e h =
     let j = joined (bound_at b i) b c i l e h in
-    ap (λ d. without d l) (sym j.2) ∙ undone b (link_of j.0 l e) j.1
+    ap (λ d. without_id d l) (sym j.2) ∙ undone b (link_of j.0 l e) j.1
 
 pushed : (ps : List PolicyParts) (p : PolicyParts) → 0 < length (ps ++ p ∷ [])
 pushed [] p = omega arith

@@ -10,7 +10,7 @@ use Rattle.cedar_ids.specs.Texts.{same_text}
 use Rattle.cedar_ids.specs.laws.TextLaws.{same_text_equiv, same_text_decides}
 use Rattle.cedar_body.specs.Bodies.{BodyParts}
 use Rattle.cedar_policy.specs.Policies.{PolicyParts, policy_id}
-use Rattle.cedar_policy_set.specs.Boards.{Board, empty_board, AreOnce, is_bound, is_body_at, is_policy_at, links_to, has_links, with_template, with_policy, with_both, without, CanJoinBoth, IsHeldBy, AreHeld, IsBoard}
+use Rattle.cedar_policy_set.specs.Boards.{Board, empty_board, AreOnce, is_bound, is_body_at, is_policy_at, links_to, has_links, with_template, with_policy, with_both, without_id, CanJoinBoth, IsHeldBy, AreHeld, IsBoard}
 use Rattle.cedar_policy_set.specs.Lists.{is_on, ids_in}
 use Rattle.cedar_policy_set.specs.Maps.{Maps, board_in, ids_by_body, DoAgree}
 use Rattle.cedar_policy_set.specs.laws.BoardLaws.{no_body_at, no_policy_at, ids_apart, template_joins, link_joins, free_link, both_join, taken_out, policy_has_no_links}
@@ -199,13 +199,13 @@ left_listed None i ts ps h g e = ap (ids_by_body ts) (sym (filter_none (is_polic
 left_listed (Some p) i ts ps h g e = leave_listed body_id policy_id own_body ts i p ps h g (sym e)
 
 taken_agrees : (m : Maps) (i : List ℕ) (o : Option PolicyParts) → DoAgree m → has_links (board_in m) i ≡ false → o ≡ find (is_policy_at i) (board_in m).policies →
-    Becomes (record { bodies = remove_entry (same_text i) m.bodies; policies = remove_entry (same_text i) m.policies; listed = unlisted o i (remove_entry (same_text i) m.listed) }) (without (board_in m) i)
+    Becomes (record { bodies = remove_entry (same_text i) m.bodies; policies = remove_entry (same_text i) m.policies; listed = unlisted o i (remove_entry (same_text i) m.listed) }) (without_id (board_in m) i)
 taken_agrees m i o h n e =
     let b = board_in m in
     let ts = values_removed body_id i m.bodies h.bodies_by_id h.board.bodies_once in
     let ps = values_removed policy_id i m.policies h.policies_by_id h.board.policies_once in
     let now : board_in (record { bodies = remove_entry (same_text i) m.bodies; policies = remove_entry (same_text i) m.policies; listed = unlisted o i (remove_entry (same_text i) m.listed) })
-    ≡ without b i = λ j. record { bodies = ts j; policies = ps j } in (
+    ≡ without_id b i = λ j. record { bodies = ts j; policies = ps j } in (
       record {
         board = subst IsBoard (sym now) (taken_out b i h.board n);
         bodies_by_id = keyed_removed body_id (same_text i) m.bodies h.bodies_by_id;
@@ -222,7 +222,7 @@ taken_agrees m i o h n e =
 pub taken_kept : (m : Maps) (i : List ℕ) (o : Option PolicyParts) (bs : List (List ℕ × BodyParts)) (qs : List (List ℕ × PolicyParts)) (ls : List (List ℕ × List (List ℕ))) →
     DoAgree m → has_links (board_in m) i ≡ false → o ≡ find (is_policy_at i) (board_in m).policies →
     bs ≡ remove_entry (same_text i) m.bodies → qs ≡ remove_entry (same_text i) m.policies → ls ≡ unlisted o i (remove_entry (same_text i) m.listed) →
-    Becomes (record { bodies = bs; policies = qs; listed = ls }) (without (board_in m) i)
+    Becomes (record { bodies = bs; policies = qs; listed = ls }) (without_id (board_in m) i)
 taken_kept m i o bs qs ls h n e f g k = rw (f, g, k) (taken_agrees m i o h n e)
 
 -- ---- maps of one policy

@@ -1,7 +1,7 @@
 use Rattle.std.proofs.Common.{◌≡◌, sym, subst}
 use Rattle.cedar_policy_set.specs.Boards.{IsBoard}
 use Rattle.cedar_policy_set.specs.Merge.{merged, new_id}
-use Rattle.cedar_policy_set.specs.Views.{board_of}
+use Rattle.cedar_policy_set.specs.laws.SharedBoards.{board_of}
 use Rattle.cedar_policy_set.specs.laws.MergeLaws.{merged_is_board}
 use Rattle.cedar_policy_set.specs.laws.RenamingLaws.{renames}
 use Rattle.cedar_policy_set.proofs.policy_set.PolicySet.put_merged.Goals as goal

@@ -3,7 +3,7 @@ use Rattle.std.proofs.Common.{◌∙◌, ap, refl}
 use Rattle.std.specs.List.{find}
 use Rattle.std.specs.Option.{option_map}
 use Rattle.cedar_ids.specs.Texts.{same_text}
-use Rattle.cedar_policy_set.specs.Boards.{Board, is_body_at, is_policy_at, has_links, without}
+use Rattle.cedar_policy_set.specs.Boards.{Board, is_body_at, is_policy_at, has_links, without_id}
 use Rattle.cedar_policy_set.specs.Maps.{Maps, maps_of, board_in, shared_of, lists_of}
 use Rattle.cedar_policy_set.specs.laws.MapLaws.{taken_kept, unlisted}
 use Rattle.cedar_policy_set.proofs.Entries.{body_read, policy_read, read_removed}
@@ -43,4 +43,4 @@ returns-clause-taken c =
     (ap shared_of c.shift_remove-template.ensures.entries ∙ read_removed (λ v. v.value) (same_text i) c.self.inside.templates.entries)
     c.shift_remove-policy.ensures.entries
     (c.unlist.ensures ∙ ap (unlisted o i) (ap lists_of c.shift_remove.ensures.entries ∙ read_removed (λ v. v.keys) (same_text i) c.self.inside.template_to_links_map.entries))).1
-    ∙ ap (λ (b : Board). without b i) c.self.view_is
+    ∙ ap (λ (b : Board). without_id b i) c.self.view_is
