@@ -4,7 +4,7 @@ use Rattle.cedar_terms.specs.LiteralTree.{bool_literal}
 use Rattle.cedar_terms.specs.ExprTree.{ExprTree, val_node, and_node}
 use Rattle.cedar_terms.specs.Walk.{slots_of}
 use Rattle.cedar_terms.specs.declared.slot.SlotId.{SlotId}
-use Rattle.cedar_scope.specs.Annotations.{AnnotationsView}
+use Rattle.cedar_annotation.specs.Annotations.{AnnotationsView}
 use Rattle.cedar_scope.specs.Scope.{Constraint, ActionRule}
 use Rattle.cedar_scope.specs.ScopeTrees.{constraint_expr, rule_expr}
 use Rattle.cedar_scope.specs.declared.variable.PrincipalOrResource.TheVariants as variables

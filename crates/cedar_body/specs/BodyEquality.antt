@@ -5,7 +5,7 @@ use Rattle.std.specs.Hash as fed
 use Rattle.cedar_ids.specs.Texts.{same_text}
 use Rattle.cedar_terms.specs.ExprTree.{ExprTree}
 use Rattle.cedar_terms.specs.ExprEquality.{same_expr, expr_hash}
-use Rattle.cedar_scope.specs.AnnotationOrder.{same_annotations, annotations_hash}
+use Rattle.cedar_annotation.specs.AnnotationOrder.{same_annotations, annotations_hash}
 use Rattle.cedar_scope.specs.ScopeOrder.{same_constraint, same_rule, constraint_hash, rule_hash}
 use Rattle.cedar_body.specs.Effects.{same_effect, effect_hash}
 use Rattle.cedar_body.specs.Bodies.{BodyParts}

@@ -4,9 +4,10 @@ use Rattle.std.specs.Coded.{Coded, code_by, coded×, coded_bool, coded_option}
 use Rattle.cedar_ids.specs.Codes.{text_code}
 use Rattle.cedar_terms.specs.ExprTree.{ExprTree}
 use Rattle.cedar_terms.specs.Codes.{expr_code}
-use Rattle.cedar_scope.specs.Annotations.{AnnotationsView}
+use Rattle.cedar_annotation.specs.Annotations.{AnnotationsView}
 use Rattle.cedar_scope.specs.Scope.{Constraint, ActionRule}
-use Rattle.cedar_scope.specs.Codes.{annotations_code, constraint_code, rule_code}
+use Rattle.cedar_annotation.specs.Codes.{annotations_code}
+use Rattle.cedar_scope.specs.Codes.{constraint_code, rule_code}
 use Rattle.cedar_body.specs.Bodies.{BodyParts}
 use Rattle.cedar_body.specs.declared.effect.Effect.{Effect}
 use Rattle.cedar_body.specs.declared.effect.Effect.TheVariants.{Permit, Forbid}

@@ -3,7 +3,7 @@ use Rattle.std.specs.Prelude.{◌≡◌, ℕ, List, [], Option, Some, None}
 use Rattle.std.specs.Option.{option_map, unwrap_or}
 use Rattle.cedar_ids.specs.Uid.{UidParts}
 use Rattle.cedar_terms.specs.ExprTree.{ExprTree}
-use Rattle.cedar_scope.specs.Annotations.{AnnotationsView}
+use Rattle.cedar_annotation.specs.Annotations.{AnnotationsView}
 use Rattle.cedar_scope.specs.Scope.{Constraint, any, any_action}
 use Rattle.cedar_scope.specs.ScopeReads.{filled}
 use Rattle.cedar_body.specs.Bodies.{BodyParts, body_slots, with_id}

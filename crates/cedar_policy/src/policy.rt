@@ -3,7 +3,7 @@ ghost use Rattle.std.specs.Prelude.{◌≡◌, ◌↔◌, [], None, false, IfOk,
 ghost use Rattle.std.specs.Option.{option_copied, option_map};
 ghost use Rattle.std.specs.Cmp.{partial_equiv_from_equiv};
 ghost use Rattle.cedar_terms.specs.Walk.{slots_of, unknowns_of};
-ghost use Rattle.cedar_scope.specs.Annotations.{value_at, KeysAscend};
+ghost use Rattle.cedar_annotation.specs.Annotations.{value_at, KeysAscend};
 ghost use Rattle.cedar_scope.specs.ScopeReads.{has_slot};
 ghost use Rattle.cedar_scope.specs.Views.{rule_of};
 ghost use Rattle.cedar_binding.specs.Bindings.{BindsExactly};
@@ -18,6 +18,8 @@ ghost use Rattle.cedar_policy.specs.laws.PolicyLaws.{same_policy_equiv};
 use crate::static_policy::StaticPolicy;
 use crate::template::Template;
 use crate::unknowns::entities_named;
+use cedar_annotation::annotation::Iter;
+use cedar_annotation::{Annotation, Annotations};
 use cedar_binding::{
     JoinedBindings, SlotEnv, bound_to, copy_of_bindings, no_bindings, same_bindings,
 };
@@ -26,10 +28,7 @@ use cedar_ids::entity::EntityUID;
 use cedar_ids::id::AnyId;
 use cedar_ids::loc::Loc;
 use cedar_ids::policy_id::PolicyID;
-use cedar_scope::annotation::Iter;
-use cedar_scope::{
-    ActionConstraint, Annotation, Annotations, PrincipalConstraint, ResourceConstraint,
-};
+use cedar_scope::{ActionConstraint, PrincipalConstraint, ResourceConstraint};
 use cedar_terms::expr::Expr;
 use cedar_terms::slot::SlotId;
 use std::alloc::{AllocError, Global};

@@ -3,7 +3,7 @@ ghost use Rattle.std.specs.Prelude.{◌≡◌, [], IfOk};
 ghost use Rattle.std.specs.Option.{option_copied, option_map};
 ghost use Rattle.std.specs.Cmp.{partial_equiv_from_equiv};
 ghost use Rattle.cedar_terms.specs.Walk.{slots_of};
-ghost use Rattle.cedar_scope.specs.Annotations.{value_at, KeysAscend};
+ghost use Rattle.cedar_annotation.specs.Annotations.{value_at, KeysAscend};
 ghost use Rattle.cedar_scope.specs.Views.{rule_of};
 ghost use Rattle.cedar_body.specs.Bodies.{principal_expr, action_expr, resource_expr, condition, body_slots, with_id};
 ghost use Rattle.cedar_body.specs.BodyEquality.{same_body, body_hash};
@@ -14,14 +14,13 @@ ghost use Rattle.cedar_policy.specs.Statics.{IsStaticOf, MakesStatic};
 
 use crate::err::UnexpectedSlotError;
 use crate::template::Template;
+use cedar_annotation::annotation::Iter;
+use cedar_annotation::{Annotation, Annotations};
 use cedar_body::{Effect, TemplateBody};
 use cedar_ids::id::AnyId;
 use cedar_ids::loc::Loc;
 use cedar_ids::policy_id::PolicyID;
-use cedar_scope::annotation::Iter;
-use cedar_scope::{
-    ActionConstraint, Annotation, Annotations, PrincipalConstraint, ResourceConstraint,
-};
+use cedar_scope::{ActionConstraint, PrincipalConstraint, ResourceConstraint};
 use cedar_terms::expr::Expr;
 use std::alloc::{AllocError, Global};
 use std::fmt;

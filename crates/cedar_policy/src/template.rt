@@ -2,7 +2,7 @@
 ghost use Rattle.std.specs.Prelude.{◌≡◌, ◌↔◌, [], IfOk, IsTrue};
 ghost use Rattle.std.specs.Option.{option_copied, option_map};
 ghost use Rattle.std.specs.Cmp.{partial_equiv_from_equiv};
-ghost use Rattle.cedar_scope.specs.Annotations.{value_at, KeysAscend};
+ghost use Rattle.cedar_annotation.specs.Annotations.{value_at, KeysAscend};
 ghost use Rattle.cedar_scope.specs.Views.{rule_of};
 ghost use Rattle.cedar_binding.specs.Checks.{Binds};
 ghost use Rattle.cedar_binding.specs.Views.{env_of};
@@ -20,15 +20,14 @@ use crate::policy::Policy;
 use crate::slots::{Slots, slots_in};
 use crate::static_policy::StaticPolicy;
 use crate::validate::check;
+use cedar_annotation::annotation::Iter;
+use cedar_annotation::{Annotation, Annotations};
 use cedar_binding::{LinkingError, SlotEnv, check_bindings, no_bindings};
 use cedar_body::{Effect, TemplateBody};
 use cedar_ids::id::AnyId;
 use cedar_ids::loc::Loc;
 use cedar_ids::policy_id::PolicyID;
-use cedar_scope::annotation::Iter;
-use cedar_scope::{
-    ActionConstraint, Annotation, Annotations, PrincipalConstraint, ResourceConstraint,
-};
+use cedar_scope::{ActionConstraint, PrincipalConstraint, ResourceConstraint};
 use cedar_terms::expr::Expr;
 use cedar_terms::slot::Slot;
 use std::alloc::{AllocError, Global};

@@ -1,4 +1,3 @@
 pub mod Bunch
 pub mod Filled
-pub mod Pairs
 pub mod UidLists

@@ -1,9 +1,9 @@
--- How a proof tells references, constraints and annotations apart.
+-- How a proof tells references, constraints and rules of actions apart.
 use Rattle.std.specs.Prelude.{◌≡◌, ℕ, List, [], ◌∷◌, Option, Some, None, refl, if◌then◌else◌, ◌==◌}
 use Rattle.std.specs.Coded.{Coded, code_by, coded×, coded_ℕ, coded_list, coded_option}
 use Rattle.cedar_ids.specs.Name.{NameParts}
 use Rattle.cedar_ids.specs.Uid.{UidParts}
-use Rattle.cedar_ids.specs.Codes.{text_code, name_code, uid_parts_code}
+use Rattle.cedar_ids.specs.Codes.{name_code, uid_parts_code}
 use Rattle.cedar_scope.specs.Scope.{Reference, to_uid, to_slot, Constraint, any, within, equals, of_type, of_type_within, ActionRule, any_action, among, just}
 use Rattle.cedar_scope.specs.ScopeReads.{referred_uid, constraint_kind, stated_type, reference_in, rule_kind, rule_uids}
 
@@ -59,7 +59,3 @@ abbrev pub rule_code : Coded ActionRule
 rule_code =
     code_by (ℕ × List UidParts) (coded× coded_ℕ (coded_list uid_parts_code))
     (λ a. (rule_kind a, rule_uids a)) (λ p. rule_with p.0 p.1) rule_with-parts
-
--- annotations: their keys and values
-abbrev pub annotations_code : Coded (List (List ℕ × List ℕ))
-annotations_code = coded_list (coded× text_code text_code)

@@ -1,6 +1,4 @@
 pub mod ActionTypes
-pub mod AnnotationOrder
-pub mod Annotations
 pub mod Codes
 pub mod Scope
 pub mod ScopeOrder

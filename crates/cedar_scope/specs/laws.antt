@@ -1,4 +1,3 @@
-pub mod AnnotationOrders
 pub mod Filling
 pub mod ScopeOrders
 pub mod ScopeSlots

@@ -9,7 +9,6 @@
 #![tactic(auto)]
 
 pub mod action;
-pub mod annotation;
 pub mod constraint;
 pub mod iters;
 pub mod principal;
@@ -18,7 +17,6 @@ pub mod resource;
 pub mod variable;
 
 pub use action::{ActionConstraint, ActionTypesError};
-pub use annotation::{Annotation, Annotations};
 pub use constraint::PrincipalOrResourceConstraint;
 pub use iters::EntityIterator;
 pub use principal::PrincipalConstraint;

@@ -2,8 +2,8 @@
 use super::{
     agree, below, both, copies, copy_of, differ, ordered, owned, place, shows, start_of, with_last,
 };
+use cedar_annotation::{Annotation, Annotations};
 use cedar_ids::id::AnyId;
-use cedar_scope::{Annotation, Annotations};
 use std::alloc::Global;
 use std::collections::BTreeMap;
 

@@ -7,8 +7,8 @@ use Rattle.std.specs.Cmp.{IsTotalOrder, IsEquivalence, on_equiv, on_total, and_e
 use Rattle.std.specs.Cmp.Lexicographic.{pointwise_decides, lists_equiv, lists_total, lists_ties, texts_ties}
 use Rattle.cedar_ids.specs.Texts.{same_text, text_order}
 use Rattle.cedar_ids.specs.laws.TextLaws.{same_text_equiv, same_text_decides, text_order_total}
-use Rattle.cedar_scope.specs.Annotations.{AnnotationsView}
-use Rattle.cedar_scope.specs.AnnotationOrder.{same_pair, pair_cmp, same_annotations, annotations_cmp, annotations_hash}
+use Rattle.cedar_annotation.specs.Annotations.{AnnotationsView}
+use Rattle.cedar_annotation.specs.AnnotationOrder.{same_pair, pair_cmp, same_annotations, annotations_cmp, annotations_hash}
 
 -- `==` is an equivalence
 pub same_annotations_equiv : IsEquivalence same_annotations

@@ -5,7 +5,7 @@ use Rattle.std.specs.Ordering.{ordering_then}
 use Rattle.std.specs.Cmp.Lexicographic.{pointwise, slice_cmp}
 use Rattle.std.specs.Hash as fed
 use Rattle.cedar_ids.specs.Texts.{same_text, text_order}
-use Rattle.cedar_scope.specs.Annotations.{AnnotationsView}
+use Rattle.cedar_annotation.specs.Annotations.{AnnotationsView}
 
 -- equal keys and equal values
 abbrev pub same_pair : List ℕ × List ℕ → List ℕ × List ℕ → Bool

@@ -7,7 +7,7 @@ use Rattle.std.specs.BTreeMap.{is_at}
 use Rattle.std.specs.Cmp.Lexicographic.{nat_list_eq_equiv}
 use Rattle.std.proofs.lemmas.Map.Text.{is_eq-slice_cmp}
 use Rattle.cedar_ids.specs.Texts.{text_order}
-use Rattle.cedar_scope.specs.Annotations.{AnnotationsView, value_at, last_value_at, KeysAscend, AreAnnotationsOf}
+use Rattle.cedar_annotation.specs.Annotations.{AnnotationsView, value_at, last_value_at, KeysAscend, AreAnnotationsOf}
 
 -- a look-up reads the pairs
 pub value_at-lookup : (key : List ℕ) (ps : AnnotationsView) → value_at key ps ≡ lookup (is_at (text_order key)) ps

@@ -3,9 +3,9 @@ use Rattle.std.specs.Option.{option_or}
 use Rattle.std.specs.BTreeMap.{get}
 use Rattle.std.specs.Vec.Iter.{into_iter_items}
 use Rattle.cedar_ids.specs.Texts.{text_order}
-use Rattle.cedar_scope.specs.Annotations.{AnnotationsView, last_value_at}
-use Rattle.cedar_scope.proofs.Pairs.{one_pair, annotations_made, no_more}
-use Rattle.cedar_scope.proofs.annotation.collected.Goals as goal
+use Rattle.cedar_annotation.specs.Annotations.{AnnotationsView, last_value_at}
+use Rattle.cedar_annotation.proofs.Pairs.{one_pair, annotations_made, no_more}
+use Rattle.cedar_annotation.proofs.annotation.collected.Goals as goal
 
 pub loop-key-preserved : goal.loop-key-preserved
 loop-key-preserved c = (

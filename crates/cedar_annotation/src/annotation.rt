@@ -10,9 +10,9 @@ ghost use Rattle.std.specs.Cmp.Rules.{hashing};
 ghost use Rattle.std.proofs.Common.{rules, refl};
 ghost use Rattle.cedar_ids.specs.Texts.{same_text, text_order};
 ghost use Rattle.cedar_ids.specs.laws.TextLaws.{same_text_equiv, text_order_total};
-ghost use Rattle.cedar_scope.specs.Annotations.{value_at, KeysAscend, AreAnnotationsOf, value_or_empty, annotation_output, annotations_output};
-ghost use Rattle.cedar_scope.specs.AnnotationOrder.{annotations_cmp, same_annotations, annotations_hash};
-ghost use Rattle.cedar_scope.specs.laws.AnnotationOrders.{annotations_ties, annotations_cmp_total, same_annotations_equiv, annotations_hash_respects};
+ghost use Rattle.cedar_annotation.specs.Annotations.{value_at, KeysAscend, AreAnnotationsOf, value_or_empty, annotation_output, annotations_output};
+ghost use Rattle.cedar_annotation.specs.AnnotationOrder.{annotations_cmp, same_annotations, annotations_hash};
+ghost use Rattle.cedar_annotation.specs.laws.AnnotationOrders.{annotations_ties, annotations_cmp_total, same_annotations_equiv, annotations_hash_respects};
 
 use cedar_ids::escape::Escaped;
 use cedar_ids::id::AnyId;
@@ -150,8 +150,8 @@ pub struct Annotations {
 }
 
 impl Model for Annotations {
-    ghost use Rattle.cedar_scope.specs.Annotations.{AnnotationsView};
-    ghost use Rattle.cedar_scope.specs.Codes.{annotations_code};
+    ghost use Rattle.cedar_annotation.specs.Annotations.{AnnotationsView};
+    ghost use Rattle.cedar_annotation.specs.Codes.{annotations_code};
 
     ghost Value = { AnnotationsView };
 
@@ -253,8 +253,8 @@ pub struct Iter<'a> {
 }
 
 impl<'a> Model for Iter<'a> {
-    ghost use Rattle.cedar_scope.specs.Annotations.{AnnotationsView};
-    ghost use Rattle.cedar_scope.specs.Codes.{annotations_code};
+    ghost use Rattle.cedar_annotation.specs.Annotations.{AnnotationsView};
+    ghost use Rattle.cedar_annotation.specs.Codes.{annotations_code};
 
     ghost Value = { AnnotationsView };
 
@@ -282,8 +282,8 @@ pub struct IntoIter {
 }
 
 impl Model for IntoIter {
-    ghost use Rattle.cedar_scope.specs.Annotations.{AnnotationsView};
-    ghost use Rattle.cedar_scope.specs.Codes.{annotations_code};
+    ghost use Rattle.cedar_annotation.specs.Annotations.{AnnotationsView};
+    ghost use Rattle.cedar_annotation.specs.Codes.{annotations_code};
 
     ghost Value = { AnnotationsView };
 

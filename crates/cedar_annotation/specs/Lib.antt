@@ -1,0 +1,4 @@
+pub mod AnnotationOrder
+pub mod Annotations
+pub mod Codes
+pub mod laws
