@@ -5,8 +5,10 @@ use Rattle.cedar_terms.specs.ExprTree.{ExprTree, val_node, and_node}
 use Rattle.cedar_terms.specs.Walk.{slots_of}
 use Rattle.cedar_terms.specs.declared.slot.SlotId.{SlotId}
 use Rattle.cedar_annotation.specs.Annotations.{AnnotationsView}
-use Rattle.cedar_scope.specs.Scope.{Constraint, ActionRule}
-use Rattle.cedar_scope.specs.ScopeTrees.{constraint_expr, rule_expr}
+use Rattle.cedar_scope.specs.Scope.{Constraint}
+use Rattle.cedar_action.specs.Rules.{ActionRule}
+use Rattle.cedar_scope.specs.ScopeTrees.{constraint_expr}
+use Rattle.cedar_action.specs.RuleTrees.{rule_expr}
 use Rattle.cedar_scope.specs.declared.variable.PrincipalOrResource.TheVariants as variables
 use Rattle.cedar_body.specs.declared.effect.Effect.{Effect}
 

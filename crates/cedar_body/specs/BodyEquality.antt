@@ -6,7 +6,8 @@ use Rattle.cedar_ids.specs.Texts.{same_text}
 use Rattle.cedar_terms.specs.ExprTree.{ExprTree}
 use Rattle.cedar_terms.specs.ExprEquality.{same_expr, expr_hash}
 use Rattle.cedar_annotation.specs.AnnotationOrder.{same_annotations, annotations_hash}
-use Rattle.cedar_scope.specs.ScopeOrder.{same_constraint, same_rule, constraint_hash, rule_hash}
+use Rattle.cedar_scope.specs.ScopeOrder.{same_constraint, constraint_hash}
+use Rattle.cedar_action.specs.RuleOrder.{same_rule, rule_hash}
 use Rattle.cedar_body.specs.Effects.{same_effect, effect_hash}
 use Rattle.cedar_body.specs.Bodies.{BodyParts}
 

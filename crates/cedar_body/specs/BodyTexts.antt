@@ -3,7 +3,8 @@ use Rattle.std.specs.Prelude.{ℕ, List, ◌++◌, Bool, true, ◌&&◌, Option,
 use Rattle.cedar_terms.specs.ExprTree.{ExprTree}
 use Rattle.cedar_terms.specs.ExprTexts.{expr_text, is_ascii_expr}
 use Rattle.cedar_annotation.specs.Annotations.{annotations_text, are_ascii_annotations}
-use Rattle.cedar_scope.specs.ScopeTexts.{constraint_text, rule_text, is_ascii_constraint, is_ascii_rule}
+use Rattle.cedar_scope.specs.ScopeTexts.{constraint_text, is_ascii_constraint}
+use Rattle.cedar_action.specs.RuleTexts.{rule_text, is_ascii_rule}
 use Rattle.cedar_scope.specs.declared.variable.PrincipalOrResource.TheVariants as variables
 use Rattle.cedar_body.specs.Effects.{effect_text}
 use Rattle.cedar_body.specs.Bodies.{BodyParts}

@@ -5,9 +5,11 @@ use Rattle.cedar_ids.specs.Codes.{text_code}
 use Rattle.cedar_terms.specs.ExprTree.{ExprTree}
 use Rattle.cedar_terms.specs.Codes.{expr_code}
 use Rattle.cedar_annotation.specs.Annotations.{AnnotationsView}
-use Rattle.cedar_scope.specs.Scope.{Constraint, ActionRule}
+use Rattle.cedar_scope.specs.Scope.{Constraint}
+use Rattle.cedar_action.specs.Rules.{ActionRule}
 use Rattle.cedar_annotation.specs.Codes.{annotations_code}
-use Rattle.cedar_scope.specs.Codes.{constraint_code, rule_code}
+use Rattle.cedar_scope.specs.Codes.{constraint_code}
+use Rattle.cedar_action.specs.Codes.{rule_code}
 use Rattle.cedar_body.specs.Bodies.{BodyParts}
 use Rattle.cedar_body.specs.declared.effect.Effect.{Effect}
 use Rattle.cedar_body.specs.declared.effect.Effect.TheVariants.{Permit, Forbid}

@@ -6,7 +6,7 @@ ghost use Rattle.std.specs.Fmt.{WritesOnOk};
 ghost use Rattle.std.specs.Cmp.{partial_equiv_from_equiv, on_equiv};
 ghost use Rattle.cedar_terms.specs.ExprTree.{and_node};
 ghost use Rattle.cedar_annotation.specs.Annotations.{value_at, KeysAscend};
-ghost use Rattle.cedar_scope.specs.Views.{rule_of};
+ghost use Rattle.cedar_action.specs.Views.{rule_of};
 ghost use Rattle.cedar_body.specs.Bodies.{principal_expr, action_expr, resource_expr, clause_expr, condition, with_id};
 ghost use Rattle.cedar_body.specs.BodyEquality.{same_clause, same_body, clause_hash, body_hash};
 ghost use Rattle.cedar_body.specs.BodyTexts.{head_text, clause_text, is_ascii_head, is_ascii_clause, body_output};
@@ -14,12 +14,13 @@ ghost use Rattle.cedar_body.specs.Views.{body_of};
 ghost use Rattle.cedar_body.specs.laws.BodyLaws.{same_body_equiv, body_hash_respects};
 
 use crate::effect::Effect;
+use cedar_action::ActionConstraint;
 use cedar_annotation::annotation::Iter;
 use cedar_annotation::{Annotation, Annotations};
 use cedar_ids::id::AnyId;
 use cedar_ids::loc::Loc;
 use cedar_ids::policy_id::PolicyID;
-use cedar_scope::{ActionConstraint, PrincipalConstraint, ResourceConstraint};
+use cedar_scope::{PrincipalConstraint, ResourceConstraint};
 use cedar_terms::expr::Expr;
 use cedar_terms::literal::Literal;
 use std::alloc::{AllocError, Global};
@@ -54,7 +55,7 @@ impl Model for TemplateBodyImpl {
     ghost coded = { body_code };
 
     ghost use Rattle.std.specs.Option.{option_map};
-    ghost use Rattle.cedar_scope.specs.Views.{rule_of};
+    ghost use Rattle.cedar_action.specs.Views.{rule_of};
 
     ghost view = { λ b. record {
       id = b.id;

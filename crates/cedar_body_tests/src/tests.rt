@@ -8,6 +8,7 @@ mod places;
 mod readers;
 mod texts;
 
+use cedar_action::ActionConstraint;
 use cedar_annotation::{Annotation, Annotations};
 use cedar_body::{Effect, TemplateBody};
 use cedar_ids::entity::{Eid, EntityType, EntityUID};
@@ -15,7 +16,7 @@ use cedar_ids::id::AnyId;
 use cedar_ids::loc::Loc;
 use cedar_ids::name::Name;
 use cedar_ids::policy_id::PolicyID;
-use cedar_scope::{ActionConstraint, PrincipalConstraint, ResourceConstraint};
+use cedar_scope::{PrincipalConstraint, ResourceConstraint};
 use cedar_terms::expr::Expr;
 use cedar_terms::literal::Literal;
 use cedar_terms::slot::Slot;

@@ -4,7 +4,8 @@ use Rattle.std.specs.Option.{option_map, unwrap_or}
 use Rattle.cedar_ids.specs.Uid.{UidParts}
 use Rattle.cedar_terms.specs.ExprTree.{ExprTree}
 use Rattle.cedar_annotation.specs.Annotations.{AnnotationsView}
-use Rattle.cedar_scope.specs.Scope.{Constraint, any, any_action}
+use Rattle.cedar_scope.specs.Scope.{Constraint, any}
+use Rattle.cedar_action.specs.Rules.{any_action}
 use Rattle.cedar_scope.specs.ScopeReads.{filled}
 use Rattle.cedar_body.specs.Bodies.{BodyParts, body_slots, with_id}
 use Rattle.cedar_body.specs.declared.effect.Effect.{Effect}

@@ -6,8 +6,8 @@ use Rattle.cedar_ids.specs.UidOf.{uid_parts}
 use Rattle.cedar_terms.specs.ExprTree.{ExprTree}
 use Rattle.cedar_terms.specs.Walk.{first_unknown_function}
 use Rattle.cedar_terms.specs.declared.err.ExprValidationError.TheVariants as exprs
-use Rattle.cedar_scope.specs.Scope.{ActionRule}
-use Rattle.cedar_scope.specs.ScopeReads.{non_actions}
+use Rattle.cedar_action.specs.Rules.{ActionRule}
+use Rattle.cedar_action.specs.RuleReads.{non_actions}
 use Rattle.cedar_body.specs.Bodies.{BodyParts, clause_slots}
 use Rattle.cedar_policy.specs.Statics.{IsFirst}
 use Rattle.cedar_policy.specs.declared.err.TemplateValidationError.{TemplateValidationError}

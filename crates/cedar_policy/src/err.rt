@@ -4,9 +4,9 @@ ghost use Rattle.cedar_ids.specs.NonEmpties.{all_of};
 ghost use Rattle.cedar_ids.specs.UidOf.{uid_parts};
 ghost use Rattle.cedar_policy.specs.Faults.{fault_of};
 
+use cedar_action::action::JoinedUids;
 use cedar_ids::entity::EntityUID;
 use cedar_ids::non_empty::NonEmpty;
-use cedar_scope::action::JoinedUids;
 use cedar_terms::err::ExprValidationError;
 use cedar_terms::slot::Slot;
 use std::alloc::{AllocError, AllocFailed};

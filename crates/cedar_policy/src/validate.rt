@@ -1,14 +1,14 @@
 //! The checks of a template that a parser would have made.
 ghost use Rattle.std.specs.Prelude.{◌≡◌, Some};
 ghost use Rattle.std.specs.Option.{option_copied};
-ghost use Rattle.cedar_scope.specs.ScopeReads.{non_actions};
-ghost use Rattle.cedar_scope.specs.Views.{rule_of};
+ghost use Rattle.cedar_action.specs.RuleReads.{non_actions};
+ghost use Rattle.cedar_action.specs.Views.{rule_of};
 ghost use Rattle.cedar_body.specs.Bodies.{clause_slots};
 ghost use Rattle.cedar_policy.specs.Validation.{clause_fault};
 ghost use Rattle.cedar_policy.specs.laws.ValidationSteps.{HasNoSlot, HasOnlyActions, HasOnlyKnown, TellsFirstFault};
 
 use crate::err::TemplateValidationError;
-use cedar_scope::{ActionConstraint, ActionTypesError};
+use cedar_action::{ActionConstraint, ActionTypesError};
 use cedar_terms::err::ExprValidationError;
 use cedar_terms::expr::Expr;
 use std::alloc::Global;

@@ -3,7 +3,8 @@ use Rattle.std.specs.Prelude.{◌≡◌, ◌⊎◌, ℕ, List, [], ◌∷◌, �
 use Rattle.std.specs.List.{flat_map}
 use Rattle.std.specs.Option.{unwrap_or}
 use Rattle.cedar_ids.specs.Escape.{escaped_output}
-use Rattle.cedar_scope.specs.Scope.{Constraint, any, equals, to_slot, any_action}
+use Rattle.cedar_scope.specs.Scope.{Constraint, any, equals, to_slot}
+use Rattle.cedar_action.specs.Rules.{any_action}
 use Rattle.cedar_body.specs.Bodies.{BodyParts}
 use Rattle.cedar_body.specs.declared.effect.Effect.{Effect}
 use Rattle.cedar_body.specs.declared.effect.Effect.TheVariants.{Permit}

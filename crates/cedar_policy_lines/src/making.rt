@@ -5,12 +5,13 @@ ghost use Rattle.cedar_policy_set.specs.Refusals.{Steps, told_by_linking};
 ghost use Rattle.cedar_policy_set.specs.Steps.{link_step};
 ghost use Rattle.cedar_policy_lines.specs.PolicyOutput.{static_body, template_body, slot_constraint};
 
+use cedar_action::ActionConstraint;
 use cedar_annotation::Annotations;
 use cedar_body::Effect;
 use cedar_ids::policy_id::PolicyID;
 use cedar_policy::{LinkingError, SlotEnv, StaticPolicy, Template, UnexpectedSlotError};
 use cedar_policy_set::PolicySet;
-use cedar_scope::{ActionConstraint, PrincipalConstraint, ResourceConstraint};
+use cedar_scope::{PrincipalConstraint, ResourceConstraint};
 use std::alloc::{AllocError, Global};
 
 // A static policy that constrains nothing.

@@ -9,12 +9,13 @@ mod texts;
 mod unknowns;
 mod validation;
 
+use cedar_action::ActionConstraint;
 use cedar_annotation::Annotations;
 use cedar_ids::entity::{Eid, EntityType, EntityUID};
 use cedar_ids::name::Name;
 use cedar_ids::policy_id::PolicyID;
 use cedar_policy::{Effect, Policy, SlotEnv, Template};
-use cedar_scope::{ActionConstraint, PrincipalConstraint, ResourceConstraint};
+use cedar_scope::{PrincipalConstraint, ResourceConstraint};
 use cedar_terms::expr::Expr;
 use cedar_terms::literal::Literal;
 use cedar_terms::slot::SlotId;

@@ -1,3 +1,1 @@
-pub mod Bunch
 pub mod Filled
-pub mod UidLists

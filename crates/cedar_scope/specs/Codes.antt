@@ -4,8 +4,8 @@ use Rattle.std.specs.Coded.{Coded, code_by, coded×, coded_ℕ, coded_list, code
 use Rattle.cedar_ids.specs.Name.{NameParts}
 use Rattle.cedar_ids.specs.Uid.{UidParts}
 use Rattle.cedar_ids.specs.Codes.{name_code, uid_parts_code}
-use Rattle.cedar_scope.specs.Scope.{Reference, to_uid, to_slot, Constraint, any, within, equals, of_type, of_type_within, ActionRule, any_action, among, just}
-use Rattle.cedar_scope.specs.ScopeReads.{referred_uid, constraint_kind, stated_type, reference_in, rule_kind, rule_uids}
+use Rattle.cedar_scope.specs.Scope.{Reference, to_uid, to_slot, Constraint, any, within, equals, of_type, of_type_within}
+use Rattle.cedar_scope.specs.ScopeReads.{referred_uid, constraint_kind, stated_type, reference_in}
 
 -- the reference of a uid, the slot where there is none
 abbrev pub reference_with : Option UidParts → Reference
@@ -38,24 +38,3 @@ abbrev pub constraint_code : Coded Constraint
 constraint_code =
     code_by (ℕ × (Option NameParts × Option Reference)) (coded× coded_ℕ (coded× (coded_option name_code) (coded_option reference_code)))
     (λ c. (constraint_kind c, (stated_type c, reference_in c))) (λ p. constraint_with p.0 p.1.0 p.1.1) constraint_with-parts
-
--- the rule of a kind that is not `any`, with these uids
-abbrev pub rule_with_uids : ℕ → List UidParts → ActionRule
-rule_with_uids k [] = among []
-rule_with_uids k (u ∷ us) = if k == 1 then among (u ∷ us) else just u
-
--- the rule of a kind, with these uids
-abbrev pub rule_with : ℕ → List UidParts → ActionRule
-rule_with k us = if k == 0 then any_action else rule_with_uids k us
-
--- a rule is that of its kind, with its uids
-pub rule_with-parts : (a : ActionRule) → rule_with (rule_kind a) (rule_uids a) ≡ a
-rule_with-parts any_action = refl
-rule_with-parts (among []) = refl
-rule_with-parts (among (u ∷ us)) = refl
-rule_with-parts (just u) = refl
-
-abbrev pub rule_code : Coded ActionRule
-rule_code =
-    code_by (ℕ × List UidParts) (coded× coded_ℕ (coded_list uid_parts_code))
-    (λ a. (rule_kind a, rule_uids a)) (λ p. rule_with p.0 p.1) rule_with-parts

@@ -1,4 +1,3 @@
-pub mod ActionTypes
 pub mod Codes
 pub mod Scope
 pub mod ScopeOrder

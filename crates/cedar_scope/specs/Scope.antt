@@ -1,5 +1,4 @@
 -- References and constraints as callers see them. No location is in them.
-use Rattle.std.specs.Prelude.{List}
 use Rattle.cedar_ids.specs.Name.{NameParts}
 use Rattle.cedar_ids.specs.Uid.{UidParts}
 
@@ -16,9 +15,3 @@ pub data Constraint : Type 0 where
   equals : Reference → Constraint
   of_type : NameParts → Constraint
   of_type_within : NameParts → Reference → Constraint
-
--- what an action has to be: anything; in one of some uids; equal to a uid
-pub data ActionRule : Type 0 where
-  any_action : ActionRule
-  among : List UidParts → ActionRule
-  just : UidParts → ActionRule

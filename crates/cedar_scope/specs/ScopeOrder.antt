@@ -8,8 +8,8 @@ use Rattle.std.specs.Cmp.Lexicographic.{slice_cmp}
 use Rattle.std.specs.Hash as fed
 use Rattle.cedar_ids.specs.Name.{NameParts, name_cmp, name_hash_input}
 use Rattle.cedar_ids.specs.Uid.{uid_cmp, uid_hash_input}
-use Rattle.cedar_scope.specs.Scope.{Reference, to_uid, to_slot, Constraint, ActionRule}
-use Rattle.cedar_scope.specs.ScopeReads.{constraint_kind, stated_type, reference_in, rule_kind, rule_uids}
+use Rattle.cedar_scope.specs.Scope.{Reference, to_uid, to_slot, Constraint}
+use Rattle.cedar_scope.specs.ScopeReads.{constraint_kind, stated_type, reference_in}
 
 -- each uid before the slot, uids by their order
 abbrev pub reference_cmp : Reference → Reference → Ordering
@@ -24,19 +24,12 @@ constraint_cmp =
     then_cmp (on constraint_kind nat_cmp)
     (then_cmp (on stated_type (option_cmp name_cmp)) (on reference_in (option_cmp reference_cmp)))
 
--- by kind, then by the uids item by item
-abbrev pub rule_cmp : ActionRule → ActionRule → Ordering
-rule_cmp = then_cmp (on rule_kind nat_cmp) (on rule_uids (slice_cmp uid_cmp))
-
 -- what `==` answers: neither stands before the other
 abbrev pub same_reference : Reference → Reference → Bool
 same_reference = eq_by_cmp reference_cmp
 
 abbrev pub same_constraint : Constraint → Constraint → Bool
 same_constraint = eq_by_cmp constraint_cmp
-
-abbrev pub same_rule : ActionRule → ActionRule → Bool
-same_rule = eq_by_cmp rule_cmp
 
 -- the place of the kind, then the uid
 abbrev pub reference_hash : Reference → List (List ℕ)
@@ -55,7 +48,3 @@ part_hash (Some r) = reference_hash r
 -- the place of the kind, then the stated type, then what is referred to
 abbrev pub constraint_hash : Constraint → List (List ℕ)
 constraint_hash c = fed.u8 (constraint_kind c) ++ (type_hash (stated_type c) ++ part_hash (reference_in c))
-
--- the place of the kind, then the uids
-abbrev pub rule_hash : ActionRule → List (List ℕ)
-rule_hash a = fed.u8 (rule_kind a) ++ fed.slice uid_hash_input (rule_uids a)

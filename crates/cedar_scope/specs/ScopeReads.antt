@@ -5,7 +5,7 @@ use Rattle.std.specs.Str.{bytes_eq}
 use Rattle.std.specs.List.{filter}
 use Rattle.cedar_ids.specs.Name.{NameParts}
 use Rattle.cedar_ids.specs.Uid.{UidParts, name_part}
-use Rattle.cedar_scope.specs.Scope.{Reference, to_uid, to_slot, Constraint, any, within, equals, of_type, of_type_within, ActionRule, any_action, among, just}
+use Rattle.cedar_scope.specs.Scope.{Reference, to_uid, to_slot, Constraint, any, within, equals, of_type, of_type_within}
 
 -- the uid, if it is one
 abbrev pub referred_uid : Reference → Option UidParts
@@ -73,32 +73,3 @@ filled u (within r) = within (filled_reference u r)
 filled u (equals r) = equals (filled_reference u r)
 filled u (of_type t) = of_type t
 filled u (of_type_within t r) = of_type_within t (filled_reference u r)
-
--- the place of a rule's kind among the kinds
-abbrev pub rule_kind : ActionRule → ℕ
-rule_kind any_action = 0
-rule_kind (among us) = 1
-rule_kind (just u) = 2
-
--- the uids of a rule, in the order of its list
-abbrev pub rule_uids : ActionRule → List UidParts
-rule_uids any_action = []
-rule_uids (among us) = us
-rule_uids (just u) = u ∷ []
-
--- the uids of a rule in the order in which they are given: those of a list from the back
-abbrev pub uids_given : ActionRule → List UidParts
-uids_given any_action = []
-uids_given (among us) = reverse us
-uids_given (just u) = u ∷ []
-
--- whether it is the uid of an action: whether the last component of its type is `Action`
-abbrev pub is_action_uid : UidParts → Bool
-is_action_uid u = bytes_eq u.name.basename (codes "Action")
-
-abbrev pub is_no_action : UidParts → Bool
-is_no_action u = not (is_action_uid u)
-
--- the uids of a rule that are not actions, in the order of its list, as often as they stand there
-abbrev pub non_actions : ActionRule → List UidParts
-non_actions a = filter is_no_action (rule_uids a)

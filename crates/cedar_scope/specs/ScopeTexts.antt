@@ -7,7 +7,7 @@ use Rattle.cedar_ids.specs.Printed.{printed_name, printed_uid}
 use Rattle.cedar_terms.specs.SlotTree.{slot_text}
 use Rattle.cedar_terms.specs.VarTree.{var_text}
 use Rattle.cedar_terms.specs.declared.slot.SlotId.{SlotId}
-use Rattle.cedar_scope.specs.Scope.{Reference, to_uid, to_slot, Constraint, any, within, equals, of_type, of_type_within, ActionRule, any_action, among, just}
+use Rattle.cedar_scope.specs.Scope.{Reference, to_uid, to_slot, Constraint, any, within, equals, of_type, of_type_within}
 use Rattle.cedar_scope.specs.ScopeTrees.{var_of, slot_id_of}
 use Rattle.cedar_scope.specs.declared.variable.PrincipalOrResource.{PrincipalOrResource}
 
@@ -48,32 +48,3 @@ is_ascii_constraint (of_type_within t r) = is_ascii_reference r
 -- what is known of the text of any constraint
 abbrev pub constraint_output : PrincipalOrResource → Constraint → Option (List ℕ)
 constraint_output v c = if is_ascii_constraint c then Some (constraint_text v c) else None
-
--- a uid after another one
-abbrev pub after_comma : UidParts → List ℕ
-after_comma u = codes "," ++ printed_uid u
-
--- uids joined by commas, with no blanks
-abbrev pub uids_text : List UidParts → List ℕ
-uids_text [] = []
-uids_text (u ∷ us) = printed_uid u ++ flat_map after_comma us
-
--- what is known of the text of any uids
-abbrev pub uids_output : List UidParts → Option (List ℕ)
-uids_output us = if list_all is_ascii_uid us then Some (uids_text us) else None
-
--- `action`; `action in [U,W]`; `action == U`
-abbrev pub rule_text : ActionRule → List ℕ
-rule_text any_action = codes "action"
-rule_text (among us) = codes "action in [" ++ (uids_text us ++ codes "]")
-rule_text (just u) = codes "action == " ++ printed_uid u
-
--- whether all eids in it are ASCII
-abbrev pub is_ascii_rule : ActionRule → Bool
-is_ascii_rule any_action = true
-is_ascii_rule (among us) = list_all is_ascii_uid us
-is_ascii_rule (just u) = is_ascii_uid u
-
--- what is known of the text of any rule
-abbrev pub rule_output : ActionRule → Option (List ℕ)
-rule_output a = if is_ascii_rule a then Some (rule_text a) else None

@@ -7,7 +7,7 @@ use Rattle.cedar_terms.specs.declared.slot.SlotId.{SlotId}
 use Rattle.cedar_terms.specs.declared.slot.SlotId.TheVariants as slots
 use Rattle.cedar_terms.specs.declared.var.Var.{Var}
 use Rattle.cedar_terms.specs.declared.var.Var.TheVariants as vars
-use Rattle.cedar_scope.specs.Scope.{Reference, to_uid, to_slot, Constraint, any, within, equals, of_type, of_type_within, ActionRule, any_action, among, just}
+use Rattle.cedar_scope.specs.Scope.{Reference, to_uid, to_slot, Constraint, any, within, equals, of_type, of_type_within}
 use Rattle.cedar_scope.specs.declared.variable.PrincipalOrResource.{PrincipalOrResource}
 use Rattle.cedar_scope.specs.declared.variable.PrincipalOrResource.TheVariants.{Principal, Resource}
 
@@ -42,9 +42,3 @@ constraint_expr v (equals r) = eq_node (variable_expr v) (reference_expr (slot_i
 constraint_expr v (of_type t) = is_node (variable_expr v) t
 constraint_expr v (of_type_within t r) =
     and_node (is_node (variable_expr v) t) (in_node (variable_expr v) (reference_expr (slot_id_of v) r))
-
--- `true`; `action in` the set of the uids in their order; `action == U`
-abbrev pub rule_expr : ActionRule → ExprTree
-rule_expr any_action = val_node (bool_literal true)
-rule_expr (among us) = in_node (var_node vars.Action) (set_node (expr_trees (map uid_expr us)))
-rule_expr (just u) = eq_node (var_node vars.Action) (uid_expr u)

@@ -15,6 +15,7 @@ mod program;
 mod replay;
 mod uid_text;
 
+pub use cedar_action::{ActionConstraint, ActionTypesError, EntityIterator};
 pub use cedar_annotation::{Annotation, Annotations};
 pub use cedar_entities::{
     Ancestors, Dereference, Entities, EntitiesError, Entity, Keys, Pairs, SharedEntity, SharedUid,
@@ -38,8 +39,8 @@ pub use cedar_policy_set::{
     PolicySetUnlinkError, PolicySetValidationError, StaticPolicies, Templates,
 };
 pub use cedar_scope::{
-    ActionConstraint, ActionTypesError, EntityIterator, EntityReference, PrincipalConstraint,
-    PrincipalOrResource, PrincipalOrResourceConstraint, ResourceConstraint,
+    EntityReference, PrincipalConstraint, PrincipalOrResource, PrincipalOrResourceConstraint,
+    ResourceConstraint,
 };
 pub use cedar_terms::{
     Expr, ExprValidationError, ExtensionValue, Literal, PartialValue, Slot, SlotId, StaticType,
@@ -51,6 +52,7 @@ pub use replay::{EntityCall, replay_entities};
 /// Ids, names, uids, values, expressions, entities, scope constraints, templates, policies and policy sets, at the
 /// original's path.
 pub mod ast {
+    pub use cedar_action::{ActionConstraint, ActionTypesError, EntityIterator};
     pub use cedar_annotation::{Annotation, Annotations};
     pub use cedar_entities::Entity;
     pub use cedar_ids::{
@@ -66,8 +68,8 @@ pub mod ast {
         PolicySetTemplateRemovalError, PolicySetUnlinkError, PolicySetValidationError,
     };
     pub use cedar_scope::{
-        ActionConstraint, ActionTypesError, EntityIterator, EntityReference, PrincipalConstraint,
-        PrincipalOrResource, PrincipalOrResourceConstraint, ResourceConstraint,
+        EntityReference, PrincipalConstraint, PrincipalOrResource, PrincipalOrResourceConstraint,
+        ResourceConstraint,
     };
     pub use cedar_terms::{
         Expr, ExprValidationError, ExtensionValue, Literal, PartialValue, Slot, SlotId, StaticType,

@@ -8,7 +8,8 @@ use Rattle.cedar_ids.specs.laws.TextLaws.{same_text_equiv, same_text_decides}
 use Rattle.cedar_terms.specs.ExprTree.{ExprTree}
 use Rattle.cedar_terms.specs.laws.ExprLaws.{same_expr_equiv, same_expr_decides}
 use Rattle.cedar_annotation.specs.laws.AnnotationOrders.{same_annotations_equiv, same_annotations_decides}
-use Rattle.cedar_scope.specs.laws.ScopeOrders.{same_constraint_equiv, same_constraint_decides, same_rule_equiv, same_rule_decides}
+use Rattle.cedar_scope.specs.laws.ScopeOrders.{same_constraint_equiv, same_constraint_decides}
+use Rattle.cedar_action.specs.laws.RuleOrders.{same_rule_equiv, same_rule_decides}
 use Rattle.cedar_body.specs.laws.EffectLaws.{same_effect_equiv, same_effect_decides}
 use Rattle.cedar_body.specs.Bodies.{BodyParts}
 use Rattle.cedar_body.specs.BodyEquality.{same_clause, same_body, body_hash}

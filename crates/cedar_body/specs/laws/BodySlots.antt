@@ -11,7 +11,8 @@ use Rattle.cedar_terms.specs.SlotTree.{same_slot}
 use Rattle.cedar_terms.specs.declared.slot.SlotId.{SlotId}
 use Rattle.cedar_terms.specs.declared.slot.SlotId.TheVariants as slots
 use Rattle.cedar_scope.specs.ScopeReads.{has_slot}
-use Rattle.cedar_scope.specs.laws.ScopeSlots.{constraint_slots, slots_of-constraint_expr, slots_of-rule_expr}
+use Rattle.cedar_scope.specs.laws.ScopeSlots.{constraint_slots, slots_of-constraint_expr}
+use Rattle.cedar_action.specs.laws.RuleSlots.{slots_of-rule_expr}
 use Rattle.cedar_scope.specs.declared.variable.PrincipalOrResource.TheVariants as variables
 use Rattle.cedar_body.specs.Bodies.{BodyParts, principal_expr, action_expr, resource_expr, clause_expr, condition, body_slots, clause_slots, with_id}
 

@@ -3,7 +3,8 @@ use super::{
     Scope, both, condition_of, free, is_eq, number, one_is, permits, permits_when, shared_type,
     shows, slots_of, slotted,
 };
-use cedar_scope::{ActionConstraint, PrincipalConstraint, ResourceConstraint};
+use cedar_action::ActionConstraint;
+use cedar_scope::{PrincipalConstraint, ResourceConstraint};
 use cedar_terms::expr::Expr;
 use cedar_terms::slot::{Slot, SlotId};
 use std::alloc::Global;

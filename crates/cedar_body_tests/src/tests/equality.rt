@@ -3,8 +3,9 @@ use super::{
     Scope, agree, annotated, annotated_body, bare, body, both, copies, differ, free, hash_of,
     in_actions, number, one_is, permits, permits_when, place, renamed, slotted,
 };
+use cedar_action::ActionConstraint;
 use cedar_body::{Effect, TemplateBody, TemplateBodyImpl};
-use cedar_scope::{ActionConstraint, PrincipalConstraint, ResourceConstraint};
+use cedar_scope::{PrincipalConstraint, ResourceConstraint};
 use std::alloc::Global;
 
 // The body that permits all, itself and its clause at this place.

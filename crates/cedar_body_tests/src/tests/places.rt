@@ -3,10 +3,10 @@ use super::{
     Scope, annotated_body, bare, body, both, condition_of, copy_of, free, number, permits, place,
     renamed, slots_of, start_of,
 };
+use cedar_action::ActionConstraint;
 use cedar_body::{Effect, TemplateBody};
 use cedar_scope::{
-    ActionConstraint, EntityReference, PrincipalConstraint, PrincipalOrResourceConstraint,
-    ResourceConstraint,
+    EntityReference, PrincipalConstraint, PrincipalOrResourceConstraint, ResourceConstraint,
 };
 use cedar_terms::expr::Expr;
 use cedar_terms::slot::Slot;

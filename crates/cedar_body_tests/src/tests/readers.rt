@@ -3,9 +3,10 @@ use super::{
     annotated, body_when, both, counted, differ, free, id, in_two_actions, key, one_is, permits,
     renamed, same, shows, slotted,
 };
+use cedar_action::ActionConstraint;
 use cedar_annotation::Annotations;
 use cedar_body::{Effect, TemplateBody};
-use cedar_scope::{ActionConstraint, PrincipalConstraint, ResourceConstraint};
+use cedar_scope::{PrincipalConstraint, ResourceConstraint};
 use cedar_terms::expr::Expr;
 use std::alloc::{AllocError, Global};
 use std::rc::Rc;

@@ -3,8 +3,9 @@ use super::{
     Scope, annotated, annotated_body, bare, body_when, both, counted, free, one_is, owned, permits,
     permits_when, shared_type, shows, slotted, uid,
 };
+use cedar_action::ActionConstraint;
 use cedar_body::{Effect, TemplateBody};
-use cedar_scope::{ActionConstraint, PrincipalConstraint, ResourceConstraint};
+use cedar_scope::{PrincipalConstraint, ResourceConstraint};
 use cedar_terms::expr::Expr;
 use cedar_terms::literal::Literal;
 use std::alloc::Global;

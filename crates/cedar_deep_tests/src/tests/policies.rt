@@ -1,9 +1,10 @@
 // A template with a deep clause is made, linked, written, compared, hashed, copied, validated and dropped.
 use super::{LEVELS, beside, copies, equal};
+use cedar_action::ActionConstraint;
 use cedar_annotation::Annotations;
 use cedar_ids::{EntityUID, PolicyID};
 use cedar_policy::{Effect, Policy, SlotEnv, StaticPolicy, Template};
-use cedar_scope::{ActionConstraint, PrincipalConstraint, ResourceConstraint};
+use cedar_scope::{PrincipalConstraint, ResourceConstraint};
 use cedar_terms::{Expr, Literal, SlotId};
 use std::alloc::{AllocError, Global};
 use std::collections::{HashMap, HashSet};

@@ -10,7 +10,7 @@ use Rattle.cedar_policy.specs.Statics.{IsFirst}
 use Rattle.cedar_policy.specs.declared.err.TemplateValidationError.{TemplateValidationError}
 use Rattle.cedar_policy.specs.declared.err.TemplateValidationError.TheVariants.{SlotsInConditionClause, InvalidActionType, SlotCacheMismatch, InvalidExpression, Memory}
 use Rattle.cedar_terms.specs.ExprTree.{ExprTree}
-use Rattle.cedar_scope.specs.Scope.{ActionRule}
+use Rattle.cedar_action.specs.Rules.{ActionRule}
 use Rattle.cedar_policy.specs.Validation.{HasActions, IsTemplateFault, clause_fault}
 
 -- a check that refuses the first of some slots, and nothing but that

@@ -4,13 +4,14 @@
 //
 // No function holds a set, a policy, a call or an answer over a step that may fail, and none leaves one to the end of its
 // body: what is at hand goes to `beside` or `kept`, or is let go by a written `drop`.
+use cedar_action::ActionConstraint;
 use cedar_annotation::Annotations;
 use cedar_ids::entity::EntityUID;
 use cedar_ids::policy_id::PolicyID;
 use cedar_policy::{Effect, Policy, SlotEnv, StaticPolicy, Template};
 use cedar_policy_replay::{Answer, PolicyCall, replay_policies};
 use cedar_policy_set::PolicySet;
-use cedar_scope::{ActionConstraint, PrincipalConstraint, ResourceConstraint};
+use cedar_scope::{PrincipalConstraint, ResourceConstraint};
 use cedar_terms::slot::SlotId;
 use indexmap::IndexMap;
 use std::alloc::Global;

@@ -1,12 +1,13 @@
 // Sets of many policies: adding, linking and taking out by the thousand, and merging with all ids renamed.
 use super::notation::put_number;
 use super::{beside, kept, uid};
+use cedar_action::ActionConstraint;
 use cedar_annotation::Annotations;
 use cedar_ids::loc::Loc;
 use cedar_ids::policy_id::PolicyID;
 use cedar_policy::{Effect, Policy, SlotEnv, Template};
 use cedar_policy_set::PolicySet;
-use cedar_scope::{ActionConstraint, PrincipalConstraint, ResourceConstraint};
+use cedar_scope::{PrincipalConstraint, ResourceConstraint};
 use cedar_terms::slot::SlotId;
 use indexmap::IndexMap;
 use std::alloc::Global;

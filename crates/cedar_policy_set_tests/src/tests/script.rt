@@ -2,6 +2,7 @@
 use super::board::{Board, Body, Row, empty, put_body, put_row};
 use super::notation::{Call, Said, Verb, Why, behind, call_of, joined, told_text};
 use super::{beside, is_told, kept, uid};
+use cedar_action::ActionConstraint;
 use cedar_annotation::Annotations;
 use cedar_ids::entity::EntityUID;
 use cedar_ids::name::Name;
@@ -11,7 +12,7 @@ use cedar_policy_set::{
     LinkedIds, PolicySet, PolicySetError, PolicySetGetLinksError, PolicySetPolicyRemovalError,
     PolicySetTemplateRemovalError, PolicySetUnlinkError,
 };
-use cedar_scope::{ActionConstraint, PrincipalConstraint, ResourceConstraint};
+use cedar_scope::{PrincipalConstraint, ResourceConstraint};
 use cedar_terms::expr::Expr;
 use cedar_terms::slot::SlotId;
 use std::alloc::Global;

@@ -1,12 +1,13 @@
 // Templates, static policies and policies are compared by their values, wherever these stand; and what the readers
 // give.
 use super::{beside, equal, id, kept, linked, on_principal, permits, same};
+use cedar_action::ActionConstraint;
 use cedar_annotation::{Annotation, Annotations};
 use cedar_ids::id::AnyId;
 use cedar_ids::loc::Loc;
 use cedar_ids::policy_id::PolicyID;
 use cedar_policy::{Effect, Policy, StaticPolicy, Template, TemplateBody};
-use cedar_scope::{ActionConstraint, PrincipalConstraint, ResourceConstraint};
+use cedar_scope::{PrincipalConstraint, ResourceConstraint};
 use cedar_terms::expr::Expr;
 use cedar_terms::slot::SlotId;
 use std::alloc::{AllocError, Global};

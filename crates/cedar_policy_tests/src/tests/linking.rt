@@ -2,8 +2,8 @@
 use super::{
     Scope, beside, bindings, free, id, linked, on_both, on_principal, permits, shows, uid,
 };
+use cedar_action::ActionConstraint;
 use cedar_policy::{LinkingError, Policy, SlotEnv, Template};
-use cedar_scope::ActionConstraint;
 use cedar_terms::expr::Expr;
 use cedar_terms::slot::SlotId;
 use std::alloc::Global;

@@ -3,13 +3,13 @@ ghost use Rattle.std.specs.Prelude.{◌≡◌, [], IfOk};
 ghost use Rattle.cedar_terms.specs.Walk.{slots_of};
 
 use super::{Scope, beside, equal, free, id, on_both, on_principal, permits, shows};
+use cedar_action::ActionConstraint;
 use cedar_annotation::Annotations;
 use cedar_ids::loc::Loc;
 use cedar_ids::policy_id::PolicyID;
 use cedar_policy::{Effect, LinkingError, Policy, StaticPolicy, Template, UnexpectedSlotError};
 use cedar_scope::{
-    ActionConstraint, EntityReference, PrincipalConstraint, PrincipalOrResourceConstraint,
-    ResourceConstraint,
+    EntityReference, PrincipalConstraint, PrincipalOrResourceConstraint, ResourceConstraint,
 };
 use cedar_terms::expr::Expr;
 use cedar_terms::literal::Literal;

@@ -1,14 +1,14 @@
 // The two hundred templates: principal and resource each free, equal to or in a uid or a slot; the action free,
 // equal to a uid, or in one or two of them; both effects.
 use super::{Scope, beside, bind, id, kept, permits, same, shared, template, uid};
+use cedar_action::ActionConstraint;
 use cedar_annotation::Annotations;
 use cedar_ids::entity::EntityUID;
 use cedar_ids::loc::Loc;
 use cedar_ids::policy_id::PolicyID;
 use cedar_policy::{Effect, Policy, SlotEnv, StaticPolicy, Template, UnexpectedSlotError};
 use cedar_scope::{
-    ActionConstraint, EntityReference, PrincipalConstraint, PrincipalOrResourceConstraint,
-    ResourceConstraint,
+    EntityReference, PrincipalConstraint, PrincipalOrResourceConstraint, ResourceConstraint,
 };
 use cedar_terms::expr::Expr;
 use cedar_terms::slot::Slot;

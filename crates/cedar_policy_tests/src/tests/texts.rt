@@ -3,8 +3,9 @@ use super::{
     Scope, beside, equal, free, id, kept, linked, on_both, on_principal, permits, shared_type,
     shows, template, uid,
 };
+use cedar_action::ActionConstraint;
 use cedar_policy::{Effect, Policy, SlotEnv, StaticPolicy, Template};
-use cedar_scope::{ActionConstraint, PrincipalConstraint, ResourceConstraint};
+use cedar_scope::{PrincipalConstraint, ResourceConstraint};
 use cedar_terms::expr::Expr;
 use cedar_terms::slot::SlotId;
 use std::alloc::Global;

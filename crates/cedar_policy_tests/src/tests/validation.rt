@@ -1,10 +1,11 @@
 // What validating a template finds, in its order, and the texts of the refusals.
 use super::{Scope, beside, free, kept, on_principal, permits, shared, shows, uid};
+use cedar_action::ActionConstraint;
 use cedar_ids::entity::EntityUID;
 use cedar_ids::name::Name;
 use cedar_ids::non_empty::NonEmpty;
 use cedar_policy::{Template, TemplateValidationError, UnexpectedSlotError};
-use cedar_scope::{ActionConstraint, PrincipalConstraint, ResourceConstraint};
+use cedar_scope::{PrincipalConstraint, ResourceConstraint};
 use cedar_terms::err::ExprValidationError;
 use cedar_terms::expr::Expr;
 use cedar_terms::slot::{Slot, SlotId};

@@ -15,10 +15,10 @@ use Rattle.cedar_ids.specs.laws.UidLaws.{uid_cmp_total}
 use Rattle.cedar_terms.specs.laws.KeyLaws.{key_cmp-Equal, key_cmp_total, nat_key-inj, nat_key-cmp, right, list_key-inj, list_key-cmp}
 use Rattle.cedar_terms.specs.Keys.{Key, fork, key_cmp, nat_key, list_key, name_key, uid_key}
 use Rattle.cedar_terms.specs.laws.NameKeyLaws.{name_key-inj, name_key-cmp, uid_key-inj, uid_key-cmp}
-use Rattle.cedar_scope.specs.Scope.{Reference, to_uid, to_slot, Constraint, ActionRule}
-use Rattle.cedar_scope.specs.ScopeReads.{constraint_kind, stated_type, reference_in, rule_kind, rule_uids}
-use Rattle.cedar_scope.specs.ScopeOrder.{reference_cmp, constraint_cmp, rule_cmp, same_reference, same_constraint, same_rule, reference_hash, constraint_hash, rule_hash}
-use Rattle.cedar_scope.specs.Codes.{constraint_with, constraint_with-parts, rule_with, rule_with-parts}
+use Rattle.cedar_scope.specs.Scope.{Reference, to_uid, to_slot, Constraint}
+use Rattle.cedar_scope.specs.ScopeReads.{constraint_kind, stated_type, reference_in}
+use Rattle.cedar_scope.specs.ScopeOrder.{reference_cmp, constraint_cmp, same_reference, same_constraint, reference_hash, constraint_hash}
+use Rattle.cedar_scope.specs.Codes.{constraint_with, constraint_with-parts}
 
 -- the key of a reference, the slot after all uids
 abbrev pub reference_key : Reference → Key
@@ -46,9 +46,6 @@ constraint_cmp_total =
     then_total (on_total constraint_kind nat_cmp_total)
     (then_total (on_total stated_type (options_total name_cmp_total)) (on_total reference_in (options_total reference_cmp_total)))
 
-pub rule_cmp_total : IsTotalOrder rule_cmp
-rule_cmp_total = then_total (on_total rule_kind nat_cmp_total) (on_total rule_uids (lists_total uid_cmp_total))
-
 -- each equality is an equivalence
 pub same_reference_equiv : IsEquivalence same_reference
 same_reference_equiv = eq_by_cmp_equiv reference_cmp_total
@@ -56,21 +53,13 @@ same_reference_equiv = eq_by_cmp_equiv reference_cmp_total
 pub same_constraint_equiv : IsEquivalence same_constraint
 same_constraint_equiv = eq_by_cmp_equiv constraint_cmp_total
 
-pub same_rule_equiv : IsEquivalence same_rule
-same_rule_equiv = eq_by_cmp_equiv rule_cmp_total
-
 -- ---- what no order tells apart is the same
 
-kinds_tied : (m n : ℕ) → nat_cmp m n ≡ Equal → m ≡ n
+pub kinds_tied : (m n : ℕ) → nat_cmp m n ≡ Equal → m ≡ n
 kinds_tied m n e = nat_key-inj m n (key_cmp-Equal (nat_key m) (nat_key n) (nat_key-cmp m n ∙ e))
 
 names_tied : (m n : NameParts) → name_cmp m n ≡ Equal → m ≡ n
 names_tied m n e = name_key-inj m n (key_cmp-Equal (name_key m) (name_key n) (name_key-cmp m n ∙ e))
-
-lists_tied : (us vs : List UidParts) → slice_cmp uid_cmp us vs ≡ Equal → us ≡ vs
-lists_tied us vs e =
-    list_key-inj uid_key uid_key-inj us vs
-    (key_cmp-Equal (list_key uid_key us) (list_key uid_key vs) (list_key-cmp uid_key uid_cmp uid_key-cmp us vs ∙ e))
 
 pub references_tied : (x y : Reference) → reference_cmp x y ≡ Equal → x ≡ y
 references_tied x y e = reference_key-inj x y (key_cmp-Equal (reference_key x) (reference_key y) (reference_key-cmp x y ∙ e))
@@ -81,7 +70,7 @@ options_tied R h None (Some y) e = absurd (cc)
 options_tied R h (Some x) None e = absurd (cc)
 options_tied R h (Some x) (Some y) e = ap Some (h x y e)
 
-then_tied : (a b : Ordering) → ordering_then a b ≡ Equal → (a ≡ Equal) × (b ≡ Equal)
+pub then_tied : (a b : Ordering) → ordering_then a b ≡ Equal → (a ≡ Equal) × (b ≡ Equal)
 then_tied Less b e = absurd (cc)
 then_tied Equal b e = (refl, e)
 then_tied Greater b e = absurd (cc)
@@ -94,13 +83,6 @@ constraints_tied x y e =
     let t : stated_type x ≡ stated_type y = options_tied name_cmp names_tied _ _ q.0 in
     let r : reference_in x ≡ reference_in y = options_tied reference_cmp references_tied _ _ q.1 in
     sym (constraint_with-parts x) ∙ (λ i. constraint_with (k i) (t i) (r i)) ∙ constraint_with-parts y
-
-pub rules_tied : (x y : ActionRule) → rule_cmp x y ≡ Equal → x ≡ y
-rules_tied x y e =
-    let p = then_tied (nat_cmp (rule_kind x) (rule_kind y)) _ e in
-    let k : rule_kind x ≡ rule_kind y = kinds_tied _ _ p.0 in
-    let us : rule_uids x ≡ rule_uids y = lists_tied _ _ p.1 in
-    sym (rule_with-parts x) ∙ (λ i. rule_with (k i) (us i)) ∙ rule_with-parts y
 
 -- two are equal exactly where they are the same
 pub same_reference_decides : (x y : Reference) → Decides (same_reference x y) (x ≡ y)
@@ -115,18 +97,9 @@ same_constraint_decides x y = (
   λ e. ap (λ z. is_eq (constraint_cmp x z)) (sym e) ∙ ap is_eq (tied_itself constraint_cmp_total x),
 )
 
-pub same_rule_decides : (x y : ActionRule) → Decides (same_rule x y) (x ≡ y)
-same_rule_decides x y = (
-  λ e. rules_tied x y ((Equal-is (rule_cmp x y)).0 e),
-  λ e. ap (λ z. is_eq (rule_cmp x z)) (sym e) ∙ ap is_eq (tied_itself rule_cmp_total x),
-)
-
 -- equal ones hash alike
 pub reference_hash_respects : (x y : Reference) → same_reference x y ≡ true → reference_hash x ≡ reference_hash y
 reference_hash_respects x y e = ap reference_hash ((same_reference_decides x y).0 e)
 
 pub constraint_hash_respects : (x y : Constraint) → same_constraint x y ≡ true → constraint_hash x ≡ constraint_hash y
 constraint_hash_respects x y e = ap constraint_hash ((same_constraint_decides x y).0 e)
-
-pub rule_hash_respects : (x y : ActionRule) → same_rule x y ≡ true → rule_hash x ≡ rule_hash y
-rule_hash_respects x y e = ap rule_hash ((same_rule_decides x y).0 e)

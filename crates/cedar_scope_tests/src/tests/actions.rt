@@ -1,8 +1,8 @@
 // Constraints of actions.
 use super::{agree, copies, copy_of, is_written, ordered, same, shared, shows, uid, with_last};
+use cedar_action::{ActionConstraint, ActionTypesError};
 use cedar_ids::entity::EntityUID;
 use cedar_ids::non_empty::NonEmpty;
-use cedar_scope::{ActionConstraint, ActionTypesError};
 use cedar_terms::expr::Expr;
 use std::alloc::Global;
 use std::rc::Rc;

@@ -1,7 +1,8 @@
 // The iterators of constraints.
 use super::{CONSTRAINTS, both, is_written, nth, shared, uid, with_last};
+use cedar_action::{ActionConstraint, EntityIterator};
 use cedar_ids::entity::EntityUID;
-use cedar_scope::{ActionConstraint, EntityIterator, PrincipalOrResourceConstraint};
+use cedar_scope::PrincipalOrResourceConstraint;
 use std::alloc::Global;
 use std::fmt::Display;
 

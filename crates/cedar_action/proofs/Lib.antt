@@ -1,0 +1,2 @@
+pub mod Bunch
+pub mod UidLists

@@ -1,0 +1,67 @@
+-- Lists of shared uids, by the parts of the uids.
+use Rattle.std.proofs.Common.{◌≡◌, ◌↔◌, List, [], ◌∷◌, ◌++◌, map, Bool, true, false, IsTrue, refl, ap, sym, codes, Global}
+use Rattle.std.specs.declared.cmp.Ordering.{Ordering}
+use Rattle.std.specs.declared.cmp.Ordering.TheVariants.{Less, Equal, Greater}
+use Rattle.std.specs.declared.rc.Rc.{Rc}
+use Rattle.std.specs.Ordering.{ordering_then}
+use Rattle.std.specs.Cmp.Lexicographic.{slice_cmp}
+use Rattle.std.specs.List.{flat_map, list_all, AllZip}
+use Rattle.std.specs.Str.{bytes_eq}
+use Rattle.std.specs.Hash as fed
+use Rattle.std.proofs.lemmas.List.Folds.{flat_map-map, list_all-map}
+use Rattle.std.proofs.lemmas.List.{length-map}
+use Rattle.std.proofs.lemmas.Slice.Eq.{bytes_eq-Decides}
+use Rattle.cedar_ids.specs.Uid.{UidParts, uid_cmp, uid_hash_input}
+use Rattle.cedar_ids.specs.UidOf.{uid_parts}
+use Rattle.cedar_ids.specs.declared.entity.EntityUID.{EntityUID}
+use Rattle.cedar_action.specs.RuleTexts.{after_comma}
+use Rattle.cedar_scope.specs.ScopeTexts.{is_ascii_uid}
+
+abbrev pub Shared : Type 0
+Shared = Rc EntityUID Global
+
+abbrev pub parts : Shared → UidParts
+parts u = uid_parts u.value
+
+-- lists are ordered as the lists of their parts
+pub shared_lists_cmp : (us vs : List Shared) → slice_cmp (λ u v. uid_cmp (parts u) (parts v)) us vs ≡ slice_cmp uid_cmp (map parts us) (map parts vs)
+shared_lists_cmp [] [] = refl
+shared_lists_cmp [] (v ∷ vs) = refl
+shared_lists_cmp (u ∷ us) [] = refl
+shared_lists_cmp (u ∷ us) (v ∷ vs) = ap (ordering_then (uid_cmp (parts u) (parts v))) (shared_lists_cmp us vs)
+
+then_Equal : (o : Ordering) → ordering_then o Equal ≡ o
+then_Equal Less = refl
+then_Equal Equal = refl
+then_Equal Greater = refl
+
+-- lists of one uid are ordered as these
+pub lists_of_one_cmp : (u v : UidParts) → slice_cmp uid_cmp (u ∷ []) (v ∷ []) ≡ uid_cmp u v
+lists_of_one_cmp u v = then_Equal (uid_cmp u v)
+
+-- a list feeds what the list of its parts does
+pub shared_lists_fed : (us : List Shared) → fed.slice (λ u. uid_hash_input (parts u)) us ≡ fed.slice uid_hash_input (map parts us)
+shared_lists_fed us = λ i. fed.usize (sym (length-map us parts) i) ++ sym (flat_map-map uid_hash_input parts us) i
+
+pub more_text : (us : List Shared) → flat_map after_comma (map parts us) ≡ flat_map (λ u. after_comma (parts u)) us
+more_text us = flat_map-map after_comma parts us
+
+pub more_ascii : (us : List Shared) → list_all is_ascii_uid (map parts us) ≡ list_all (λ u. is_ascii_uid (parts u)) us
+more_ascii us = list_all-map is_ascii_uid parts us
+
+-- a copy of a list holds the same uids
+pub copied_parts : (us vs : List Shared) → AllZip (λ (u v : Shared). v.value ≡ u.value) us vs → map parts vs ≡ map parts us
+copied_parts [] [] h = refl
+copied_parts [] (v ∷ vs) h = absurd h
+copied_parts (u ∷ us) [] h = absurd h
+copied_parts (u ∷ us) (v ∷ vs) h = λ i. uid_parts (h.0 i) ∷ copied_parts us vs h.1 i
+
+told : (b c : Bool) (P : Type 0) → (IsTrue b ↔ P) → (c ≡ true → P) → (P → c ≡ true) → b ≡ c
+told true true P h f g = refl
+told true false P h f g = sym (g (h.0 refl))
+told false true P h f g = h.1 (f refl)
+told false false P h f g = refl
+
+-- a test whether a component is `Action`
+pub told_action : (b : Bool) (name : List _) → (IsTrue b ↔ (name ≡ codes "Action")) → b ≡ bytes_eq name (codes "Action")
+told_action b name h = told b (bytes_eq name (codes "Action")) (name ≡ codes "Action") h (bytes_eq-Decides name (codes "Action")).0 (bytes_eq-Decides name (codes "Action")).1

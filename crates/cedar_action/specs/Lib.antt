@@ -1,0 +1,9 @@
+pub mod ActionTypes
+pub mod Codes
+pub mod RuleOrder
+pub mod RuleReads
+pub mod RuleTexts
+pub mod RuleTrees
+pub mod Rules
+pub mod Views
+pub mod laws

@@ -1,0 +1,33 @@
+-- What callers see of constraints of actions, and of what iterators of their uids have left.
+use Rattle.std.specs.Prelude.{List, [], ◌∷◌, map, reverse}
+use Rattle.std.specs.Borrow.{Bor}
+use Rattle.cedar_ids.specs.Uid.{UidParts}
+use Rattle.cedar_ids.specs.UidOf.{uid_parts}
+use Rattle.cedar_ids.specs.Views.{type_name}
+use Rattle.cedar_ids.specs.declared.entity.EntityUID.{EntityUID}
+use Rattle.cedar_scope.specs.Scope.{Reference, to_uid, to_slot, Constraint, any, within, equals, of_type, of_type_within}
+use Rattle.cedar_action.specs.Rules.{ActionRule, any_action, among, just}
+use Rattle.cedar_scope.specs.declared.reference.EntityReference.{EntityReference}
+use Rattle.cedar_scope.specs.declared.reference.EntityReference.TheVariants as references
+use Rattle.cedar_scope.specs.declared.constraint.PrincipalOrResourceConstraint.{PrincipalOrResourceConstraint}
+use Rattle.cedar_scope.specs.declared.constraint.PrincipalOrResourceConstraint.TheVariants as constraints
+use Rattle.cedar_action.specs.declared.action.ActionConstraint.{ActionConstraint}
+use Rattle.cedar_action.specs.declared.action.ActionConstraint.TheVariants as actions
+use Rattle.cedar_action.specs.declared.iters.EntityIterator.{EntityIterator}
+use Rattle.cedar_action.specs.declared.iters.EntityIterator.TheVariants as iterators
+
+-- a constraint of an action without locations
+abbrev pub rule_of : ActionConstraint → ActionRule
+rule_of actions.Any = any_action
+rule_of (actions.In us) = among (map (λ u. uid_parts u.value) us.items)
+rule_of (actions.Eq u) = just (uid_parts u.value)
+
+-- the uids of a list, from the back
+abbrev pub from_the_back : List (Bor EntityUID) → List UidParts
+from_the_back us = reverse (map (λ u. uid_parts u.now) us)
+
+-- the uids that an iterator has still to give, in turn
+abbrev pub uids_left : EntityIterator → List UidParts
+uids_left iterators.None = []
+uids_left (iterators.One u) = uid_parts u.now ∷ []
+uids_left (iterators.Bunch us) = from_the_back us.items

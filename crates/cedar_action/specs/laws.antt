@@ -1,0 +1,2 @@
+pub mod RuleOrders
+pub mod RuleSlots

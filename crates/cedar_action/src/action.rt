@@ -1,0 +1,482 @@
+//! What a policy asks of the action: anything, one uid, or one of a list.
+ghost use Rattle.std.specs.Prelude.{◌≡◌, ◌&&◌, ◌++◌, IfOk, List, map, true};
+ghost use Rattle.std.specs.Fmt.{WritesOnOk};
+ghost use Rattle.std.specs.List.{list_all, flat_map, filter};
+ghost use Rattle.std.specs.Ordering.{on, as_partial_cmp};
+ghost use Rattle.std.specs.Cmp.{partial_equiv_from_equiv, on_equiv, on_total, po};
+ghost use Rattle.std.specs.Cmp.Lexicographic.{slice_cmp};
+ghost use Rattle.std.proofs.Common.{refl};
+ghost use Rattle.cedar_ids.specs.NonEmpties.{all_of};
+ghost use Rattle.cedar_ids.specs.Printed.{printed_uid};
+ghost use Rattle.cedar_ids.specs.Uid.{name_part};
+ghost use Rattle.cedar_ids.specs.UidOf.{uid_parts};
+ghost use Rattle.cedar_terms.specs.ExprTree.{set_node, expr_trees};
+ghost use Rattle.cedar_action.specs.Rules.{any_action, among, just};
+ghost use Rattle.cedar_action.specs.RuleReads.{rule_kind, rule_uids, uids_given, is_no_action};
+ghost use Rattle.cedar_action.specs.RuleOrder.{rule_cmp, same_rule, rule_hash};
+ghost use Rattle.cedar_action.specs.RuleTrees.{rule_expr};
+ghost use Rattle.cedar_scope.specs.ScopeTrees.{uid_expr};
+ghost use Rattle.cedar_action.specs.RuleTexts.{rule_output, uids_text, uids_output, after_comma};
+ghost use Rattle.cedar_scope.specs.ScopeTexts.{is_ascii_uid};
+ghost use Rattle.cedar_action.specs.ActionTypes.{ChecksTypes, PassesTypes};
+ghost use Rattle.cedar_action.specs.Views.{rule_of, uids_left};
+ghost use Rattle.cedar_action.specs.laws.RuleOrders.{rule_cmp_total, same_rule_equiv, rule_hash_respects};
+ghost use Rattle.cedar_action.specs.declared.action.ActionTypesError.TheVariants.{Memory};
+
+use crate::iters::{ActionTypeNames, EntityIterator};
+use cedar_ids::entity::EntityUID;
+use cedar_ids::non_empty::NonEmpty;
+use cedar_terms::expr::Expr;
+use cedar_terms::literal::Literal;
+use cedar_terms::var::Var;
+use std::alloc::{AllocError, AllocFailed, Global};
+use std::cmp::Ordering;
+use std::hash::{Hash, Hasher};
+use std::rc::Rc;
+use std::{fmt, slice};
+use thiserror::Error;
+
+/// What the action of a request has to be.
+///
+/// The order is by kind, as the kinds are listed here, then by the uids item by item. Equality, order and
+/// hash look at no location and take no memory. `clone` takes memory for a list and shares its uids.
+/// `Display` writes `action`, `action in [U,W]` or `action == U` and takes no memory: exactly so where all
+/// eids are ASCII, else with an eid past ASCII as `str::escape_debug` writes it.
+#[derive(Debug, Drop)]
+pub enum ActionConstraint {
+    /// Anything.
+    Any,
+    /// In one of these uids.
+    In(Vec<Rc<EntityUID>>),
+    /// Equal to this uid.
+    Eq(Rc<EntityUID>),
+}
+
+/// Why the types of an action's constraint were refused. The original answers the uids alone, and has no
+/// refusal for memory.
+#[derive(Debug, Drop, Error)]
+pub enum ActionTypesError {
+    /// These uids, in the order of the list, are not actions.
+    #[error("the action constraint holds uids that are not actions: {}", JoinedUids(.0))]
+    NotActions(NonEmpty<Rc<EntityUID>>),
+    /// Memory was refused.
+    #[error("out of memory")]
+    Memory,
+}
+
+impl From<AllocError> for ActionTypesError {
+    ghost from_gives = { λ _ e. e ≡ Memory };
+
+    fn from(_error: AllocError) -> ActionTypesError {
+        ActionTypesError::Memory
+    }
+}
+
+impl<T: Drop> From<AllocFailed<T>> for ActionTypesError {
+    ghost from_gives = { λ _ e. e ≡ Memory };
+
+    fn from(_error: AllocFailed<T>) -> ActionTypesError {
+        ActionTypesError::Memory
+    }
+}
+
+/// Some uids as a refusal writes them: joined by commas, with no blanks. Writing them takes no memory.
+#[derive(Debug, Drop)]
+pub struct JoinedUids<'a>(pub &'a NonEmpty<Rc<EntityUID>>);
+
+impl fmt::Display for JoinedUids<'_> {
+    ghost output = { λ j. uids_output (map (λ u. uid_parts u.value) (all_of j.0.now)) };
+
+    fn fmt<W: fmt::Write>(&self, f: &mut fmt::Formatter<W>) -> fmt::Result {
+        write_all(self.0, f)
+    }
+}
+
+impl ActionConstraint {
+    /// Anything. Takes no memory.
+    pub fn any() -> ActionConstraint
+        ensures { rule_of result ≡ any_action }
+    {
+        ActionConstraint::Any
+    }
+
+    /// In one of these uids, in this order, which it comes to share. Takes memory linear in the list, and
+    /// is refused only where that is.
+    pub fn is_in(alloc: Global, euids: Vec<EntityUID>) -> Result<ActionConstraint, AllocError>
+        ensures { IfOk result (λ c. rule_of c ≡ among (map uid_parts euids.items)) }
+    {
+        let euids = shared(alloc, euids)?;
+        Ok(ActionConstraint::In(euids))
+    }
+
+    /// Equal to this uid, which it comes to share. Takes memory for that.
+    pub fn is_eq(alloc: Global, euid: EntityUID) -> Result<ActionConstraint, AllocError>
+        ensures { IfOk result (λ c. rule_of c ≡ just (uid_parts euid)) }
+    {
+        let euid = Rc::new(alloc, euid)?;
+        Ok(ActionConstraint::Eq(euid))
+    }
+
+    /// The expression of the constraint: `true`, `action in` the set of the uids in their order, or `action
+    /// ==` the uid. Takes memory linear in the list; the uids are shared.
+    pub fn as_expr(&self, alloc: Global) -> Result<Expr, AllocError>
+        ensures { IfOk result (λ e. e ≡ rule_expr (rule_of self.now)) }
+    {
+        match self {
+            ActionConstraint::Any => Expr::val(alloc, Literal::Bool(true)),
+            ActionConstraint::In(euids) => {
+                let left = Expr::var(alloc, Var::Action)?;
+                let right = euids_into_expr(alloc, euids)?;
+                Expr::is_in(alloc, left, right)
+            }
+            ActionConstraint::Eq(euid) => {
+                let left = Expr::var(alloc, Var::Action)?;
+                let right = Expr::val(alloc, Literal::EntityUID(euid.clone()?))?;
+                Expr::is_eq(alloc, left, right)
+            }
+        }
+    }
+
+    /// The uids of the constraint: of a list from the back, repeats kept. Takes memory for a list of
+    /// references where the constraint has a list, else none.
+    pub fn iter_euids(&self, alloc: Global) -> Result<EntityIterator<'_>, AllocError>
+        ensures { IfOk result (λ i. uids_left i ≡ uids_given (rule_of self.now)) }
+    {
+        match self {
+            ActionConstraint::Any => Ok(EntityIterator::None),
+            ActionConstraint::In(euids) => bunch(alloc, euids),
+            ActionConstraint::Eq(euid) => Ok(EntityIterator::One(euid)),
+        }
+    }
+
+    /// The types of the uids that `iter_euids` gives, in its order. Takes memory as that does.
+    pub fn iter_entity_type_names(&self, alloc: Global) -> Result<ActionTypeNames<'_>, AllocError>
+        ensures { IfOk result (λ i. i ≡ map name_part (uids_given (rule_of self.now))) }
+    {
+        let euids = self.iter_euids(alloc)?;
+        Ok(ActionTypeNames::of(euids))
+    }
+
+    /// `Ok` exactly where each uid is an action: where the last component of its type is `Action`, whatever
+    /// its path.
+    ///
+    /// `NotActions` has exactly the others, in the order of the list, repeats kept, and they are shared.
+    /// Takes memory for these alone; `Memory` comes only where that was refused. Reads each uid's type once.
+    pub fn check_action_types(&self, alloc: Global) -> Result<(), ActionTypesError>
+        ensures { ChecksTypes result (rule_of self.now) }
+    {
+        match self {
+            ActionConstraint::Any => Ok(()),
+            ActionConstraint::In(euids) => check_all(alloc, euids),
+            ActionConstraint::Eq(euid) => check_one(alloc, euid),
+        }
+    }
+
+    /// The constraint itself where each uid is an action, else the refusal of `check_action_types`. Takes
+    /// memory as that does; a refusal drops the constraint.
+    pub fn contains_only_action_types(
+        self,
+        alloc: Global,
+    ) -> Result<ActionConstraint, ActionTypesError>
+        ensures { PassesTypes result self }
+    {
+        match self.check_action_types(alloc) {
+            Ok(()) => Ok(self),
+            Err(error) => Err(error),
+        }
+    }
+
+    // The place of its kind among the kinds.
+    fn kind(&self) -> u8
+        ensures { result ≡ rule_kind (rule_of self.now) }
+    {
+        match self {
+            ActionConstraint::Any => 0,
+            ActionConstraint::In(_) => 1,
+            ActionConstraint::Eq(_) => 2,
+        }
+    }
+
+    // How this constraint and another stand in the order.
+    fn compare(&self, other: &ActionConstraint) -> Ordering
+        ensures { result ≡ rule_cmp (rule_of self.now) (rule_of other.now) }
+    {
+        match self {
+            ActionConstraint::Any => self.kind().cmp(&other.kind()),
+            ActionConstraint::In(us) => match other {
+                ActionConstraint::In(vs) => compare_lists(us, vs),
+                _ => self.kind().cmp(&other.kind()),
+            },
+            ActionConstraint::Eq(u) => match other {
+                ActionConstraint::Eq(v) => compare_uids(u, v),
+                _ => self.kind().cmp(&other.kind()),
+            },
+        }
+    }
+}
+
+ghost use Rattle.std.specs.Prelude.{[], ◌∷◌, MatchOption, fold};
+ghost use Rattle.cedar_ids.specs.Uid.{uid_cmp, uid_hash_input};
+ghost use Rattle.std.specs.Hash as fed;
+
+// How two lists stand in the order.
+fn compare_lists(us: &Vec<Rc<EntityUID>>, vs: &Vec<Rc<EntityUID>>) -> Ordering
+    ensures { result ≡ slice_cmp uid_cmp (map (λ u. uid_parts u.value) us.now.items)
+        (map (λ u. uid_parts u.value) vs.now.items) }
+{
+    us.cmp(vs)
+}
+
+// How two lists of one uid stand in the order.
+#[tactic(auto, using(crate::proofs::UidLists::lists_of_one_cmp))]
+fn compare_uids(u: &EntityUID, v: &EntityUID) -> Ordering
+    ensures { result ≡ slice_cmp uid_cmp (uid_parts u.now ∷ []) (uid_parts v.now ∷ []) }
+{
+    u.cmp(v)
+}
+
+// Some uids, each to be shared.
+fn shared(alloc: Global, euids: Vec<EntityUID>) -> Result<Vec<Rc<EntityUID>>, AllocError>
+    ensures { IfOk result (λ us. map (λ u. uid_parts u.value) us.items ≡ map uid_parts euids.items) }
+{
+    let mut all = Vec::new(alloc);
+    for euid in euids {
+        all.push(Rc::new(alloc, euid)?)?;
+    }
+    Ok(all)
+}
+
+// The set of some uids.
+fn euids_into_expr(alloc: Global, euids: &Vec<Rc<EntityUID>>) -> Result<Expr, AllocError>
+    ensures { IfOk result
+        (λ e. e ≡ set_node (expr_trees (map uid_expr (map (λ u. uid_parts u.value) euids.now.items)))) }
+{
+    let mut exprs = Vec::new(alloc);
+    for euid in euids {
+        exprs.push(Expr::val(alloc, Literal::EntityUID(euid.clone()?))?)?;
+    }
+    Expr::set(alloc, exprs)
+}
+
+// The iterator of a list.
+fn bunch(alloc: Global, euids: &Vec<Rc<EntityUID>>) -> Result<EntityIterator<'_>, AllocError>
+    ensures { IfOk result
+        (λ i. uids_left i ≡ uids_given (among (map (λ u. uid_parts u.value) euids.now.items))) }
+{
+    let euids = references(alloc, euids)?;
+    Ok(EntityIterator::Bunch(euids))
+}
+
+// References to some uids.
+fn references<'a>(
+    alloc: Global,
+    euids: &'a Vec<Rc<EntityUID>>,
+) -> Result<Vec<&'a EntityUID>, AllocError>
+    ensures { IfOk result
+        (λ us. map (λ u. uid_parts u.now) us.items ≡ map (λ u. uid_parts u.value) euids.now.items) }
+{
+    let mut all = Vec::new(alloc);
+    for euid in euids {
+        let euid: &EntityUID = euid;
+        all.push(euid)?;
+    }
+    Ok(all)
+}
+
+// Whether it is the uid of something that is no action.
+#[tactic(auto, using(crate::proofs::UidLists::told_action))]
+fn is_no_action(euid: &EntityUID) -> bool
+    ensures { result ≡ is_no_action (uid_parts euid.now) }
+{
+    !euid.is_action()
+}
+
+// Refuses a uid that is no action.
+fn check_one(alloc: Global, euid: &Rc<EntityUID>) -> Result<(), ActionTypesError>
+    ensures { ChecksTypes result (just (uid_parts euid.now.value)) }
+{
+    if !is_no_action(euid) {
+        return Ok(());
+    }
+    let head = euid.clone()?;
+    let tail = Vec::new(alloc);
+    Err(ActionTypesError::NotActions(NonEmpty { head, tail }))
+}
+
+// Refuses the uids of a list that are no actions.
+fn check_all(alloc: Global, euids: &Vec<Rc<EntityUID>>) -> Result<(), ActionTypesError>
+    ensures { ChecksTypes result (among (map (λ u. uid_parts u.value) euids.now.items)) }
+{
+    let found = non_actions(alloc, euids)?;
+    match non_empty(found) {
+        Some(found) => Err(ActionTypesError::NotActions(found)),
+        None => Ok(()),
+    }
+}
+
+// The uids that are no actions, in the order of the list.
+fn non_actions(alloc: Global, euids: &Vec<Rc<EntityUID>>) -> Result<Vec<Rc<EntityUID>>, AllocError>
+    ensures { IfOk result (λ us. map (λ u. uid_parts u.value) us.items
+        ≡ filter is_no_action (map (λ u. uid_parts u.value) euids.now.items)) }
+{
+    let mut found = Vec::new(alloc);
+    for euid in euids {
+        if is_no_action(euid) {
+            found.push(euid.clone()?)?;
+        }
+    }
+    Ok(found)
+}
+
+// The list, if it is not empty.
+fn non_empty(mut euids: Vec<Rc<EntityUID>>) -> Option<NonEmpty<Rc<EntityUID>>>
+    ensures { MatchOption result (euids.items ≡ []) (λ us. all_of us ≡ euids.items) }
+{
+    if euids.is_empty() {
+        return None;
+    }
+    let head = euids.remove(0);
+    Some(NonEmpty { head, tail: euids })
+}
+
+impl fmt::Display for ActionConstraint {
+    ghost output = { λ c. rule_output (rule_of c) };
+
+    fn fmt<W: fmt::Write>(&self, f: &mut fmt::Formatter<W>) -> fmt::Result {
+        match self {
+            ActionConstraint::Any => f.write_str("action"),
+            ActionConstraint::In(euids) => {
+                f.write_str("action in [")?;
+                write_euids(euids, f)?;
+                f.write_str("]")
+            }
+            ActionConstraint::Eq(euid) => write!(f, "action == {euid}"),
+        }
+    }
+}
+
+// Writes the uids of a refusal, joined by commas.
+fn write_all<W: fmt::Write>(
+    uids: &NonEmpty<Rc<EntityUID>>,
+    f: &mut fmt::Formatter<W>,
+) -> fmt::Result
+    ensures { list_all is_ascii_uid (map (λ u. uid_parts u.value) (all_of uids.now)) ≡ true
+        → WritesOnOk W.write_str_gives f.old result
+        (uids_text (map (λ u. uid_parts u.value) (all_of uids.now))) f.new }
+{
+    write_listed(&uids.head, uids.tail.as_slice(), f)
+}
+
+// Writes some uids, joined by commas.
+fn write_euids<W: fmt::Write>(euids: &[Rc<EntityUID>], f: &mut fmt::Formatter<W>) -> fmt::Result
+    ensures { list_all is_ascii_uid (map (λ u. uid_parts u.value) euids.now) ≡ true
+        → WritesOnOk W.write_str_gives f.old result
+        (uids_text (map (λ u. uid_parts u.value) euids.now)) f.new }
+{
+    match euids.split_first() {
+        None => Ok(()),
+        Some((first, rest)) => write_listed(first, rest, f),
+    }
+}
+
+// Writes a uid, and others after it.
+fn write_listed<W: fmt::Write>(
+    first: &EntityUID,
+    rest: &[Rc<EntityUID>],
+    f: &mut fmt::Formatter<W>,
+) -> fmt::Result
+    ensures { (is_ascii_uid (uid_parts first.now)
+        && list_all (λ u. is_ascii_uid (uid_parts u.value)) rest.now) ≡ true
+        → WritesOnOk W.write_str_gives f.old result
+        (printed_uid (uid_parts first.now)
+        ++ flat_map (λ u. after_comma (uid_parts u.value)) rest.now) f.new }
+{
+    write!(f, "{first}")?;
+    write_more(rest, f)
+}
+
+// Writes a comma before each.
+fn write_more<W: fmt::Write>(euids: &[Rc<EntityUID>], f: &mut fmt::Formatter<W>) -> fmt::Result
+    ensures { list_all (λ u. is_ascii_uid (uid_parts u.value)) euids.now ≡ true
+        → WritesOnOk W.write_str_gives f.old result
+        (flat_map (λ u. after_comma (uid_parts u.value)) euids.now) f.new }
+{
+    for euid in euids {
+        write!(f, ",{euid}")?;
+    }
+    Ok(())
+}
+
+impl Clone for ActionConstraint {
+    ghost is_clone = { λ x y. rule_of y ≡ rule_of x };
+
+    fn clone(&self) -> Result<ActionConstraint, AllocError> {
+        match self {
+            ActionConstraint::Any => Ok(ActionConstraint::Any),
+            ActionConstraint::In(euids) => Ok(ActionConstraint::In(euids.clone()?)),
+            ActionConstraint::Eq(euid) => Ok(ActionConstraint::Eq(euid.clone()?)),
+        }
+    }
+}
+
+impl PartialEq for ActionConstraint {
+    ghost eq = { on rule_of same_rule };
+
+    ghost laws = { partial_equiv_from_equiv (on_equiv rule_of same_rule_equiv) };
+
+    fn eq(&self, other: &ActionConstraint) -> bool {
+        self.compare(other).is_eq()
+    }
+}
+
+impl Eq for ActionConstraint {
+    ghost laws = { on_equiv rule_of same_rule_equiv };
+}
+
+impl PartialOrd for ActionConstraint {
+    ghost partial_cmp = { as_partial_cmp (on rule_of rule_cmp) };
+
+    ghost laws = { po (on_total rule_of rule_cmp_total) (λ x y. refl) };
+
+    fn partial_cmp(&self, other: &ActionConstraint) -> Option<Ordering> {
+        Some(self.cmp(other))
+    }
+}
+
+impl Ord for ActionConstraint {
+    ghost cmp = { on rule_of rule_cmp };
+
+    ghost total = { on_total rule_of rule_cmp_total };
+
+    ghost matches_partial_cmp = { λ x y. refl };
+
+    ghost matches_eq = { λ x y. refl };
+
+    fn cmp(&self, other: &ActionConstraint) -> Ordering {
+        self.compare(other)
+    }
+}
+
+impl Hash for ActionConstraint {
+    ghost hash_input = { λ c. rule_hash (rule_of c) };
+
+    ghost respects_eq = { λ x y e. rule_hash_respects (rule_of x) (rule_of y) e };
+
+    fn hash<H: Hasher>(&self, state: &mut H) {
+        self.kind().hash(state);
+        match self {
+            ActionConstraint::Any => hash_list(&[], state),
+            ActionConstraint::In(euids) => hash_list(euids, state),
+            ActionConstraint::Eq(euid) => hash_list(slice::from_ref(euid), state),
+        }
+    }
+}
+
+// Feeds a list of uids.
+#[tactic(auto, using(crate::proofs::UidLists::shared_lists_fed))]
+fn hash_list<H: Hasher>(euids: &[Rc<EntityUID>], state: &mut H)
+    ensures { state.new ≡ fold H.write state.old
+        (fed.slice uid_hash_input (map (λ u. uid_parts u.value) euids.now)) }
+{
+    euids.hash(state);
+}

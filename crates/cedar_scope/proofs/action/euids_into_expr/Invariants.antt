@@ -1,7 +1,0 @@
-use Rattle.std.proofs.Common.{◌≡◌, take, map}
-use Rattle.cedar_ids.specs.UidOf.{uid_parts}
-use Rattle.cedar_scope.specs.ScopeTrees.{uid_expr}
-use Rattle.cedar_scope.proofs.action.euids_into_expr.Given as goal
-
-abbrev pub invariant-loop-euid : goal.invariant-loop-euid
-invariant-loop-euid l = l.exprs.items ≡ map uid_expr (map (λ u. uid_parts u.value) (take l.euid-index l.euid-items))
