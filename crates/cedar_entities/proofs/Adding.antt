@@ -10,13 +10,14 @@ use Rattle.std.specs.Set.{is_member}
 use Rattle.std.specs.FinSet as set
 use Rattle.std.specs.FinMap as finmap
 use Rattle.cedar_graph.specs.Graph.{Reach, KeepsEdges, AddsOnlyReached}
-use Rattle.cedar_graph.specs.ReachLaws.{reach_edge, reach_over_reach}
+use Rattle.cedar_graph.specs.laws.Reaches.{reach_edge, reach_over_reach}
 use Rattle.cedar_graph.specs.declared.err.TcError.{TcError}
 use Rattle.cedar_ids.specs.UidOf.{same_uid, uid_order}
 use Rattle.cedar_ids.specs.laws.UidOfLaws.{same_uid_decides, same_uid_equiv, uid_order_total}
 use Rattle.cedar_ids.specs.declared.entity.EntityUID.{EntityUID}
-use Rattle.cedar_entity.specs.UidSets.{one_equal, same_tests}
-use Rattle.cedar_entity.specs.View.{EntityView, has_ancestor, IsDeepEqual, deep_equality, parents_are_ancestors}
+use Rattle.cedar_uid_sets.specs.laws.Sets.{one_equal, same_tests}
+use Rattle.cedar_entity.specs.View.{EntityView, has_ancestor, IsDeepEqual}
+use Rattle.cedar_entity.specs.laws.Views.{deep_equality, parents_are_ancestors}
 use Rattle.cedar_entities.specs.ClosureFaults.{IsClosureFault}
 use Rattle.cedar_entities.specs.Plain.{StoreView, Held, IsPlainStore, IsBare, AreBare, IsApart, parts_of, given_of}
 use Rattle.cedar_entities.specs.Modes.{ancestry, is_ancestor_in, IsClosureRefused, WhereComputed}

@@ -14,12 +14,12 @@ use Rattle.cedar_entity.specs.declared.node.SharedEntity.{SharedEntity}
 use Rattle.cedar_entities.specs.declared.entities.TCComputation.{TCComputation}
 use Rattle.cedar_entities.specs.declared.entities.TCComputation.TheVariants as modes
 use Rattle.cedar_entity.specs.declared.err.EntitiesError.{EntitiesError}
-use Rattle.cedar_entity.specs.declared.err.EntitiesError.TheVariants as errors
 use Rattle.cedar_entities.specs.laws.Held.{held, held_map}
 use Rattle.cedar_entities.specs.Modes.{ancestry, IsClosureRefused, WhereComputed}
 use Rattle.cedar_entities.specs.Plain.{StoreView, Held, IsPlainStore, AreBare, given_of}
 use Rattle.cedar_entities.specs.Present.{first_entity, with_first, AllMatch, FirstMismatch}
 use Rattle.cedar_entities.specs.Refusals.{MatchRefusal, IsAddingRefused}
+use Rattle.cedar_entities.specs.laws.Refusals.{refusal_cases}
 use Rattle.cedar_entities.specs.Edits.{uids_of}
 use Rattle.cedar_entities.specs.Touching.{inserted_in, is_touched}
 use Rattle.cedar_entities.specs.World.{World}
@@ -49,34 +49,17 @@ all_inserted l m L none put q there =
 
 -- a refusal of the closure for one reason is one for another that follows
 pub refused_for : (C F : TcError EntityUID → Type 0) → ((t : TcError EntityUID) → C t → F t) → (e : EntitiesError) → MatchRefusal e (λ _. ⊥) C → MatchRefusal e (λ _. ⊥) F
-refused_for C F f (errors.Duplicate u) h = h
-refused_for C F f (errors.TransitiveClosureError t) h = f t h
-refused_for C F f (errors.SelfAncestor u) h = h
-refused_for C F f (errors.DuplicateAncestor u a) h = h
-refused_for C F f (errors.ActionParentIsNotAction u p) h = h
-refused_for C F f (errors.ReservedKey k) h = h
-refused_for C F f errors.Memory h = tt
+refused_for C F f e h = refusal_cases (λ _. ⊥) C (λ r. MatchRefusal r (λ _. ⊥) F) (λ u n. absurd n) f tt e h
 
 -- a refusal for a mismatch, over the same versions
 pub mismatch_at : (f g : EntityUID → Option EntityView) (L : List EntityView) (C : TcError EntityUID → Type 0) → f ≡ g → (e : EntitiesError) → MatchRefusal e (FirstMismatch f L) (λ _. ⊥) → MatchRefusal e (FirstMismatch g L) C
-mismatch_at f g L C is (errors.Duplicate u) h = subst (λ k. FirstMismatch k L u) is h
-mismatch_at f g L C is (errors.TransitiveClosureError t) h = absurd h
-mismatch_at f g L C is (errors.SelfAncestor u) h = h
-mismatch_at f g L C is (errors.DuplicateAncestor u a) h = h
-mismatch_at f g L C is (errors.ActionParentIsNotAction u p) h = h
-mismatch_at f g L C is (errors.ReservedKey k) h = h
-mismatch_at f g L C is errors.Memory h = tt
+mismatch_at f g L C is e h = refusal_cases (FirstMismatch f L) (λ _. ⊥) (λ r. MatchRefusal r (FirstMismatch g L) C) (λ u m. subst (λ k. FirstMismatch k L u) is m) (λ t n. absurd n) tt e h
 
 -- a refusal of the closure, where all matched before it
 pub closure_at : (D E : Held) (tc : TCComputation) (P : EntityUID → Type 0) (A : Type 0) → D ≡ E → A → (e : EntitiesError) → MatchRefusal e (λ _. ⊥) (IsClosureRefused tc D)
     → MatchRefusal e P (λ t. A × IsClosureRefused tc E t)
-closure_at D E tc P A is a (errors.Duplicate u) h = absurd h
-closure_at D E tc P A is a (errors.TransitiveClosureError t) h = (a, subst (λ F. IsClosureRefused tc F t) is h)
-closure_at D E tc P A is a (errors.SelfAncestor u) h = h
-closure_at D E tc P A is a (errors.DuplicateAncestor u x) h = h
-closure_at D E tc P A is a (errors.ActionParentIsNotAction u p) h = h
-closure_at D E tc P A is a (errors.ReservedKey k) h = h
-closure_at D E tc P A is a errors.Memory h = tt
+closure_at D E tc P A is a e h =
+    refusal_cases (λ _. ⊥) (IsClosureRefused tc D) (λ r. MatchRefusal r P (λ t. A × IsClosureRefused tc E t)) (λ u n. absurd n) (λ t k. (a, subst (λ F. IsClosureRefused tc F t) is k)) tt e h
 
 -- over the plain store of a world a refusal is that of the world
 pub refused_over_plain : (W : World) (S : StoreView) (L : List EntityView) → IsPlainStore W S → AreBare L → (tc : TCComputation) (e : EntitiesError)
@@ -84,10 +67,6 @@ pub refused_over_plain : (W : World) (S : StoreView) (L : List EntityView) → I
     → WhereComputed tc (IsAddingRefused W (map given_of L) e)
 refused_over_plain W S L plain bare modes.AssumeAlreadyComputed e h = tt
 refused_over_plain W S L plain bare modes.EnforceAlreadyComputed e h = tt
-refused_over_plain W S L plain bare modes.ComputeNow (errors.Duplicate u) h = first_differs W S L plain bare u h
-refused_over_plain W S L plain bare modes.ComputeNow (errors.TransitiveClosureError t) h = (all_agree W S L plain bare h.0, refused_plain W S L plain bare modes.ComputeNow t h.1)
-refused_over_plain W S L plain bare modes.ComputeNow (errors.SelfAncestor u) h = h
-refused_over_plain W S L plain bare modes.ComputeNow (errors.DuplicateAncestor u x) h = h
-refused_over_plain W S L plain bare modes.ComputeNow (errors.ActionParentIsNotAction u p) h = h
-refused_over_plain W S L plain bare modes.ComputeNow (errors.ReservedKey k) h = h
-refused_over_plain W S L plain bare modes.ComputeNow errors.Memory h = tt
+refused_over_plain W S L plain bare modes.ComputeNow e h =
+    refusal_cases (FirstMismatch (finmap.get S.held) L) (λ t. AllMatch (finmap.get S.held) L × IsClosureRefused modes.ComputeNow (with_first S.held L) t) (IsAddingRefused W (map given_of L))
+    (λ u m. first_differs W S L plain bare u m) (λ t k. (all_agree W S L plain bare k.0, refused_plain W S L plain bare modes.ComputeNow t k.1)) tt e h

@@ -16,7 +16,8 @@ use Rattle.cedar_entity.specs.declared.node.SharedEntity.{SharedEntity}
 use Rattle.cedar_entities.specs.Answers.{HasDeepEqual, AreDeepEqual}
 use Rattle.cedar_entities.specs.laws.Held.{held, held_map, shared, UidsMatch}
 use Rattle.cedar_entities.specs.Plain.{StoreView, Held}
-use Rattle.cedar_entity.specs.View.{EntityView, IsEquivalenceRelation, deep_equality}
+use Rattle.cedar_entity.specs.View.{EntityView, IsEquivalenceRelation}
+use Rattle.cedar_entity.specs.laws.Views.{deep_equality}
 use Rattle.cedar_entities.proofs.Adds.{stored}
 use Rattle.cedar_entities.proofs.Editing.{left_match}
 use Rattle.cedar_entities.proofs.StoreMaps.{get_seen}

@@ -1,11 +1,11 @@
 -- From what the closure calls say of the map to what is seen of it.
-use Rattle.std.specs.Prelude.{◌≡◌, Bool, true, false, Option, Some, None, Result, Ok, Err, IfErr}
+use Rattle.std.specs.Prelude.{◌≡◌, Bool, true, false, Option, Some, None, Result, Ok, Err, IfErr, IsTrue}
 use Rattle.std.proofs.Common.{ap, sym, refl, subst, ◌∙◌, inl, inr}
 use Rattle.std.specs.Option.{option_map, is_some}
 use Rattle.std.proofs.lemmas.Bool.{false≢true}
 use Rattle.std.specs.HashMap.{HashMap, get}
-use Rattle.cedar_graph.specs.Graph.{KeepsNodes, KeepsEdges, AddsOnlyReached, Reach, IsClosure, IsClosed, IsTrusted, HasNoCycle, HasNoCycleAt, HasNoLoop, graph_of, edge_at}
-use Rattle.cedar_graph.specs.Faults.{MatchFault, BreaksClosed}
+use Rattle.cedar_graph.specs.Graph.{KeepsNodes, KeepsEdges, AddsOnlyReached, Reach, IsClosure, IsClosed, IsClosedWithoutLoop, IsTrusted, HasNoCycle, HasNoCycleAt, graph_of, edge_at}
+use Rattle.cedar_graph.specs.Faults.{MatchFault, NamesCycleAt, BreaksClosed}
 use Rattle.cedar_graph.specs.declared.err.TcError.{TcError}
 use Rattle.cedar_graph.specs.declared.err.TcError.TheVariants as tc
 use Rattle.cedar_ids.specs.UidOf.{same_uid}
@@ -17,7 +17,7 @@ use Rattle.cedar_entity.specs.ClosureRefusals.{refusal_of, Tells}
 use Rattle.cedar_entities.specs.ClosureFaults.{IsClosureFault}
 use Rattle.cedar_entities.specs.Refusals.{MatchRefusal}
 use Rattle.cedar_entities.specs.laws.Held.{held, held_map, shared}
-use Rattle.cedar_entities.specs.Modes.{ancestry, is_ancestor_in, IsClosureRefused}
+use Rattle.cedar_entities.specs.Modes.{ancestry, is_ancestor_in, IsClosureRefused, IsSound}
 use Rattle.cedar_entities.specs.Touching.{IsRepairOf, IsAcyclicAt}
 use Rattle.cedar_entities.specs.declared.entities.TCComputation.TheVariants as modes
 use Rattle.cedar_entity.specs.View.{has_ancestor, Kept, kept}
@@ -68,8 +68,8 @@ told P Q (tc.MissingTcEdge x) h = h
 told P Q (tc.HasCycle x) h = h
 told P Q tc.Memory h = tt
 
-pub cycle_told : {S : Type 0} (m : HashMap EntityUID SharedEntity S) (asked : Type 0) (fix : EntityUID → Bool) (t : TcError EntityUID) → MatchFault t (λ _ _ _. ⊥) (λ v. asked × (fix v ≡ true) × Reach (graph_of same_uid node_edges m) v v)
-    → MatchRefusal (refusal_of t) (λ _. ⊥) (λ u. asked × IsClosureRefused modes.ComputeNow (held_map m) u)
+pub cycle_told : {S : Type 0} (m : HashMap EntityUID SharedEntity S) (asked : Bool) (fix : EntityUID → Bool) (t : TcError EntityUID) → NamesCycleAt asked fix (graph_of same_uid node_edges m) t
+    → MatchRefusal (refusal_of t) (λ _. ⊥) (λ u. IsTrue asked × IsClosureRefused modes.ComputeNow (held_map m) u)
 cycle_told m asked fix (tc.MissingTcEdge x) h = absurd h
 cycle_told m asked fix (tc.HasCycle x) h = (h.0, subst (λ F. Reach F x.vertex x.vertex) (same_ancestry m) h.2)
 cycle_told m asked fix tc.Memory h = tt
@@ -85,8 +85,8 @@ refused_as C (Ok x) t h k = tt
 refused_as C (Err e) t (inl h) k = subst (λ f. MatchRefusal f (λ _. ⊥) C) (sym h) k
 refused_as C (Err e) t (inr h) k = subst (λ f. MatchRefusal f (λ _. ⊥) C) (sym h) tt
 
-pub closed_seen : {S : Type 0} (m : HashMap EntityUID SharedEntity S) → IsClosed (graph_of same_uid node_edges m) × HasNoLoop (graph_of same_uid node_edges m) → IsClosed (ancestry (held_map m)) × HasNoLoop (ancestry (held_map m))
-closed_seen m h = subst (λ F. IsClosed F × HasNoLoop F) (same_ancestry m) h
+pub closed_seen : {S : Type 0} (m : HashMap EntityUID SharedEntity S) → IsClosedWithoutLoop (graph_of same_uid node_edges m) → IsSound (held_map m)
+closed_seen m h = subst IsClosedWithoutLoop (same_ancestry m) h
 
 -- where all that is held passes, nothing else changes
 alone_at : (o p : Option SharedEntity) (b : Bool) → option_map node_kept p ≡ option_map node_kept o → (is_some (option_map shared o) ≡ true → b ≡ true) → b ≡ false → p ≡ o
@@ -106,8 +106,8 @@ repair_of_whole m n fix all keeps stays only closed =
 pub acyclic_whole : {S : Type 0} (m : HashMap EntityUID SharedEntity S) (fix : EntityUID → Bool) → HasNoCycle (graph_of same_uid node_edges m) → IsAcyclicAt fix (held_map m)
 acyclic_whole m fix h = acyclic_of m fix (λ t a p. h a)
 
-pub whole_told : {S : Type 0} (m : HashMap EntityUID SharedEntity S) (asked : Type 0) (t : TcError EntityUID) → MatchFault t (λ _ _ _. ⊥) (λ v. asked × Reach (graph_of same_uid node_edges m) v v)
+pub whole_told : {S : Type 0} (m : HashMap EntityUID SharedEntity S) (t : TcError EntityUID) → NamesCycleAt true (λ v. is_some (get same_uid m v)) (graph_of same_uid node_edges m) t
     → MatchRefusal (refusal_of t) (λ _. ⊥) (IsClosureRefused modes.ComputeNow (held_map m))
-whole_told m asked (tc.MissingTcEdge x) h = absurd h
-whole_told m asked (tc.HasCycle x) h = subst (λ F. Reach F x.vertex x.vertex) (same_ancestry m) h.1
-whole_told m asked tc.Memory h = tt
+whole_told m (tc.MissingTcEdge x) h = absurd h
+whole_told m (tc.HasCycle x) h = subst (λ F. Reach F x.vertex x.vertex) (same_ancestry m) h.2
+whole_told m tc.Memory h = tt

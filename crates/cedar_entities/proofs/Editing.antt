@@ -11,9 +11,11 @@ use Rattle.cedar_ids.specs.UidOf.{same_uid, uid_order}
 use Rattle.cedar_ids.specs.laws.UidOfLaws.{uid_order_total, same_uid_decides, same_uid_equiv}
 use Rattle.cedar_ids.specs.declared.entity.EntityUID.{EntityUID}
 use Rattle.cedar_entity.specs.declared.node.SharedEntity.{SharedEntity}
-use Rattle.cedar_entities.specs.Edits.{parted, stripped}
+use Rattle.cedar_entities.specs.Edits.{parted}
+use Rattle.cedar_entities.specs.laws.Edits.{stripped}
 use Rattle.cedar_entities.specs.laws.Held.{held, shared, UidsMatch}
-use Rattle.cedar_entity.specs.UidSets.{UidSet, same_tests, one_equal}
+use Rattle.cedar_uid_sets.specs.UidSets.{UidValues}
+use Rattle.cedar_uid_sets.specs.laws.Sets.{same_tests, one_equal}
 use Rattle.cedar_entity.specs.laws.UidSets.{kept_in}
 use Rattle.cedar_entity.specs.View.{EntityView}
 
@@ -55,7 +57,7 @@ and_true : (x : Bool) → (x && true) ≡ x
 and_true true = refl
 and_true false = refl
 
-pub retain_none : (s : UidSet) → set.retain s (λ p. not (is_member same_uid [] p)) ≡ s
+pub retain_none : (s : UidValues) → set.retain s (λ p. not (is_member same_uid [] p)) ≡ s
 retain_none s = set.same_set uid_order_total one_equal _ _ (λ q. kept_in s (is_member same_uid []) q ∙ and_true (set.contains s q))
 
 without_one : (c g k : Bool) → (not k && (c && not g)) ≡ (c && not (g || k))
@@ -66,7 +68,7 @@ without_one true false false = refl
 without_one false g true = refl
 without_one false g false = refl
 
-pub retain_more : (s : UidSet) (gone : EntityUID → Bool) (more : EntityUID → Bool) (k : EntityUID) → ((q : EntityUID) → more q ≡ (gone q || same_uid q k)) → set.remove (set.retain s (λ p. not (gone p))) k ≡ set.retain s (λ p. not (more p))
+pub retain_more : (s : UidValues) (gone : EntityUID → Bool) (more : EntityUID → Bool) (k : EntityUID) → ((q : EntityUID) → more q ≡ (gone q || same_uid q k)) → set.remove (set.retain s (λ p. not (gone p))) k ≡ set.retain s (λ p. not (more p))
 retain_more s gone more k is = set.same_set uid_order_total one_equal _ _ (λ q.
     set.contains-remove uid_order_total (set.retain s (λ p. not (gone p))) k q
     ∙ ap (λ b. not (eq_by_cmp uid_order q k) && b) (kept_in s gone q) ∙ without_one (set.contains s q) (gone q) (eq_by_cmp uid_order q k)
@@ -78,7 +80,7 @@ twice true false = refl
 twice false true = refl
 twice false false = refl
 
-retain_twice : (s : UidSet) (gone : EntityUID → Bool) → set.retain (set.retain s (λ p. not (gone p))) (λ p. not (gone p)) ≡ set.retain s (λ p. not (gone p))
+retain_twice : (s : UidValues) (gone : EntityUID → Bool) → set.retain (set.retain s (λ p. not (gone p))) (λ p. not (gone p)) ≡ set.retain s (λ p. not (gone p))
 retain_twice s gone = set.same_set uid_order_total one_equal _ _ (λ q.
     kept_in (set.retain s (λ p. not (gone p))) gone q ∙ ap (λ b. b && not (gone q)) (kept_in s gone q) ∙ twice (set.contains s q) (gone q) ∙ sym (kept_in s gone q))
 
@@ -89,7 +91,7 @@ kept_twice true true h = refl
 kept_twice true false h = refl
 kept_twice false g h = refl
 
-pub retain_both : (s : UidSet) (g h : EntityUID → Bool) → set.retain (set.retain s (λ p. not (g p))) (λ p. not (h p)) ≡ set.retain s (λ p. not (g p || h p))
+pub retain_both : (s : UidValues) (g h : EntityUID → Bool) → set.retain (set.retain s (λ p. not (g p))) (λ p. not (h p)) ≡ set.retain s (λ p. not (g p || h p))
 retain_both s g h = set.same_set uid_order_total one_equal _ _ (λ q.
     kept_in (set.retain s (λ p. not (g p))) h q ∙ ap (λ b. b && not (h q)) (kept_in s g q) ∙ kept_twice (set.contains s q) (g q) (h q) ∙ sym (kept_in s (λ p. g p || h p) q))
 

@@ -8,20 +8,21 @@ use Rattle.std.specs.Set.{is_member}
 use Rattle.std.specs.FinSet as set
 use Rattle.std.specs.FinMap as finmap
 use Rattle.cedar_graph.specs.Graph.{Reach, AddsOnlyReached}
-use Rattle.cedar_graph.specs.ReachLaws.{reach_edge}
+use Rattle.cedar_graph.specs.laws.Reaches.{reach_edge}
 use Rattle.cedar_ids.specs.UidOf.{same_uid, uid_order}
 use Rattle.cedar_ids.specs.laws.UidOfLaws.{same_uid_decides}
 use Rattle.cedar_ids.specs.declared.entity.EntityUID.{EntityUID}
-use Rattle.cedar_entity.specs.UidSets.{same_tests}
+use Rattle.cedar_uid_sets.specs.laws.Sets.{same_tests}
 use Rattle.cedar_entity.specs.laws.UidSets.{kept_in}
 use Rattle.cedar_entity.specs.View.{EntityView, has_ancestor}
 use Rattle.cedar_entity.specs.declared.err.EntitiesError.{EntitiesError}
-use Rattle.cedar_entity.specs.declared.err.EntitiesError.TheVariants as errors
-use Rattle.cedar_entities.specs.Edits.{uids_of, last_entity, goes_with, lessened, put_over}
+use Rattle.cedar_entities.specs.Edits.{uids_of, goes_with, lessened, put_over}
+use Rattle.cedar_entities.specs.laws.Edits.{last_entity}
 use Rattle.cedar_entities.specs.Modes.{ancestry, is_ancestor_in, IsClosureRefused, WhereComputed}
 use Rattle.cedar_entities.specs.Plain.{StoreView, Held, IsPlainStore, IsKeyed, IsApart, IsBare, AreBare, parts_of, given_of}
 use Rattle.cedar_entities.specs.Present.{first_entity, keyed}
 use Rattle.cedar_entities.specs.Refusals.{MatchRefusal, IsOverwritingRefused}
+use Rattle.cedar_entities.specs.laws.Refusals.{refusal_cases}
 use Rattle.cedar_entities.specs.Touching.{is_touched, is_indirect_in, IsSettled, LosesBetween, StaysUntouched, WhereTaken}
 use Rattle.cedar_entities.specs.World.{World, graph, is_parent_in, entry_of, reversed, overwritten}
 use Rattle.cedar_entities.specs.declared.entities.TCComputation.{TCComputation}
@@ -256,10 +257,6 @@ module _ (W : World) (S : StoreView) (L : List EntityView) (plain : IsPlainStore
   pub over_refused : (tc : TCComputation) (e : EntitiesError) → MatchRefusal e (λ _. ⊥) (IsClosureRefused tc (put_over S.held L)) → WhereComputed tc (IsOverwritingRefused W (map given_of L) e)
   over_refused modes.AssumeAlreadyComputed e h = tt
   over_refused modes.EnforceAlreadyComputed e h = tt
-  over_refused modes.ComputeNow (errors.Duplicate u) h = h
-  over_refused modes.ComputeNow (errors.TransitiveClosureError t) h = cycle_in (overwritten W (map given_of L)) (put_over S.held L) holds_over over_only t h
-  over_refused modes.ComputeNow (errors.SelfAncestor u) h = h
-  over_refused modes.ComputeNow (errors.DuplicateAncestor u x) h = h
-  over_refused modes.ComputeNow (errors.ActionParentIsNotAction u p) h = h
-  over_refused modes.ComputeNow (errors.ReservedKey k) h = h
-  over_refused modes.ComputeNow errors.Memory h = tt
+  over_refused modes.ComputeNow e h =
+      refusal_cases (λ _. ⊥) (IsClosureRefused modes.ComputeNow (put_over S.held L)) (IsOverwritingRefused W (map given_of L)) (λ u n. absurd n)
+      (λ t k. cycle_in (overwritten W (map given_of L)) (put_over S.held L) holds_over over_only t k) tt e h

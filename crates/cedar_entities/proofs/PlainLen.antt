@@ -11,7 +11,7 @@ use Rattle.cedar_ids.specs.declared.entity.EntityUID.{EntityUID}
 use Rattle.cedar_entity.specs.declared.node.SharedEntity.{SharedEntity}
 use Rattle.cedar_entities.specs.laws.Held.{held_map, shared}
 use Rattle.cedar_entities.specs.Plain.{StoreView, Held, IsPlainStore, parts_of}
-use Rattle.cedar_entity.specs.UidSets.{one_equal}
+use Rattle.cedar_uid_sets.specs.laws.Sets.{one_equal}
 use Rattle.cedar_entities.specs.World.{World, Parts}
 use Rattle.cedar_entities.proofs.StoreMaps.{len_listed, keys_mapped, length_mapped}
 use Rattle.cedar_entities.specs.laws.Worlds.{find-mapped}

@@ -8,13 +8,13 @@ use Rattle.std.specs.FinSet as set
 use Rattle.std.specs.FinMap as finmap
 use Rattle.std.specs.Ordering.{eq_by_cmp}
 use Rattle.cedar_graph.specs.Graph.{Reach, Path, KeepsEdges, AddsOnlyReached}
-use Rattle.cedar_graph.specs.ReachLaws.{reach_between, reach_edge}
+use Rattle.cedar_graph.specs.laws.Reaches.{reach_between, reach_edge}
 use Rattle.cedar_graph.specs.declared.err.TcError.{TcError}
 use Rattle.cedar_graph.specs.declared.err.TcError.TheVariants as tc
 use Rattle.cedar_ids.specs.UidOf.{uid_order}
 use Rattle.cedar_ids.specs.laws.UidOfLaws.{uid_order_total, same_uid_decides}
 use Rattle.cedar_ids.specs.declared.entity.EntityUID.{EntityUID}
-use Rattle.cedar_entity.specs.UidSets.{same_tests}
+use Rattle.cedar_uid_sets.specs.laws.Sets.{same_tests}
 use Rattle.cedar_entity.specs.View.{EntityView, has_ancestor, Kept, kept, overlap}
 use Rattle.cedar_entities.specs.ClosureFaults.{IsClosureFault}
 use Rattle.cedar_entities.specs.Plain.{StoreView, Held, IsPlainStore, IsKeyed, IsBare, IsApart, parts_of, given_of}

@@ -11,7 +11,8 @@ use Rattle.std.specs.FinMap as finmap
 use Rattle.cedar_ids.specs.UidOf.{same_uid}
 use Rattle.cedar_ids.specs.laws.UidOfLaws.{uid_order_total, same_uid_decides}
 use Rattle.cedar_ids.specs.declared.entity.EntityUID.{EntityUID}
-use Rattle.cedar_entity.specs.UidSets.{UidSet, one_equal}
+use Rattle.cedar_uid_sets.specs.UidSets.{UidValues}
+use Rattle.cedar_uid_sets.specs.laws.Sets.{one_equal}
 use Rattle.cedar_entity.specs.laws.UidSets.{kept_in}
 use Rattle.cedar_entity.specs.View.{EntityView, has_ancestor}
 use Rattle.cedar_entities.specs.Edits.{goes_with, lessened}
@@ -105,7 +106,7 @@ not_absent m u h = at (get same_uid m u) h
     at (Some e) k = refl
 
 -- a set of which nothing goes
-pub none_retained : (s : UidSet) (g : EntityUID → Bool) → ((x : EntityUID) → set.contains s x ≡ true → g x ≡ false) → set.retain s (λ p. not (g p)) ≡ s
+pub none_retained : (s : UidValues) (g : EntityUID → Bool) → ((x : EntityUID) → set.contains s x ≡ true → g x ≡ false) → set.retain s (λ p. not (g p)) ≡ s
 none_retained s g h = set.same_set uid_order_total one_equal _ _ (λ x. kept_in s g x ∙ at x (set.contains s x) refl)
   where
     at : (x : EntityUID) (b : Bool) → set.contains s x ≡ b → (b && not (g x)) ≡ b

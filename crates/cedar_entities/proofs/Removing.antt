@@ -9,7 +9,7 @@ use Rattle.std.specs.Set.{is_member}
 use Rattle.std.specs.FinSet as set
 use Rattle.std.specs.FinMap as finmap
 use Rattle.cedar_graph.specs.Graph.{Reach, KeepsEdges, AddsOnlyReached}
-use Rattle.cedar_graph.specs.ReachLaws.{reach_edge, reach_over_reach, reach_trans}
+use Rattle.cedar_graph.specs.laws.Reaches.{reach_edge, reach_over_reach, reach_trans}
 use Rattle.cedar_graph.specs.declared.err.TcError.{TcError}
 use Rattle.cedar_graph.specs.declared.err.TcError.TheVariants as tc
 use Rattle.cedar_ids.specs.UidOf.{same_uid}
@@ -23,6 +23,7 @@ use Rattle.cedar_entities.specs.Edits.{goes_with, leaves, lessened, parted, take
 use Rattle.cedar_entities.specs.Modes.{ancestry, is_ancestor_in, IsClosureRefused, IsSound}
 use Rattle.cedar_entities.specs.Plain.{StoreView, Held, IsPlainStore, IsKeyed, IsApart, parts_of}
 use Rattle.cedar_entities.specs.Refusals.{MatchRefusal}
+use Rattle.cedar_entities.specs.laws.Refusals.{refusal_cases}
 use Rattle.cedar_entities.specs.Touching.{is_touched, removed_from, IsRepairOf, IsMended, IsMendRefused, StaysUntouched}
 use Rattle.cedar_entities.specs.World.{World, Parts, graph, is_parent_in, goes, without, deleted}
 use Rattle.cedar_entities.specs.declared.entities.TCComputation.{TCComputation}
@@ -208,10 +209,6 @@ module _ (W : World) (S : StoreView) (U : List EntityUID) (plain : IsPlainStore 
   not_refused modes.ComputeNow tc.Memory h = h
 
   pub left_refused : (m : TCComputation) (e : EntitiesError) → MatchRefusal e (λ _. ⊥) (IsMendRefused m (is_touched S.held (removed_from S.held U)) (taken_out S.held U)) → e ≡ errors.Memory
-  left_refused m (errors.Duplicate u) h = absurd h
-  left_refused m (errors.TransitiveClosureError t) h = absurd (not_refused m t h)
-  left_refused m (errors.SelfAncestor u) h = absurd h
-  left_refused m (errors.DuplicateAncestor u x) h = absurd h
-  left_refused m (errors.ActionParentIsNotAction u p) h = absurd h
-  left_refused m (errors.ReservedKey k) h = absurd h
-  left_refused m errors.Memory h = refl
+  left_refused m e h =
+      refusal_cases (λ _. ⊥) (IsMendRefused m (is_touched S.held (removed_from S.held U)) (taken_out S.held U)) (λ r. r ≡ errors.Memory) (λ u n. absurd n)
+      (λ t k. absurd (not_refused m t k)) refl e h

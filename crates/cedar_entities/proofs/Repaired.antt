@@ -5,7 +5,7 @@ use Rattle.std.proofs.lemmas.Bool.{false≢true}
 use Rattle.std.specs.Option.{option_map, IfSome}
 use Rattle.std.specs.FinMap as finmap
 use Rattle.cedar_graph.specs.Graph.{Reach, AddsOnlyReached, IsTrusted}
-use Rattle.cedar_graph.specs.ReachLaws.{reach_over_reach}
+use Rattle.cedar_graph.specs.laws.Reaches.{reach_over_reach}
 use Rattle.cedar_ids.specs.declared.entity.EntityUID.{EntityUID}
 use Rattle.cedar_entity.specs.View.{EntityView, has_ancestor}
 use Rattle.cedar_entities.specs.Modes.{ancestry, is_ancestor_in}

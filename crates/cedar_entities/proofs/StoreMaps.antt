@@ -13,7 +13,7 @@ use Rattle.cedar_entity.specs.declared.node.SharedEntity.{SharedEntity}
 use Rattle.cedar_entities.specs.laws.Held.{held, held_map, shared, UidsMatch}
 use Rattle.cedar_entities.specs.Plain.{Held, IsKeyed}
 use Rattle.cedar_entities.specs.Present.{first_entity, with_first, keyed}
-use Rattle.cedar_entity.specs.UidSets.{same_tests, one_equal}
+use Rattle.cedar_uid_sets.specs.laws.Sets.{same_tests, one_equal}
 use Rattle.cedar_entity.specs.View.{EntityView}
 use Rattle.cedar_entities.specs.laws.Worlds.{find-mapped, get_joined}
 

@@ -12,7 +12,7 @@ use Rattle.cedar_ids.specs.laws.UidOfLaws.{same_uid_decides, same_uid_equiv}
 use Rattle.cedar_ids.specs.declared.entity.EntityUID.{EntityUID}
 use Rattle.cedar_entity.specs.View.{EntityView}
 use Rattle.cedar_entity.specs.declared.node.SharedEntity.{SharedEntity}
-use Rattle.cedar_entities.specs.Edits.{stripped}
+use Rattle.cedar_entities.specs.laws.Edits.{stripped}
 use Rattle.cedar_entities.specs.Modes.{is_ancestor_in}
 use Rattle.cedar_entities.specs.laws.Held.{shared}
 use Rattle.cedar_entities.specs.laws.Readings.{goes_from, is_below, notes}

@@ -19,12 +19,12 @@ use Rattle.cedar_ids.specs.declared.entity.EntityUID.{EntityUID}
 use Rattle.cedar_entity.specs.declared.node.SharedEntity.{SharedEntity}
 use Rattle.cedar_entities.specs.laws.Held.{held_map, shared}
 use Rattle.cedar_entities.specs.Plain.{StoreView, Held}
-use Rattle.cedar_entities.specs.SameUids.{uids_of, uids_in, same_uids, HaveSameUids}
-use Rattle.cedar_entity.specs.UidSets.{one_equal}
+use Rattle.cedar_entities.specs.SameUids.{uids_held, uids_in, same_uids_and_mode, HaveSameUids}
+use Rattle.cedar_uid_sets.specs.laws.Sets.{one_equal}
 use Rattle.cedar_entities.proofs.Adding.{same_bool}
 use Rattle.cedar_entities.proofs.Adds.{stored}
 
-contains_uid : (D : Held) (q : EntityUID) → set.contains (uids_of D) q ≡ finmap.contains_key D q
+contains_uid : (D : Held) (q : EntityUID) → set.contains (uids_held D) q ≡ finmap.contains_key D q
 contains_uid D q = set.contains-from_list uid_order_total (finmap.keys D) q ∙ sym (finmap.contains_key-keys D q)
 
 and_left : (x y : Bool) → (x && y) ≡ true → x ≡ true
@@ -41,22 +41,22 @@ and_both x y h k = ap (λ b. b && y) h ∙ k
 listed : (S T : StoreView) → Decides (pointwise same_uid (uids_in S) (uids_in T)) (uids_in S ≡ uids_in T)
 listed S T = slice_eq-Decides same_uid_decides (uids_in S) (uids_in T) (pointwise same_uid (uids_in S) (uids_in T)) refl
 
-pub same_uids_told : (S T : StoreView) → (same_uids S T ≡ true) ↔ HaveSameUids S T
+pub same_uids_told : (S T : StoreView) → (same_uids_and_mode S T ≡ true) ↔ HaveSameUids S T
 same_uids_told S T = (
   λ h. record {
     mode = (booleans_Decides S.partial T.partial).0 (and_left (beq S.partial T.partial) (pointwise same_uid (uids_in S) (uids_in T)) h);
     uids = λ q.
         let same : uids_in S ≡ uids_in T = (listed S T).0 (and_right (beq S.partial T.partial) (pointwise same_uid (uids_in S) (uids_in T)) h) in
-        sym (contains_uid S.held q) ∙ set.contains-items (uids_of S.held) q ∙ ap (list_any (eq_by_cmp uid_order q)) same
-        ∙ sym (set.contains-items (uids_of T.held) q) ∙ contains_uid T.held q;
+        sym (contains_uid S.held q) ∙ set.contains-items (uids_held S.held) q ∙ ap (list_any (eq_by_cmp uid_order q)) same
+        ∙ sym (set.contains-items (uids_held T.held) q) ∙ contains_uid T.held q;
   },
   λ k. and_both (beq S.partial T.partial) (pointwise same_uid (uids_in S) (uids_in T)) ((booleans_Decides S.partial T.partial).1 k.mode)
-      ((listed S T).1 (ap set.items (set.same_set uid_order_total one_equal (uids_of S.held) (uids_of T.held) (λ q. contains_uid S.held q ∙ k.uids q ∙ sym (contains_uid T.held q))))),
+      ((listed S T).1 (ap set.items (set.same_set uid_order_total one_equal (uids_held S.held) (uids_held T.held) (λ q. contains_uid S.held q ∙ k.uids q ∙ sym (contains_uid T.held q))))),
 )
 
 -- the answer of a call that tells it
-pub answers_same : (r : Bool) (S T : StoreView) → (r ≡ true) ↔ HaveSameUids S T → r ≡ same_uids S T
-answers_same r S T h = same_bool r (same_uids S T) h (same_uids_told S T)
+pub answers_same : (r : Bool) (S T : StoreView) → (r ≡ true) ↔ HaveSameUids S T → r ≡ same_uids_and_mode S T
+answers_same r S T h = same_bool r (same_uids_and_mode S T) h (same_uids_told S T)
 
 some_shared : (o : Option SharedEntity) → is_some (option_map shared o) ≡ is_some o
 some_shared None = refl

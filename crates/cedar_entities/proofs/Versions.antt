@@ -8,16 +8,17 @@ use Rattle.std.specs.Ordering.{eq_by_cmp}
 use Rattle.cedar_ids.specs.UidOf.{same_uid, uid_order}
 use Rattle.cedar_ids.specs.laws.UidOfLaws.{same_uid_decides, same_uid_equiv}
 use Rattle.cedar_ids.specs.declared.entity.EntityUID.{EntityUID}
-use Rattle.cedar_entity.specs.UidSets.{same_tests}
-use Rattle.cedar_entity.specs.View.{EntityView, IsDeepEqual, deep_equality}
+use Rattle.cedar_uid_sets.specs.laws.Sets.{same_tests}
+use Rattle.cedar_entity.specs.View.{EntityView, IsDeepEqual}
+use Rattle.cedar_entity.specs.laws.Views.{deep_equality}
 use Rattle.std.specs.HashMap.{HashMap, get}
 use Rattle.cedar_entity.specs.declared.node.SharedEntity.{SharedEntity}
 use Rattle.cedar_entities.specs.laws.Held.{held, shared, UidsMatch}
 use Rattle.cedar_entities.specs.Present.{first_entity, keyed, MatchesPresent, FirstMismatch, present}
-use Rattle.cedar_entities.specs.Edits.{last_entity}
+use Rattle.cedar_entities.specs.laws.Edits.{last_entity}
 use Rattle.cedar_entities.specs.Refusals.{MatchRefusal}
+use Rattle.cedar_entities.specs.laws.Refusals.{refusal_cases}
 use Rattle.cedar_entity.specs.declared.err.EntitiesError.{EntitiesError}
-use Rattle.cedar_entity.specs.declared.err.EntitiesError.TheVariants as errors
 use Rattle.cedar_entities.specs.World.{reversed}
 
 abbrev pub Fn : Type 0
@@ -131,13 +132,9 @@ map_same (x ∷ xs) = ap (λ l. x ∷ l) (map_same xs)
 
 pub weaker_refusal : (f now : Fn) (done : List EntityView) (e : EntityView) (rest items : List EntityView) → items ≡ done ++ e ∷ rest → ((q : EntityUID) → now q ≡ option_or (f q) (first_entity done q)) → AllByRecursion (MatchesPresent f items) done
     → (r : EntitiesError) → MatchRefusal r (λ u. (u ≡ e.uid) × (h : EntityView) × (now e.uid ≡ Some h) × (IsDeepEqual h e → ⊥)) (λ _. ⊥) → MatchRefusal r (FirstMismatch f items) (λ _. ⊥)
-weaker_refusal f now done e rest items is so agree (errors.Duplicate u) h = record { before = done; at = e; after = rest; place = is; agree = agree; differs = differs_now f now done e h.1 rest items is so h.2 h.3; uid = sym h.0 }
-weaker_refusal f now done e rest items is so agree (errors.TransitiveClosureError t) h = h
-weaker_refusal f now done e rest items is so agree (errors.SelfAncestor u) h = h
-weaker_refusal f now done e rest items is so agree (errors.DuplicateAncestor u a) h = h
-weaker_refusal f now done e rest items is so agree (errors.ActionParentIsNotAction u p) h = h
-weaker_refusal f now done e rest items is so agree (errors.ReservedKey k) h = h
-weaker_refusal f now done e rest items is so agree errors.Memory h = tt
+weaker_refusal f now done e rest items is so agree r h =
+    refusal_cases (λ u. (u ≡ e.uid) × (k : EntityView) × (now e.uid ≡ Some k) × (IsDeepEqual k e → ⊥)) (λ _. ⊥) (λ s. MatchRefusal s (FirstMismatch f items) (λ _. ⊥))
+    (λ u k. record { before = done; at = e; after = rest; place = is; agree = agree; differs = differs_now f now done e k.1 rest items is so k.2 k.3; uid = sym k.0 }) (λ t n. absurd n) tt r h
 
 pushed : (b : Bool) (v : SharedEntity) (x : EntityView) (o : Option SharedEntity) → shared v ≡ x → option_map shared (cond b (Some v) o) ≡ option_or (cond b (Some x) None) (option_map shared o)
 pushed true v x o h = ap Some h

@@ -1,10 +1,10 @@
 -- What an edit makes of the entities that are held, before any ancestor is computed anew.
-use Rattle.std.specs.Prelude.{Bool, not, ◌&&◌, ◌||◌, List, ◌++◌, map, Option}
+use Rattle.std.specs.Prelude.{Bool, not, ◌&&◌, ◌||◌, List, ◌++◌, map}
 use Rattle.std.specs.List.{list_any}
 use Rattle.std.specs.Set.{is_member}
 use Rattle.std.specs.FinSet as set
 use Rattle.std.specs.FinMap as finmap
-use Rattle.cedar_ids.specs.UidOf.{uid_order, same_uid}
+use Rattle.cedar_ids.specs.UidOf.{same_uid}
 use Rattle.cedar_ids.specs.declared.entity.EntityUID.{EntityUID}
 use Rattle.cedar_entity.specs.View.{EntityView, has_ancestor}
 use Rattle.cedar_entities.specs.Modes.{ancestry}
@@ -15,17 +15,6 @@ use Rattle.cedar_entities.specs.World.{reversed}
 -- the uids of a list of entities
 abbrev pub uids_of : List EntityView → List EntityUID
 uids_of L = map (λ e. e.uid) L
-
--- the last of a list with the uid
-abbrev pub last_entity : List EntityView → EntityUID → Option EntityView
-last_entity L q = finmap.find uid_order q (reversed (map keyed L))
-
--- the entity without the parents and without the indirect ancestors that go
-abbrev pub stripped : (EntityUID → Bool) → (EntityUID → Bool) → EntityView → EntityView
-stripped parents indirect e = record e {
-  parents = set.retain e.parents (λ p. not (parents p));
-  indirect = set.retain e.indirect (λ w. not (indirect w));
-}
 
 -- whether w goes from the indirect ancestors of an entity together with u: D holds u, the entity has u among its
 -- ancestors, and w is u or an ancestor of u

@@ -1,5 +1,6 @@
 pub mod Answers
 pub mod ClosureFaults
+pub mod Codes
 pub mod Edits
 pub mod Modes
 pub mod Plain

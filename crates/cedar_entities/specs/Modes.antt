@@ -1,7 +1,7 @@
 -- The ancestors that are held as a graph, and when each mode refuses it.
 use Rattle.std.specs.Prelude.{◌≡◌, Bool, true, false, Option, Some, None}
 use Rattle.std.specs.FinMap as finmap
-use Rattle.cedar_graph.specs.Graph.{Reach, IsClosed, HasNoLoop}
+use Rattle.cedar_graph.specs.Graph.{Reach, IsClosed, IsClosedWithoutLoop}
 use Rattle.cedar_graph.specs.Faults.{BreaksClosed}
 use Rattle.cedar_graph.specs.declared.err.TcError.{TcError}
 use Rattle.cedar_ids.specs.declared.entity.EntityUID.{EntityUID}
@@ -22,7 +22,7 @@ ancestry D a b = is_ancestor_in (finmap.get D a) b
 
 -- the graph of the ancestors is closed, and no entity is among its own
 abbrev pub IsSound : Held → Type 0
-IsSound D = IsClosed (ancestry D) × HasNoLoop (ancestry D)
+IsSound D = IsClosedWithoutLoop (ancestry D)
 
 -- why it is refused: never where the closure is assumed; where it is checked, for what breaks it, and for an
 -- entity among its own ancestors only if nothing does; where it is computed, for a uid that reaches itself

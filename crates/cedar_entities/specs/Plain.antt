@@ -2,8 +2,6 @@
 use Rattle.std.specs.Prelude.{◌≡◌, ◌↔◌, Bool, true, false, List, map}
 use Rattle.std.specs.declared.alloc.Global.{Global}
 use Rattle.std.specs.declared.rc.Rc.{Rc}
-use Rattle.std.proofs.Common.{refl}
-use Rattle.std.specs.Coded.{Coded, code_by, coded×, coded_bool}
 use Rattle.std.specs.List.{AllByRecursion}
 use Rattle.std.specs.Option.{option_map, IfSome}
 use Rattle.std.specs.FinSet as set
@@ -11,8 +9,7 @@ use Rattle.std.specs.FinMap as finmap
 use Rattle.cedar_graph.specs.Graph.{Reach}
 use Rattle.cedar_ids.specs.UidOf.{uid_order}
 use Rattle.cedar_ids.specs.declared.entity.EntityUID.{EntityUID}
-use Rattle.cedar_ids.specs.Codes.{uid_code}
-use Rattle.cedar_entity.specs.View.{EntityView, view_code, has_ancestor}
+use Rattle.cedar_entity.specs.View.{EntityView, has_ancestor}
 use Rattle.cedar_entities.specs.World.{World, Parts, Given, graph}
 
 -- entities under their uids
@@ -27,9 +24,6 @@ no_entities = finmap.empty
 pub record StoreView : Type 0 where
   pub held : Held
   pub partial : Bool
-
-abbrev pub store_code : Coded StoreView
-store_code = code_by (Held × Bool) (coded× (finmap.code uid_code view_code) coded_bool) (λ s. (s.held, s.partial)) (λ p. record { held = p.0; partial = p.1 }) (λ _. refl)
 
 -- the entities of a list of shared ones
 abbrev pub entities_in : List (Rc EntityView Global) → List EntityView

@@ -1,7 +1,6 @@
 -- When the entities of a store are valid, and which fault is answered where they are not.
-use Rattle.std.specs.Prelude.{◌≡◌, ◌⊎◌, ⊤, Option, Some, None, if◌then◌else◌}
+use Rattle.std.specs.Prelude.{◌≡◌, ⊤, Some}
 use Rattle.std.specs.Option.{IfSome}
-use Rattle.std.specs.Ordering.{is_lt}
 use Rattle.std.specs.FinMap as finmap
 use Rattle.std.specs.declared.cmp.Ordering.TheVariants.{Less}
 use Rattle.cedar_graph.specs.declared.err.TcError.{TcError}
@@ -45,12 +44,3 @@ IsValidStore D = IsSound D × AreAllValid D
 -- entity that has the least uid of those that are not valid
 abbrev pub IsStoreFault : Held → EntitiesError → Type 0
 IsStoreFault D r = MatchStoreFault r (IsClosureRefused modes.EnforceAlreadyComputed D) (λ f. IsSound D × IsFirstFault D f)
-
--- a faulty entity, where there is none so far or it stands before that one, and that one elsewhere
-abbrev pub lesser_of : EntityView → Option EntityView → Option EntityView
-lesser_of e None = Some e
-lesser_of e (Some a) = if is_lt (uid_order e.uid a.uid) then Some e else Some a
-
--- r is o where e is valid, and else the one with the lesser uid
-abbrev pub TakesFaulty : EntityView → Option EntityView → Option EntityView → Type 0
-TakesFaulty e o r = (IsValid e × (r ≡ o)) ⊎ ((IsValid e → ⊥) × (r ≡ lesser_of e o))

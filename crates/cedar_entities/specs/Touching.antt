@@ -52,7 +52,7 @@ IsSettled modes.AssumeAlreadyComputed touched D N = N ≡ D
 IsSettled modes.EnforceAlreadyComputed touched D N = (N ≡ D) × IsSound D
 IsSettled modes.ComputeNow touched D N = IsRepairOf touched D N × IsAcyclicAt touched D
 
--- the same of a removal, which repairs what it touched in each mode
+-- what a store has in the place of D once a removal is done, which repairs what it touched in each mode
 abbrev pub IsMended : TCComputation → (EntityUID → Bool) → Held → Held → Type 0
 IsMended modes.AssumeAlreadyComputed touched D N = IsRepairOf touched D N
 IsMended modes.EnforceAlreadyComputed touched D N = IsRepairOf touched D N × IsSound N

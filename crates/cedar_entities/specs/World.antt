@@ -9,13 +9,13 @@ use Rattle.cedar_graph.specs.Graph.{Reach}
 use Rattle.cedar_ids.specs.UidOf.{uid_order, same_uid}
 use Rattle.cedar_ids.specs.declared.entity.EntityUID.{EntityUID}
 use Rattle.cedar_entity.specs.Fields.{Fields}
-use Rattle.cedar_entity.specs.UidSets.{UidSet}
+use Rattle.cedar_uid_sets.specs.UidSets.{UidValues}
 
 -- what a world holds of an entity, beside its uid
 pub record Parts : Type 0 where
   pub attrs : Fields
   pub tags : Fields
-  pub parents : UidSet
+  pub parents : UidValues
 
 -- an entity as it is handed in
 pub record Given : Type 0 where

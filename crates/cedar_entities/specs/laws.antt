@@ -1,6 +1,10 @@
 pub mod Closures
+pub mod Edits
 pub mod Held
 pub mod Lists
 pub mod Readings
+pub mod Refusals
+pub mod SameUids
 pub mod Settled
+pub mod StoreFaults
 pub mod Worlds

@@ -11,7 +11,8 @@ ghost use Rattle.cedar_entities.specs.ClosureFaults.{IsClosureFault};
 ghost use Rattle.cedar_entity.specs.View.{EntityView, IsDeepEqual, IsEquivalenceRelation};
 ghost use Rattle.cedar_entities.specs.Answers.{AreDeepEqual, HasDeepEqual, Finds, IsUnknownOf, ListsHeld};
 ghost use Rattle.std.specs.HashSet.{contains};
-ghost use Rattle.cedar_entities.specs.Edits.{last_entity, put_over, taken_out, uids_of};
+ghost use Rattle.cedar_entities.specs.Edits.{put_over, taken_out, uids_of};
+ghost use Rattle.cedar_entities.specs.laws.Edits.{last_entity};
 ghost use Rattle.cedar_entities.specs.laws.Held.{held, held_map, shared, UidsMatch};
 ghost use Rattle.cedar_entities.specs.Modes.{IsClosureRefused, IsSound, WhereComputed};
 ghost use Rattle.cedar_entities.specs.Plain.{StoreView, entities_in, IsPlainStore, IsKeyed, AreBare, given_of, no_entities};
@@ -19,7 +20,7 @@ ghost use Rattle.cedar_entities.specs.Present.{first_entity, with_first, AllMatc
 ghost use Rattle.cedar_entities.specs.Refusals.{MatchRefusal, IsAddingRefused, IsOverwritingRefused};
 ghost use Rattle.cedar_entity.specs.declared.err.EntitiesError.TheVariants.{Memory};
 ghost use Rattle.cedar_entities.specs.declared.entities.TCComputation.TheVariants.{EnforceAlreadyComputed, ComputeNow};
-ghost use Rattle.cedar_entities.specs.SameUids.{HaveSameUids, same_uids};
+ghost use Rattle.cedar_entities.specs.SameUids.{HaveSameUids, same_uids_and_mode};
 ghost use Rattle.cedar_entities.specs.StoreFaults.{IsStoreFault, IsValidStore};
 ghost use Rattle.cedar_entities.specs.Touching.{IsAcyclicAt, IsMended, IsMendRefused, IsRepairOf, IsSettled, LosesBetween, StaysUntouched, WhereTaken, inserted_in, is_touched, removed_from};
 ghost use Rattle.cedar_entities.specs.World.{World, empty_world, added, overwritten, deleted, graph, AllAgree, FirstDiffers};
@@ -67,7 +68,8 @@ pub struct Entities {
 
 impl Model for Entities {
     ghost use Rattle.cedar_entities.specs.laws.Held.{held_map, UidsMatch};
-    ghost use Rattle.cedar_entities.specs.Plain.{StoreView, entities_in, store_code};
+    ghost use Rattle.cedar_entities.specs.Plain.{StoreView, entities_in};
+    ghost use Rattle.cedar_entities.specs.Codes.{store_code};
 
     ghost Value = { StoreView };
 
@@ -747,16 +749,17 @@ impl Entities {
 
 impl PartialEq for Entities {
     ghost use Rattle.std.specs.Cmp.{partial_equiv_from_equiv};
-    ghost use Rattle.cedar_entities.specs.SameUids.{same_uids, same_uids_equiv};
+    ghost use Rattle.cedar_entities.specs.SameUids.{same_uids_and_mode};
+    ghost use Rattle.cedar_entities.specs.laws.SameUids.{same_uids_and_mode_equiv};
 
-    ghost eq = { same_uids };
+    ghost eq = { same_uids_and_mode };
 
-    ghost laws = { partial_equiv_from_equiv same_uids_equiv };
+    ghost laws = { partial_equiv_from_equiv same_uids_and_mode_equiv };
 
     /// Whether both have the same uids and both are partial or neither is. What the entities hold is not
     /// looked at. It takes no memory; it looks each uid of either up in the other.
     fn eq(&self, other: &Entities) -> bool
-        ensures value { result ≡ same_uids self.now other.now }
+        ensures value { result ≡ same_uids_and_mode self.now other.now }
         ensures uids { IsTrue result ↔ HaveSameUids self.now other.now }
     {
         self.has_same_uids(other)
@@ -764,9 +767,9 @@ impl PartialEq for Entities {
 }
 
 impl Eq for Entities {
-    ghost use Rattle.cedar_entities.specs.SameUids.{same_uids_equiv};
+    ghost use Rattle.cedar_entities.specs.laws.SameUids.{same_uids_and_mode_equiv};
 
-    ghost laws = { same_uids_equiv };
+    ghost laws = { same_uids_and_mode_equiv };
 }
 
 impl Clone for Entities {

@@ -26,7 +26,8 @@ impl<'a> Model for Iter<'a> {
     ghost use Rattle.std.specs.Prelude.{List, map};
     ghost use Rattle.std.specs.Coded.{coded_list};
     ghost use Rattle.cedar_entities.specs.laws.Held.{shared};
-    ghost use Rattle.cedar_entity.specs.View.{EntityView, view_code};
+    ghost use Rattle.cedar_entity.specs.View.{EntityView};
+    ghost use Rattle.cedar_entity.specs.Codes.{view_code};
 
     ghost Value = { List EntityView };
 
@@ -71,7 +72,8 @@ impl Model for IntoIter {
     ghost use Rattle.std.specs.Prelude.{List, map};
     ghost use Rattle.std.specs.Coded.{coded_list};
     ghost use Rattle.cedar_entities.specs.laws.Held.{shared};
-    ghost use Rattle.cedar_entity.specs.View.{EntityView, view_code};
+    ghost use Rattle.cedar_entity.specs.View.{EntityView};
+    ghost use Rattle.cedar_entity.specs.Codes.{view_code};
 
     ghost Value = { List EntityView };
 

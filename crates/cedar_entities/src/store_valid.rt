@@ -2,7 +2,8 @@
 ghost use Rattle.std.specs.Prelude.{MatchOption, OnOk, IfErr};
 ghost use Rattle.std.specs.Option.{option_copied};
 ghost use Rattle.cedar_entities.specs.laws.Held.{held_map, UidsMatch};
-ghost use Rattle.cedar_entities.specs.StoreFaults.{AreAllValid, IsFirstFaulty, IsFirstFault, TakesFaulty};
+ghost use Rattle.cedar_entities.specs.StoreFaults.{AreAllValid, IsFirstFaulty, IsFirstFault};
+ghost use Rattle.cedar_entities.specs.laws.StoreFaults.{TakesFaulty};
 
 use cedar_entity::entity::Entity;
 use cedar_entity::err::EntitiesError;

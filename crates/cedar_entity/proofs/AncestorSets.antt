@@ -7,7 +7,7 @@ use Rattle.std.specs.Set.{is_member}
 use Rattle.cedar_ids.specs.UidOf.{same_uid, uid_order}
 use Rattle.cedar_ids.specs.laws.UidOfLaws.{uid_order_total, same_uid_decides, same_uid_equiv}
 use Rattle.cedar_ids.specs.declared.entity.EntityUID.{EntityUID}
-use Rattle.cedar_entity.specs.UidSets.{contains_listed, same_tests, one_equal}
+use Rattle.cedar_uid_sets.specs.laws.Sets.{contains_listed, same_tests, one_equal}
 use Rattle.cedar_graph.specs.Graph.{Grows}
 use Rattle.cedar_entity.specs.View.{EntityView, has_ancestor, overlap}
 

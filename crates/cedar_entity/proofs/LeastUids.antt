@@ -11,10 +11,10 @@ use Rattle.std.specs.declared.cmp.Ordering.TheVariants.{Less}
 use Rattle.cedar_ids.specs.UidOf.{same_uid, uid_order}
 use Rattle.cedar_ids.specs.laws.UidOfLaws.{uid_order_total, same_uid_decides}
 use Rattle.cedar_ids.specs.declared.entity.EntityUID.{EntityUID}
-use Rattle.cedar_uid_sets.specs.UidSets.{Ascend}
+use Rattle.cedar_uid_sets.specs.UidSets.{Ascend, UidValues}
 use Rattle.cedar_entity.specs.laws.UidOrder.{irreflexive}
-use Rattle.cedar_entity.specs.Least.{NonePasses, LeastOf}
-use Rattle.cedar_entity.specs.UidSets.{UidSet}
+use Rattle.cedar_entity.specs.Least.{NonePasses}
+use Rattle.cedar_entity.specs.laws.Least.{LeastOf}
 use Rattle.cedar_entity.specs.Validity.{is_non_action_parent, is_non_action_ancestor, HasOnlyActionAncestors, IsLeastNonAction}
 use Rattle.cedar_entity.specs.View.{EntityView}
 use Rattle.cedar_entity.proofs.UidSteps.{either, above_member}
@@ -71,11 +71,11 @@ module _ (p : EntityUID → Bool) where
   first_least (u ∷ us) h = at u us (p u) (find p us) refl h.0 (first_least us h.1)
 
   -- the same of a list that has the members of a set
-  pub first_least_of : (s : UidSet) (us : List EntityUID) (o : Option EntityUID) → ((q : EntityUID) → is_member same_uid us q ≡ set.contains s q) → Ascend us → o ≡ find p us → LeastOf (λ q. set.contains s q && p q) o
+  pub first_least_of : (s : UidValues) (us : List EntityUID) (o : Option EntityUID) → ((q : EntityUID) → is_member same_uid us q ≡ set.contains s q) → Ascend us → o ≡ find p us → LeastOf (λ q. set.contains s q && p q) o
   first_least_of s us o h a e =
       subst (λ t. LeastOf t o) (λ i q. h q i && p q) (subst (LeastOf (passes us)) (sym e) (first_least us a))
 
--- where no parent is strange, the least strange ancestor is the strange one
-pub strange_ancestor : (e : EntityView) (o : Option EntityUID) → NonePasses (is_non_action_parent e) → LeastOf (is_non_action_ancestor e) o → MatchOption o (HasOnlyActionAncestors e) (IsLeastNonAction e)
-strange_ancestor e None h g = (h, g)
-strange_ancestor e (Some a) h g = inr (h, g)
+-- where each parent is an action, the least indirect ancestor that is none is the one to be named
+pub non_action_ancestor : (e : EntityView) (o : Option EntityUID) → NonePasses (is_non_action_parent e) → LeastOf (is_non_action_ancestor e) o → MatchOption o (HasOnlyActionAncestors e) (IsLeastNonAction e)
+non_action_ancestor e None h g = (h, g)
+non_action_ancestor e (Some a) h g = inr (h, g)

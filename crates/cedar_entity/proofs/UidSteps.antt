@@ -11,13 +11,13 @@ use Rattle.std.specs.declared.cmp.Ordering.TheVariants.{Less}
 use Rattle.cedar_ids.specs.UidOf.{same_uid, uid_order}
 use Rattle.cedar_ids.specs.laws.UidOfLaws.{uid_order_total, same_uid_decides}
 use Rattle.cedar_ids.specs.declared.entity.EntityUID.{EntityUID}
-use Rattle.cedar_uid_sets.specs.UidSets.{Ascend}
+use Rattle.cedar_uid_sets.specs.UidSets.{Ascend, UidValues}
 use Rattle.cedar_entity.specs.Listing.{Lists}
 use Rattle.cedar_entity.specs.laws.UidOrder.{irreflexive}
-use Rattle.cedar_entity.specs.UidSets.{UidSet, same_tests, contains_listed, is_member-append}
+use Rattle.cedar_uid_sets.specs.laws.Sets.{same_tests, contains_listed, is_member-append}
 
 -- a list that ascends and has the members of a set lists it
-pub lists_ascending : (s : UidSet) (us : List EntityUID) → ((q : EntityUID) → is_member same_uid us q ≡ set.contains s q) → Ascend us → Lists s us
+pub lists_ascending : (s : UidValues) (us : List EntityUID) → ((q : EntityUID) → is_member same_uid us q ≡ set.contains s q) → Ascend us → Lists s us
 lists_ascending s us h a = record { members = h; once = subst (λ t. IsDistinct t us) same_tests (IsDistinct-from_sorted uid_order us a) }
 
 -- what one of two tests says
@@ -72,7 +72,7 @@ same_ascending (u ∷ us) (v ∷ vs) a b h =
     λ i. e i ∷ rest i
 
 -- two lists in turn have what their sets have
-pub both_listed : (ps is : List EntityUID) (s t : UidSet) → set.from_list ps ≡ s → set.from_list is ≡ t → (q : EntityUID) → is_member same_uid (ps ++ is) q ≡ (set.contains s q || set.contains t q)
+pub both_listed : (ps is : List EntityUID) (s t : UidValues) → set.from_list ps ≡ s → set.from_list is ≡ t → (q : EntityUID) → is_member same_uid (ps ++ is) q ≡ (set.contains s q || set.contains t q)
 both_listed ps is s t f g q =
     is_member-append ps is q
     ∙ (λ i. (sym (contains_listed ps q) ∙ ap (λ v. set.contains v q) f) i || (sym (contains_listed is q) ∙ ap (λ v. set.contains v q) g) i)

@@ -27,12 +27,12 @@ abbrev pub field_keys : Fields → List (List ℕ)
 field_keys fs = map (λ f. f.0) fs
 
 -- the keys ascend by bytes, and so each stands once
-abbrev pub Ascend : Fields → Type 0
-Ascend fs = IsStrictlySortedBy (slice_cmp nat_cmp) (field_keys fs)
+abbrev pub KeysAscend : Fields → Type 0
+KeysAscend fs = IsStrictlySortedBy (slice_cmp nat_cmp) (field_keys fs)
 
 -- the fields of the pairs: their keys ascend, and at each key stands what the last pair with it gives
 pub record AreFieldsOf (pairs fields : Fields) : Type 0 where
-  pub ascending : Ascend fields
+  pub ascending : KeysAscend fields
   pub last : (key : List ℕ) → field_at key fields ≡ last_at key pairs
 
 -- pairs of a text and a value, as fields

@@ -1,5 +1,5 @@
 -- The least uid of those that pass a test.
-use Rattle.std.specs.Prelude.{◌≡◌, Bool, true, false, Option, MatchOption}
+use Rattle.std.specs.Prelude.{◌≡◌, Bool, true, false}
 use Rattle.std.specs.declared.cmp.Ordering.TheVariants.{Less}
 use Rattle.cedar_ids.specs.UidOf.{uid_order}
 use Rattle.cedar_ids.specs.declared.entity.EntityUID.{EntityUID}
@@ -12,7 +12,3 @@ pub record IsLeast (passes : EntityUID → Bool) (a : EntityUID) : Type 0 where
 -- no uid passes
 abbrev pub NonePasses : (EntityUID → Bool) → Type 0
 NonePasses passes = (q : EntityUID) → passes q ≡ false
-
--- the least uid that passes, or none where none passes
-abbrev pub LeastOf : (EntityUID → Bool) → Option EntityUID → Type 0
-LeastOf passes o = MatchOption o (NonePasses passes) (IsLeast passes)

@@ -1,8 +1,8 @@
 pub mod ClosureRefusals
+pub mod Codes
 pub mod Fields
 pub mod Least
 pub mod Listing
-pub mod UidSets
 pub mod Validity
 pub mod View
 pub mod laws

@@ -32,12 +32,12 @@ abbrev mutual
   reserved_in_record no_fields = None
   reserved_in_record (field_then k v fs) = if is_reserved_key k then Some k else option_or (reserved_in v) (reserved_in_record fs)
 
--- the same of a value or a residual; a residual is skipped
+-- the first reserved key that a walk of a value or a residual meets; a residual is skipped
 abbrev pub reserved_in_partial : PartialValue → Option (List ℕ)
 reserved_in_partial (partials.Value v) = reserved_in v
 reserved_in_partial (partials.Residual e) = None
 
--- the same of attributes or tags, key by key; their own keys are not tested
+-- the first reserved key that a walk of attributes or tags meets, key by key; their own keys are not tested
 abbrev pub reserved_in_fields : Fields → Option (List ℕ)
 reserved_in_fields [] = None
 reserved_in_fields (f ∷ fs) = option_or (reserved_in_partial f.1) (reserved_in_fields fs)
@@ -66,7 +66,7 @@ is_non_action_ancestor e q = set.contains e.indirect q && not (is_action q)
 abbrev pub PassesSelf : EntityView → Type 0
 PassesSelf e = has_ancestor e e.uid ≡ false
 
--- and no uid is a parent and an indirect ancestor at once
+-- it is not its own ancestor, and no uid is a parent and an indirect ancestor at once
 abbrev pub PassesDuplicates : EntityView → Type 0
 PassesDuplicates e = PassesSelf e × NonePasses (is_in_both e)
 
@@ -74,11 +74,11 @@ PassesDuplicates e = PassesSelf e × NonePasses (is_in_both e)
 abbrev pub HasOnlyActionAncestors : EntityView → Type 0
 HasOnlyActionAncestors e = NonePasses (is_non_action_parent e) × NonePasses (is_non_action_ancestor e)
 
--- and where it is an action, all its ancestors are
+-- it passes what is looked for before actions and, where it is an action, all its ancestors are actions
 abbrev pub PassesActions : EntityView → Type 0
 PassesActions e = PassesDuplicates e × (IsTrue (is_action e.uid) → HasOnlyActionAncestors e)
 
--- p is the least strange parent or, where there is none, the least strange indirect ancestor
+-- p is the least parent that is no action or, where there is none, the least indirect ancestor that is none
 abbrev pub IsLeastNonAction : EntityView → EntityUID → Type 0
 IsLeastNonAction e p = IsLeast (is_non_action_parent e) p ⊎ (NonePasses (is_non_action_parent e) × IsLeast (is_non_action_ancestor e) p)
 

@@ -6,9 +6,9 @@ ghost use Rattle.std.specs.Set.{is_member};
 ghost use Rattle.std.specs.Cmp.Lexicographic.{pointwise};
 ghost use Rattle.cedar_ids.specs.UidOf.{same_uid, uid_order};
 ghost use Rattle.cedar_ids.specs.declared.entity.EntityUID.{EntityUID};
-ghost use Rattle.cedar_uid_sets.specs.UidSets as uids;
-ghost use Rattle.cedar_entity.specs.Fields.{Fields, AreFieldsOf, Ascend, fields_of, field_at, field_keys};
-ghost use Rattle.cedar_entity.specs.Least.{LeastOf};
+ghost use Rattle.cedar_uid_sets.specs.UidSets.{Ascend};
+ghost use Rattle.cedar_entity.specs.Fields.{Fields, AreFieldsOf, KeysAscend, fields_of, field_at, field_keys};
+ghost use Rattle.cedar_entity.specs.laws.Least.{LeastOf};
 ghost use Rattle.cedar_entity.specs.Listing.{Lists, ListsAncestors};
 ghost use Rattle.cedar_entity.specs.Validity.{HasOnlyActionAncestors, IsLeastNonAction, IsValid, IsFault, is_in_both, is_action, reserved_key};
 ghost use Rattle.cedar_entity.specs.laws.Faults.{IsFound};
@@ -44,7 +44,8 @@ pub struct Entity {
 
 impl Model for Entity {
     ghost use Rattle.cedar_entity.specs.Fields.{fields_of};
-    ghost use Rattle.cedar_entity.specs.View.{EntityView, view_code};
+    ghost use Rattle.cedar_entity.specs.View.{EntityView};
+    ghost use Rattle.cedar_entity.specs.Codes.{view_code};
 
     ghost Value = { EntityView };
 
@@ -317,7 +318,8 @@ impl Entity {
         self.is_child_of(other) || self.is_indirect_descendant_of(other)
     }
 
-    /// The same of a uid that is shared, which costs less. It takes no memory.
+    /// Whether a uid that is shared is an ancestor, a parent or an indirect one. It takes no memory; its look-ups cost
+    /// less than those of [`Entity::is_descendant_of`].
     pub fn is_descendant_of_shared(&self, other: &SharedUid) -> bool
         ensures { result ≡ has_ancestor self.now other.now }
     {
@@ -327,7 +329,7 @@ impl Entity {
     /// The keys of the attributes, in byte order. It takes no memory.
     pub fn keys(&self) -> Keys<'_>
         ensures keys { result ≡ field_keys self.now.attrs }
-        ensures ascending { Ascend self.now.attrs }
+        ensures ascending { KeysAscend self.now.attrs }
     {
         Keys::of(&self.attrs)
     }
@@ -335,7 +337,7 @@ impl Entity {
     /// The keys of the tags, in byte order. It takes no memory.
     pub fn tag_keys(&self) -> Keys<'_>
         ensures keys { result ≡ field_keys self.now.tags }
-        ensures ascending { Ascend self.now.tags }
+        ensures ascending { KeysAscend self.now.tags }
     {
         Keys::of(&self.tags)
     }
@@ -343,7 +345,7 @@ impl Entity {
     /// The attributes with their keys, in byte order of the keys. It takes no memory.
     pub fn attrs(&self) -> Pairs<'_>
         ensures pairs { result ≡ self.now.attrs }
-        ensures ascending { Ascend self.now.attrs }
+        ensures ascending { KeysAscend self.now.attrs }
     {
         Pairs::of(&self.attrs)
     }
@@ -351,7 +353,7 @@ impl Entity {
     /// The tags with their keys, in byte order of the keys. It takes no memory.
     pub fn tags(&self) -> Pairs<'_>
         ensures pairs { result ≡ self.now.tags }
-        ensures ascending { Ascend self.now.tags }
+        ensures ascending { KeysAscend self.now.tags }
     {
         Pairs::of(&self.tags)
     }
@@ -359,7 +361,7 @@ impl Entity {
     /// The parents, each once, in the order of uids. It takes no memory.
     pub fn parents(&self) -> Uids<'_>
         ensures lists { Lists self.now.parents result }
-        ensures ascending { uids.Ascend result }
+        ensures ascending { Ascend result }
     {
         self.parents.iter()
     }
@@ -367,7 +369,7 @@ impl Entity {
     /// The indirect ancestors, each once, in the order of uids. It takes no memory.
     pub fn indirect_ancestors(&self) -> Uids<'_>
         ensures lists { Lists self.now.indirect result }
-        ensures ascending { uids.Ascend result }
+        ensures ascending { Ascend result }
     {
         self.indirect_ancestors.iter()
     }
@@ -397,7 +399,7 @@ impl Entity {
     // The parents and the indirect ancestors, each once, in the order of uids.
     pub(crate) fn ancestors_in_order(&self) -> Union<'_>
         ensures members { (q : EntityUID) → is_member same_uid result q ≡ has_ancestor self.now q }
-        ensures ascending { uids.Ascend result }
+        ensures ascending { Ascend result }
     {
         self.parents.union(&self.indirect_ancestors)
     }
@@ -634,7 +636,10 @@ impl Entity {
         self.add_shared_parent(shared)
     }
 
-    /// The same of a uid that is shared already, which is not copied.
+    /// Takes in a parent that is shared already, which is not copied; it is then no indirect ancestor. A parent already
+    /// changes nothing but that.
+    ///
+    /// It takes memory, and where that is refused the entity stays as it was.
     pub fn add_shared_parent(&mut self, shared: SharedUid) -> Result<(), AllocError>
         ensures ok { OnOk result (self.new ≡ record self.old {
           parents = set.insert self.old.parents shared;
@@ -655,7 +660,8 @@ impl Entity {
         self.indirect_ancestors.remove(uid);
     }
 
-    /// The same of a uid that is shared, which costs less. It takes no memory.
+    /// Takes a uid that is shared out of the indirect ancestors; the parents stay. It takes no memory; its look-up
+    /// costs less than that of [`Entity::remove_indirect_ancestor`].
     pub fn remove_shared_ancestor(&mut self, shared: &SharedUid)
         ensures { self.new ≡ record self.old { indirect = set.remove self.old.indirect shared.now } }
     {
@@ -669,7 +675,8 @@ impl Entity {
         self.parents.remove(uid);
     }
 
-    /// The same of a uid that is shared, which costs less. It takes no memory.
+    /// Takes a uid that is shared out of the parents; the indirect ancestors stay. It takes no memory; its look-up costs
+    /// less than that of [`Entity::remove_parent`].
     pub fn remove_shared_parent(&mut self, shared: &SharedUid)
         ensures { self.new ≡ record self.old { parents = set.remove self.old.parents shared.now } }
     {

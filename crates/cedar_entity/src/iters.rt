@@ -1,7 +1,7 @@
 //! The iterators of an entity. Contracts see each as the list of what it has left.
 ghost use Rattle.std.specs.Prelude.{◌≡◌, ◌++◌, List, string_bytes, map};
 ghost use Rattle.std.specs.Iterator.{YieldsFirstRef, YieldsFirstBy, item_count};
-ghost use Rattle.cedar_entity.specs.Fields.{Ascend, fields_of, field_keys};
+ghost use Rattle.cedar_entity.specs.Fields.{KeysAscend, fields_of, field_keys};
 ghost use Rattle.cedar_entity.specs.Listing.{ListsBoth};
 
 use cedar_ids::entity::EntityUID;
@@ -30,7 +30,7 @@ impl<'a> Keys<'a> {
     // The keys of these.
     pub(crate) fn of(fields: &'a BTreeMap<String, PartialValue>) -> Keys<'a>
         ensures keys { result ≡ field_keys (fields_of fields.now.entries) }
-        ensures ascending { Ascend (fields_of fields.now.entries) }
+        ensures ascending { KeysAscend (fields_of fields.now.entries) }
     {
         Keys {
             inner: fields.keys(),
@@ -58,7 +58,7 @@ pub struct Pairs<'a> {
 }
 
 impl<'a> Model for Pairs<'a> {
-    ghost use Rattle.cedar_entity.specs.laws.Codes.{fields_code};
+    ghost use Rattle.cedar_entity.specs.Codes.{fields_code};
     ghost use Rattle.cedar_entity.specs.Fields.{Fields, fields_of};
 
     ghost Value = { Fields };
@@ -72,7 +72,7 @@ impl<'a> Pairs<'a> {
     // The pairs of these.
     pub(crate) fn of(fields: &'a BTreeMap<String, PartialValue>) -> Pairs<'a>
         ensures pairs { result ≡ fields_of fields.now.entries }
-        ensures ascending { Ascend (fields_of fields.now.entries) }
+        ensures ascending { KeysAscend (fields_of fields.now.entries) }
     {
         Pairs {
             inner: fields.iter(),

@@ -3,7 +3,7 @@ ghost use Rattle.std.specs.Prelude.{◌≡◌, not, ◌&&◌};
 ghost use Rattle.std.specs.FinSet as set;
 ghost use Rattle.std.specs.List.{find};
 ghost use Rattle.std.specs.Option.{option_copied};
-ghost use Rattle.cedar_entity.specs.Least.{LeastOf};
+ghost use Rattle.cedar_entity.specs.laws.Least.{LeastOf};
 ghost use Rattle.cedar_entity.specs.Validity.{is_action};
 
 use cedar_ids::entity::EntityUID;

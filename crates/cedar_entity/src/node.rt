@@ -31,8 +31,8 @@ pub(crate) fn reset(entity: &mut Entity)
 impl TCNode<EntityUID> for Entity {
     ghost use Rattle.cedar_ids.specs.declared.entity.EntityUID.{EntityUID};
     ghost use Rattle.std.specs.FinSet as set;
-    ghost use Rattle.cedar_entity.specs.UidSets.{UidSet};
-    ghost use Rattle.cedar_entity.specs.View.{EntityView, has_ancestor, Rest, rest, Kept, kept, ancestors_respect, parents_are_ancestors};
+    ghost use Rattle.cedar_entity.specs.View.{EntityView, has_ancestor, Rest, rest, Kept, kept};
+    ghost use Rattle.cedar_entity.specs.laws.Views.{ancestors_respect, parents_are_ancestors};
 
     ghost Rest = { Rest };
 
@@ -105,8 +105,8 @@ pub struct SharedEntity(pub Rc<Entity>);
 impl TCNode<EntityUID> for SharedEntity {
     ghost use Rattle.cedar_ids.specs.declared.entity.EntityUID.{EntityUID};
     ghost use Rattle.std.specs.FinSet as set;
-    ghost use Rattle.cedar_entity.specs.UidSets.{UidSet};
-    ghost use Rattle.cedar_entity.specs.View.{EntityView, has_ancestor, Rest, rest, Kept, kept, ancestors_respect, parents_are_ancestors};
+    ghost use Rattle.cedar_entity.specs.View.{EntityView, has_ancestor, Rest, rest, Kept, kept};
+    ghost use Rattle.cedar_entity.specs.laws.Views.{ancestors_respect, parents_are_ancestors};
 
     ghost Rest = { Rest };
 

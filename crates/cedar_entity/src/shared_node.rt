@@ -58,8 +58,8 @@ fn add_row(alloc: Global, entity: &mut Entity, keys: &mut Vec<SharedUid>) -> Res
 impl TCNode<SharedUid> for Entity {
     ghost use Rattle.cedar_ids.specs.declared.entity.EntityUID.{EntityUID};
     ghost use Rattle.std.specs.FinSet as set;
-    ghost use Rattle.cedar_entity.specs.UidSets.{UidSet};
-    ghost use Rattle.cedar_entity.specs.View.{EntityView, has_ancestor, Rest, rest, Kept, kept, ancestors_respect, parents_are_ancestors};
+    ghost use Rattle.cedar_entity.specs.View.{EntityView, has_ancestor, Rest, rest, Kept, kept};
+    ghost use Rattle.cedar_entity.specs.laws.Views.{ancestors_respect, parents_are_ancestors};
 
     ghost Rest = { Rest };
 
@@ -138,8 +138,8 @@ impl TCNode<SharedUid> for Entity {
 impl TCNode<SharedUid> for SharedEntity {
     ghost use Rattle.cedar_ids.specs.declared.entity.EntityUID.{EntityUID};
     ghost use Rattle.std.specs.FinSet as set;
-    ghost use Rattle.cedar_entity.specs.UidSets.{UidSet};
-    ghost use Rattle.cedar_entity.specs.View.{EntityView, has_ancestor, Rest, rest, Kept, kept, ancestors_respect, parents_are_ancestors};
+    ghost use Rattle.cedar_entity.specs.View.{EntityView, has_ancestor, Rest, rest, Kept, kept};
+    ghost use Rattle.cedar_entity.specs.laws.Views.{ancestors_respect, parents_are_ancestors};
 
     ghost Rest = { Rest };
 

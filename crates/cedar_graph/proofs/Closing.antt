@@ -5,8 +5,8 @@ use Rattle.std.specs.List.{slice_get}
 use Rattle.std.specs.Option.{is_some}
 use Rattle.std.specs.Set.{is_member}
 use Rattle.std.proofs.Common.{◌≡◌, Bool, true, ℕ, ◌<◌, ◌&&◌, ◌⊎◌, inl, inr, List, Some, ap, sym, ◌∙◌}
-use Rattle.cedar_graph.specs.Graph.{graph_of, Reach, KeepsEdges, AddsOnlyReached, HasReached, IsTrusted}
-use Rattle.cedar_graph.specs.ReachLaws.{reach_edge}
+use Rattle.cedar_graph.specs.Graph.{graph_of, Reach, KeepsEdges, AddsOnlyReached, IsTrusted}
+use Rattle.cedar_graph.specs.laws.Reaches.{HasReached, reach_edge}
 use Rattle.cedar_graph.specs.laws.Arcs.{AreSameEdges, HasNumberBelow, ReachesKey, IsRowEdgeBelow, near_graph}
 use Rattle.cedar_graph.proofs.Reaches.{graph_from, graph_to, edge_found, lookup_alike, first_edge, both}
 use Rattle.cedar_graph.proofs.Keyed.{row_sound, row_complete, reach_alike, reach_of_near, near_reach}

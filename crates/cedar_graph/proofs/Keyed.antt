@@ -202,8 +202,8 @@ module _ {K : Type 0} (eq : K → K → Bool) (G : K → K → Bool) (keys : Lis
   reach_from_goes a b x y h k g = path_from_walk a b g.0 x y g.2.0 h k g.1 g.2.1
 
   path_alike : (x y q : K) (xs : List K) → eq x y ≡ true → Path G x xs q → Path G y xs q
-  path_alike x y q [] h p = sym (s.alike x y q h) ∙ p
-  path_alike x y q (u ∷ xs) h p = (sym (s.alike x y u h) ∙ p.0, p.1)
+  path_alike x y q [] h p = sym (s.respects_eq x y q h) ∙ p
+  path_alike x y q (u ∷ xs) h p = (sym (s.respects_eq x y u h) ∙ p.0, p.1)
 
   pub reach_alike : (x y q : K) → eq x y ≡ true → Reach G x q → Reach G y q
   reach_alike x y q h r = (r.0, path_alike x y q r.0 h r.1)

@@ -8,7 +8,8 @@ use Rattle.std.specs.Option.{is_some}
 use Rattle.std.proofs.lemmas.Map.Made.{is_some-lookup}
 use Rattle.std.specs.Map.{lookup}
 use Rattle.std.proofs.lemmas.Bool.{false≢true}
-use Rattle.cedar_graph.specs.Graph.{graph_of, edge_at, Path, Reach, KeepsNodes, HasReached, HasNoLoop, HasNoCycle}
+use Rattle.cedar_graph.specs.Graph.{graph_of, edge_at, Path, Reach, KeepsNodes, HasNoLoop, HasNoCycle}
+use Rattle.cedar_graph.specs.laws.Reaches.{HasReached}
 
 pub or_cases : (x y : Bool) → (x || y) ≡ true → (x ≡ true) ⊎ (y ≡ true)
 or_cases true y h = inl refl

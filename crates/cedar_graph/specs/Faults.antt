@@ -1,5 +1,6 @@
 -- What the refusals of the closure calls say.
-use Rattle.std.specs.Prelude.{◌≡◌, Bool, true, false, Result, Ok, Err, ⊤}
+use Rattle.std.specs.Prelude.{◌≡◌, Bool, true, false, Result, Ok, Err, IsTrue, ⊤}
+use Rattle.cedar_graph.specs.Graph.{Reach}
 use Rattle.cedar_graph.specs.declared.err.HasCycle.{HasCycle}
 use Rattle.cedar_graph.specs.declared.err.TcError.{TcError}
 use Rattle.cedar_graph.specs.declared.err.TcError.TheVariants.{MissingTcEdge, HasCycle as CycleFound, Memory}
@@ -14,6 +15,11 @@ MatchFault (MissingTcEdge e) P Q = P e.child e.parent e.grandparent
 MatchFault (CycleFound e) P Q = Q (vertex_of e)
 MatchFault Memory P Q = ⊤
 
+-- where it is asked for, a cycle is told, by a key that passes and lies on it; nothing is said of memory, and no other fault
+-- comes
+abbrev pub NamesCycleAt : {K : Type 0} → (asked : Bool) → (passes : K → Bool) → (K → K → Bool) → TcError K → Type 0
+NamesCycleAt asked passes G e = MatchFault e (λ _ _ _. ⊥) (λ v. IsTrue asked × (passes v ≡ true) × Reach G v v)
+
 -- P, unless memory was refused
 abbrev pub UnlessMemory : {T K : Type 0} → Result T (TcError K) → Type 0 → Type 0
 UnlessMemory (Ok x) P = P
@@ -24,7 +30,3 @@ UnlessMemory (Err Memory) P = ⊤
 -- three keys that break closedness
 abbrev pub BreaksClosed : {K : Type 0} → (K → K → Bool) → K → K → K → Type 0
 BreaksClosed G a b c = (G a b ≡ true) × (G b c ≡ true) × (G a c ≡ false)
-
--- a is the child's key, b is near it, b leads far to c, and the child has no edge to c
-abbrev pub ChildLacks : {K V : Type 0} → (K → K → Bool) → (V → K) → (V → K → Bool) → V → (K → Bool) → (K → K → Bool) → K → K → K → Type 0
-ChildLacks eq key edges child near far a b c = (eq (key child) a ≡ true) × (near b ≡ true) × (far b c ≡ true) × (edges child c ≡ false)

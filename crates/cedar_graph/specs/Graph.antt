@@ -29,6 +29,10 @@ IsClosed {K} G = (a b c : K) → G a b ≡ true → G b c ≡ true → G a c ≡
 abbrev pub HasNoLoop : {K : Type 0} → (K → K → Bool) → Type 0
 HasNoLoop {K} G = (a : K) → G a a ≡ false
 
+-- closed, and without a loop
+abbrev pub IsClosedWithoutLoop : {K : Type 0} → (K → K → Bool) → Type 0
+IsClosedWithoutLoop G = IsClosed G × HasNoLoop G
+
 -- no key lies on a cycle
 abbrev pub HasNoCycle : {K : Type 0} → (K → K → Bool) → Type 0
 HasNoCycle {K} G = (a : K) → Reach G a a → ⊥
@@ -49,10 +53,6 @@ KeepsEdges {K} old new = (a b : K) → old a b ≡ true → new a b ≡ true
 -- each new edge leads to what was reached over the old ones
 abbrev pub AddsOnlyReached : {K : Type 0} → (old new : K → K → Bool) → Type 0
 AddsOnlyReached {K} old new = (a b : K) → new a b ≡ true → Reach old a b
-
--- what was reached over the old edges has a new one
-abbrev pub HasReached : {K : Type 0} → (old new : K → K → Bool) → Type 0
-HasReached {K} old new = (a b : K) → Reach old a b → new a b ≡ true
 
 -- what is reached over the new edges is what was reached over the old ones
 abbrev pub ReachesSame : {K : Type 0} → (old new : K → K → Bool) → Type 0

@@ -4,7 +4,8 @@ ghost use Rattle.std.specs.Set.{ClonesAreEqual};
 ghost use Rattle.std.specs.HashMap.{get};
 ghost use Rattle.std.specs.HashSet.{contains};
 ghost use Rattle.cedar_graph.specs.Graph.{graph_of, IsClosed, HasNoLoop, KeysMatch};
-ghost use Rattle.cedar_graph.specs.Faults.{MatchFault, BreaksClosed, ChildLacks};
+ghost use Rattle.cedar_graph.specs.Faults.{MatchFault, BreaksClosed};
+ghost use Rattle.cedar_graph.specs.laws.Checks.{ChildLacks};
 
 use crate::copies::members_of;
 use crate::err::{HasCycle, MissingTcEdge, Result, TcError};

@@ -19,18 +19,8 @@ ghost use Rattle.std.specs.Prelude.{
 ghost use Rattle.std.specs.Set.{is_member, ClonesAreEqual};
 ghost use Rattle.std.specs.HashMap.{get, hash_map_len};
 ghost use Rattle.std.specs.HashSet.{contains, hash_set_len};
-ghost use Rattle.cedar_graph.specs.Graph.{
-  graph_of,
-  KeepsNodes,
-  KeepsEdges,
-  AddsOnlyReached,
-  HasReached,
-  ReachesSame,
-  IsClosure,
-  IsTrusted,
-  HasNoLoop,
-  HasNoCycle,
-};
+ghost use Rattle.cedar_graph.specs.Graph.{graph_of, KeepsNodes, KeepsEdges, AddsOnlyReached, ReachesSame, IsClosure, IsTrusted, HasNoLoop, HasNoCycle};
+ghost use Rattle.cedar_graph.specs.laws.Reaches.{HasReached};
 ghost use Rattle.cedar_graph.specs.laws.Arcs.{
   AreEdges,
   IsPicked,

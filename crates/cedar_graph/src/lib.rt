@@ -32,12 +32,12 @@
 //!     fn has_edge_to(&self, k: &u64) -> bool { self.targets.contains(k) }
 //!     fn reset_edges(&mut self, _alloc: Global) -> Result<(), AllocError> { Ok(()) }
 //!
-//!     ghost respects_eq = { λ n x y h. contains_alike nat_eq_equiv x y h n.targets };
+//!     ghost respects_eq = { λ n x y h. contains_both_or_none nat_eq_equiv x y h n.targets };
 //!     ghost direct_are_edges = { λ n q h. h };
 //! }
 //! ```
 //!
-//! `contains_alike` is a law of this crate's `specs/NodeLaws`. A caller of the three calls shows
+//! `contains_both_or_none` is a law of this crate's `specs/laws/Nodes`. A caller of the three calls shows
 //! two things: that each map key is its node's key, and that a copy of a key equals it.
 #![tactic(auto)]
 

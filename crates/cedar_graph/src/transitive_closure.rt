@@ -15,15 +15,14 @@ ghost use Rattle.std.specs.Prelude.{
   OnErr,
   IfErr,
   IsTrue,
-  IsSome,
 };
 ghost use Rattle.std.specs.List.{range_with_len};
 ghost use Rattle.std.specs.List.Sorted.{IsPermutation};
 ghost use Rattle.std.specs.Set.{is_member, ClonesAreEqual};
 ghost use Rattle.std.specs.HashMap.{get, hash_map_len};
 ghost use Rattle.std.specs.HashSet.{contains, hash_set_len};
-ghost use Rattle.cedar_graph.specs.Graph.{graph_of, Reach, Grows, KeepsNodes, KeysMatch, KeepsEdges, AddsOnlyReached, ReachesSame, IsClosure, IsClosed, IsTrusted, HasNoLoop, HasNoCycle, HasNoCycleAt};
-ghost use Rattle.cedar_graph.specs.Faults.{MatchFault, UnlessMemory, BreaksClosed};
+ghost use Rattle.cedar_graph.specs.Graph.{graph_of, Grows, KeepsNodes, KeysMatch, KeepsEdges, AddsOnlyReached, ReachesSame, IsClosure, IsClosed, IsClosedWithoutLoop, IsTrusted, HasNoCycle, HasNoCycleAt};
+ghost use Rattle.cedar_graph.specs.Faults.{MatchFault, NamesCycleAt, UnlessMemory, BreaksClosed};
 
 use crate::checks::{enforce_no_loop, enforce_no_loop_for, enforce_tc};
 use crate::close::{close, repair};
@@ -233,12 +232,8 @@ pub fn compute_tc<K: Clone + Eq + Hash + Debug + Display, V: TCNode<K>>(
         (graph_of K.eq V.edges nodes.new)
         (graph_of K.eq V.edges nodes.new)) }
     ensures ok { OnOk result (IsTrue enforce_dag → HasNoCycle (graph_of K.eq V.edges nodes.old)) }
-    ensures err { IfErr result (λ e. MatchFault e
-        (λ _ _ _. ⊥)
-        (λ v. IsTrue enforce_dag × Reach (graph_of K.eq V.edges nodes.old) v v)) }
-    ensures in_map { IfErr result (λ e. MatchFault e
-        (λ _ _ _. ⊥)
-        (λ v. IsSome (get K.eq nodes.old v))) }
+    ensures err { IfErr result (NamesCycleAt enforce_dag
+        (λ v. is_some (get K.eq nodes.old v)) (graph_of K.eq V.edges nodes.old)) }
 {
     compute_tc_counted(alloc, nodes, enforce_dag)?;
     Ok(())
@@ -248,7 +243,7 @@ pub fn compute_tc<K: Clone + Eq + Hash + Debug + Display, V: TCNode<K>>(
 /// most twice as many visits. The counts stay at `usize::MAX` once there.
 ///
 /// The original counts nothing.
-#[tactic(auto, using(crate::specs::NodeLaws::keys_match_kept, crate::proofs::Reaches::no_cycle_where_asked))]
+#[tactic(auto, using(crate::specs::laws::Nodes::keys_match_kept, crate::proofs::Reaches::no_cycle_where_asked))]
 pub fn compute_tc_counted<K: Clone + Eq + Hash + Debug + Display, V: TCNode<K>>(
     alloc: Global,
     nodes: &mut HashMap<K, V>,
@@ -273,12 +268,8 @@ pub fn compute_tc_counted<K: Clone + Eq + Hash + Debug + Display, V: TCNode<K>>(
         (graph_of K.eq V.edges nodes.new)
         (graph_of K.eq V.edges nodes.new)) }
     ensures ok { OnOk result (IsTrue enforce_dag → HasNoCycle (graph_of K.eq V.edges nodes.old)) }
-    ensures err { IfErr result (λ e. MatchFault e
-        (λ _ _ _. ⊥)
-        (λ v. IsTrue enforce_dag × Reach (graph_of K.eq V.edges nodes.old) v v)) }
-    ensures in_map { IfErr result (λ e. MatchFault e
-        (λ _ _ _. ⊥)
-        (λ v. IsSome (get K.eq nodes.old v))) }
+    ensures err { IfErr result (NamesCycleAt enforce_dag
+        (λ v. is_some (get K.eq nodes.old v)) (graph_of K.eq V.edges nodes.old)) }
     ensures reads { IfOk result (λ w. w.reads ≤ hash_map_len nodes.old) }
     ensures closings { IfOk result (λ w. w.closings ≤ 2 * hash_map_len nodes.old) }
 {
@@ -334,11 +325,8 @@ pub fn repair_tc<K: Clone + Eq + Hash + Debug + Display, V: TCNode<K>>(
         IsTrusted (contains K.eq nodes_to_fix.now) (graph_of K.eq V.edges nodes.old)
         → IsTrue enforce_dag
         → HasNoCycleAt (contains K.eq nodes_to_fix.now) (graph_of K.eq V.edges nodes.old)) }
-    ensures err { IfErr result (λ e. MatchFault e
-        (λ _ _ _. ⊥)
-        (λ v. IsTrue enforce_dag
-        × (contains K.eq nodes_to_fix.now v ≡ true)
-        × Reach (graph_of K.eq V.edges nodes.old) v v)) }
+    ensures err { IfErr result (NamesCycleAt enforce_dag
+        (contains K.eq nodes_to_fix.now) (graph_of K.eq V.edges nodes.old)) }
 {
     repair_tc_counted(alloc, nodes_to_fix, nodes, enforce_dag)?;
     Ok(())
@@ -348,7 +336,7 @@ pub fn repair_tc<K: Clone + Eq + Hash + Debug + Display, V: TCNode<K>>(
 /// least as many as it has where the map has all of them. The counts stay at `usize::MAX` once there.
 ///
 /// The original counts nothing.
-#[tactic(auto, using(crate::specs::NodeLaws::keys_match_kept))]
+#[tactic(auto, using(crate::specs::laws::Nodes::keys_match_kept))]
 pub fn repair_tc_counted<K: Clone + Eq + Hash + Debug + Display, V: TCNode<K>>(
     alloc: Global,
     nodes_to_fix: &HashSet<K>,
@@ -374,11 +362,8 @@ pub fn repair_tc_counted<K: Clone + Eq + Hash + Debug + Display, V: TCNode<K>>(
         IsTrusted (contains K.eq nodes_to_fix.now) (graph_of K.eq V.edges nodes.old)
         → IsTrue enforce_dag
         → HasNoCycleAt (contains K.eq nodes_to_fix.now) (graph_of K.eq V.edges nodes.old)) }
-    ensures err { IfErr result (λ e. MatchFault e
-        (λ _ _ _. ⊥)
-        (λ v. IsTrue enforce_dag
-        × (contains K.eq nodes_to_fix.now v ≡ true)
-        × Reach (graph_of K.eq V.edges nodes.old) v v)) }
+    ensures err { IfErr result (NamesCycleAt enforce_dag
+        (contains K.eq nodes_to_fix.now) (graph_of K.eq V.edges nodes.old)) }
     ensures closings { IfOk result (λ w. w.closings ≤ 2 * hash_set_len nodes_to_fix.now) }
     ensures visits { IfOk result (λ w.
         ((q : K) → contains K.eq nodes_to_fix.now q ≡ true
@@ -410,9 +395,7 @@ pub fn enforce_tc_and_dag<K: Clone + Eq + Hash + Debug + Display, V: TCNode<K>>(
 ) -> Result<(), K>
     requires copies { ClonesAreEqual K.eq K.is_clone }
     requires keys { KeysMatch K.eq V.key nodes.now }
-    ensures ok { OnOk result (
-        IsClosed (graph_of K.eq V.edges nodes.now)
-        × HasNoLoop (graph_of K.eq V.edges nodes.now)) }
+    ensures ok { OnOk result (IsClosedWithoutLoop (graph_of K.eq V.edges nodes.now)) }
     ensures err { IfErr result (λ e. MatchFault e
         (BreaksClosed (graph_of K.eq V.edges nodes.now))
         (λ v. IsClosed (graph_of K.eq V.edges nodes.now)

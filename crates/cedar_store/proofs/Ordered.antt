@@ -10,7 +10,7 @@ use Rattle.std.specs.declared.cmp.Ordering.{Ordering}
 use Rattle.std.specs.declared.cmp.Ordering.TheVariants.{Less}
 use Rattle.cedar_ids.specs.UidOf.{same_uid, uid_order}
 use Rattle.cedar_ids.specs.declared.entity.EntityUID.{EntityUID}
-use Rattle.cedar_entity.specs.UidSets.{same_tests}
+use Rattle.cedar_uid_sets.specs.laws.Sets.{same_tests}
 
 abbrev pub by_now : Bor EntityUID → Bor EntityUID → Ordering
 by_now x y = uid_order x.now y.now

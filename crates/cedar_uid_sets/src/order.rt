@@ -41,7 +41,7 @@ pub(crate) fn place(uids: &[SharedUid], uid: &Key<'_>) -> Result<usize, usize>
     uids.binary_search_by(|shared| order(shared, uid))
 }
 
-// The same where the uid is likely to go at the end, which is looked at first.
+// Where the uid is, or where it would go. The end is looked at first, where it is likely to go.
 pub(crate) fn place_from_end(uids: &[SharedUid], uid: &Key<'_>) -> Result<usize, usize>
     requires { Ascend uids.now }
     ensures { MatchResult result (IsPlaceOf uids.now uid.now) (IsGapFor uids.now uid.now) }

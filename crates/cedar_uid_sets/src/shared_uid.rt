@@ -1,3 +1,4 @@
+//! A uid behind a counted pointer, with the two numbers that abbreviate it.
 ghost use Rattle.std.specs.Prelude.{◌≡◌, IfOk, IfErr, ◌⊎◌};
 ghost use Rattle.cedar_ids.specs.UidOf.{same_uid, uid_order, uid_hash};
 ghost use Rattle.cedar_ids.specs.laws.UidOfLaws.{same_uid_equiv, uid_order_total, uid_order_ties, uid_order_po, uid_hash_respects};

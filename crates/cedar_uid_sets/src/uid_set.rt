@@ -26,7 +26,7 @@ pub struct UidSet {
 
 impl Model for UidSet {
     ghost use Rattle.std.specs.FinSet as set;
-    ghost use Rattle.cedar_uid_sets.specs.laws.Codes.{uid_set_code};
+    ghost use Rattle.cedar_uid_sets.specs.Codes.{uid_set_code};
     ghost use Rattle.cedar_uid_sets.specs.UidSets.{UidValues, Ascend};
 
     ghost Value = { UidValues };
@@ -129,14 +129,15 @@ impl UidSet {
         has(&self.uids, uid)
     }
 
-    /// The same for a uid that is shared, which costs less: the numbers that abbreviate it are at hand.
+    /// Whether a uid that is shared is in the set. It takes no memory, and compares as [`UidSet::contains`] does, which
+    /// costs less here: the numbers that abbreviate the uid are at hand.
     pub fn contains_shared(&self, shared: &SharedUid) -> bool
         ensures { result ≡ set.contains self.now shared.now }
     {
         is_one_of(&self.uids, &shared.key())
     }
 
-    // The same, where the numbers are looked at first: mostly these tell that the uid is not there.
+    // Whether a uid that is shared is in the set. The numbers are looked at first: mostly these tell that it is not.
     fn holds(&self, shared: &SharedUid) -> bool
         ensures { result ≡ set.contains self.now shared.now }
     {
@@ -175,7 +176,8 @@ impl UidSet {
         self.remove_key(&Key::of(uid));
     }
 
-    /// The same for a uid that is shared, which costs less: the numbers that abbreviate it are at hand.
+    /// Takes a uid that is shared out; one that is not there changes nothing. It takes no memory, and compares and moves
+    /// as [`UidSet::remove`] does, which costs less here: the numbers that abbreviate the uid are at hand.
     pub fn remove_shared(&mut self, shared: &SharedUid)
         ensures { self.new ≡ set.remove self.old shared.now }
     {

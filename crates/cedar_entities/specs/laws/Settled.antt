@@ -24,7 +24,8 @@ use Rattle.cedar_ids.specs.UidOf.{uid_order, same_uid}
 use Rattle.cedar_ids.specs.laws.UidOfLaws.{uid_order_ties, uid_order_total, same_uid_decides, same_uid_equiv}
 use Rattle.cedar_ids.specs.declared.entity.EntityUID.{EntityUID}
 use Rattle.cedar_entity.specs.Fields.{Fields}
-use Rattle.cedar_entity.specs.UidSets.{UidSet, same_tests, one_equal, contains_listed, is_member-append}
+use Rattle.cedar_uid_sets.specs.UidSets.{UidValues}
+use Rattle.cedar_uid_sets.specs.laws.Sets.{same_tests, one_equal, contains_listed, is_member-append}
 use Rattle.cedar_entities.specs.World.{World, Parts, Given, graph, is_parent_in, IsCyclic, Agrees, AgreesWith, AgreesWithFirst, AllAgree, FirstDiffers, first}
 use Rattle.cedar_entity.specs.laws.Fields.{field_eq, field_decides}
 
@@ -84,7 +85,7 @@ ascending_members ks q =
     ∙ ap (λ f. list_any (f q) ks) same_tests
 
 -- the items of a set are its members
-items_members : (s : UidSet) (q : EntityUID) → is_member same_uid (set.items s) q ≡ set.contains s q
+items_members : (s : UidValues) (q : EntityUID) → is_member same_uid (set.items s) q ≡ set.contains s q
 items_members s q = sym (set.contains-items s q ∙ ap (λ f. list_any (f q) (set.items s)) same_tests)
 
 abbrev pub world_keys : World → List EntityUID
@@ -148,7 +149,7 @@ reached_members W u q =
           says ∙ and_from (is_member same_uid (ascending all) q) (N u q) (ascending_members all q ∙ e) (is.1 r),
     )
 
-reached_set : World → EntityUID → UidSet
+reached_set : World → EntityUID → UidValues
 reached_set W u = set.from_list (reached_list W u)
 
 contains-reached : (W : World) (u q : EntityUID) → Decides (set.contains (reached_set W u) q) (Reach (graph W) u q)
@@ -166,7 +167,7 @@ pub settled_by : {P : Type 0} (b : Bool) → Decides b P → Settled P
 settled_by true d = inl (d.0 refl)
 settled_by false d = inr (λ p. false≢true (d.1 p))
 
--- with what is the same
+-- what follows from a settled fact, and it from that, is settled too
 pub settled_as : {P Q : Type 0} → (P → Q) → (Q → P) → Settled P → Settled Q
 settled_as f g (inl p) = inl (f p)
 settled_as f g (inr n) = inr (λ q. n (g q))
@@ -180,7 +181,7 @@ settled_three (inr n) b c = inr (λ x. n x.0)
 fields_settled : (fs gs : Fields) → Settled (fs ≡ gs)
 fields_settled fs gs = settled_by (pointwise field_eq fs gs) (slice_eq-Decides field_decides fs gs (pointwise field_eq fs gs) refl)
 
-sets_settled : (s t : UidSet) → Settled (s ≡ t)
+sets_settled : (s t : UidValues) → Settled (s ≡ t)
 sets_settled s t =
     settled_as
     (λ (e : set.items s ≡ set.items t). set.same_set uid_order_total one_equal s t (λ q. sym (items_members s q) ∙ ap (λ l. is_member same_uid l q) e ∙ items_members t q))

@@ -7,7 +7,7 @@ use Rattle.std.specs.Ordering.{eq_by_cmp}
 use Rattle.cedar_ids.specs.UidOf.{uid_order}
 use Rattle.cedar_ids.specs.laws.UidOfLaws.{uid_order_total}
 use Rattle.cedar_ids.specs.declared.entity.EntityUID.{EntityUID}
-use Rattle.cedar_entity.specs.UidSets.{one_equal}
+use Rattle.cedar_uid_sets.specs.laws.Sets.{one_equal}
 use Rattle.cedar_entities.specs.World.{World, Given, entry_of, first, added, overwritten, deleted, reversed, goes, without}
 
 pub found_or : {X : Type 0} (b : Bool) (x : X) (o p : Option X) → cond b (Some x) (option_or o p) ≡ option_or (cond b (Some x) o) p

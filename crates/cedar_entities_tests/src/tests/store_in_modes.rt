@@ -32,8 +32,8 @@ fn kept_of(entity: &Entity, uid: u8) -> Kept {
     if !has_attr(entity, &row) {
         row.attr = 1;
     }
-    let further = bits_of(entity.indirect_ancestors());
-    Kept { row, further }
+    let indirect = bits_of(entity.indirect_ancestors());
+    Kept { row, indirect }
 }
 
 // What a look-up of a uid found.
@@ -44,7 +44,8 @@ fn found_at(found: &Dereference<'_, Entity>, uid: u8) -> Option<Kept> {
     }
 }
 
-fn seen_at(alloc: Global, store: &Entities, uid: u8) -> Result<Option<Kept>, Fail> {
+// What a store has at a uid.
+fn read_at(alloc: Global, store: &Entities, uid: u8) -> Result<Option<Kept>, Fail> {
     let name = numbered(alloc, uid)?;
     let found = store.entity(alloc, &name);
     drop(name);
@@ -59,11 +60,11 @@ fn seen_at(alloc: Global, store: &Entities, uid: u8) -> Result<Option<Kept>, Fai
 }
 
 // What a store has.
-fn seen(alloc: Global, store: &Entities) -> Result<Store, Fail> {
+fn read_store(alloc: Global, store: &Entities) -> Result<Store, Fail> {
     let held = [
-        seen_at(alloc, store, 0)?,
-        seen_at(alloc, store, 1)?,
-        seen_at(alloc, store, 2)?,
+        read_at(alloc, store, 0)?,
+        read_at(alloc, store, 1)?,
+        read_at(alloc, store, 2)?,
     ];
     let partial = store.is_partial();
     Ok(Store { held, partial })
@@ -74,7 +75,7 @@ fn agrees_at(left: &Left, store: &Store, uid: u8) -> bool {
     match (kept_at(&left.store, uid), kept_at(store, uid)) {
         (Some(kept), Some(other)) => {
             let is_sure = left.sure & bit(uid) != 0;
-            kept.row == other.row && (!is_sure || kept.further == other.further)
+            kept.row == other.row && (!is_sure || kept.indirect == other.indirect)
         }
         (None, None) => true,
         _ => false,
@@ -119,7 +120,7 @@ fn compared(alloc: Global, calls: &[(Call, TCComputation)]) -> Result<End, Fail>
     for (call, mode) in calls {
         let left = left_by(&before, call, *mode);
         match done(alloc, store, call, *mode)? {
-            Ok(next) => match seen(alloc, &next) {
+            Ok(next) => match read_store(alloc, &next) {
                 Ok(held) => {
                     if !agrees(&left, &held) {
                         drop(next);

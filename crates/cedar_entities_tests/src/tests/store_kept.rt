@@ -9,7 +9,7 @@ use cedar_entities::entities::TCComputation;
 #[derive(Clone, Copy, Drop, PartialEq, Eq)]
 pub(super) struct Kept {
     pub(super) row: Row,
-    pub(super) further: u8,
+    pub(super) indirect: u8,
 }
 
 #[derive(Clone, Copy, Drop, PartialEq, Eq)]
@@ -26,7 +26,7 @@ pub(super) enum Fault {
     Cycle,
 }
 
-// What a call leaves: the entities with their parents; the uids whose further ancestors are these; and whether
+// What a call leaves: the entities with their parents; the uids whose indirect ancestors are these; and whether
 // it may be refused all the same.
 #[derive(Clone, Copy, Drop, PartialEq, Eq)]
 pub(super) struct Left {
@@ -52,7 +52,7 @@ pub(super) fn kept_at(store: &Store, uid: u8) -> Option<Kept> {
 // All ancestors of a uid; of one that is absent there are none.
 fn edges(store: &Store, uid: u8) -> u8 {
     match kept_at(store, uid) {
-        Some(kept) => kept.row.parents | kept.further,
+        Some(kept) => kept.row.parents | kept.indirect,
         None => 0,
     }
 }
@@ -75,7 +75,7 @@ fn closed_row(world: &World, row: Option<Row>) -> Option<Kept> {
     let row = row?;
     Some(Kept {
         row,
-        further: ancestors(world, row.uid) & !row.parents,
+        indirect: ancestors(world, row.uid) & !row.parents,
     })
 }
 
@@ -124,7 +124,7 @@ fn checked(store: Store) -> Result<Store, Fault> {
 // An entity as it is given: with its parents alone.
 fn bare(row: Option<Row>) -> Option<Kept> {
     let row = row?;
-    Some(Kept { row, further: 0 })
+    Some(Kept { row, indirect: 0 })
 }
 
 // The store with the first of a list for each uid that it lacks.
@@ -188,7 +188,7 @@ fn stripped(store: &Store, list: &Rows, uid: u8) -> Option<Kept> {
     let set = uids_of(list) & keys(store);
     Some(Kept {
         row,
-        further: not_over(&world_of(store), uid, set) & !row.parents,
+        indirect: not_over(&world_of(store), uid, set) & !row.parents,
     })
 }
 
@@ -224,7 +224,7 @@ fn just(store: Store) -> Result<Left, Fault> {
     })
 }
 
-// This store but for the further ancestors of what is touched.
+// This store but for the indirect ancestors of what is touched.
 fn about(store: Store, sure: u8) -> Result<Left, Fault> {
     Ok(Left {
         store,

@@ -19,7 +19,7 @@ pub record AreArcsOf {K : Type 0} (eq : K → K → Bool) (G : K → K → Bool)
 abbrev pub IsPrefix : {K : Type 0} → List K → List K → Type 0
 IsPrefix {K} keys more = (xs : List K) × (more ≡ keys ++ xs)
 
--- the same, with the arcs of number a so far, to the keys that pass
+-- the arcs of the numbers below a are the edges of their keys, those of a so far are edges, and lead to the keys that pass
 pub record AreArcsIn {K : Type 0} (eq : K → K → Bool) (G : K → K → Bool) (a : ℕ) (keys : List K) (from to : List ℕ) (P : K → Bool) : Type 0 where
   pub same_len : length to ≡ length from
   pub from_in : (k : ℕ) → k < length from → slice_index from k < a + 1
@@ -34,7 +34,7 @@ AreEdges {K} G keys E = (a b : ℕ) (x y : K) → E a b → slice_get keys a ≡
 
 -- the numbers' arcs are the edges of their keys
 pub record AreSameEdges {K : Type 0} (eq : K → K → Bool) (G : K → K → Bool) (keys : List K) (E : ℕ → ℕ → Type 0) : Type 0 where
-  pub alike : (x y z : K) → eq x y ≡ true → G x z ≡ G y z
+  pub respects_eq : (x y z : K) → eq x y ≡ true → G x z ≡ G y z
   pub has_key : (a b : ℕ) → E a b → (k : K) × (slice_get keys b ≡ Some k)
   pub sound : AreEdges G keys E
   pub complete : (a : ℕ) (x q : K) → slice_get keys a ≡ Some x → G x q ≡ true → (b : ℕ) × (y : K) × E a b × (slice_get keys b ≡ Some y) × (eq q y ≡ true)
@@ -63,7 +63,7 @@ ReachesKey {K} eq keys E x q = (y : ℕ) × (k : K) × Goes E x y × (slice_get 
 abbrev pub IsRowEdge : {K : Type 0} → (K → K → Bool) → List K → (ℕ → ℕ → Type 0) → ℕ → K → K → Type 0
 IsRowEdge {K} eq keys E x a b = (k : K) × (slice_get keys x ≡ Some k) × (eq k a ≡ true) × ReachesKey eq keys E x b
 
--- the same of some number below n
+-- a is the key of some number below n, and b that of a number that this one reaches
 abbrev pub IsRowEdgeBelow : {K : Type 0} → (K → K → Bool) → ℕ → List K → (ℕ → ℕ → Type 0) → K → K → Type 0
 IsRowEdgeBelow eq n keys E a b = (x : ℕ) × (x < n) × IsRowEdge eq keys E x a b
 

@@ -6,7 +6,7 @@ use Rattle.std.specs.List.{list_any}
 use Rattle.std.specs.Set.{is_member}
 use Rattle.std.proofs.lemmas.Bool.{false≢true, or_cases, or_left, or_right, and_parts, and_from}
 use Rattle.cedar_graph.specs.Graph.{Path, Reach, IsClosure, AddsOnlyReached}
-use Rattle.cedar_graph.specs.ReachLaws.{reach_trans}
+use Rattle.cedar_graph.specs.laws.Reaches.{reach_trans}
 
 -- the edges by way of one key
 abbrev edges_by : {K : Type 0} → (K → K → Bool) → K → K → K → Bool
@@ -145,10 +145,10 @@ any_found test (x ∷ xs) h = elim (or_cases (test x) (list_any test xs) h) [
 ]
 
 any_member : {K : Type 0} (eq : K → K → Bool) (test : K → Bool) → ((x y : K) → eq x y ≡ true → test x ≡ test y) → (q : K) → test q ≡ true → (ks : List K) → is_member eq ks q ≡ true → list_any test ks ≡ true
-any_member eq test alike q h [] m = absurd (false≢true m)
-any_member eq test alike q h (k ∷ ks) m = elim (or_cases (eq q k) (is_member eq ks q) m) [
-  | inl e ↦ or_left (test k) (list_any test ks) (sym (alike q k e) ∙ h)
-  | inr r ↦ or_right (test k) (list_any test ks) (any_member eq test alike q h ks r)
+any_member eq test same q h [] m = absurd (false≢true m)
+any_member eq test same q h (k ∷ ks) m = elim (or_cases (eq q k) (is_member eq ks q) m) [
+  | inl e ↦ or_left (test k) (list_any test ks) (sym (same q k e) ∙ h)
+  | inr r ↦ or_right (test k) (list_any test ks) (any_member eq test same q h ks r)
 ]
 
 -- whether a key reaches itself

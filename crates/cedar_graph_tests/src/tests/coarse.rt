@@ -49,7 +49,7 @@ struct Labelled {
 }
 
 impl TCNode<Label> for Labelled {
-    ghost use Rattle.cedar_graph.specs.NodeLaws.{contains_alike};
+    ghost use Rattle.cedar_graph.specs.laws.Nodes.{contains_both_or_none};
 
     ghost Rest = { ℕ };
 
@@ -87,7 +87,7 @@ impl TCNode<Label> for Labelled {
     }
 
     ghost respects_eq = { λ n x y h.
-        contains_alike (on_equiv (λ l. l.number) nat_eq_equiv) x y h n.targets };
+        contains_both_or_none (on_equiv (λ l. l.number) nat_eq_equiv) x y h n.targets };
 
     ghost direct_are_edges = { λ n q h. h };
 }

@@ -36,7 +36,7 @@ fn node(number: u64, targets: HashSet<u64>) -> Counting
 
 impl TCNode<u64> for Counting {
     ghost use Rattle.std.specs.Cmp.{nat_eq_equiv};
-    ghost use Rattle.cedar_graph.specs.NodeLaws.{contains_alike};
+    ghost use Rattle.cedar_graph.specs.laws.Nodes.{contains_both_or_none};
 
     ghost Rest = { Unit {0} };
 
@@ -89,7 +89,7 @@ impl TCNode<u64> for Counting {
         Ok(())
     }
 
-    ghost respects_eq = { λ n x y h. contains_alike nat_eq_equiv x y h n.targets };
+    ghost respects_eq = { λ n x y h. contains_both_or_none nat_eq_equiv x y h n.targets };
 
     ghost direct_are_edges = { λ n q h. h };
 }

@@ -17,7 +17,7 @@ pub struct Plain {
 
 impl TCNode<u64> for Plain {
     ghost use Rattle.std.specs.Cmp.{nat_eq_equiv};
-    ghost use Rattle.cedar_graph.specs.NodeLaws.{contains_alike};
+    ghost use Rattle.cedar_graph.specs.laws.Nodes.{contains_both_or_none};
 
     ghost Rest = { Unit {0} };
 
@@ -54,7 +54,7 @@ impl TCNode<u64> for Plain {
         Ok(())
     }
 
-    ghost respects_eq = { λ n x y h. contains_alike nat_eq_equiv x y h n.targets };
+    ghost respects_eq = { λ n x y h. contains_both_or_none nat_eq_equiv x y h n.targets };
 
     ghost direct_are_edges = { λ n q h. h };
 }
@@ -71,7 +71,7 @@ pub struct Apart {
 impl TCNode<u64> for Apart {
     ghost use Rattle.std.specs.Prelude.{◌||◌, ℕ};
     ghost use Rattle.std.specs.Cmp.{nat_eq_equiv};
-    ghost use Rattle.cedar_graph.specs.NodeLaws.{either_alike, first_of_either};
+    ghost use Rattle.cedar_graph.specs.laws.Nodes.{either_contains_both_or_none, first_of_either};
 
     ghost Rest = { ℕ };
 
@@ -118,7 +118,7 @@ impl TCNode<u64> for Apart {
         self.own.iter().collect(alloc)
     }
 
-    ghost respects_eq = { λ n x y h. either_alike nat_eq_equiv x y h n.own n.further };
+    ghost respects_eq = { λ n x y h. either_contains_both_or_none nat_eq_equiv x y h n.own n.further };
 
     ghost direct_are_edges = { λ n q h.
         first_of_either (contains nat_eq n.own q) (contains nat_eq n.further q) h };

@@ -5,7 +5,7 @@ use Rattle.cedar_entities.proofs.entities.close.Goals as goal
 pub returns-in_err-compute_tc-clause-err : goal.returns-in_err-compute_tc-clause-err
 returns-in_err-compute_tc-clause-err c =
     refused_as _ c.from_residual.result c.in_err-compute_tc.field-0.0 c.from_residual.ensures.1
-    (whole_told c.args.entities.now _ c.in_err-compute_tc.field-0.0 c.in_err-compute_tc.ensures.err)
+    (whole_told c.args.entities.now c.in_err-compute_tc.field-0.0 c.in_err-compute_tc.ensures.err)
 
 pub returns-clause-ok : goal.returns-clause-ok
 returns-clause-ok c touched all =

@@ -2,7 +2,7 @@ use Rattle.std.proofs.Common.{ap, sym, ◌∙◌, map}
 use Rattle.std.specs.Option.{option_or}
 use Rattle.std.proofs.lemmas.Iterator.Consumers.{YieldsList-end}
 use Rattle.std.proofs.lemmas.Iterator.Adapters.{YieldsList-from_vec}
-use Rattle.cedar_entities.specs.Edits.{last_entity}
+use Rattle.cedar_entities.specs.laws.Edits.{last_entity}
 use Rattle.cedar_entities.specs.laws.Held.{held}
 use Rattle.cedar_entities.proofs.Versions.{over_push, map_same, map_append_one}
 use Rattle.cedar_entities.proofs.entities.overwrite_all.Goals as goal

@@ -1,7 +1,7 @@
 use Rattle.std.specs.Prelude.{◌≡◌, map}
 use Rattle.std.specs.Option.{option_or}
 use Rattle.cedar_ids.specs.declared.entity.EntityUID.{EntityUID}
-use Rattle.cedar_entities.specs.Edits.{last_entity}
+use Rattle.cedar_entities.specs.laws.Edits.{last_entity}
 use Rattle.cedar_entities.specs.laws.Held.{held, UidsMatch}
 use Rattle.cedar_entities.proofs.entities.overwrite_all.Given as goal
 

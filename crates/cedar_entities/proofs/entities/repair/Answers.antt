@@ -6,7 +6,7 @@ use Rattle.cedar_entities.proofs.entities.repair.Goals as goal
 pub returns-in_err-repair_tc-clause-err : goal.returns-in_err-repair_tc-clause-err
 returns-in_err-repair_tc-clause-err c =
     refused_as _ c.from_residual.result c.in_err-repair_tc.field-0.0 c.from_residual.ensures.1
-    (cycle_told c.args.entities.now _ (contains same_uid c.args.touched.now) c.in_err-repair_tc.field-0.0 c.in_err-repair_tc.ensures.err)
+    (cycle_told c.args.entities.now c.args.enforce_dag (contains same_uid c.args.touched.now) c.in_err-repair_tc.field-0.0 c.in_err-repair_tc.ensures.err)
 
 pub returns-clause-ok : goal.returns-clause-ok
 returns-clause-ok c =

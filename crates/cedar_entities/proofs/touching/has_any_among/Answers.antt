@@ -4,7 +4,7 @@ use Rattle.std.specs.Set.{is_member}
 use Rattle.std.proofs.lemmas.Iterator.Consumers.{YieldsList-from_first, YieldsList-end, YieldsList-turn}
 use Rattle.std.proofs.lemmas.List.Folds.{list_any_at}
 use Rattle.cedar_ids.specs.UidOf.{same_uid}
-use Rattle.cedar_entity.specs.Listing.{ancestors_listed}
+use Rattle.cedar_entity.specs.laws.Views.{ancestors_listed}
 use Rattle.cedar_entities.proofs.Touched.{meet}
 use Rattle.cedar_entities.proofs.touching.has_any_among.Goals as goal
 

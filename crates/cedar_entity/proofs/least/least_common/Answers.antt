@@ -5,17 +5,18 @@ use Rattle.cedar_ids.specs.UidOf.{same_uid}
 use Rattle.cedar_ids.specs.declared.entity.EntityUID.{EntityUID}
 use Rattle.std.specs.Prelude.{Some, None, ◌&&◌}
 use Rattle.cedar_entity.specs.Least.{IsLeast}
-use Rattle.cedar_entity.specs.UidSets.{UidSet, contains_listed}
+use Rattle.cedar_uid_sets.specs.UidSets.{UidValues}
+use Rattle.cedar_uid_sets.specs.laws.Sets.{contains_listed}
 use Rattle.cedar_entity.proofs.LeastUids.{first_least_of}
 use Rattle.cedar_entity.proofs.least.least_common.Goals as goal
 
 pub returns-in-Some : goal.returns-in-Some
 returns-in-Some c =
-    let members : (q : EntityUID) → is_member same_uid c.pointers.result.now q ≡ set.contains c.args.one.now q = λ q. sym (contains_listed c.pointers.result.now q) ∙ ap (λ (s : UidSet). set.contains s q) c.pointers.ensures.all in
+    let members : (q : EntityUID) → is_member same_uid c.pointers.result.now q ≡ set.contains c.args.one.now q = λ q. sym (contains_listed c.pointers.result.now q) ∙ ap (λ (s : UidValues). set.contains s q) c.pointers.ensures.all in
     let least = first_least_of (set.contains c.args.other.now) c.args.one.now c.pointers.result.now (Some c.in-Some.shared.now) members c.pointers.ensures.ascending c.in-Some.ensures in
     subst (λ u. IsLeast (λ q. set.contains c.args.one.now q && (set.contains c.args.other.now) q) u) (sym c.uid.ensures) least
 
 pub returns-in-None : goal.returns-in-None
 returns-in-None c =
-    let members : (q : EntityUID) → is_member same_uid c.pointers.result.now q ≡ set.contains c.args.one.now q = λ q. sym (contains_listed c.pointers.result.now q) ∙ ap (λ (s : UidSet). set.contains s q) c.pointers.ensures.all in
+    let members : (q : EntityUID) → is_member same_uid c.pointers.result.now q ≡ set.contains c.args.one.now q = λ q. sym (contains_listed c.pointers.result.now q) ∙ ap (λ (s : UidValues). set.contains s q) c.pointers.ensures.all in
     first_least_of (set.contains c.args.other.now) c.args.one.now c.pointers.result.now None members c.pointers.ensures.ascending c.in-None.ensures

@@ -38,7 +38,7 @@ returns-clause-same g c =
     let below : c.loop-b.b ≤ length keys1 = grind (arith, common_steps) in
     let over : length keys1 ≤ c.loop-b.b = grind (arith, common_steps) in
     rw (near_len, near_is) (record {
-      alike = λ x y z h. rw (member_alike laws keys1 x y h, graph_from laws edges alike nodes x y z h);
+      respects_eq = λ x y z h. rw (member_alike laws keys1 x y h, graph_from laws edges alike nodes x y z h);
       has_key = λ a b h. got_some keys b (rw (← h.3) (i.arcs.to_in h.0 h.1));
       sound = λ a b x y h f t.
           let x_in : a < length keys1 = omega (arith, rw h.2 at (i.arcs.from_in h.0 h.1)) in

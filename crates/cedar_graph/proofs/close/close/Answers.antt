@@ -1,7 +1,7 @@
 use Rattle.std.proofs.Common.{ℕ}
 use Rattle.std.proofs.lemmas.Result.{on_ok_weaker}
 use Rattle.cedar_components.specs.Reach.{HasArc}
-use Rattle.cedar_graph.specs.ReachLaws.{reach_between, closed_once}
+use Rattle.cedar_graph.specs.laws.Reaches.{reach_between, closed_once}
 use Rattle.cedar_graph.proofs.Closing.{closed_only, closed_has}
 use Rattle.cedar_graph.proofs.Reaches.{no_cycle_before}
 use Rattle.cedar_graph.proofs.close.close.Goals as goal

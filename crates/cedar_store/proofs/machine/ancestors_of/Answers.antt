@@ -2,7 +2,7 @@ use Rattle.std.proofs.Common.{refl, ◌∙◌}
 use Rattle.std.proofs.lemmas.Result.{IfOk-weaker}
 use Rattle.std.proofs.lemmas.Iterator.{items_from_drains}
 use Rattle.std.proofs.lemmas.Iterator.Consumers.{YieldsList-from_first}
-use Rattle.cedar_entity.specs.Listing.{ancestors_listed}
+use Rattle.cedar_entity.specs.laws.Views.{ancestors_listed}
 use Rattle.cedar_store.proofs.Ordered.{ascend_now, members_now}
 use Rattle.cedar_store.proofs.machine.ancestors_of.Goals as goal
 

@@ -3,7 +3,7 @@ use Rattle.std.proofs.lemmas.Result.{IfOk-weaker}
 use Rattle.std.specs.Set.{is_member}
 use Rattle.cedar_ids.specs.UidOf.{same_uid}
 use Rattle.cedar_ids.specs.declared.entity.EntityUID.{EntityUID}
-use Rattle.cedar_entity.specs.Listing.{ancestors_listed}
+use Rattle.cedar_entity.specs.laws.Views.{ancestors_listed}
 use Rattle.cedar_entity.proofs.node.EntityTCNodeEntityUID.out_edges.Goals as goal
 
 pub returns : goal.returns

@@ -1,6 +1,10 @@
 -- Laws of what is reached.
 use Rattle.std.specs.Prelude.{◌≡◌, Bool, true, List, [], ◌∷◌, ◌++◌}
-use Rattle.cedar_graph.specs.Graph.{Path, Reach, KeepsEdges, AddsOnlyReached, HasReached, ReachesSame, IsClosure}
+use Rattle.cedar_graph.specs.Graph.{Path, Reach, KeepsEdges, AddsOnlyReached, ReachesSame, IsClosure}
+
+-- what was reached over the old edges has a new one
+abbrev pub HasReached : {K : Type 0} → (old new : K → K → Bool) → Type 0
+HasReached {K} old new = (a b : K) → Reach old a b → new a b ≡ true
 
 module _ {K : Type 0} (G : K → K → Bool) where
   path_append : (a b c : K) (xs ys : List K) → Path G a xs b → Path G b ys c → Path G a (xs ++ b ∷ ys) c

@@ -9,17 +9,17 @@ use Rattle.std.proofs.Common.{refl, subst}
 use Rattle.cedar_graph.specs.Graph.{KeepsNodes, KeysMatch}
 
 module _ {K : Type 0} {eq : K → K → Bool} (laws : IsEquivalence eq) (x y : K) (same : eq x y ≡ true) where
-  any_alike : (ks : List K) → list_any (eq x) ks ≡ list_any (eq y) ks
-  any_alike [] = refl
-  any_alike (k ∷ ks) = rw (laws.congr x y k same, any_alike ks)
+  any_is_both_or_none : (ks : List K) → list_any (eq x) ks ≡ list_any (eq y) ks
+  any_is_both_or_none [] = refl
+  any_is_both_or_none (k ∷ ks) = rw (laws.congr x y k same, any_is_both_or_none ks)
 
   -- a set has both of two equal keys, or none
-  pub contains_alike : {S : Type 0} (s : HashSet K S) → contains eq s x ≡ contains eq s y
-  contains_alike s = any_alike s.keys
+  pub contains_both_or_none : {S : Type 0} (s : HashSet K S) → contains eq s x ≡ contains eq s y
+  contains_both_or_none s = any_is_both_or_none s.keys
 
   -- one of two sets has both of two equal keys, or none
-  pub either_alike : {S : Type 0} (s t : HashSet K S) → (contains eq s x || contains eq t x) ≡ (contains eq s y || contains eq t y)
-  either_alike s t = rw (contains_alike s, contains_alike t)
+  pub either_contains_both_or_none : {S : Type 0} (s t : HashSet K S) → (contains eq s x || contains eq t x) ≡ (contains eq s y || contains eq t y)
+  either_contains_both_or_none s t = rw (contains_both_or_none s, contains_both_or_none t)
 
 -- what is in the first set is in one of the two
 pub first_of_either : (x y : Bool) → x ≡ true → (x || y) ≡ true

@@ -1,0 +1,12 @@
+-- How a proof tells stores apart.
+use Rattle.std.specs.Prelude.{Bool}
+use Rattle.std.proofs.Common.{refl}
+use Rattle.std.specs.Coded.{Coded, code_by, coded×, coded_bool}
+use Rattle.std.specs.FinMap as finmap
+use Rattle.cedar_ids.specs.Codes.{uid_code}
+use Rattle.cedar_entity.specs.Codes.{view_code}
+use Rattle.cedar_entities.specs.Plain.{StoreView, Held}
+
+-- a store: what it holds, and whether it is partial
+abbrev pub store_code : Coded StoreView
+store_code = code_by (Held × Bool) (coded× (finmap.code uid_code view_code) coded_bool) (λ s. (s.held, s.partial)) (λ p. record { held = p.0; partial = p.1 }) (λ _. refl)

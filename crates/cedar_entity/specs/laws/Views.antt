@@ -1,0 +1,31 @@
+-- Laws of entities as callers see them: deep equality, and ancestors.
+use Rattle.std.specs.Prelude.{◌≡◌, Bool, true, ◌||◌, List}
+use Rattle.std.proofs.Common.{refl, ap, sym, ◌∙◌}
+use Rattle.std.specs.FinSet as set
+use Rattle.std.specs.Set.{is_member}
+use Rattle.cedar_ids.specs.UidOf.{same_uid}
+use Rattle.cedar_ids.specs.laws.UidOfLaws.{same_uid_decides}
+use Rattle.cedar_ids.specs.declared.entity.EntityUID.{EntityUID}
+use Rattle.cedar_uid_sets.specs.laws.Sets.{is_member-append}
+use Rattle.cedar_entity.specs.Listing.{ListsAncestors}
+use Rattle.cedar_entity.specs.View.{EntityView, IsDeepEqual, IsEquivalenceRelation, has_ancestor}
+
+-- deep equality is an equivalence
+pub deep_equality : IsEquivalenceRelation IsDeepEqual
+deep_equality = record {
+  itself = λ a. record { uid = refl; attrs = refl; tags = refl; ancestors = λ q. refl };
+  turned = λ a b h. record { uid = sym h.uid; attrs = sym h.attrs; tags = sym h.tags; ancestors = λ q. sym (h.ancestors q) };
+  joined = λ a b c h g. record { uid = h.uid ∙ g.uid; attrs = h.attrs ∙ g.attrs; tags = h.tags ∙ g.tags; ancestors = λ q. h.ancestors q ∙ g.ancestors q };
+}
+
+-- equal uids are ancestors of the same
+pub ancestors_respect : (e : EntityView) (x y : EntityUID) → same_uid x y ≡ true → has_ancestor e x ≡ has_ancestor e y
+ancestors_respect e x y h = ap (has_ancestor e) ((same_uid_decides x y).0 h)
+
+-- a parent is an ancestor
+pub parents_are_ancestors : (e : EntityView) (q : EntityUID) → set.contains e.parents q ≡ true → has_ancestor e q ≡ true
+parents_are_ancestors e q h = ap (λ b. b || set.contains e.indirect q) h
+
+-- a list of the ancestors has them as its members
+pub ancestors_listed : (e : EntityView) (us : List EntityUID) → ListsAncestors e us → (q : EntityUID) → is_member same_uid us q ≡ has_ancestor e q
+ancestors_listed e us l q = ap (λ xs. is_member same_uid xs q) l.in_turn ∙ is_member-append l.first l.others q ∙ λ i. l.parents.members q i || l.indirect.members q i
