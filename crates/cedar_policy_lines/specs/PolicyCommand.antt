@@ -103,44 +103,44 @@ only (f ∷ []) = Some f
 only (f ∷ g ∷ fs) = None
 
 -- an id and an effect
-abbrev pub static_line : List (List ℕ) → Option PolicyCommand
-static_line [] = None
-static_line (i ∷ fs) = option_map (Static i) (option_and_then effect_of (only fs))
+abbrev pub static_of : List (List ℕ) → Option PolicyCommand
+static_of [] = None
+static_of (i ∷ fs) = option_map (Static i) (option_and_then effect_of (only fs))
 
 -- an id and slots
-abbrev pub template_line : List (List ℕ) → Option PolicyCommand
-template_line [] = None
-template_line (i ∷ fs) = option_map (λ s. Template i s.0 s.1) (option_and_then slots_word (only fs))
+abbrev pub template_of : List (List ℕ) → Option PolicyCommand
+template_of [] = None
+template_of (i ∷ fs) = option_map (λ s. Template i s.0 s.1) (option_and_then slots_word (only fs))
 
 -- a template's id, a new id, and bindings
-abbrev pub link_line : List (List ℕ) → Option PolicyCommand
-link_line [] = None
-link_line (t ∷ []) = None
-link_line (t ∷ l ∷ fs) = option_map (Link t l) (bindings_of fs)
+abbrev pub link_of : List (List ℕ) → Option PolicyCommand
+link_of [] = None
+link_of (t ∷ []) = None
+link_of (t ∷ l ∷ fs) = option_map (Link t l) (bindings_of fs)
 
 -- an id
-abbrev pub unlink_line : List (List ℕ) → Option PolicyCommand
-unlink_line fs = option_map Unlink (only fs)
+abbrev pub unlink_of : List (List ℕ) → Option PolicyCommand
+unlink_of fs = option_map Unlink (only fs)
 
 -- whether ids are renamed
-abbrev pub merge_line : List (List ℕ) → Option PolicyCommand
-merge_line fs = option_map Merge (option_and_then renaming_word (only fs))
+abbrev pub merge_of : List (List ℕ) → Option PolicyCommand
+merge_of fs = option_map Merge (option_and_then renaming_word (only fs))
 
 -- no field
-abbrev pub bare_line : PolicyCommand → List (List ℕ) → Option PolicyCommand
-bare_line c [] = Some c
-bare_line c (f ∷ fs) = None
+abbrev pub bare_of : PolicyCommand → List (List ℕ) → Option PolicyCommand
+bare_of c [] = Some c
+bare_of c (f ∷ fs) = None
 
 -- the command whose word and fields these are, if they are those of one
 abbrev pub command_by : List ℕ → List (List ℕ) → Option PolicyCommand
 command_by w fs =
-    if same_text w (codes "static") then static_line fs
-    else if same_text w (codes "template") then template_line fs
-    else if same_text w (codes "link") then link_line fs
-    else if same_text w (codes "unlink") then unlink_line fs
-    else if same_text w (codes "other") then bare_line Other fs
-    else if same_text w (codes "merge") then merge_line fs
-    else if same_text w (codes "ids") then bare_line Ids fs
+    if same_text w (codes "static") then static_of fs
+    else if same_text w (codes "template") then template_of fs
+    else if same_text w (codes "link") then link_of fs
+    else if same_text w (codes "unlink") then unlink_of fs
+    else if same_text w (codes "other") then bare_of Other fs
+    else if same_text w (codes "merge") then merge_of fs
+    else if same_text w (codes "ids") then bare_of Ids fs
     else None
 
 -- the command whose fields these are

@@ -3,10 +3,10 @@ ghost use Rattle.std.specs.Prelude.{◌≡◌, OnOk};
 ghost use Rattle.cedar_binding.specs.Views.{env_of};
 ghost use Rattle.cedar_policy_lines.specs.Boards.{no_boards};
 ghost use Rattle.cedar_policy_lines.specs.PolicyCommand.{Static as static_command, Template as template_command, Link as link_command, Unlink as unlink_command, Other as other_command, Merge as merge_command, Ids as ids_command};
-ghost use Rattle.cedar_policy_lines.specs.PolicyLines.{command_of};
+ghost use Rattle.cedar_policy_lines.specs.CommandOf.{command_of};
 ghost use Rattle.cedar_policy_lines.specs.PolicyOutput.{Takes};
 
-use crate::lines::PolicyLine;
+use crate::command::PolicyCommand;
 use crate::making::{link, static_policy, template};
 use crate::writing::{
     push_by_linking, push_by_merging, push_by_set, push_by_unlinking, push_ids, push_ok,
@@ -133,21 +133,23 @@ impl PolicySets {
     pub fn take(
         &mut self,
         alloc: Global,
-        line: PolicyLine,
+        command: PolicyCommand,
         out: &mut Vec<u8>,
     ) -> Result<(), AllocError>
-        ensures { OnOk result (Takes (command_of line) self.old self.new out.old.items out.new.items) }
+        ensures { OnOk result (Takes (command_of command) self.old self.new out.old.items out.new.items) }
     {
-        match line {
-            PolicyLine::Static(id, effect) => self.add_static(alloc, id, effect, out),
-            PolicyLine::Template(id, principal, resource) => {
+        match command {
+            PolicyCommand::Static(id, effect) => self.add_static(alloc, id, effect, out),
+            PolicyCommand::Template(id, principal, resource) => {
                 self.add_template(alloc, id, principal, resource, out)
             }
-            PolicyLine::Link(template, id, values) => self.link(alloc, template, id, values, out),
-            PolicyLine::Unlink(id) => self.unlink(alloc, &id, out),
-            PolicyLine::Other => self.other(out),
-            PolicyLine::Merge(rename) => self.merge(alloc, rename, out),
-            PolicyLine::Ids => self.ids(alloc, out),
+            PolicyCommand::Link(template, id, values) => self.link(
+                alloc, template, id, values, out,
+            ),
+            PolicyCommand::Unlink(id) => self.unlink(alloc, &id, out),
+            PolicyCommand::Other => self.other(out),
+            PolicyCommand::Merge(rename) => self.merge(alloc, rename, out),
+            PolicyCommand::Ids => self.ids(alloc, out),
         }
     }
 }
