@@ -4,9 +4,11 @@ ghost use Rattle.std.specs.Option.{option_map};
 ghost use Rattle.cedar_ids.specs.UidOf.{uid_parts};
 ghost use Rattle.cedar_terms.specs.declared.slot.SlotId.TheVariants.{Principal, Resource};
 ghost use Rattle.cedar_binding.specs.Views.{env_of};
-ghost use Rattle.cedar_policy_lines.specs.PolicyCommand.{only, one_bound, two_bound, bindings_of, static_of, template_of, link_of, unlink_of, merge_of, bare_of, command_by, policy_command, Other, Ids};
+ghost use Rattle.cedar_policy_lines.specs.PolicyCommand.{IsPolicyCommand, Other, Ids};
 ghost use Rattle.cedar_policy_lines.specs.CommandOf.{command_of};
+ghost use Rattle.cedar_policy_lines.specs.Reads.{ReadsAs};
 ghost use Rattle.cedar_policy_lines.specs.laws.Lines.{bound_more};
+ghost use Rattle.cedar_policy_lines.specs.laws.PolicyReading.{only, one_bound, two_bound, bindings_of, static_of, template_of, link_of, unlink_of, merge_of, bare_of, command_by};
 
 use crate::field::{binding_of, effect_of, renaming_of, slots_of};
 use cedar_binding::no_bindings;
@@ -263,7 +265,7 @@ pub fn read_policy_command(
     alloc: Global,
     fields: &[&str],
 ) -> Result<Option<PolicyCommand>, AllocError>
-    ensures { IfOk result (λ o. option_map command_of o ≡ policy_command (map (λ f. f.now) fields.now)) }
+    ensures { IfOk result (ReadsAs (λ c. IsPolicyCommand c (map (λ f. f.now) fields.now)) command_of) }
 {
     let Some((word, rest)) = fields.split_first() else {
         return Ok(None);

@@ -9,7 +9,9 @@ use borrow.Author.Tests.{eqb-true}
 use Rattle.cedar_ids.specs.TextOf.{IsPrinted}
 use Rattle.cedar_ids.specs.UidOf.{uid_parts}
 use Rattle.cedar_ids.specs.declared.entity.EntityUID.{EntityUID}
-use Rattle.cedar_policy_lines.specs.PolicyCommand.{PolicyCommand, policy_command}
+use Rattle.cedar_policy_lines.specs.PolicyCommand.{PolicyCommand, IsPolicyCommand}
+use Rattle.cedar_policy_lines.specs.laws.PolicyReading.{policy_command}
+use Rattle.cedar_policy_lines.specs.laws.ReadCommands.{command_is_read, read_is_command}
 use Rattle.cedar_store.specs.Command.{Command, Nothing, Ent, Build, Add, Upsert, Remove, Anc, Policy, AreTexts, IsCommand}
 
 abbrev pub Text : EntityUID → List ℕ → Type 0
@@ -39,6 +41,18 @@ no_texts (f ∷ fs) i d l none [] h = h
 no_texts (f ∷ fs) zero d l none (u ∷ us) h = none u h.0
 no_texts (f ∷ fs) (suc i) d l none (u ∷ us) h = no_texts fs i d (omega arith) none us h.1
 
+-- fields that are read as no command on policy sets are those of none
+pub none_read : (fs : List (List ℕ)) (c : PolicyCommand) → policy_command fs ≡ None → IsPolicyCommand c fs → ⊥
+none_read fs c e h = let g : None ≡ Some c = sym e ∙ command_is_read c fs h in cc
+
+read_none : (fs : List (List ℕ)) (o : Option PolicyCommand) → policy_command fs ≡ o → ((c : PolicyCommand) → IsPolicyCommand c fs → ⊥) → o ≡ None
+read_none fs None e none = refl
+read_none fs (Some c) e none = absurd (none c (read_is_command fs c e))
+
+-- fields that are those of no command on policy sets are read as none
+pub reads_none : (fs : List (List ℕ)) → ((c : PolicyCommand) → IsPolicyCommand c fs → ⊥) → policy_command fs ≡ None
+reads_none fs none = read_none fs (policy_command fs) refl none
+
 -- no fields are those of no command
 pub no_fields : (c : Command) → IsCommand c [] → ⊥
 no_fields Nothing h = cc
@@ -48,10 +62,7 @@ no_fields Add h = h
 no_fields Upsert h = h
 no_fields (Remove us) h = h.0
 no_fields (Anc u) h = h
-no_fields (Policy c) h = cc
-
-pub not_both : (o : Option PolicyCommand) (c : PolicyCommand) → o ≡ None → o ≡ Some c → ⊥
-not_both o c e f = let g : None ≡ Some c = sym e ∙ f in cc
+no_fields (Policy c) h = none_read [] c refl h
 
 -- the words of the commands differ
 pub differs : (a b : List ℕ) → bytes_eq a b ≡ false → bytes_eq b b ≡ true → a ≡ b → ⊥
@@ -61,8 +72,8 @@ one_field : (w : List ℕ) (ts : List (List ℕ)) → w ∷ ts ≡ [] ∷ [] →
 one_field w ts h = cc
 
 -- fields that begin with another word are those of no command on policy sets
-other_word : (w v : List ℕ) (ts : List (List ℕ)) (c : PolicyCommand) → w ≡ v → policy_command (v ∷ ts) ≡ None → policy_command (w ∷ ts) ≡ Some c → ⊥
-other_word w v ts c e none h = not_both (policy_command (v ∷ ts)) c none (ap (λ u. policy_command (u ∷ ts)) (sym e) ∙ h)
+other_word : (w v : List ℕ) (ts : List (List ℕ)) (c : PolicyCommand) → w ≡ v → policy_command (v ∷ ts) ≡ None → IsPolicyCommand c (w ∷ ts) → ⊥
+other_word w v ts c e none h = none_read (w ∷ ts) c (ap (λ u. policy_command (u ∷ ts)) e ∙ none) h
 
 -- the first field tells which command there may be
 pub not_ent : (w : List ℕ) (ts : List (List ℕ)) → w ≡ codes "ent" → ((p : EntityUID × List EntityUID) → AreTexts (p.0 ∷ p.1) ts → ⊥) → (c : Command) → IsCommand c (w ∷ ts) → ⊥
@@ -105,7 +116,24 @@ not_word w policy build add upsert empty Upsert h = upsert h.0
 not_word w policy build add upsert empty (Remove []) h = h.1 refl
 not_word w policy build add upsert empty (Remove (u ∷ us)) h = h.0.1
 not_word w policy build add upsert empty (Anc u) h = h.1
-not_word w policy build add upsert empty (Policy c) h = not_both (policy_command (w ∷ [])) c policy h
+not_word w policy build add upsert empty (Policy c) h = none_read (w ∷ []) c policy h
+
+-- a word before other fields is that of an entity, of a removal or of ancestors, where it is none on policy sets
+pub no_such_word : (w t : List ℕ) (ts : List (List ℕ)) → policy_command (w ∷ t ∷ ts) ≡ None → (w ≡ codes "ent" → ⊥) → (w ≡ codes "remove" → ⊥) → (w ≡ codes "anc" → ⊥) → (c : Command) → IsCommand c (w ∷ t ∷ ts) → ⊥
+no_such_word w t ts policy ent remove anc Nothing h = cc
+no_such_word w t ts policy ent remove anc (Ent u ps) h = ent h.0
+no_such_word w t ts policy ent remove anc Build h = h.1
+no_such_word w t ts policy ent remove anc Add h = h.1
+no_such_word w t ts policy ent remove anc Upsert h = h.1
+no_such_word w t ts policy ent remove anc (Remove us) h = remove h.0.0
+no_such_word w t ts policy ent remove anc (Anc u) h = anc h.0
+no_such_word w t ts policy ent remove anc (Policy c) h = none_read (w ∷ t ∷ ts) c policy h
+
+-- and so before fields that are looked at
+pub no_such_fields : (w : List ℕ) (fs : List (Bor (List ℕ))) (b : Bool) → b ≡ (length fs == 0) → b ≡ false → policy_command (w ∷ map (λ f. f.now) fs) ≡ None
+    → (w ≡ codes "ent" → ⊥) → (w ≡ codes "remove" → ⊥) → (w ≡ codes "anc" → ⊥) → (c : Command) → IsCommand c (w ∷ map (λ f. f.now) fs) → ⊥
+no_such_fields w [] b e t policy ent remove anc = absurd (false≢true (sym t ∙ e))
+no_such_fields w (f ∷ fs) b e t policy ent remove anc = no_such_word w f.now (map (λ f. f.now) fs) policy ent remove anc
 
 -- no field is the text of no uid, and of no others
 pub no_uids : (fs : List (Bor (List ℕ))) (b : Bool) → b ≡ (length fs == 0) → b ≡ true → (us : List EntityUID) → (us ≡ [] → ⊥) × AreTexts us (map (λ f. f.now) fs) → ⊥

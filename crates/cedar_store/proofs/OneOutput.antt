@@ -16,8 +16,10 @@ use Rattle.cedar_ids.specs.UidOf.{uid_parts, uid_order, same_uid, same_uid_decid
 use Rattle.cedar_ids.specs.laws.PrintedLaws.{printed_uid_injective}
 use Rattle.cedar_ids.specs.declared.entity.EntityUID.{EntityUID}
 use Rattle.cedar_ids.specs.declared.entity.EntityUID.TheVariants as uids
-use Rattle.cedar_policy_lines.specs.PolicyCommand.{PolicyCommand, policy_command}
+use Rattle.cedar_policy_lines.specs.PolicyCommand.{PolicyCommand}
 use Rattle.cedar_policy_lines.specs.laws.OneAnswer.{one_policy_gives}
+use Rattle.cedar_policy_lines.specs.laws.PolicyReading.{policy_command}
+use Rattle.cedar_policy_lines.specs.laws.ReadCommands.{command_is_read}
 use Rattle.cedar_store.specs.Command.{Command, Nothing, Ent, Build, Add, Upsert, Remove, Anc, Policy, AreTexts, AreFields, IsCommand}
 use Rattle.cedar_entities.specs.World.{World, Given, AllAgree, Agrees, FirstDiffers, empty_world}
 use Rattle.cedar_store.specs.Output.{State, Written, Adds, Overwrites, Deletes, AreAncestors, Gives, IsOutput, IsOutputFrom, after, written_line, uid_text, field_of}
@@ -86,7 +88,7 @@ policy_told Add fs h = no_policy (codes "add") [] fs (λ ts. refl) h
 policy_told Upsert fs h = no_policy (codes "upsert") [] fs (λ ts. refl) h
 policy_told (Remove us) fs h = no_policy (codes "remove") us fs (λ ts. refl) h.0
 policy_told (Anc u) fs h = no_policy (codes "anc") (u ∷ []) fs (λ ts. refl) h
-policy_told (Policy c) fs h = sym h
+policy_told (Policy c) fs h = sym (command_is_read c fs h)
 
 -- the fields of any other command are its word and the texts of the uids that it names
 fields_are : (c : Command) (fs : List (List ℕ)) → policy_of c ≡ None → IsCommand c fs → AreFields (word_of c) (named_by c) fs

@@ -3,8 +3,8 @@ ghost use Rattle.std.specs.Prelude.{◌≡◌, ◌∷◌, [], List, ℕ, IfOk, O
 ghost use Rattle.std.specs.List.{list_all, slice_split};
 ghost use Rattle.cedar_ids.specs.declared.entity.EntityUID.{EntityUID};
 ghost use Rattle.cedar_store.specs.Command.{AreTexts, IsCommand, IsLine, is_plain};
-ghost use Rattle.cedar_policy_lines.specs.PolicyCommand.{policy_command};
 ghost use Rattle.cedar_policy_lines.specs.Reads.{ReadsAs};
+ghost use Rattle.cedar_policy_lines.specs.laws.PolicyReading.{policy_command};
 ghost use Rattle.cedar_store.specs.laws.CommandOf.{command_of};
 
 use crate::parent_fields::{Known, parents_of_fields};
