@@ -226,7 +226,7 @@ fn stand_at(nodes: &Vec<&Expr>, starts: &[usize]) -> bool {
     nodes.len() == starts.len() && same
 }
 
-// The same of the nodes of an expression that could be made.
+// Whether the nodes of an expression that could be made stand at these places, in turn.
 fn nodes_stand_at(alloc: Global, made: Option<Expr>, starts: &[usize]) -> bool {
     match made {
         Some(expr) => {
@@ -253,7 +253,7 @@ fn last_stands_at(slots: &Vec<Slot>, start: Option<usize>) -> bool {
     starts.last().flatten() == start
 }
 
-// The same of the only slot of an expression.
+// Whether the only slot of an expression stands there, or, of `None`, nowhere.
 fn slot_stands_at(alloc: Global, made: Option<Expr>, start: Option<usize>) -> bool {
     match slots_of(alloc, made) {
         Some(slots) => {
