@@ -31,7 +31,7 @@ fn asked<T: Drop, R, F: FnOnce(&T) -> R>(made: Result<T, Fail>, ask: F) -> Resul
     }
 }
 
-// The same of what takes memory or changes the value.
+// What is asked of a value that is made for it, by what takes memory or changes the value.
 fn tried<T: Drop, F: FnOnce(Global, &mut T) -> Result<bool, Fail>>(
     alloc: Global,
     made: Result<T, Fail>,
@@ -111,7 +111,7 @@ fn uid(alloc: Global, text: &str) -> Result<EntityUID, Fail> {
     Ok(EntityUID::from_normalized_str(alloc, text)?)
 }
 
-// The same, to be shared.
+// The uid with this text, to be shared.
 fn shared(alloc: Global, text: &str) -> Result<SharedUid, Fail> {
     Ok(SharedUid::new(alloc, uid(alloc, text)?)?)
 }

@@ -1,6 +1,6 @@
 -- Reading fields.
 use Rattle.std.specs.Prelude.{◌≡◌, ℕ, List, [], ◌∷◌, ◌++◌, length, drop, nat_eq, Bool, true, false, Option, Some, None, Result, Ok, Err, MatchOption, ◌==◌, map, if◌then◌else◌}
-use Rattle.std.proofs.Common.{ap, sym, refl, ◌∙◌}
+use Rattle.std.proofs.Common.{ap, sym, refl, ◌∙◌, arith}
 use Rattle.std.specs.Borrow.{Bor}
 use Rattle.std.specs.List.{starts_with}
 use Rattle.std.specs.Option.{option_map}
@@ -12,12 +12,14 @@ use Rattle.cedar_ids.specs.Uid.{UidParts}
 use Rattle.cedar_ids.specs.UidOf.{uid_parts}
 use Rattle.cedar_ids.specs.TextOf.{IsPrinted}
 use Rattle.cedar_ids.specs.laws.UidReading.{uid_reading}
-use Rattle.cedar_ids.specs.laws.PrintedLaws.{uid_reading-printed}
 use Rattle.cedar_ids.specs.laws.UidTexts.{uid_found}
 use Rattle.cedar_ids.specs.declared.err.ParseErrors.{ParseErrors}
 use Rattle.cedar_ids.specs.declared.entity.EntityUID.{EntityUID}
 use Rattle.cedar_ids.specs.declared.entity.EntityUID.TheVariants as uids
-use Rattle.cedar_policy_lines.specs.PolicyCommand.{behind, uid_of, read_uid, bindings_of}
+use Rattle.cedar_policy_lines.specs.PolicyCommand.{PolicyCommand, IsPolicyCommand}
+use Rattle.cedar_policy_lines.specs.Reads.{ReadsAs}
+use Rattle.cedar_policy_lines.specs.laws.PolicyReading.{behind, uid_read, read_uid, bindings_of, policy_command}
+use Rattle.cedar_policy_lines.specs.laws.ReadCommands.{command_is_read, read_is_command}
 
 lacks : (mark s : List ℕ) (b : Bool) → starts_with nat_eq s mark ≡ b → LacksTextAt mark s 0 → None ≡ (if b then Some (drop (length mark) s) else None)
 lacks mark s false e l = refl
@@ -39,14 +41,24 @@ none_by t (Ok (Some u)) e none = absurd (none (uids.EntityUID u) (uid_found t u 
 none_by t (Ok None) e none = refl
 none_by t (Err x) e none = refl
 
--- a text that is no uid's, and one that is
-pub no_uid : (t : List ℕ) → ((u : EntityUID) → IsPrinted (uid_parts u) t → ⊥) → uid_of t ≡ None
+-- a text that is no uid's
+pub no_uid : (t : List ℕ) → ((u : EntityUID) → IsPrinted (uid_parts u) t → ⊥) → uid_read t ≡ None
 no_uid t none = none_by t (uid_reading t) refl none
-
-pub uid_is : (t : List ℕ) (u : EntityUID) → IsPrinted (uid_parts u) t → uid_of t ≡ Some (uid_parts u)
-uid_is t u h = ap read_uid (uid_reading-printed (uid_parts u) t h)
 
 -- three fields and more bind nothing
 pub more_fields : (rest : List (Bor (List ℕ))) (b : Bool) → b ≡ (length rest == 0) → b ≡ false → (f g : List ℕ) → bindings_of (f ∷ g ∷ map (λ x. x.now) rest) ≡ None
 more_fields [] b e t f g = absurd (false≢true (sym t ∙ e))
 more_fields (x ∷ rest) b e t f g = refl
+
+none_some : (c : PolicyCommand) → None ≡ Some c → ⊥
+none_some c e = cc
+
+-- no fields are those of no command
+pub no_command : (fs : List (Bor (List ℕ))) → length fs ≡ 0 → (c : PolicyCommand) → IsPolicyCommand c (map (λ f. f.now) fs) → ⊥
+no_command [] e c h = none_some c (command_is_read c [] h)
+no_command (f ∷ fs) e c h = absurd (omega arith)
+
+-- what was read of the fields is the command that they are
+pub reads_as : {A : Type 0} (value : A → PolicyCommand) (fs : List (List ℕ)) (o : Option A) → option_map value o ≡ policy_command fs → ReadsAs (λ c. IsPolicyCommand c fs) value o
+reads_as value fs None e = λ c h. none_some c (e ∙ command_is_read c fs h)
+reads_as value fs (Some a) e = read_is_command fs (value a) (sym e)

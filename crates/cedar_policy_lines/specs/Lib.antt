@@ -1,7 +1,7 @@
 pub mod Boards
 pub mod Codes
+pub mod CommandOf
 pub mod PolicyCommand
-pub mod PolicyLines
 pub mod PolicyOutput
 pub mod Reads
 pub mod laws

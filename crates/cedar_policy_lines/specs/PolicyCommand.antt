@@ -1,14 +1,10 @@
 -- The commands of the program on policy sets, and which fields are which.
-use Rattle.std.specs.Prelude.{ℕ, List, [], ◌∷◌, Bool, true, false, Option, Some, None, if◌then◌else◌, codes, length, drop, nat_eq, option_and_then, Result, Ok, Err}
-use Rattle.std.specs.List.{starts_with}
-use Rattle.std.specs.Option.{option_map}
-use Rattle.cedar_ids.specs.Texts.{same_text}
+use Rattle.std.specs.Prelude.{◌≡◌, ◌⊎◌, ℕ, List, [], ◌∷◌, ◌++◌, Bool, true, false, Option, Some, None, codes}
+use Rattle.cedar_ids.specs.TextOf.{IsPrinted}
 use Rattle.cedar_ids.specs.Uid.{UidParts}
-use Rattle.cedar_ids.specs.laws.UidReading.{uid_reading}
-use Rattle.cedar_ids.specs.declared.err.ParseErrors.{ParseErrors}
 use Rattle.cedar_terms.specs.declared.slot.SlotId.{SlotId}
 use Rattle.cedar_terms.specs.declared.slot.SlotId.TheVariants.{Principal, Resource}
-use Rattle.cedar_binding.specs.Bindings.{EnvParts, no_env}
+use Rattle.cedar_binding.specs.Bindings.{EnvParts}
 use Rattle.cedar_body.specs.declared.effect.Effect.{Effect}
 use Rattle.cedar_body.specs.declared.effect.Effect.TheVariants.{Permit, Forbid}
 
@@ -26,124 +22,54 @@ pub data PolicyCommand : Type 0 where
 
 -- ---- single fields
 
--- the effect of a word
-abbrev pub effect_of : List ℕ → Option Effect
-effect_of w = if same_text w (codes "permit") then Some Permit else if same_text w (codes "forbid") then Some Forbid else None
+-- the word of an effect
+abbrev pub effect_word : Effect → List ℕ
+effect_word Permit = codes "permit"
+effect_word Forbid = codes "forbid"
 
--- the slots of a word: whether the principal's is among them, and the resource's
-abbrev pub slots_word : List ℕ → Option (Bool × Bool)
-slots_word w =
-    if same_text w (codes "none") then Some (false, false)
-    else if same_text w (codes "principal") then Some (true, false)
-    else if same_text w (codes "resource") then Some (false, true)
-    else if same_text w (codes "both") then Some (true, true)
-    else None
+-- the word of a template's slots: whether it has the principal's, and the resource's
+abbrev pub slots_word : Bool → Bool → List ℕ
+slots_word false false = codes "none"
+slots_word true false = codes "principal"
+slots_word false true = codes "resource"
+slots_word true true = codes "both"
 
--- whether a word asks for renaming
-abbrev pub renaming_word : List ℕ → Option Bool
-renaming_word w = if same_text w (codes "keep") then Some false else if same_text w (codes "rename") then Some true else None
+-- the word of a merge: whether ids are renamed, or keep theirs
+abbrev pub renaming_word : Bool → List ℕ
+renaming_word true = codes "rename"
+renaming_word false = codes "keep"
 
--- the uid with an ASCII eid that a text was read as, if it was
-abbrev pub read_uid : Result (Option UidParts) ParseErrors → Option UidParts
-read_uid (Ok u) = u
-read_uid (Err e) = None
+-- the mark before the uid that a slot is bound to
+abbrev pub slot_mark : SlotId → List ℕ
+slot_mark Principal = codes "principal="
+slot_mark Resource = codes "resource="
 
--- the uid with an ASCII eid whose text this is, if there is one
-abbrev pub uid_of : List ℕ → Option UidParts
-uid_of t = read_uid (uid_reading t)
-
--- what stands behind a mark, where the text starts with it
-abbrev pub behind : List ℕ → List ℕ → Option (List ℕ)
-behind mark t = if starts_with nat_eq t mark then Some (drop (length mark) t) else None
-
--- a slot and the uid that the text behind its mark is
-abbrev pub bound_as : SlotId → Option (List ℕ) → Option (SlotId × UidParts)
-bound_as s t = option_map (λ u. (s, u)) (option_and_then uid_of t)
-
--- a binding that is told of two slots, the first that has something
-abbrev pub binding_by : Option (List ℕ) → Option (List ℕ) → Option (SlotId × UidParts)
-binding_by (Some t) r = bound_as Principal (Some t)
-binding_by None r = bound_as Resource r
-
--- the binding that a field is: `principal=` or `resource=` and the text of a uid
-abbrev pub binding_of : List ℕ → Option (SlotId × UidParts)
-binding_of f = binding_by (behind (codes "principal=") f) (behind (codes "resource=") f)
+-- the field binds the slot to the uid: the slot's mark, and the text of the uid, whose eid is ASCII
+abbrev pub IsBinding : SlotId → UidParts → List ℕ → Type 0
+IsBinding s u f = (t : List ℕ) × IsPrinted u t × (f ≡ slot_mark s ++ t)
 
 -- ---- bindings
 
--- the bindings of one slot, and of two, of which each is named once
-abbrev pub one_bound : SlotId → UidParts → EnvParts
-one_bound Principal u = record { principal = Some u; resource = None }
-one_bound Resource u = record { principal = None; resource = Some u }
+-- one field for each slot that is bound, in either order
+abbrev pub AreBound : Option UidParts → Option UidParts → List (List ℕ) → Type 0
+AreBound None None fs = fs ≡ []
+AreBound (Some p) None fs = (f : List ℕ) × IsBinding Principal p f × (fs ≡ f ∷ [])
+AreBound None (Some r) fs = (g : List ℕ) × IsBinding Resource r g × (fs ≡ g ∷ [])
+AreBound (Some p) (Some r) fs =
+    (f : List ℕ) × (g : List ℕ) × IsBinding Principal p f × IsBinding Resource r g × ((fs ≡ f ∷ g ∷ []) ⊎ (fs ≡ g ∷ f ∷ []))
 
-abbrev pub two_bound : SlotId → SlotId → UidParts → UidParts → Option EnvParts
-two_bound Principal Resource u v = Some (record { principal = Some u; resource = Some v })
-two_bound Resource Principal u v = Some (record { principal = Some v; resource = Some u })
-two_bound Principal Principal u v = None
-two_bound Resource Resource u v = None
+-- the fields are the bindings
+abbrev pub AreBindings : EnvParts → List (List ℕ) → Type 0
+AreBindings e fs = AreBound e.principal e.resource fs
 
-abbrev pub two_by : Option (SlotId × UidParts) → Option (SlotId × UidParts) → Option EnvParts
-two_by None y = None
-two_by (Some x) None = None
-two_by (Some x) (Some y) = two_bound x.0 y.0 x.1 y.1
+-- ---- commands
 
--- the bindings that the fields are, in either order, each slot at most once
-abbrev pub bindings_of : List (List ℕ) → Option EnvParts
-bindings_of [] = Some no_env
-bindings_of (f ∷ []) = option_map (λ b. one_bound b.0 b.1) (binding_of f)
-bindings_of (f ∷ g ∷ []) = two_by (binding_of f) (binding_of g)
-bindings_of (f ∷ g ∷ h ∷ fs) = None
-
--- ---- the fields behind each word
-
--- the one field that there is
-abbrev pub only : List (List ℕ) → Option (List ℕ)
-only [] = None
-only (f ∷ []) = Some f
-only (f ∷ g ∷ fs) = None
-
--- an id and an effect
-abbrev pub static_line : List (List ℕ) → Option PolicyCommand
-static_line [] = None
-static_line (i ∷ fs) = option_map (Static i) (option_and_then effect_of (only fs))
-
--- an id and slots
-abbrev pub template_line : List (List ℕ) → Option PolicyCommand
-template_line [] = None
-template_line (i ∷ fs) = option_map (λ s. Template i s.0 s.1) (option_and_then slots_word (only fs))
-
--- a template's id, a new id, and bindings
-abbrev pub link_line : List (List ℕ) → Option PolicyCommand
-link_line [] = None
-link_line (t ∷ []) = None
-link_line (t ∷ l ∷ fs) = option_map (Link t l) (bindings_of fs)
-
--- an id
-abbrev pub unlink_line : List (List ℕ) → Option PolicyCommand
-unlink_line fs = option_map Unlink (only fs)
-
--- whether ids are renamed
-abbrev pub merge_line : List (List ℕ) → Option PolicyCommand
-merge_line fs = option_map Merge (option_and_then renaming_word (only fs))
-
--- no field
-abbrev pub bare_line : PolicyCommand → List (List ℕ) → Option PolicyCommand
-bare_line c [] = Some c
-bare_line c (f ∷ fs) = None
-
--- the command whose word and fields these are, if they are those of one
-abbrev pub command_by : List ℕ → List (List ℕ) → Option PolicyCommand
-command_by w fs =
-    if same_text w (codes "static") then static_line fs
-    else if same_text w (codes "template") then template_line fs
-    else if same_text w (codes "link") then link_line fs
-    else if same_text w (codes "unlink") then unlink_line fs
-    else if same_text w (codes "other") then bare_line Other fs
-    else if same_text w (codes "merge") then merge_line fs
-    else if same_text w (codes "ids") then bare_line Ids fs
-    else None
-
--- the command whose fields these are
-abbrev pub policy_command : List (List ℕ) → Option PolicyCommand
-policy_command [] = None
-policy_command (w ∷ fs) = command_by w fs
+-- the fields are those of the command: its word, and what it is given
+abbrev pub IsPolicyCommand : PolicyCommand → List (List ℕ) → Type 0
+IsPolicyCommand (Static i e) fs = fs ≡ codes "static" ∷ i ∷ effect_word e ∷ []
+IsPolicyCommand (Template i p r) fs = fs ≡ codes "template" ∷ i ∷ slots_word p r ∷ []
+IsPolicyCommand (Link t l e) fs = (bs : List (List ℕ)) × AreBindings e bs × (fs ≡ codes "link" ∷ t ∷ l ∷ bs)
+IsPolicyCommand (Unlink i) fs = fs ≡ codes "unlink" ∷ i ∷ []
+IsPolicyCommand Other fs = fs ≡ codes "other" ∷ []
+IsPolicyCommand (Merge r) fs = fs ≡ codes "merge" ∷ renaming_word r ∷ []
+IsPolicyCommand Ids fs = fs ≡ codes "ids" ∷ []

@@ -82,9 +82,9 @@ Joins (Ok b) old new out = (new ≡ with_current old b) × (out ≡ ok_line)
 Joins (Err r) old new out = (new ≡ old) × (out ≡ refused_line r)
 
 -- what an id is bound to is taken out of the current board, or that is refused
-abbrev pub TakesOut : Result Binding Refusal → List ℕ → Boards → Boards → List ℕ → Type 0
-TakesOut (Ok b) i old new out = (new ≡ with_current old (without_id old.current i)) × (out ≡ ok_line)
-TakesOut (Err r) i old new out = (new ≡ old) × (out ≡ refused_line r)
+abbrev pub UnlinkGives : Result Binding Refusal → List ℕ → Boards → Boards → List ℕ → Type 0
+UnlinkGives (Ok b) i old new out = (new ≡ with_current old (without_id old.current i)) × (out ≡ ok_line)
+UnlinkGives (Err r) i old new out = (new ≡ old) × (out ≡ refused_line r)
 
 -- the first id that conflicts is refused, where ids keep theirs
 abbrev pub IsRefusedMerge : Bool → Boards → Boards → List ℕ → Type 0
@@ -103,19 +103,20 @@ abbrev pub IsTooLarge : Bool → Boards → Boards → List ℕ → Type 0
 IsTooLarge rename old new out =
     (rename ≡ true) × ((r : List (List ℕ × List ℕ)) → IsRenaming old.current old.aside r → ⊥) × (new ≡ old) × (out ≡ [])
 
-abbrev pub Merges : Bool → Boards → Boards → List ℕ → Type 0
-Merges rename old new out = IsRefusedMerge rename old new out ⊎ (IsMerge rename old new out ⊎ IsTooLarge rename old new out)
+-- a merge is refused, or made, or asks for too much
+abbrev pub MergeGives : Bool → Boards → Boards → List ℕ → Type 0
+MergeGives rename old new out = IsRefusedMerge rename old new out ⊎ (IsMerge rename old new out ⊎ IsTooLarge rename old new out)
 
 -- the boards that a command leaves, and what it writes
 abbrev pub PolicyGives : PolicyCommand → Boards → Boards → List ℕ → Type 0
 PolicyGives (Static i e) old new out = Joins (add_static_step old.current (static_body i e)) old new out
 PolicyGives (Template i p r) old new out = Joins (add_template_step old.current (template_body i p r)) old new out
 PolicyGives (Link t l e) old new out = Joins (link_step old.current t l e) old new out
-PolicyGives (Unlink i) old new out = TakesOut (unlink_step old.current i) i old new out
+PolicyGives (Unlink i) old new out = UnlinkGives (unlink_step old.current i) i old new out
 PolicyGives Other old new out = (new ≡ swapped old) × (out ≡ ok_line)
-PolicyGives (Merge rename) old new out = Merges rename old new out
+PolicyGives (Merge rename) old new out = MergeGives rename old new out
 PolicyGives Ids old new out = (new ≡ old) × (out ≡ ids_lines old.current)
 
 -- a command makes these boards of those, and adds what it writes
-abbrev pub Takes : PolicyCommand → Boards → Boards → List ℕ → List ℕ → Type 0
-Takes c old new before after = (text : List ℕ) × PolicyGives c old new text × (after ≡ before ++ text)
+abbrev pub PolicyWrites : PolicyCommand → Boards → Boards → List ℕ → List ℕ → Type 0
+PolicyWrites c old new before after = (text : List ℕ) × PolicyGives c old new text × (after ≡ before ++ text)

@@ -2,3 +2,5 @@ pub mod Lines
 pub mod Machines
 pub mod OneAnswer
 pub mod OneMerge
+pub mod PolicyReading
+pub mod ReadCommands

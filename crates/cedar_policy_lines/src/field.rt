@@ -7,8 +7,8 @@ ghost use Rattle.cedar_ids.specs.Uid.{UidParts};
 ghost use Rattle.cedar_ids.specs.UidOf.{uid_parts};
 ghost use Rattle.cedar_ids.specs.declared.entity.EntityUID.{EntityUID};
 ghost use Rattle.cedar_terms.specs.declared.slot.SlotId.{SlotId};
-ghost use Rattle.cedar_policy_lines.specs.PolicyCommand.{effect_of, slots_word, renaming_word, behind, uid_of, binding_of};
 ghost use Rattle.cedar_policy_lines.specs.Reads.{ReadsAs};
+ghost use Rattle.cedar_policy_lines.specs.laws.PolicyReading.{effect_of, slots_of, renaming_of, behind, uid_read, binding_of};
 
 use cedar_body::Effect;
 use cedar_ids::entity::EntityUID;
@@ -57,7 +57,7 @@ pub(crate) fn effect_of(word: &str) -> Option<Effect>
 
 // The slots that a word names: whether the principal's, and whether the resource's.
 pub(crate) fn slots_of(word: &str) -> Option<(bool, bool)>
-    ensures { result ≡ slots_word word.now }
+    ensures { result ≡ slots_of word.now }
 {
     if word == "none" {
         return Some((false, false));
@@ -76,7 +76,7 @@ pub(crate) fn slots_of(word: &str) -> Option<(bool, bool)>
 
 // Whether a word asks for renaming, if it is one of the two that say so.
 pub(crate) fn renaming_of(word: &str) -> Option<bool>
-    ensures { result ≡ renaming_word word.now }
+    ensures { result ≡ renaming_of word.now }
 {
     if word == "keep" {
         return Some(false);
@@ -100,7 +100,7 @@ fn bound_as(
     slot: SlotId,
     text: &str,
 ) -> Result<Option<(SlotId, EntityUID)>, AllocError>
-    ensures { IfOk result (λ o. option_map {U = SlotId × UidParts} (λ b. (b.0, uid_parts b.1)) o ≡ option_map {U = SlotId × UidParts} (λ u. (slot, u)) (uid_of text.now)) }
+    ensures { IfOk result (λ o. option_map {U = SlotId × UidParts} (λ b. (b.0, uid_parts b.1)) o ≡ option_map {U = SlotId × UidParts} (λ u. (slot, u)) (uid_read text.now)) }
 {
     match uid_field(alloc, text)? {
         None => Ok(None),

@@ -5,11 +5,11 @@
 //! `cedar_store`.
 #![tactic(auto)]
 
+mod command;
 pub mod field;
-mod lines;
 pub mod machine;
 mod making;
 mod writing;
 
-pub use lines::{PolicyLine, read_policy_line};
+pub use command::{PolicyCommand, read_policy_command};
 pub use machine::PolicySets;

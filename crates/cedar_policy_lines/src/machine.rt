@@ -3,10 +3,10 @@ ghost use Rattle.std.specs.Prelude.{◌≡◌, OnOk};
 ghost use Rattle.cedar_binding.specs.Views.{env_of};
 ghost use Rattle.cedar_policy_lines.specs.Boards.{no_boards};
 ghost use Rattle.cedar_policy_lines.specs.PolicyCommand.{Static as static_command, Template as template_command, Link as link_command, Unlink as unlink_command, Other as other_command, Merge as merge_command, Ids as ids_command};
-ghost use Rattle.cedar_policy_lines.specs.PolicyLines.{command_of};
-ghost use Rattle.cedar_policy_lines.specs.PolicyOutput.{Takes};
+ghost use Rattle.cedar_policy_lines.specs.CommandOf.{command_of};
+ghost use Rattle.cedar_policy_lines.specs.PolicyOutput.{PolicyWrites};
 
-use crate::lines::PolicyLine;
+use crate::command::PolicyCommand;
 use crate::making::{link, static_policy, template};
 use crate::writing::{
     push_by_linking, push_by_merging, push_by_set, push_by_unlinking, push_ids, push_ok,
@@ -56,7 +56,7 @@ impl PolicySets {
         effect: Effect,
         out: &mut Vec<u8>,
     ) -> Result<(), AllocError>
-        ensures { OnOk result (Takes (static_command id effect) self.old self.new out.old.items out.new.items) }
+        ensures { OnOk result (PolicyWrites (static_command id effect) self.old self.new out.old.items out.new.items) }
     {
         let policy = static_policy(alloc, id, effect)?;
         let answer = self.current.add_static(alloc, policy);
@@ -72,7 +72,7 @@ impl PolicySets {
         resource: bool,
         out: &mut Vec<u8>,
     ) -> Result<(), AllocError>
-        ensures { OnOk result (Takes (template_command id principal resource) self.old self.new out.old.items out.new.items) }
+        ensures { OnOk result (PolicyWrites (template_command id principal resource) self.old self.new out.old.items out.new.items) }
     {
         let template = template(alloc, id, principal, resource)?;
         let answer = self.current.add_template(alloc, template);
@@ -88,7 +88,7 @@ impl PolicySets {
         values: SlotEnv,
         out: &mut Vec<u8>,
     ) -> Result<(), AllocError>
-        ensures { OnOk result (Takes (link_command template_id new_id (env_of values)) self.old self.new out.old.items out.new.items) }
+        ensures { OnOk result (PolicyWrites (link_command template_id new_id (env_of values)) self.old self.new out.old.items out.new.items) }
     {
         let answer = link(alloc, &mut self.current, template_id, new_id, values);
         push_by_linking(alloc, out, answer)
@@ -96,7 +96,7 @@ impl PolicySets {
 
     // A link goes.
     fn unlink(&mut self, alloc: Global, id: &PolicyID, out: &mut Vec<u8>) -> Result<(), AllocError>
-        ensures { OnOk result (Takes (unlink_command id.now) self.old self.new out.old.items out.new.items) }
+        ensures { OnOk result (PolicyWrites (unlink_command id.now) self.old self.new out.old.items out.new.items) }
     {
         let answer = self.current.unlink(id);
         push_by_unlinking(alloc, out, answer)
@@ -104,16 +104,16 @@ impl PolicySets {
 
     // The set aside becomes the current one, and that one goes aside.
     fn other(&mut self, out: &mut Vec<u8>) -> Result<(), AllocError>
-        ensures { OnOk result (Takes other_command self.old self.new out.old.items out.new.items) }
+        ensures { OnOk result (PolicyWrites other_command self.old self.new out.old.items out.new.items) }
     {
         mem::swap(&mut self.current, &mut self.aside);
         push_ok(out)
     }
 
     // The set aside is merged into the current one.
-    #[tactic(auto, using(crate::proofs::Merging::merge_takes))]
+    #[tactic(auto, using(crate::proofs::Merging::merge_writes))]
     fn merge(&mut self, alloc: Global, rename: bool, out: &mut Vec<u8>) -> Result<(), AllocError>
-        ensures { OnOk result (Takes (merge_command rename) self.old self.new out.old.items out.new.items) }
+        ensures { OnOk result (PolicyWrites (merge_command rename) self.old self.new out.old.items out.new.items) }
     {
         let answer = self.current.merge_policyset(alloc, &self.aside, rename);
         push_by_merging(alloc, out, answer)
@@ -121,7 +121,7 @@ impl PolicySets {
 
     // The ids of the current set are written.
     fn ids(&self, alloc: Global, out: &mut Vec<u8>) -> Result<(), AllocError>
-        ensures { OnOk result (Takes ids_command self.now self.now out.old.items out.new.items) }
+        ensures { OnOk result (PolicyWrites ids_command self.now self.now out.old.items out.new.items) }
     {
         push_ids(alloc, out, &self.current)
     }
@@ -133,21 +133,23 @@ impl PolicySets {
     pub fn take(
         &mut self,
         alloc: Global,
-        line: PolicyLine,
+        command: PolicyCommand,
         out: &mut Vec<u8>,
     ) -> Result<(), AllocError>
-        ensures { OnOk result (Takes (command_of line) self.old self.new out.old.items out.new.items) }
+        ensures { OnOk result (PolicyWrites (command_of command) self.old self.new out.old.items out.new.items) }
     {
-        match line {
-            PolicyLine::Static(id, effect) => self.add_static(alloc, id, effect, out),
-            PolicyLine::Template(id, principal, resource) => {
+        match command {
+            PolicyCommand::Static(id, effect) => self.add_static(alloc, id, effect, out),
+            PolicyCommand::Template(id, principal, resource) => {
                 self.add_template(alloc, id, principal, resource, out)
             }
-            PolicyLine::Link(template, id, values) => self.link(alloc, template, id, values, out),
-            PolicyLine::Unlink(id) => self.unlink(alloc, &id, out),
-            PolicyLine::Other => self.other(out),
-            PolicyLine::Merge(rename) => self.merge(alloc, rename, out),
-            PolicyLine::Ids => self.ids(alloc, out),
+            PolicyCommand::Link(template, id, values) => self.link(
+                alloc, template, id, values, out,
+            ),
+            PolicyCommand::Unlink(id) => self.unlink(alloc, &id, out),
+            PolicyCommand::Other => self.other(out),
+            PolicyCommand::Merge(rename) => self.merge(alloc, rename, out),
+            PolicyCommand::Ids => self.ids(alloc, out),
         }
     }
 }

@@ -157,7 +157,7 @@ fn is_copied<T: Clone + Hash + Drop>(x: &T) -> bool {
     }
 }
 
-// The same of a thing that could be made.
+// Whether a copy of a thing that could be made is equal to it, and hashes alike.
 fn copies<T: Clone + Hash + Drop>(made: Option<T>) -> bool {
     match made {
         Some(x) => {
@@ -322,7 +322,7 @@ fn on_principal(made: Option<PrincipalOrResourceConstraint>) -> Option<Principal
     }
 }
 
-// The same of the resource.
+// A constraint that could be made, of the resource.
 fn on_resource(made: Option<PrincipalOrResourceConstraint>) -> Option<ResourceConstraint> {
     match made {
         Some(made) => Some(ResourceConstraint::new(made)),

@@ -17,12 +17,14 @@ use Rattle.cedar_ids.specs.declared.entity.EntityUID.{EntityUID}
 use Rattle.cedar_ids.specs.declared.entity.EntityUID.TheVariants as uids
 use Rattle.cedar_entities.specs.World.{World, Given, given, graph, IsCyclic, added, overwritten, deleted, empty_world}
 use Rattle.cedar_entities.specs.laws.Settled.{Settled, settled_by, world_keys, decides_world_cycle, reached_list, reached_ascend, reached_members, agree_or_differs}
-use Rattle.cedar_policy_lines.specs.PolicyCommand.{PolicyCommand, policy_command}
+use Rattle.cedar_policy_lines.specs.PolicyCommand.{PolicyCommand}
 use Rattle.cedar_policy_lines.specs.laws.OneAnswer.{policy_gives}
+use Rattle.cedar_policy_lines.specs.laws.PolicyReading.{policy_command}
+use Rattle.cedar_policy_lines.specs.laws.ReadCommands.{read_is_command}
 use Rattle.cedar_store.specs.Command.{Command, Nothing, Ent, Build, Add, Upsert, Remove, Anc, Policy, AreTexts, IsCommand, IsLine, is_plain}
 use Rattle.cedar_store.specs.Output.{State, Written, Adds, Overwrites, AreAncestors, ShowsAncestors, Gives, IsOutput, IsOutputFrom, HasOneOutput, start, after, written_line, count_line, uid_text, field_of, not_command}
 use Rattle.cedar_store.proofs.OneOutput.{one_output}
-use Rattle.cedar_store.proofs.Commands.{Text, no_fields, not_anc, not_word, not_both}
+use Rattle.cedar_store.proofs.Commands.{Text, no_fields, not_anc, not_word, no_such_word, no_uid_texts}
 
 -- there is one that P holds of, or P holds of none
 abbrev Found : {X : Type 0} → (X → Type 0) → Type 0
@@ -76,26 +78,6 @@ alone_found w policy = elim (word_is w (codes "build")) [
   ]
 ]
 
-no_uid_texts : (w t : List ℕ) (ts : List (List ℕ)) → policy_command (w ∷ t ∷ ts) ≡ None → ((us : List EntityUID) → AreTexts us (t ∷ ts) → ⊥) → (c : Command) → IsCommand c (w ∷ t ∷ ts) → ⊥
-no_uid_texts w t ts policy none Nothing h = cc
-no_uid_texts w t ts policy none (Ent u ps) h = none (u ∷ ps) h.1
-no_uid_texts w t ts policy none Build h = h.1
-no_uid_texts w t ts policy none Add h = h.1
-no_uid_texts w t ts policy none Upsert h = h.1
-no_uid_texts w t ts policy none (Remove us) h = none us h.0.1
-no_uid_texts w t ts policy none (Anc u) h = none (u ∷ []) h.1
-no_uid_texts w t ts policy none (Policy c) h = not_both (policy_command (w ∷ t ∷ ts)) c policy h
-
-no_such_word : (w t : List ℕ) (ts : List (List ℕ)) → policy_command (w ∷ t ∷ ts) ≡ None → (w ≡ codes "ent" → ⊥) → (w ≡ codes "remove" → ⊥) → (w ≡ codes "anc" → ⊥) → (c : Command) → IsCommand c (w ∷ t ∷ ts) → ⊥
-no_such_word w t ts policy ent remove anc Nothing h = cc
-no_such_word w t ts policy ent remove anc (Ent u ps) h = ent h.0
-no_such_word w t ts policy ent remove anc Build h = h.1
-no_such_word w t ts policy ent remove anc Add h = h.1
-no_such_word w t ts policy ent remove anc Upsert h = h.1
-no_such_word w t ts policy ent remove anc (Remove us) h = remove h.0.0
-no_such_word w t ts policy ent remove anc (Anc u) h = anc h.0
-no_such_word w t ts policy ent remove anc (Policy c) h = not_both (policy_command (w ∷ t ∷ ts)) c policy h
-
 two_or_none : (v : EntityUID) (vs : List EntityUID) (ts : List (List ℕ)) → AreTexts (v ∷ vs) ts → AreTexts [] ts → ⊥
 two_or_none v vs [] h k = h
 two_or_none v vs (t ∷ ts) h k = k
@@ -109,7 +91,7 @@ anc_found w t ts u (v ∷ vs) e h = inr (not_anc w (t ∷ ts) e (λ x k. two_or_
 
 -- a word and the texts of uids
 with_found : (w t : List ℕ) (ts : List (List ℕ)) → policy_command (w ∷ t ∷ ts) ≡ None → Found (λ us. AreTexts us (t ∷ ts)) → Found (λ c. IsCommand c (w ∷ t ∷ ts))
-with_found w t ts policy (inr none) = inr (no_uid_texts w t ts policy none)
+with_found w t ts policy (inr none) = inr (no_uid_texts w (t ∷ ts) policy none)
 with_found w t ts policy (inl ([], h)) = absurd h
 with_found w t ts policy (inl (u ∷ us, h)) = elim (word_is w (codes "ent")) [
   | inl e ↦ inl (Ent u us, (e, h))
@@ -128,7 +110,7 @@ other_found (w ∷ []) policy = alone_found w policy
 other_found (w ∷ t ∷ ts) policy = with_found w t ts policy (texts_found (t ∷ ts))
 
 found_by : (fs : List (List ℕ)) (o : Option PolicyCommand) → policy_command fs ≡ o → Found (λ c. IsCommand c fs)
-found_by fs (Some c) e = inl (Policy c, e)
+found_by fs (Some c) e = inl (Policy c, read_is_command fs c e)
 found_by fs None e = other_found fs e
 
 command_found : (fs : List (List ℕ)) → Found (λ c. IsCommand c fs)

@@ -1,158 +1,25 @@
 -- No input has two outputs.
-use Rattle.std.specs.Prelude.{◌≡◌, ℕ, ◌+◌, List, [], ◌∷◌, ◌++◌, codes, Bool, true, false, ◌||◌, if◌then◌else◌, Option, Some, None}
+use Rattle.std.specs.Prelude.{◌≡◌, ℕ, ◌+◌, List, [], ◌∷◌, ◌++◌, codes, Bool, true, false, ◌||◌}
 use Rattle.std.proofs.Common.{ap, sym, refl, subst, ◌∙◌, inl, inr}
 use Rattle.std.proofs.lemmas.Bool.{false≢true, or_cases}
 use Rattle.std.specs.Cmp.{tied_itself}
 use Rattle.std.specs.Fmt.{decimal}
 use Rattle.std.specs.Bool.{MatchBool}
-use Rattle.std.specs.Str.{bytes_eq}
 use Rattle.std.specs.List.{AllByRecursion, flat_map}
 use Rattle.std.specs.List.Sorted.{IsStrictlySortedBy}
 use Rattle.std.specs.Set.{is_member}
 use Rattle.std.specs.FinMap as finmap
 use Rattle.std.specs.Ordering.{is_eq}
 use Rattle.std.specs.declared.cmp.Ordering.TheVariants.{Less}
-use Rattle.cedar_ids.specs.UidOf.{uid_parts, uid_order, same_uid}
+use Rattle.cedar_ids.specs.UidOf.{uid_order, same_uid}
 use Rattle.cedar_ids.specs.laws.UidOfLaws.{same_uid_decides, same_uid_equiv, uid_order_total}
-use Rattle.cedar_ids.specs.laws.PrintedLaws.{printed_uid_injective}
 use Rattle.cedar_ids.specs.declared.entity.EntityUID.{EntityUID}
-use Rattle.cedar_ids.specs.declared.entity.EntityUID.TheVariants as uids
-use Rattle.cedar_policy_lines.specs.PolicyCommand.{PolicyCommand, policy_command}
 use Rattle.cedar_policy_lines.specs.laws.OneAnswer.{one_policy_gives}
-use Rattle.cedar_store.specs.Command.{Command, Nothing, Ent, Build, Add, Upsert, Remove, Anc, Policy, AreTexts, AreFields, IsCommand}
+use Rattle.cedar_store.specs.Command.{Command, Nothing, Ent, Build, Add, Upsert, Remove, Anc, Policy}
 use Rattle.cedar_entities.specs.World.{World, Given, AllAgree, Agrees, FirstDiffers, empty_world}
 use Rattle.cedar_store.specs.Output.{State, Written, Adds, Overwrites, Deletes, AreAncestors, Gives, IsOutput, IsOutputFrom, after, written_line, uid_text, field_of}
-use Rattle.cedar_store.proofs.Commands.{Text}
+use Rattle.cedar_store.proofs.Commands.{one_command}
 use Rattle.cedar_store.proofs.Lists.{all_at}
-
-same_uids : (u v : EntityUID) → uid_parts u ≡ uid_parts v → u ≡ v
-same_uids (uids.EntityUID u) (uids.EntityUID v) e = ap uids.EntityUID e
-
-one_text : (u v : EntityUID) (t : List ℕ) → Text u t → Text v t → u ≡ v
-one_text u v t h k = same_uids u v (printed_uid_injective (uid_parts u) (uid_parts v) t h k)
-
-one_list : (us vs : List EntityUID) (ts : List (List ℕ)) → AreTexts us ts → AreTexts vs ts → us ≡ vs
-one_list [] [] [] h k = refl
-one_list [] [] (t ∷ ts) h k = absurd h
-one_list [] (v ∷ vs) [] h k = absurd k
-one_list [] (v ∷ vs) (t ∷ ts) h k = absurd h
-one_list (u ∷ us) [] [] h k = absurd h
-one_list (u ∷ us) [] (t ∷ ts) h k = absurd k
-one_list (u ∷ us) (v ∷ vs) [] h k = absurd h
-one_list (u ∷ us) (v ∷ vs) (t ∷ ts) h k = λ i. one_text u v t h.0 k.0 i ∷ one_list us vs ts h.1 k.1 i
-
--- the word of a command, and the uids that it names
-abbrev word_of : Command → List ℕ
-word_of Nothing = []
-word_of (Ent u ps) = codes "ent"
-word_of Build = codes "build"
-word_of Add = codes "add"
-word_of Upsert = codes "upsert"
-word_of (Remove us) = codes "remove"
-word_of (Anc u) = codes "anc"
-word_of (Policy c) = []
-
-abbrev named_by : Command → List EntityUID
-named_by Nothing = []
-named_by (Ent u ps) = u ∷ ps
-named_by Build = []
-named_by Add = []
-named_by Upsert = []
-named_by (Remove us) = us
-named_by (Anc u) = u ∷ []
-named_by (Policy c) = []
-
--- the command on policy sets that a command is, if it is one
-abbrev policy_of : Command → Option PolicyCommand
-policy_of Nothing = None
-policy_of (Ent u ps) = None
-policy_of Build = None
-policy_of Add = None
-policy_of Upsert = None
-policy_of (Remove us) = None
-policy_of (Anc u) = None
-policy_of (Policy c) = Some c
-
--- fields that begin with another word are those of no command on policy sets
-no_policy : (w : List ℕ) (us : List EntityUID) (fs : List (List ℕ)) → ((ts : List (List ℕ)) → None ≡ policy_command (w ∷ ts)) → AreFields w us fs → None ≡ policy_command fs
-no_policy w us [] none h = absurd h
-no_policy w us (f ∷ fs) none h = none fs ∙ ap (λ v. policy_command (v ∷ fs)) (sym h.0)
-
--- it is told by the fields
-policy_told : (c : Command) (fs : List (List ℕ)) → IsCommand c fs → policy_of c ≡ policy_command fs
-policy_told Nothing fs h = ap policy_command (sym h)
-policy_told (Ent u ps) fs h = no_policy (codes "ent") (u ∷ ps) fs (λ ts. refl) h
-policy_told Build fs h = no_policy (codes "build") [] fs (λ ts. refl) h
-policy_told Add fs h = no_policy (codes "add") [] fs (λ ts. refl) h
-policy_told Upsert fs h = no_policy (codes "upsert") [] fs (λ ts. refl) h
-policy_told (Remove us) fs h = no_policy (codes "remove") us fs (λ ts. refl) h.0
-policy_told (Anc u) fs h = no_policy (codes "anc") (u ∷ []) fs (λ ts. refl) h
-policy_told (Policy c) fs h = sym h
-
--- the fields of any other command are its word and the texts of the uids that it names
-fields_are : (c : Command) (fs : List (List ℕ)) → policy_of c ≡ None → IsCommand c fs → AreFields (word_of c) (named_by c) fs
-fields_are Nothing fs e h = subst (AreFields [] []) (sym h) (refl, tt)
-fields_are (Ent u ps) fs e h = h
-fields_are Build fs e h = h
-fields_are Add fs e h = h
-fields_are Upsert fs e h = h
-fields_are (Remove us) fs e h = h.0
-fields_are (Anc u) fs e h = h
-fields_are (Policy c) fs e h = absurd (cc)
-
--- a command with a first uid
-abbrev with_first : (EntityUID → List EntityUID → Command) → List EntityUID → Command
-with_first c [] = Nothing
-with_first c (u ∷ us) = c u us
-
--- the command of a word and of the uids that it names
-abbrev command_by : List ℕ → List EntityUID → Command
-command_by w us =
-    if bytes_eq w (codes "ent") then with_first Ent us
-    else if bytes_eq w (codes "build") then Build
-    else if bytes_eq w (codes "add") then Add
-    else if bytes_eq w (codes "upsert") then Upsert
-    else if bytes_eq w (codes "remove") then Remove us
-    else if bytes_eq w (codes "anc") then with_first (λ u _. Anc u) us
-    else Nothing
-
--- and the command on policy sets, where it is one
-abbrev command_with : Option PolicyCommand → List ℕ → List EntityUID → Command
-command_with (Some c) w us = Policy c
-command_with None w us = command_by w us
-
--- it is read back from them
-read_back : (c : Command) → command_with (policy_of c) (word_of c) (named_by c) ≡ c
-read_back Nothing = refl
-read_back (Ent u ps) = refl
-read_back Build = refl
-read_back Add = refl
-read_back Upsert = refl
-read_back (Remove us) = refl
-read_back (Anc u) = refl
-read_back (Policy c) = refl
-
-same_words : (a b : List ℕ) (us vs : List EntityUID) (fs : List (List ℕ)) → AreFields a us fs → AreFields b vs fs → a ≡ b
-same_words a b us vs [] h k = absurd h
-same_words a b us vs (f ∷ fs) h k = sym h.0 ∙ k.0
-
-same_named : (a b : List ℕ) (us vs : List EntityUID) (fs : List (List ℕ)) → AreFields a us fs → AreFields b vs fs → us ≡ vs
-same_named a b us vs [] h k = absurd h
-same_named a b us vs (f ∷ fs) h k = one_list us vs fs h.1 k.1
-
-one_by : (c d : Command) (fs : List (List ℕ)) (o : Option PolicyCommand) → policy_of c ≡ o → policy_of d ≡ o → IsCommand c fs → IsCommand d fs → c ≡ d
-one_by c d fs (Some p) e f h k = sym (read_back c) ∙ ap (λ o. command_with o (word_of c) (named_by c)) e ∙ sym (ap (λ o. command_with o (word_of d) (named_by d)) f) ∙ read_back d
-one_by c d fs None e f h k =
-    let p = fields_are c fs e h in
-    let q = fields_are d fs f k in
-    let words = same_words (word_of c) (word_of d) (named_by c) (named_by d) fs p q in
-    let named = same_named (word_of c) (word_of d) (named_by c) (named_by d) fs p q in
-    let same : policy_of c ≡ policy_of d = e ∙ sym f in
-    sym (read_back c) ∙ (λ i. command_with (same i) (words i) (named i)) ∙ read_back d
-
--- fields are those of one command
-pub one_command : (c d : Command) (fs : List (List ℕ)) → IsCommand c fs → IsCommand d fs → c ≡ d
-one_command c d fs h k = one_by c d fs (policy_command fs) (policy_told c fs h) (policy_told d fs k) h k
 
 -- the first place that differs is one place
 split_agrees : {X : Type 0} (P : X → Type 0) (before before' : List X) (at at' : X) (after after' : List X) → before ++ at ∷ after ≡ before' ++ at' ∷ after'

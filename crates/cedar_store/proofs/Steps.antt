@@ -32,7 +32,7 @@ use Rattle.cedar_policy_lines.specs.PolicyCommand.{PolicyCommand}
 use Rattle.cedar_policy_lines.specs.PolicyOutput.{PolicyGives}
 use Rattle.cedar_policy_lines.specs.PolicyOutput as policies
 use Rattle.cedar_store.specs.Output.{State, Adds, Overwrites, AreAncestors, ShowsAncestors, count_line, written_line, uid_text, field_of}
-use Rattle.cedar_store.specs.laws.Machines.{IsAsciiUid, IsAsciiGiven, IsAsciiWorld, AreAsciiUids, Refused, Holds, Takes, HasAsciiUids, Settles, waits}
+use Rattle.cedar_store.specs.laws.Machines.{IsAsciiUid, IsAsciiGiven, IsAsciiWorld, AreAsciiUids, Refused, Holds, MachineGives, HasAsciiUids, Settles, waits}
 use Rattle.cedar_store.specs.Command.{Command, Nothing, Ent, Build, Add, Upsert, Remove, Anc, Policy, AreTexts, IsCommand}
 use Rattle.cedar_store.specs.declared.machine.Machine.{Machine}
 use Rattle.std.specs.Borrow.{Bor}
@@ -195,7 +195,7 @@ no_fields (f ∷ fs) h = absurd (false≢true (ap is_some (sym (h.last f.0)) ∙
 
 -- the machine takes an entity
 pub ent_takes : (m n : Machine) (s : State) (u : EntityUID) (ps : List EntityUID) (e : EntityView) (out : List ℕ) → Holds m s → waits n ≡ waits m ++ e ∷ [] → n.store ≡ m.store → n.sets ≡ m.sets
-    → given_of e ≡ given u ps → IsBare e → AreAsciiUids (u ∷ ps) → Takes (Ent u ps) s n out out
+    → given_of e ≡ given u ps → IsBare e → AreAsciiUids (u ∷ ps) → MachineGives (Ent u ps) s n out out
 ent_takes m n s u ps e out h items store sets is bare ascii = (
   record { waiting = s.waiting ++ given u ps ∷ []; world = s.world; boards = s.boards },
   [],
@@ -227,7 +227,7 @@ pub add_takes : (m n : Machine) (s : State) (list : List EntityView) (store : St
     → OnOk r ((W : World) → IsPlainStore W store → AreBare list → AllAgree W (map given_of list))
     → IfOk r (λ S. (W : World) → IsPlainStore W store → AreBare list → IsPlainStore (added W (map given_of list)) S)
     → IfErr r (λ e. (W : World) → IsPlainStore W store → AreBare list → IsAddingRefused W (map given_of list) e)
-    → Settles r n old new → Takes Add s n old new
+    → Settles r n old new → MachineGives Add s n old new
 add_takes m n s list store (Ok S) old new h same at none sets agrees ok err settles =
     let L : map given_of list ≡ s.waiting = ap (map given_of) same ∙ h.waiting in
     let bare = subst AreBare (sym same) h.bare in
@@ -249,7 +249,7 @@ add_takes m n s list store (Err e) old new h same at none sets agrees ok err set
 
 -- a build is an adding to the store without entities
 pub build_takes : (m n : Machine) (s : State) (old new : List ℕ) → Holds m s → waits n ≡ waits m → n.sets ≡ m.sets → IsPlainStore empty_world n.store
-    → (o : Machine) → ((t : State) → Holds n t → Takes Add t o old new) → Takes Build s o old new
+    → (o : Machine) → ((t : State) → Holds n t → MachineGives Add t o old new) → MachineGives Build s o old new
 build_takes m n s old new h same sets plain o takes =
     takes (record { waiting = s.waiting; world = empty_world; boards = s.boards })
     (record { waiting = ap (map given_of) same ∙ h.waiting; bare = subst AreBare (sym same) h.bare; plain = plain; ascii_waiting = h.ascii_waiting; ascii_world = empty_ascii; boards = sets ∙ h.boards })
@@ -258,7 +258,7 @@ build_takes m n s old new h same sets plain o takes =
 pub upsert_takes : (m n : Machine) (s : State) (list : List EntityView) (store : StoreView) (r : Result StoreView EntitiesError) (old new : List ℕ) → Holds m s → list ≡ waits m → store ≡ m.store → waits n ≡ [] → n.sets ≡ m.sets
     → IfOk r (λ S. (W : World) → IsPlainStore W store → AreBare list → IsPlainStore (overwritten W (map given_of list)) S)
     → IfErr r (λ e. (W : World) → IsPlainStore W store → AreBare list → IsOverwritingRefused W (map given_of list) e)
-    → Settles r n old new → Takes Upsert s n old new
+    → Settles r n old new → MachineGives Upsert s n old new
 upsert_takes m n s list store (Ok S) old new h same at none sets ok err settles =
     let L : map given_of list ≡ s.waiting = ap (map given_of) same ∙ h.waiting in
     let plain = subst (λ l. IsPlainStore (overwritten s.world l) S) L (ok s.world (subst (IsPlainStore s.world) (sym at) h.plain) (subst AreBare (sym same) h.bare)) in
@@ -278,7 +278,7 @@ upsert_takes m n s list store (Err e) old new h same at none sets ok err settles
 pub remove_takes : (m n : Machine) (s : State) (us : List EntityUID) (store : StoreView) (r : Result StoreView EntitiesError) (old new : List ℕ) → Holds m s → store ≡ m.store → waits n ≡ waits m → n.sets ≡ m.sets
     → IfOk r (λ S. (W : World) → IsPlainStore W store → IsPlainStore (deleted W us) S)
     → IfErr r (λ e. (W : World) → IsPlainStore W store → e ≡ errors.Memory)
-    → Settles r n old new → Takes (Remove us) s n old new
+    → Settles r n old new → MachineGives (Remove us) s n old new
 remove_takes m n s us store (Ok S) old new h at same sets ok err settles =
     let k = settles (deleted s.world us) (ok s.world (subst (IsPlainStore s.world) (sym at) h.plain)) in (
       record { waiting = s.waiting; world = deleted s.world us; boards = s.boards },
@@ -308,15 +308,15 @@ fields_more done x start now new so step all =
     ∙ ap (λ l. start ++ l) (sym (flat_map-append field_of (map (λ y. y.now) done) (x.now ∷ [])) ∙ ap (flat_map field_of) (sym (map-append (λ (y : Bor EntityUID). y.now) done (x ∷ []))))
 
 -- an empty line changes nothing
-pub nothing_takes : (m : Machine) (s : State) (out : List ℕ) → Holds m s → Takes Nothing s m out out
+pub nothing_takes : (m : Machine) (s : State) (out : List ℕ) → Holds m s → MachineGives Nothing s m out out
 nothing_takes m s out h = (s, [], (refl, refl), h, sym (append-nil out))
 
 -- the ancestors are written
-pub anc_takes : (m : Machine) (s : State) (u : EntityUID) (old new : List ℕ) → Holds m s → (text : List ℕ) × ShowsAncestors s.world u text × (new ≡ old ++ text) → Takes (Anc u) s m old new
+pub anc_takes : (m : Machine) (s : State) (u : EntityUID) (old new : List ℕ) → Holds m s → (text : List ℕ) × ShowsAncestors s.world u text × (new ≡ old ++ text) → MachineGives (Anc u) s m old new
 anc_takes m s u old new h k = (s, k.0, (refl, k.1), h, k.2)
 
 -- the machine takes a command on policy sets
-pub policy_takes : (m n : Machine) (s : State) (c : PolicyCommand) (old new : List ℕ) → Holds m s → waits n ≡ waits m → n.store ≡ m.store → policies.Takes c m.sets n.sets old new → Takes (Policy c) s n old new
+pub policy_takes : (m n : Machine) (s : State) (c : PolicyCommand) (old new : List ℕ) → Holds m s → waits n ≡ waits m → n.store ≡ m.store → policies.PolicyWrites c m.sets n.sets old new → MachineGives (Policy c) s n old new
 policy_takes m n s c old new h waiting store k = (
   record { waiting = s.waiting; world = s.world; boards = n.sets },
   k.0,

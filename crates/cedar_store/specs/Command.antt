@@ -1,10 +1,10 @@
 -- The commands of the program, and which line is which command.
-use Rattle.std.specs.Prelude.{◌≡◌, ℕ, List, [], ◌∷◌, Bool, ◌||◌, Some, ◌&&◌, ◌==◌, nat_le, codes, IsTrue}
+use Rattle.std.specs.Prelude.{◌≡◌, ℕ, List, [], ◌∷◌, Bool, ◌||◌, ◌&&◌, ◌==◌, nat_le, codes, IsTrue}
 use Rattle.std.specs.List.{slice_split, list_all}
 use Rattle.cedar_ids.specs.TextOf.{IsPrinted}
 use Rattle.cedar_ids.specs.UidOf.{uid_parts}
 use Rattle.cedar_ids.specs.declared.entity.EntityUID.{EntityUID}
-use Rattle.cedar_policy_lines.specs.PolicyCommand.{PolicyCommand, policy_command}
+use Rattle.cedar_policy_lines.specs.PolicyCommand.{PolicyCommand, IsPolicyCommand}
 
 -- an empty line; `ent` with a uid and its parents; `build`; `add`; `upsert`; `remove` with uids; `anc` with a uid; a
 -- command on policy sets
@@ -43,7 +43,7 @@ IsCommand Add fs = AreFields (codes "add") [] fs
 IsCommand Upsert fs = AreFields (codes "upsert") [] fs
 IsCommand (Remove us) fs = AreFields (codes "remove") us fs × (us ≡ [] → ⊥)
 IsCommand (Anc u) fs = AreFields (codes "anc") (u ∷ []) fs
-IsCommand (Policy c) fs = policy_command fs ≡ Some c
+IsCommand (Policy c) fs = IsPolicyCommand c fs
 
 -- the line has tabs and printable ASCII alone, and the fields between its tabs are those of the command
 abbrev pub IsLine : Command → List ℕ → Type 0

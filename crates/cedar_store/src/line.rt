@@ -3,19 +3,20 @@ ghost use Rattle.std.specs.Prelude.{◌≡◌, ◌∷◌, [], List, ℕ, IfOk, O
 ghost use Rattle.std.specs.List.{list_all, slice_split};
 ghost use Rattle.cedar_ids.specs.declared.entity.EntityUID.{EntityUID};
 ghost use Rattle.cedar_store.specs.Command.{AreTexts, IsCommand, IsLine, is_plain};
-ghost use Rattle.cedar_policy_lines.specs.PolicyCommand.{policy_command};
-ghost use Rattle.cedar_store.specs.laws.Lines.{command_of, ReadsAs};
+ghost use Rattle.cedar_policy_lines.specs.Reads.{ReadsAs};
+ghost use Rattle.cedar_policy_lines.specs.laws.PolicyReading.{policy_command};
+ghost use Rattle.cedar_store.specs.laws.CommandOf.{command_of};
 
 use crate::parent_fields::{Known, parents_of_fields};
 use crate::uid_text::{KnownType, uid_of_text};
 use cedar_ids::entity::EntityUID;
-use cedar_policy_lines::{PolicyLine, read_policy_line};
+use cedar_policy_lines::{PolicyCommand, read_policy_command};
 use cedar_uid_sets::SharedUid;
 use std::alloc::{AllocError, Global};
 
-// A line that is a command.
+// A command.
 #[derive(Drop)]
-pub(crate) enum Line {
+pub(crate) enum Command {
     // An empty line.
     Nothing,
     // An entity and its parents.
@@ -31,7 +32,7 @@ pub(crate) enum Line {
     // The ancestors of an entity are asked for.
     Anc(EntityUID),
     // A command on policy sets.
-    Policy(PolicyLine),
+    Policy(PolicyCommand),
 }
 
 // The uids whose texts the fields are, if each is one.
@@ -120,21 +121,21 @@ fn set_fields<'a>(fields: &mut Vec<&'a str>, line: &'a str) -> Result<(), AllocE
 }
 
 // The command that a word is by itself, if there is one, where it is none on policy sets.
-fn command_of_word(word: &str) -> Option<Line>
+fn command_of_word(word: &str) -> Option<Command>
     requires { policy_command (word.now ∷ []) ≡ None }
     ensures { ReadsAs (λ c. IsCommand c (word.now ∷ [])) command_of result }
 {
     if word == "build" {
-        return Some(Line::Build);
+        return Some(Command::Build);
     }
     if word == "add" {
-        return Some(Line::Add);
+        return Some(Command::Add);
     }
     if word == "upsert" {
-        return Some(Line::Upsert);
+        return Some(Command::Upsert);
     }
     if word == "" {
-        return Some(Line::Nothing);
+        return Some(Command::Nothing);
     }
     None
 }
@@ -155,14 +156,14 @@ fn command_of_fields(
     alloc: Global,
     known: &mut Known,
     fields: &[&str],
-) -> Result<Option<Line>, AllocError>
+) -> Result<Option<Command>, AllocError>
     ensures { IfOk result (ReadsAs (λ c. IsCommand c (map (λ f. f.now) fields.now)) command_of) }
 {
     if is_entity(fields) {
         return other_command(alloc, known, fields);
     }
-    match read_policy_line(alloc, fields)? {
-        Some(line) => Ok(Some(Line::Policy(line))),
+    match read_policy_command(alloc, fields)? {
+        Some(command) => Ok(Some(Command::Policy(command))),
         None => other_command(alloc, known, fields),
     }
 }
@@ -172,7 +173,7 @@ fn other_command(
     alloc: Global,
     known: &mut Known,
     fields: &[&str],
-) -> Result<Option<Line>, AllocError>
+) -> Result<Option<Command>, AllocError>
     requires { policy_command (map (λ f. f.now) fields.now) ≡ None }
     ensures { IfOk result (ReadsAs (λ c. IsCommand c (map (λ f. f.now) fields.now)) command_of) }
 {
@@ -182,19 +183,19 @@ fn other_command(
     if *word == "ent" {
         return match ent_fields(alloc, known, rest)? {
             None => Ok(None),
-            Some((uid, parents)) => Ok(Some(Line::Ent(uid, parents))),
+            Some((uid, parents)) => Ok(Some(Command::Ent(uid, parents))),
         };
     }
     if *word == "anc" {
         return match anc_fields(alloc, known, rest)? {
             None => Ok(None),
-            Some(uid) => Ok(Some(Line::Anc(uid))),
+            Some(uid) => Ok(Some(Command::Anc(uid))),
         };
     }
     if *word == "remove" {
         return match remove_fields(alloc, known, rest)? {
             None => Ok(None),
-            Some(uids) => Ok(Some(Line::Remove(uids))),
+            Some(uids) => Ok(Some(Command::Remove(uids))),
         };
     }
     if !rest.is_empty() {
@@ -228,7 +229,7 @@ pub(crate) fn read_line<'a>(
     known: &mut Known,
     fields: &mut Vec<&'a str>,
     line: &'a [u8],
-) -> Result<Option<Line>, AllocError>
+) -> Result<Option<Command>, AllocError>
     ensures { IfOk result (ReadsAs (λ c. IsLine c line.now) command_of) }
 {
     if !is_plain(line) {

@@ -11,12 +11,12 @@ ghost use Rattle.cedar_ids.specs.declared.entity.EntityUID.{EntityUID};
 ghost use Rattle.cedar_entities.specs.Plain.{IsPlainStore, IsBare, given_of};
 ghost use Rattle.cedar_entity.specs.View.{EntityView, has_ancestor};
 ghost use Rattle.cedar_entities.specs.World.{World, empty_world, given};
-ghost use Rattle.cedar_store.specs.Command.{Command, Ent, Build, Add, Upsert, Remove, Anc};
-ghost use Rattle.cedar_store.specs.laws.Lines.{command_of};
-ghost use Rattle.cedar_store.specs.laws.Machines.{Holds, Takes, LineTakes, IsAsciiUid, AreAsciiUids, HasAsciiUids, IsTold, Refused, Settles};
+ghost use Rattle.cedar_store.specs.Command.{Ent, Build, Add, Upsert, Remove, Anc};
+ghost use Rattle.cedar_store.specs.laws.CommandOf.{command_of};
+ghost use Rattle.cedar_store.specs.laws.Machines.{Holds, MachineGives, LineTakes, IsAsciiUid, AreAsciiUids, HasAsciiUids, IsTold, Refused, Settles};
 ghost use Rattle.cedar_store.specs.Output.{State, start, Gives, ShowsAncestors, count_line, written_line, uid_text, field_of, not_command};
 
-use crate::line::{Line, read_line};
+use crate::line::{Command, read_line};
 use crate::parent_fields::Known;
 use cedar_entities::{Dereference, Entities, EntitiesError, Entity, TCComputation};
 use cedar_graph::TcError;
@@ -183,7 +183,7 @@ impl Machine {
         parents: Vec<SharedUid>,
     ) -> Result<(), AllocError>
         ensures { OnOk result ((s : State) → Holds self.old s → AreAsciiUids (uid ∷ parents.items) →
-            (out : List ℕ) → Takes (Ent uid parents.items) s self.new out out) }
+            (out : List ℕ) → MachineGives (Ent uid parents.items) s self.new out out) }
     {
         let entity = Entity::with_shared_parents(alloc, uid, parents)?;
         let entity = Rc::new(alloc, entity)?;
@@ -219,7 +219,7 @@ impl Machine {
     // The entities that wait are added to the store.
     fn add(&mut self, alloc: Global, out: &mut Vec<u8>) -> Result<(), AllocError>
         ensures { OnOk result ((s : State) → Holds self.old s →
-            Takes Add s self.new out.old.items out.new.items) }
+            MachineGives Add s self.new out.old.items out.new.items) }
     {
         let list = mem::replace(&mut self.waiting, Vec::new(alloc));
         let store = mem::replace(&mut self.store, Entities::new(alloc));
@@ -230,7 +230,7 @@ impl Machine {
     // The entities that wait become the store.
     fn build(&mut self, alloc: Global, out: &mut Vec<u8>) -> Result<(), AllocError>
         ensures { OnOk result ((s : State) → Holds self.old s →
-            Takes Build s self.new out.old.items out.new.items) }
+            MachineGives Build s self.new out.old.items out.new.items) }
     {
         self.store = Entities::new(alloc);
         self.add(alloc, out)
@@ -239,7 +239,7 @@ impl Machine {
     // The entities that wait are put over what the store holds.
     fn upsert(&mut self, alloc: Global, out: &mut Vec<u8>) -> Result<(), AllocError>
         ensures { OnOk result ((s : State) → Holds self.old s →
-            Takes Upsert s self.new out.old.items out.new.items) }
+            MachineGives Upsert s self.new out.old.items out.new.items) }
     {
         let list = mem::replace(&mut self.waiting, Vec::new(alloc));
         let store = mem::replace(&mut self.store, Entities::new(alloc));
@@ -255,7 +255,7 @@ impl Machine {
         out: &mut Vec<u8>,
     ) -> Result<(), AllocError>
         ensures { OnOk result ((s : State) → Holds self.old s →
-            Takes (Remove uids.items) s self.new out.old.items out.new.items) }
+            MachineGives (Remove uids.items) s self.new out.old.items out.new.items) }
     {
         let store = mem::replace(&mut self.store, Entities::new(alloc));
         let given = store.remove_entities(alloc, uids, TCComputation::ComputeNow);
@@ -274,19 +274,19 @@ impl Machine {
     }
 
     // Takes a command.
-    fn take(&mut self, alloc: Global, line: Line, out: &mut Vec<u8>) -> Result<(), AllocError>
-        ensures { OnOk result ((s : State) → Holds self.old s → HasAsciiUids (command_of line) →
-            Takes (command_of line) s self.new out.old.items out.new.items) }
+    fn take(&mut self, alloc: Global, command: Command, out: &mut Vec<u8>) -> Result<(), AllocError>
+        ensures { OnOk result ((s : State) → Holds self.old s → HasAsciiUids (command_of command) →
+            MachineGives (command_of command) s self.new out.old.items out.new.items) }
     {
-        match line {
-            Line::Nothing => Ok(()),
-            Line::Ent(uid, parents) => self.ent(alloc, uid, parents),
-            Line::Build => self.build(alloc, out),
-            Line::Add => self.add(alloc, out),
-            Line::Upsert => self.upsert(alloc, out),
-            Line::Remove(uids) => self.remove(alloc, uids, out),
-            Line::Anc(uid) => self.anc(alloc, &uid, out),
-            Line::Policy(line) => self.sets.take(alloc, line, out),
+        match command {
+            Command::Nothing => Ok(()),
+            Command::Ent(uid, parents) => self.ent(alloc, uid, parents),
+            Command::Build => self.build(alloc, out),
+            Command::Add => self.add(alloc, out),
+            Command::Upsert => self.upsert(alloc, out),
+            Command::Remove(uids) => self.remove(alloc, uids, out),
+            Command::Anc(uid) => self.anc(alloc, &uid, out),
+            Command::Policy(command) => self.sets.take(alloc, command, out),
         }
     }
 

@@ -5,7 +5,7 @@ ghost use Rattle.cedar_ids.specs.TextOf.{IsPrinted};
 ghost use Rattle.cedar_ids.specs.UidOf.{uid_parts};
 ghost use Rattle.cedar_ids.specs.declared.entity.EntityUID.{EntityUID};
 ghost use Rattle.cedar_store.specs.Command.{AreTexts};
-ghost use Rattle.cedar_store.specs.laws.Lines.{ReadsAs};
+ghost use Rattle.cedar_policy_lines.specs.Reads.{ReadsAs};
 
 use crate::uid_text::{KnownType, uid_of_text};
 use cedar_uid_sets::SharedUid;

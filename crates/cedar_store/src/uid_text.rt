@@ -7,7 +7,7 @@ ghost use Rattle.cedar_ids.specs.TextOf.{IsNameText, IsPrinted};
 ghost use Rattle.cedar_ids.specs.UidOf.{uid_parts};
 ghost use Rattle.cedar_ids.specs.Views.{type_name};
 ghost use Rattle.cedar_ids.specs.declared.entity.EntityUID.{EntityUID};
-ghost use Rattle.cedar_store.specs.laws.Lines.{ReadsAs};
+ghost use Rattle.cedar_policy_lines.specs.Reads.{ReadsAs};
 
 use cedar_ids::entity::{Eid, EntityType, EntityUID};
 use cedar_ids::err::ParseErrors;

@@ -243,7 +243,7 @@ fn is_copied<T: Clone + Hash + Drop>(x: &T) -> bool {
     }
 }
 
-// The same of a thing that could be made.
+// Whether a copy of a thing that could be made is equal to it, and hashes alike.
 fn copies<T: Clone + Hash + Drop>(made: Option<T>) -> bool {
     match made {
         Some(x) => {

@@ -55,7 +55,7 @@ fn uid(alloc: Global, n: u32) -> Result<EntityUID, Fail> {
     Ok(EntityUID::from_normalized_str(alloc, text.as_str())?)
 }
 
-// The same, to be shared.
+// The uid of a number, to be shared.
 fn shared(alloc: Global, n: u32) -> Result<SharedUid, Fail> {
     Ok(SharedUid::new(alloc, uid(alloc, n)?)?)
 }
@@ -142,7 +142,7 @@ fn both_in_order(alloc: Global, numbers: &[u32], others: &[u32]) -> Result<Strin
     }
 }
 
-// The same of two ranges.
+// The eids of the numbers of two ranges, each once.
 fn rows_in_order(alloc: Global, of: Range, others: Range) -> Result<String, Fail> {
     let (numbers, others) = beside(row(alloc, of)?, row(alloc, others))?;
     let text = both_in_order(alloc, numbers.as_slice(), others.as_slice());
@@ -221,7 +221,7 @@ fn is(alloc: Global, set: &UidSet, want: &str) -> Result<bool, Fail> {
     reads(eids(alloc, set), want)
 }
 
-// The same of a set that is made for it.
+// Whether the eids of a set that is made for it are these.
 fn becomes(alloc: Global, made: Result<UidSet, Fail>, want: &str) -> Result<bool, Fail> {
     match made {
         Ok(set) => {

@@ -80,7 +80,7 @@ fn told_apart(x: &TemplateBody, y: &TemplateBody, same: bool) -> bool {
     (x == y) == same && (hash_of(x) == hash_of(y)) == same
 }
 
-// The same of those at two places.
+// Whether the bodies at two places are equal and hash alike just where they are the same.
 fn nth_told_apart(alloc: Global, i: usize, j: usize) -> bool {
     match both(nth(alloc, i), nth(alloc, j)) {
         Some((x, y)) => {

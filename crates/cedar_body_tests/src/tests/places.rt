@@ -75,7 +75,7 @@ fn lie(nodes: &Vec<&Expr>, want: &[Option<usize>]) -> bool {
     nodes.len() == want.len() && same
 }
 
-// The same of the nodes of an expression that could be made, as the walk meets them.
+// Whether the nodes of an expression that could be made lie so, as the walk meets them.
 fn nodes_lie(alloc: Global, made: Option<Expr>, want: &[Option<usize>]) -> bool {
     match made {
         Some(expr) => {
@@ -123,7 +123,7 @@ fn stand_at(slots: &Vec<Slot>, first: usize, last: usize) -> bool {
         && slots.last().map(|slot| start_of(slot.loc.as_ref())) == Some(Some(last))
 }
 
-// The same of slots that could be found.
+// Whether slots that could be found are two, the first and the last at these places.
 fn two_stand_at(found: Option<Vec<Slot>>, first: usize, last: usize) -> bool {
     match found {
         Some(slots) => {

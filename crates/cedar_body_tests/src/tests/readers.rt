@@ -126,7 +126,7 @@ fn shares(body: &TemplateBody, want: &Annotations) -> bool {
     annotations == want
 }
 
-// The same of a body and annotations that could be made.
+// Whether a body that could be made shares annotations that could be.
 fn are_shared(made: Option<TemplateBody>, want: Option<Annotations>) -> bool {
     match both(made, want) {
         Some((body, want)) => {
@@ -201,7 +201,7 @@ fn is_slotted(body: &TemplateBody, action: &ActionConstraint) -> bool {
         && body.action_constraint() == action
 }
 
-// The same of a body and a constraint of the action that could be made.
+// Whether a body that could be made has the constraints of `slotted`, and a constraint of the action that could be made.
 fn are_slotted(made: Option<TemplateBody>, want: Option<ActionConstraint>) -> bool {
     match both(made, want) {
         Some((body, want)) => {
@@ -275,7 +275,7 @@ fn has_clause(body: &TemplateBody, want: &Expr) -> bool {
     }
 }
 
-// The same of the clause as it is shared.
+// Whether the clause that a body shares is this one.
 fn shares_clause(body: &TemplateBody, want: &Expr) -> bool {
     match body.non_scope_constraints_arc() {
         Some(clause) => **clause == *want,

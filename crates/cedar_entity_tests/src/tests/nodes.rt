@@ -262,14 +262,16 @@ fn has_three<K: Eq + Drop, V: TCNode<K>>(alloc: Global, node: &mut V) -> Result<
     Ok(all == 3 && direct == 1 && count(alloc, node)? == 1)
 }
 
-// The same after two more edges, of which one is there.
+// Whether a node has three edges, one of them direct and alone after a reset, once two more are added, of which one is
+// there.
 fn grows<V: TCNode<EntityUID>>(alloc: Global, node: &mut V) -> Result<bool, Fail> {
     lead(alloc, node, uid(alloc, "A::\"d\""))?;
     lead(alloc, node, uid(alloc, "A::\"b\""))?;
     has_three::<EntityUID, V>(alloc, node)
 }
 
-// The same with shared uids.
+// Whether a node at shared uids has three edges, one of them direct and alone after a reset, once two more are added, of
+// which one is there.
 fn grows_shared<V: TCNode<SharedUid>>(alloc: Global, node: &mut V) -> Result<bool, Fail> {
     lead(alloc, node, shared(alloc, "A::\"d\""))?;
     lead(alloc, node, shared(alloc, "A::\"b\""))?;
@@ -281,7 +283,7 @@ fn child(alloc: Global) -> Result<Entity, Fail> {
     related(alloc, "A::\"a\"", "A::\"b\"", "A::\"c\"")
 }
 
-// The same as a node that may be shared.
+// The entity a with a parent and an indirect ancestor, as a node that may be shared.
 fn shared_child(alloc: Global) -> Result<SharedEntity, Fail> {
     Ok(SharedEntity(Rc::new(alloc, child(alloc)?)?))
 }

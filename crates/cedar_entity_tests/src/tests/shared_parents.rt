@@ -27,7 +27,7 @@ fn add_each(alloc: Global, entity: &mut Entity, texts: &str) -> Result<(), Fail>
     Ok(())
 }
 
-// The same, taken one after another.
+// The entity a with these parents, taken one after another.
 fn with_each(alloc: Global, texts: &str) -> Result<Entity, Fail> {
     let mut entity = Entity::with_uid(alloc, uid(alloc, "A::\"a\"")?);
     match add_each(alloc, &mut entity, texts) {

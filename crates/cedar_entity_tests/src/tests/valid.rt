@@ -14,7 +14,7 @@ fn is_told(alloc: Global, entity: &Entity, want: &str) -> Result<bool, Fail> {
     }
 }
 
-// The same of an entity that is made for it.
+// Whether `validate` says this of an entity that is made for it; of a valid one `valid`.
 fn judged(alloc: Global, made: Result<Entity, Fail>, want: &str) -> Result<bool, Fail> {
     match made {
         Ok(entity) => {
@@ -148,7 +148,7 @@ fn one_at(alloc: Global, key: &str) -> Result<Value, Fail> {
     record(alloc, key, long(1))
 }
 
-// The same in a set in a set.
+// The number 1 at a key, in a set in a set.
 fn in_sets(alloc: Global, key: &str) -> Result<Value, Fail> {
     let inner = set(alloc, one_at(alloc, key)?)?;
     set(alloc, inner)
@@ -217,7 +217,7 @@ fn reserved_text(alloc: Global) -> Result<Fields, Fail> {
     field(alloc, "__extn", PartialValue::Value(value))
 }
 
-// The same of an expression.
+// An attribute with a reserved name that holds an expression of a text, which is one too.
 fn reserved_residual(alloc: Global) -> Result<Fields, Fail> {
     let text = Literal::String(owned(alloc, "__expr")?);
     let residual = Expr::val(alloc, text)?;
@@ -308,7 +308,7 @@ fn record_first(alloc: Global) -> Result<Value, Fail> {
     pair(alloc, ("__expr", long(1)), ("A", inner))
 }
 
-// The same with the reserved key before the other.
+// A reserved key, and behind it in the order of keys one whose value has another.
 fn record_last(alloc: Global) -> Result<Value, Fail> {
     let inner = one_at(alloc, "__extn")?;
     pair(alloc, ("a", inner), ("__expr", long(1)))

@@ -541,7 +541,7 @@ fn is_written(alloc: Global, error: &TcError<u64>, want: &str) -> bool {
     }
 }
 
-// The same of one that could be made.
+// Whether a refusal that could be made is written so.
 fn shows(alloc: Global, made: Option<TcError<u64>>, want: &str) -> bool {
     match made {
         Some(error) => {
@@ -632,7 +632,7 @@ fn is_set_back(alloc: Global, node: &mut Apart) -> bool {
     before && added && reset && after && node.mark == 7
 }
 
-// The same of the first node of a chain once it is closed.
+// Whether the first node of a chain, once it is closed, lists its own edges, takes one on, and is set back.
 fn apart_is_set_back(alloc: Global) -> bool {
     match graph_apart(alloc, &[1, 2], CHAIN) {
         Ok(mut nodes) => {

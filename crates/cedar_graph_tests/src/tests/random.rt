@@ -240,7 +240,7 @@ fn check_repaired(
     }
 }
 
-// The same where no cycle is to be: what is wrong with its edges, the refusal and the named key.
+// Repairs the graph at some keys, where no cycle is to be: what is wrong with its edges, the refusal and the named key.
 fn check_repair_of_cycle(
     alloc: Global,
     keys: &[u64],

@@ -103,7 +103,7 @@ fn agrees(alloc: Global, edges: Edges<'_>) -> bool {
     }
 }
 
-// The same of the graph of a number.
+// Whether the graph of a number is closed and repaired to what is reached, and its cycles are named.
 fn number_agrees(alloc: Global, number: u64) -> bool {
     match numbered(alloc, number) {
         Ok(edges) => {
@@ -157,7 +157,7 @@ fn check_agrees(alloc: Global, edges: Edges<'_>) -> bool {
     }
 }
 
-// The same of the graph of a number.
+// Whether the check of the graph of a number tells what is so.
 fn check_of_number_agrees(alloc: Global, number: u64) -> bool {
     match numbered(alloc, number) {
         Ok(edges) => {

@@ -15,7 +15,7 @@ fn is_id(alloc: Global, text: &str) -> bool {
     }
 }
 
-// The same of any identifier, reserved ones too.
+// Whether a text is read as any identifier, reserved ones too, that has it and is written so.
 fn is_any_id(alloc: Global, text: &str) -> bool {
     match AnyId::from_normalized_str(alloc, text) {
         Ok(id) => {

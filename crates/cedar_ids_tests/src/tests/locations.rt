@@ -29,7 +29,7 @@ fn name_lies_at<E: Drop>(made: Result<Name, E>, start: usize, end: usize, src: &
     }
 }
 
-// The same of a type.
+// Whether a type that could be made lies so.
 fn type_lies_at<E: Drop>(made: Result<EntityType, E>, start: usize, end: usize, src: &str) -> bool {
     match made {
         Ok(ty) => {

@@ -27,7 +27,7 @@ fn name_goes_to(alloc: Global, text: &str, namespace: Option<&Name>, want: &str)
     }
 }
 
-// The same of a type.
+// Whether a type that goes into this namespace is written so.
 fn type_goes_to(alloc: Global, text: &str, namespace: Option<&Name>, want: &str) -> bool {
     match EntityType::from_normalized_str(alloc, text) {
         Ok(ty) => {

@@ -218,7 +218,7 @@ fn ignores_its_location(placed: &EntityUID, bare: &EntityUID) -> bool {
     placed.loc().is_some() && bare.loc().is_none() && placed == bare && placed.cmp(bare).is_eq()
 }
 
-// The same of `A::"a"`, and of a set of both.
+// Whether `placed` is the same as `A::"a"` without a location in each way of comparing, and a set takes one of the two.
 fn set_ignores_locations(alloc: Global, placed: EntityUID) -> bool {
     match make_uid(alloc, "A", "a") {
         Ok(bare) => {
@@ -232,7 +232,7 @@ fn set_ignores_locations(alloc: Global, placed: EntityUID) -> bool {
     }
 }
 
-// The same of the uid that is read.
+// Whether the location of `A::"a"`, as it is read, is looked at by no way of comparing and by no set.
 fn locations_are_ignored(alloc: Global) -> bool {
     match read_uid(alloc, "A::\"a\"") {
         Ok(placed) => set_ignores_locations(alloc, placed),
@@ -420,7 +420,7 @@ fn is_copied(inner: &EntityUIDImpl) -> bool {
     }
 }
 
-// The same of what the uid of a text holds.
+// Whether a copy of what the uid of a text holds can be made, and is one.
 fn inner_is_copied(alloc: Global, text: &str) -> bool {
     match read_uid(alloc, text) {
         Ok(EntityUID::EntityUID(inner)) => {
@@ -474,7 +474,7 @@ fn is_below(small: Eid, large: Eid) -> bool {
     told
 }
 
-// The same of two texts.
+// Whether the first of the eids of two texts is below the second, and differs from it.
 fn eid_is_below(alloc: Global, small: &str, large: &str) -> bool {
     match make_eid(alloc, small) {
         Ok(small) => match make_eid(alloc, large) {

@@ -7,7 +7,7 @@ use Rattle.cedar_policy_set.specs.Merge.{conflicts, merged, new_id}
 use Rattle.cedar_policy_set.specs.Steps.{Refusal, occupied, add_static_step, add_template_step, link_step, unlink_step}
 use Rattle.cedar_policy_lines.specs.Boards.{Boards, with_current, swapped}
 use Rattle.cedar_policy_lines.specs.PolicyCommand.{PolicyCommand, Static, Template, Link, Unlink, Other, Merge, Ids}
-use Rattle.cedar_policy_lines.specs.PolicyOutput.{Joins, TakesOut, Merges, PolicyGives, static_body, template_body, ok_line, refused_line, merged_line, ids_lines}
+use Rattle.cedar_policy_lines.specs.PolicyOutput.{Joins, UnlinkGives, MergeGives, PolicyGives, static_body, template_body, ok_line, refused_line, merged_line, ids_lines}
 use Rattle.cedar_policy_lines.specs.laws.OneMerge.{FoundRenaming, one_renaming, renaming_found}
 
 -- what is given, whatever it is
@@ -21,19 +21,19 @@ joins : (s : Result Board Refusal) (old : Boards) → Given (Joins s old)
 joins (Ok b) old = (with_current old b, ok_line, (refl, refl))
 joins (Err r) old = (old, refused_line r, (refl, refl))
 
-takes_out : (s : Result Binding Refusal) (i : List ℕ) (old : Boards) → Given (TakesOut s i old)
+takes_out : (s : Result Binding Refusal) (i : List ℕ) (old : Boards) → Given (UnlinkGives s i old)
 takes_out (Ok b) i old = (with_current old (without_id old.current i), ok_line, (refl, refl))
 takes_out (Err r) i old = (old, refused_line r, (refl, refl))
 
-kept : (old : Boards) (c : List (List ℕ)) → conflicts old.current old.aside ≡ c → Given (Merges false old)
+kept : (old : Boards) (c : List (List ℕ)) → conflicts old.current old.aside ≡ c → Given (MergeGives false old)
 kept old [] e = (with_current old (merged old.current old.aside (new_id [])), merged_line [], inr (inl ([], (sym e, tt), (λ _. e), refl, refl)))
 kept old (i ∷ rest) e = (old, refused_line (occupied i), inl (i, rest, refl, e, refl, refl))
 
-renamed : (old : Boards) → FoundRenaming old.current old.aside → Given (Merges true old)
+renamed : (old : Boards) → FoundRenaming old.current old.aside → Given (MergeGives true old)
 renamed old (inl r) = (with_current old (merged old.current old.aside (new_id r.0)), merged_line r.0, inr (inl (r.0, r.1, (λ e. absurd (false≢true (sym e))), refl, refl)))
 renamed old (inr none) = (old, [], inr (inr (refl, none, refl, refl)))
 
-merges : (rename : Bool) (old : Boards) → Given (Merges rename old)
+merges : (rename : Bool) (old : Boards) → Given (MergeGives rename old)
 merges false old = kept old (conflicts old.current old.aside) refl
 merges true old = renamed old (renaming_found old.current old.aside)
 
@@ -51,7 +51,7 @@ one_joins : (s : Result Board Refusal) (old m n : Boards) (o p : List ℕ) → J
 one_joins (Ok b) old m n o p h k = (h.0 ∙ sym k.0, h.1 ∙ sym k.1)
 one_joins (Err r) old m n o p h k = (h.0 ∙ sym k.0, h.1 ∙ sym k.1)
 
-one_takes_out : (s : Result Binding Refusal) (i : List ℕ) (old m n : Boards) (o p : List ℕ) → TakesOut s i old m o → TakesOut s i old n p → Same m n o p
+one_takes_out : (s : Result Binding Refusal) (i : List ℕ) (old m n : Boards) (o p : List ℕ) → UnlinkGives s i old m o → UnlinkGives s i old n p → Same m n o p
 one_takes_out (Ok b) i old m n o p h k = (h.0 ∙ sym k.0, h.1 ∙ sym k.1)
 one_takes_out (Err r) i old m n o p h k = (h.0 ∙ sym k.0, h.1 ∙ sym k.1)
 
@@ -61,7 +61,7 @@ heads p = cc
 not_none : {X : Type 0} {x : X} {xs : List X} → x ∷ xs ≡ [] → ⊥
 not_none p = cc
 
-one_merges : (rename : Bool) (old m n : Boards) (o p : List ℕ) → Merges rename old m o → Merges rename old n p → Same m n o p
+one_merges : (rename : Bool) (old m n : Boards) (o p : List ℕ) → MergeGives rename old m o → MergeGives rename old n p → Same m n o p
 one_merges rename old m n o p (inl a) (inl b) = (a.4 ∙ sym b.4, a.5 ∙ ap (λ i. refused_line (occupied i)) (heads (sym a.3 ∙ b.3)) ∙ sym b.5)
 one_merges rename old m n o p (inl a) (inr (inl b)) = absurd (not_none (sym a.3 ∙ b.2 a.2))
 one_merges rename old m n o p (inl a) (inr (inr b)) = absurd (false≢true (sym a.2 ∙ b.0))

@@ -302,7 +302,7 @@ fn told_on(alloc: Global, set: &mut PolicySet, calls: Vec<PolicyCall>) -> Result
     told
 }
 
-// The same on the empty set.
+// What the calls answer on the empty set, and both orders after them.
 fn told(alloc: Global, other: PolicySet, texts: &str) -> Result<String, Fail> {
     let calls = calls_of(alloc, texts, other)?;
     let mut set = PolicySet::new(alloc);

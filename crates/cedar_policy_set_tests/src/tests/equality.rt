@@ -79,7 +79,8 @@ fn is_copied_thrice(alloc: Global, set: &mut PolicySet) -> Result<bool, Fail> {
     )
 }
 
-// The same of the set that some calls leave.
+// Whether a copy of the set that some calls leave is equal, and stays as it was when the set changes, at three calls in
+// turn.
 fn copies_stand_apart(alloc: Global, calls: &str) -> Result<bool, Fail> {
     let mut set = set_of(alloc, calls)?;
     let told = is_copied_thrice(alloc, &mut set);

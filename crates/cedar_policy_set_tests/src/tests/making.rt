@@ -94,7 +94,7 @@ fn is_lent(alloc: Global, set: &mut PolicySet) -> Result<bool, Fail> {
     Ok(set.link(alloc, template, id, values)?.id().as_ref() == "l")
 }
 
-// The same of the set that some calls leave.
+// Links a template without slots of the set that some calls leave, and reads what is lent.
 fn is_lent_of(alloc: Global, calls: &str) -> Result<bool, Fail> {
     let mut set = set_of(alloc, calls)?;
     let told = is_lent(alloc, &mut set);

@@ -270,7 +270,7 @@ fn renamed(
     Ok((many, moved?))
 }
 
-// The same of a set of so many policies.
+// Merges a set of so many policies into another; how many ids are renamed, and whether each is moved by so much.
 fn renamed_of(
     alloc: Global,
     set: &mut PolicySet,
@@ -283,7 +283,8 @@ fn renamed_of(
     told
 }
 
-// The same of two sets of so many, and how many policies there are then.
+// Merges a set of so many policies into another; how many ids are renamed, whether each is moved by so much, and how many
+// policies there are then.
 fn merged(alloc: Global, here: u32, there: u32, by: u32) -> Result<(usize, bool, u32), Fail> {
     let mut set = set_of_effect(alloc, here, Effect::Permit)?;
     let told = renamed_of(alloc, &mut set, there, by);
@@ -373,7 +374,7 @@ fn keeps_ids(alloc: Global, set: &mut PolicySet, other: &PolicySet) -> Result<bo
     Ok(keeps)
 }
 
-// The same, and where what the other set holds begins then.
+// Whether merging a set into another renames nothing, and where what the other set holds begins then.
 fn kept_with(
     alloc: Global,
     set: &mut PolicySet,
@@ -383,7 +384,7 @@ fn kept_with(
     Ok((keeps, starts(alloc, other)?))
 }
 
-// The same of a set at a place.
+// Whether merging a set at a place into another renames nothing, and where what it holds begins then.
 fn kept_of(alloc: Global, set: &mut PolicySet, start: usize) -> Result<(bool, Starts), Fail> {
     let other = set_at(alloc, start)?;
     let told = kept_with(alloc, set, &other);
@@ -402,7 +403,8 @@ fn moves_on(alloc: Global, set: &mut PolicySet, here: usize, there: usize) -> Re
     Ok(before == begin && kept == (true, end) && after == end)
 }
 
-// The same of a set at the first place.
+// Whether all that a set at the first place holds begins there, and, after that at the second is merged into it with no id
+// renamed, at the second, as what the other holds does.
 fn moves(alloc: Global, here: usize, there: usize) -> Result<bool, Fail> {
     let mut set = set_at(alloc, here)?;
     let told = moves_on(alloc, &mut set, here, there);

@@ -60,7 +60,7 @@ fn merged(
     kept(text, done)
 }
 
-// The same of the sets that some calls leave.
+// What merging a set that some calls leave into another such answers, renamed ids before it, and both orders after it.
 fn told(alloc: Global, here: &str, other: &str, rename: bool) -> Result<String, Fail> {
     let (other, mut set) = beside(set_of(alloc, other)?, set_of(alloc, here))?;
     let told = merged(alloc, &mut set, &other, rename);
@@ -219,7 +219,7 @@ fn told_twice(alloc: Global, set: &mut PolicySet, other: &PolicySet) -> Result<S
     kept(text, done)
 }
 
-// The same of the sets that some calls leave.
+// What merging a set that some calls leave into another such answers twice in turn, and both orders after each.
 fn told_again(alloc: Global, here: &str, other: &str) -> Result<String, Fail> {
     let (other, mut set) = beside(set_of(alloc, other)?, set_of(alloc, here))?;
     let told = told_twice(alloc, &mut set, &other);

@@ -33,7 +33,7 @@ fn said_by_merging(answer: Result<IndexMap<PolicyID, PolicyID>, PolicySetError>)
     }
 }
 
-// The same of the plain model.
+// What merging answers in the plain model, but for the ids that are renamed.
 fn merged(board: &mut Board, theirs: &Board, rename: bool) -> Said {
     match merge(board, theirs, rename) {
         Ok(_renaming) => Said::Done,

@@ -94,7 +94,7 @@ fn raw_one(alloc: Global, policy: Policy) -> Result<PolicySet, Fail>
     Ok(PolicySet::from_raw_components(templates, links, lists))
 }
 
-// The same of a text; of a link with its template's id the empty set.
+// The set that is kept in maps of the policy of a text and its template; of a link with its template's id the empty set.
 fn raw(alloc: Global, text: &str) -> Result<PolicySet, Fail> {
     let policy = policy_of(alloc, row(text))?;
     if !policy.is_static() && policy.id() == policy.template().id() {
@@ -161,7 +161,8 @@ fn raw_crossed(alloc: Global, first: Policy, second: Policy) -> Result<PolicySet
     Ok(PolicySet::from_raw_components(templates, links, lists))
 }
 
-// The same of two policies; where they are not static policies with other ids the empty set.
+// The set of two policies, its bodies in this order and its policies in the turned one; where they are not static policies
+// with other ids the empty set.
 fn crossed_of(alloc: Global, first: Policy, second: Policy) -> Result<PolicySet, Fail> {
     if !first.is_static() {
         drop(first);
@@ -181,7 +182,7 @@ fn crossed_of(alloc: Global, first: Policy, second: Policy) -> Result<PolicySet,
     raw_crossed(alloc, first, second)
 }
 
-// The same of texts.
+// The set of the policies of two texts, its bodies in this order and its policies in the turned one.
 fn crossed(alloc: Global, first: &str, second: &str) -> Result<PolicySet, Fail> {
     let (first, second) = beside(policy_of(alloc, row(first))?, policy_of(alloc, row(second)))?;
     crossed_of(alloc, first, second)

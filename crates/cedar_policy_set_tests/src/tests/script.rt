@@ -290,7 +290,7 @@ fn policy_out(policy: Policy) -> Said {
     said
 }
 
-// The same of a template.
+// A template that was taken out, which is let go.
 fn template_out(template: Template) -> Said {
     let said = Said::Template(body_of(&template));
     drop(template);
@@ -495,7 +495,7 @@ pub(super) fn told_on(alloc: Global, set: &mut PolicySet, calls: &str) -> Result
     told_text(alloc, said, &board_of(set))
 }
 
-// The same on the empty set.
+// What the last of some calls answers on the empty set, and both orders after it.
 fn told(alloc: Global, calls: &str) -> Result<String, Fail> {
     let mut set = PolicySet::new(alloc);
     let told = told_on(alloc, &mut set, calls);

@@ -230,14 +230,14 @@ fn are_ids(policy: &Policy, link: &str, template: &str) -> bool {
     policy.id().as_ref() == link && policy.template().id().as_ref() == template
 }
 
-// The same of one that is let go.
+// Whether the ids of a link, which is let go, and of its template are these.
 fn has_ids(policy: Policy, link: &str, template: &str) -> bool {
     let told = are_ids(&policy, link, template);
     drop(policy);
     told
 }
 
-// The same of one that there may be.
+// Whether there is a link, which is let go, whose id and whose template's are these.
 fn some_has_ids(policy: Option<Policy>, link: &str, template: &str) -> bool {
     let told = match &policy {
         Some(policy) => are_ids(policy, link, template),

@@ -110,7 +110,7 @@ fn refusal(alloc: Global, scope: Scope, clause: Option<Expr>) -> Result<Found, F
     Ok(found(made(alloc, name, None, scope, clause)))
 }
 
-// The same, of the clause with a slot.
+// What a static policy of the clause with a slot is refused for.
 fn refusal_with_clause(alloc: Global) -> Result<Found, Fail> {
     let (clause, scope) = beside(slot_at_place(alloc)?, slots_at_places(alloc))?;
     refusal(alloc, scope, Some(clause))
@@ -165,7 +165,7 @@ fn a_static_policy_is_made_of_its_parts(rt: HostRuntime) -> Result<(), Fail> {
     Ok(())
 }
 
-// The same policy under the id `q`.
+// The static policy at the place 9, under the id `q`.
 fn renamed(alloc: Global) -> Result<StaticPolicy, Fail> {
     let (policy, name) = beside(at_place(alloc)?, id(alloc, "q"))?;
     let made = policy.new_id(name);
@@ -197,7 +197,7 @@ fn begin_at_nine(nodes: &[&Expr]) -> bool {
     }
 }
 
-// The same of the nodes of an expression.
+// Whether of the nodes of an expression the first three begin at the place 9, and the fourth is at no place.
 fn is_at_nine(alloc: Global, expr: &Expr) -> Result<bool, Fail> {
     let nodes = expr.subexpressions(alloc)?;
     let told = begin_at_nine(&nodes);
@@ -274,7 +274,7 @@ fn unbound_in(error: LinkingError) -> usize {
     count
 }
 
-// The same of an answer.
+// How many slots the refusal of an answer, which is let go, says are not bound.
 fn count_unbound(answer: Result<Policy, LinkingError>) -> Option<usize> {
     match answer {
         Ok(policy) => {
@@ -330,7 +330,7 @@ fn policy_at_place(alloc: Global) -> Result<Policy, Fail> {
     Ok(Policy::from_static(alloc, policy)?)
 }
 
-// The same policy under the id `q`.
+// The policy at the place 9, under the id `q`.
 fn renamed_policy(alloc: Global) -> Result<Policy, Fail> {
     let (policy, name) = beside(policy_at_place(alloc)?, id(alloc, "q"))?;
     let made = policy.new_id(alloc, name);
@@ -393,7 +393,7 @@ fn is_from_clause(policy: &Policy) -> bool {
         && policy.annotations_arc().is_empty()
 }
 
-// The same, and whether it is written so.
+// Whether the policy that a clause makes is static, has its id, its place and no annotation, and is written so.
 fn reads_from_clause(alloc: Global) -> Result<bool, Fail> {
     let policy = from_clause(alloc)?;
     let told = is_from_clause(&policy);

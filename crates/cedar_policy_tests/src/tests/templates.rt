@@ -225,7 +225,8 @@ fn says_the_same_as(alloc: Global, policy: StaticPolicy, n: usize) -> Result<boo
     told
 }
 
-// The same of its own static policy, or nothing where it has slots.
+// Whether the static policy of the template at a place has its condition and its effect, or nothing where the template has
+// slots.
 fn nth_says_the_same(alloc: Global, n: usize) -> Result<Option<bool>, Fail> {
     match StaticPolicy::try_from(nth(alloc, n)?) {
         Ok(policy) => Ok(Some(says_the_same_as(alloc, policy, n)?)),
@@ -264,7 +265,7 @@ fn gives_back(alloc: Global, policy: StaticPolicy, want: &Template) -> Result<bo
     Ok(told)
 }
 
-// The same of the template at a place.
+// Whether the template of a static policy is the one at a place, and the policy has its id.
 fn gives_nth_back(alloc: Global, policy: StaticPolicy, n: usize) -> Result<bool, Fail> {
     let (policy, want) = beside(policy, nth(alloc, n))?;
     let told = gives_back(alloc, policy, &want);
@@ -272,7 +273,7 @@ fn gives_nth_back(alloc: Global, policy: StaticPolicy, n: usize) -> Result<bool,
     told
 }
 
-// The same of its own static policy, if it has no slots.
+// Whether the static policy of the template at a place gives that template back, if it has no slots.
 fn nth_comes_back(alloc: Global, n: usize) -> Result<bool, Fail> {
     match StaticPolicy::try_from(nth(alloc, n)?) {
         Ok(policy) => gives_nth_back(alloc, policy, n),
@@ -337,7 +338,8 @@ fn is_static_rebuilt(alloc: Global, one: StaticPolicy) -> Result<bool, Fail> {
     same(one, other)
 }
 
-// The same of the static policy of the template at a place, if it has no slots.
+// Whether the static policy of the template at a place is equal to one that is built anew from what it gives, if it has no
+// slots.
 fn nth_is_rebuilt(alloc: Global, n: usize) -> Result<bool, Fail> {
     match StaticPolicy::try_from(nth(alloc, n)?) {
         Ok(policy) => is_static_rebuilt(alloc, policy),

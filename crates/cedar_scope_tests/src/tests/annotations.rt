@@ -163,7 +163,7 @@ fn lists(all: &Annotations, want: &[(&str, &str)]) -> bool {
     pairs.next().is_none()
 }
 
-// The same of annotations that could be made.
+// Whether annotations that could be made have these pairs, in this order.
 fn are_listed(made: Option<Annotations>, want: &[(&str, &str)]) -> bool {
     match made {
         Some(all) => {

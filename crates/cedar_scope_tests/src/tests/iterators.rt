@@ -32,7 +32,7 @@ fn gives_once(id: &EntityUID) -> bool {
     told
 }
 
-// The same of a uid that could be made.
+// Whether the iterator of one uid that could be made gives it once.
 fn one_gives_once(made: Option<EntityUID>) -> bool {
     match made {
         Some(id) => {
@@ -65,7 +65,7 @@ fn gives_two<'a>(alloc: Global, id1: &'a EntityUID, id2: &'a EntityUID) -> bool 
     }
 }
 
-// The same of two uids that could be made.
+// Whether a bunch of two uids that could be made gives the second, then the first, then no more.
 fn bunch_gives_two(alloc: Global, first: Option<EntityUID>, second: Option<EntityUID>) -> bool {
     match both(first, second) {
         Some((id1, id2)) => {
@@ -104,7 +104,7 @@ fn equal_to(alloc: Global, ty: &str, eid: &str) -> Option<ActionConstraint> {
     }
 }
 
-// The same by its constructor.
+// Equality with a uid that could be made, by its constructor.
 fn is_eq(alloc: Global, ty: &str, eid: &str) -> Option<ActionConstraint> {
     match uid(alloc, ty, eid) {
         Some(euid) => ActionConstraint::is_eq(alloc, euid).ok(),

@@ -48,12 +48,12 @@ abbrev pub AreAsciiUids : List EntityUID → Type 0
 AreAsciiUids us = AllByRecursion IsAsciiUid us
 
 -- a command gives a state that the new machine holds, and adds what it writes
-abbrev pub Takes : Command → State → Machine → List ℕ → List ℕ → Type 0
-Takes c s m old new = (t : State) × (out : List ℕ) × Gives s c t out × Holds m t × (new ≡ old ++ out)
+abbrev pub MachineGives : Command → State → Machine → List ℕ → List ℕ → Type 0
+MachineGives c s m old new = (t : State) × (out : List ℕ) × Gives s c t out × Holds m t × (new ≡ old ++ out)
 
 -- a line that is a command takes it; any other writes nothing
 abbrev pub LineTakes : Bool → List ℕ → State → Machine → List ℕ → List ℕ → Type 0
-LineTakes true line s m old new = (c : Command) × IsLine c line × Takes c s m old new
+LineTakes true line s m old new = (c : Command) × IsLine c line × MachineGives c s m old new
 LineTakes false line s m old new = ((c : Command) → IsLine c line → ⊥) × (new ≡ old)
 
 -- the uids that a command names have ASCII eids

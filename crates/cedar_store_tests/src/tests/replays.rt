@@ -47,7 +47,7 @@ fn bare_of(alloc: Global, texts: &str) -> Result<Vec<Entity>, Fail>
     Ok(list)
 }
 
-// The same, to be shared.
+// The entities with these texts, without their indirect ancestors, to be shared.
 fn shared_bare(alloc: Global, texts: &str) -> Result<Vec<Rc<Entity>>, Fail>
     ensures { IfOk result (λ v. AreBare (entities_in v.items)) }
 {

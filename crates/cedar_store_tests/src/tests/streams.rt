@@ -85,7 +85,7 @@ fn is_whole(alloc: Global, input: &str, want: &str, most: usize) -> bool {
     told && input.len() > 32768 && want.len() > 65536
 }
 
-// The same of 800 entities.
+// Whether 800 entities, more than an input's and an output's buffer, are read and written whole, so many bytes at a read.
 fn many_are_whole(alloc: Global, most: usize) -> Result<bool, Fail> {
     let (input, want) = many(alloc, 800)?;
     let told = is_whole(alloc, &input, &want, most);
@@ -141,7 +141,7 @@ fn is_sent(alloc: Global, input: &str, want: &str) -> bool {
     told && kept
 }
 
-// The same of three entities.
+// Whether all of three entities is sent at the flush, and nothing is kept then.
 fn three_are_sent(alloc: Global) -> Result<bool, Fail> {
     let (input, want) = many(alloc, 3)?;
     let told = is_sent(alloc, &input, &want);

@@ -173,7 +173,7 @@ fn told_apart(a: &Expr, b: &Expr, same: bool) -> bool {
     (a == b) == same && (hash_of(a) == hash_of(b)) == same
 }
 
-// The same of those at two places.
+// Whether the expressions at two places are equal and hash alike just where they are the same.
 fn nth_told_apart(alloc: Global, i: usize, j: usize) -> bool {
     match both(nth(alloc, i), nth(alloc, j)) {
         Some((a, b)) => {

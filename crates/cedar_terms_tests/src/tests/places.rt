@@ -1,7 +1,7 @@
 // Locations: kept where they are given, and looked at by no comparison.
 use super::{
-    agree, both, copy_of, is_eq, longs, number, owned, place, shows, slot, slots_of, start_of,
-    truth, typed, with_last,
+    agree, both, copy_of, differ, is_eq, longs, number, owned, place, shows, slot, slots_of,
+    start_of, truth, typed, with_last,
 };
 use cedar_ids::entity::{Eid, EntityType, EntityUID};
 use cedar_terms::expr::Expr;
@@ -226,7 +226,7 @@ fn stand_at(nodes: &Vec<&Expr>, starts: &[usize]) -> bool {
     nodes.len() == starts.len() && same
 }
 
-// The same of the nodes of an expression that could be made.
+// Whether the nodes of an expression that could be made stand at these places, in turn.
 fn nodes_stand_at(alloc: Global, made: Option<Expr>, starts: &[usize]) -> bool {
     match made {
         Some(expr) => {
@@ -253,7 +253,7 @@ fn last_stands_at(slots: &Vec<Slot>, start: Option<usize>) -> bool {
     starts.last().flatten() == start
 }
 
-// The same of the only slot of an expression.
+// Whether the only slot of an expression stands there, or, of `None`, nowhere.
 fn slot_stands_at(alloc: Global, made: Option<Expr>, start: Option<usize>) -> bool {
     match slots_of(alloc, made) {
         Some(slots) => {
@@ -355,4 +355,41 @@ fn annotation_stands_at(made: Option<Unknown>, start: usize) -> bool {
 #[test]
 fn a_copied_unknown_keeps_the_location_of_its_type(rt: HostRuntime) {
     assert!(rt; annotation_stands_at(copy_of(unknown_at(rt.alloc(), 4)), 4));
+}
+
+// `true is A`, whose type stands at a place of its own.
+fn is_at(alloc: Global, start: usize) -> Option<Expr> {
+    match both(truth(alloc), type_at(alloc, start)) {
+        Some((operand, ty)) => Expr::is_entity_type(alloc, operand, ty).ok(),
+        None => None,
+    }
+}
+
+// The derived text of an expression that could be made, which tells each location in it.
+fn derived(alloc: Global, made: Option<Expr>) -> Option<String> {
+    match made {
+        Some(expr) => {
+            let text = format!(in alloc; "{expr:?}");
+            drop(expr);
+            text.ok()
+        }
+        None => None,
+    }
+}
+
+#[test]
+fn a_copied_node_keeps_the_location_of_its_type(rt: HostRuntime) {
+    let alloc = rt.alloc();
+    assert!(rt;
+        agree(
+            derived(alloc, copy_of(is_at(alloc, 4))),
+            derived(alloc, is_at(alloc, 4))
+        )
+    );
+    assert!(rt;
+        differ(
+            derived(alloc, is_at(alloc, 4)),
+            derived(alloc, is_at(alloc, 5))
+        )
+    );
 }

@@ -97,7 +97,7 @@ fn stand(a: &Value, b: &Value, i: usize, j: usize) -> bool {
         && (hash_of(&a.value) == hash_of(&b.value)) == same
 }
 
-// The same of those at two places.
+// Whether the values at two places stand as their places do, in each way of comparing them.
 fn nth_stand(alloc: Global, i: usize, j: usize) -> bool {
     match both(nth(alloc, i), nth(alloc, j)) {
         Some((a, b)) => {

@@ -86,12 +86,12 @@ fn are_found(one: &UidSet, other: &UidSet, uids: &[SharedUid], rows: (usize, usi
     true
 }
 
-// The same, where each set has a member a row.
+// Whether two sets have a member a row, and those uids are found in either order of the two that are members of one.
 fn all_are_found(one: &UidSet, other: &UidSet, uids: &[SharedUid], rows: (usize, usize)) -> bool {
     (one.len(), other.len()) == rows && are_found(one, other, uids, rows)
 }
 
-// The same of the set of the first uids of some rows, and the set of one in turn of others.
+// Whether the members of the set of the first uids of some rows, and of the set of one in turn of others, are found so.
 fn sets_are_right(alloc: Global, uids: &[SharedUid], rows: (usize, usize)) -> bool {
     match set_of(alloc, uids, rows.0, 1) {
         Ok(one) => match set_of(alloc, uids, rows.1, 4) {

@@ -63,7 +63,7 @@ fn is_made_into(alloc: Global, one: SharedUid, n: u32) -> Result<bool, Fail> {
     equal(one.into_uid()?, uid(alloc, n))
 }
 
-// The same of one that has a copy, and then of the copy.
+// Whether a shared uid that has a copy is made into the plain uid of this number, and then the copy is.
 fn are_made_into(alloc: Global, n: u32) -> Result<bool, Fail> {
     let (one, copy) = pair(alloc, n)?;
     let (copy, first) = beside(copy, is_made_into(alloc, one, n))?;

@@ -18,7 +18,8 @@ fn keeps(alloc: Global, set: &mut UidSet, numbers: &[u32], want: &str) -> Result
     Ok(first && same && finds)
 }
 
-// The same of the set that is filled with them.
+// Whether the set that is filled with the uids of these numbers has them, the same after all are put in again, and finds
+// them.
 fn is_filled(alloc: Global, numbers: &[u32]) -> Result<bool, Fail> {
     let (want, mut set) = beside(in_order(alloc, numbers)?, filled(alloc, numbers))?;
     let told = keeps(alloc, &mut set, numbers, want.as_str());
@@ -27,7 +28,7 @@ fn is_filled(alloc: Global, numbers: &[u32]) -> Result<bool, Fail> {
     told
 }
 
-// The same of numbers a step apart.
+// Whether the set that is filled with numbers a step apart has them, the same after all are put in again, and finds them.
 fn steps_are_filled(alloc: Global, n: u32, start: u32, step: u32) -> Result<bool, Fail> {
     let numbers = stepped(alloc, n, start, step)?;
     let told = is_filled(alloc, numbers.as_slice());
@@ -78,7 +79,7 @@ fn take_most_out(alloc: Global, set: &mut UidSet, numbers: &[u32]) -> Result<(),
     Ok(())
 }
 
-// The same of a thousand numbers in a turned order.
+// Takes out the uids of a thousand numbers in a turned order, but those of each third, and such as are not there.
 fn take_most_of_a_thousand_out(alloc: Global, set: &mut UidSet) -> Result<(), Fail> {
     let numbers = stepped(alloc, 1000, 7, 387)?;
     let told = take_most_out(alloc, set, numbers.as_slice());
@@ -126,7 +127,7 @@ fn rest_in_order(alloc: Global, numbers: &[u32], others: &[u32]) -> Result<Strin
     text
 }
 
-// The same of two ranges.
+// The eids of a range of numbers without those of another.
 fn rest_of(alloc: Global, of: Range, others: Range) -> Result<String, Fail> {
     let (numbers, others) = beside(row(alloc, of)?, row(alloc, others))?;
     let text = rest_in_order(alloc, numbers.as_slice(), others.as_slice());
@@ -188,7 +189,7 @@ fn pointers_of_row(alloc: Global, range: Range) -> Result<Vec<SharedUid>, Fail> 
     uids
 }
 
-// The same of the uids of a range and the set of another one.
+// Whether the uids of a range and the set of another one are merged to these eids.
 fn row_is_merged(alloc: Global, of: Range, others: Range, want: &str) -> Result<bool, Fail> {
     let (uids, mut set) = beside(pointers_of_row(alloc, others)?, filled_row(alloc, of))?;
     let told = is_merged(alloc, &mut set, uids, want);
@@ -196,7 +197,7 @@ fn row_is_merged(alloc: Global, of: Range, others: Range, want: &str) -> Result<
     told
 }
 
-// The same, where the set is to have the numbers of both.
+// Whether the uids of a range and the set of another one are merged to the numbers of both.
 fn are_merged(alloc: Global, of: Range, others: Range) -> Result<bool, Fail> {
     let want = rows_in_order(alloc, of, others)?;
     let told = row_is_merged(alloc, of, others, want.as_str());
@@ -255,7 +256,7 @@ fn keeps_some(alloc: Global, want: &str) -> Result<bool, Fail> {
     told
 }
 
-// The same of every second one below 500.
+// Whether the set of a thousand numbers in a turned order has these eids where every second one below 500 is kept.
 fn half_are_kept(alloc: Global) -> Result<bool, Fail> {
     let want = row_in_order(alloc, (0, 500, 2))?;
     let told = keeps_some(alloc, want.as_str());
@@ -282,7 +283,7 @@ fn are_apart(alloc: Global, set: &mut UidSet, copy: &mut UidSet, want: &str) -> 
     Ok(equal && differ && stays && differ_still && *copy == *set)
 }
 
-// The same of the set of a range.
+// Whether the set of a range and its copy are equal, differ once the copy has changed, and are equal once the set has too.
 fn row_is_apart(alloc: Global, range: Range, want: &str) -> Result<bool, Fail> {
     let (mut set, mut copy) = twice(filled_row(alloc, range)?)?;
     let told = are_apart(alloc, &mut set, &mut copy, want);
@@ -331,7 +332,7 @@ fn stays(alloc: Global, set: UidSet, want: &str) -> Result<bool, Fail> {
     Ok(second? && first && same)
 }
 
-// The same of the set of these numbers, made of a hash set.
+// Whether the set of these numbers, made of a hash set, has their eids, and the set of its pointers too.
 fn hashed_stays(alloc: Global, numbers: &[u32]) -> Result<bool, Fail> {
     let (want, set) = beside(in_order(alloc, numbers)?, from_hashed(alloc, numbers))?;
     let told = stays(alloc, set, want.as_str());
@@ -339,7 +340,8 @@ fn hashed_stays(alloc: Global, numbers: &[u32]) -> Result<bool, Fail> {
     told
 }
 
-// The same of the first numbers in a turned order.
+// Whether the set of the first numbers in a turned order, made of a hash set, has their eids, and the set of its pointers
+// too.
 fn first_stay(alloc: Global, n: u32) -> Result<bool, Fail> {
     let numbers = stepped(alloc, n, 3, 387)?;
     let told = hashed_stays(alloc, numbers.as_slice());

@@ -18,7 +18,7 @@ fn is_gathered(alloc: Global, numbers: &[u32]) -> Result<bool, Fail> {
     told
 }
 
-// The same of numbers a step apart.
+// Whether the set of numbers a step apart has each of them once.
 fn steps_are_gathered(alloc: Global, n: u32, start: u32, step: u32) -> Result<bool, Fail> {
     let numbers = stepped(alloc, n, start, step)?;
     let told = is_gathered(alloc, numbers.as_slice());

@@ -1,4 +1,4 @@
-use Rattle.cedar_store.specs.laws.Lines.{command_of}
+use Rattle.cedar_store.specs.laws.CommandOf.{command_of}
 use Rattle.cedar_store.proofs.Steps.{command_ascii}
 use Rattle.cedar_store.proofs.machine.Machine.line.Goals as goal
 

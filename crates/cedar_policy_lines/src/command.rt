@@ -4,9 +4,11 @@ ghost use Rattle.std.specs.Option.{option_map};
 ghost use Rattle.cedar_ids.specs.UidOf.{uid_parts};
 ghost use Rattle.cedar_terms.specs.declared.slot.SlotId.TheVariants.{Principal, Resource};
 ghost use Rattle.cedar_binding.specs.Views.{env_of};
-ghost use Rattle.cedar_policy_lines.specs.PolicyCommand.{only, one_bound, two_bound, bindings_of, static_line, template_line, link_line, unlink_line, merge_line, bare_line, command_by, policy_command, Other, Ids};
-ghost use Rattle.cedar_policy_lines.specs.PolicyLines.{command_of};
+ghost use Rattle.cedar_policy_lines.specs.PolicyCommand.{IsPolicyCommand, Other, Ids};
+ghost use Rattle.cedar_policy_lines.specs.CommandOf.{command_of};
+ghost use Rattle.cedar_policy_lines.specs.Reads.{ReadsAs};
 ghost use Rattle.cedar_policy_lines.specs.laws.Lines.{bound_more};
+ghost use Rattle.cedar_policy_lines.specs.laws.PolicyReading.{only, one_bound, two_bound, bindings_of, static_of, template_of, link_of, unlink_of, merge_of, bare_of, command_by};
 
 use crate::field::{binding_of, effect_of, renaming_of, slots_of};
 use cedar_binding::no_bindings;
@@ -19,7 +21,7 @@ use std::alloc::{AllocError, Global};
 
 /// A line on policy sets that is a command. It is this project's own.
 #[derive(Debug, Drop)]
-pub enum PolicyLine {
+pub enum PolicyCommand {
     /// A static policy of this id and effect joins.
     Static(PolicyID, Effect),
     /// A template of this id joins, with the principal's slot or without, and with the resource's or without.
@@ -134,8 +136,8 @@ fn bindings_of(alloc: Global, fields: &[&str]) -> Result<Option<SlotEnv>, AllocE
 }
 
 // The command of `static`.
-fn static_line(alloc: Global, fields: &[&str]) -> Result<Option<PolicyLine>, AllocError>
-    ensures { IfOk result (λ o. option_map command_of o ≡ static_line (map (λ f. f.now) fields.now)) }
+fn static_of(alloc: Global, fields: &[&str]) -> Result<Option<PolicyCommand>, AllocError>
+    ensures { IfOk result (λ o. option_map command_of o ≡ static_of (map (λ f. f.now) fields.now)) }
 {
     let Some((id, rest)) = fields.split_first() else {
         return Ok(None);
@@ -146,12 +148,12 @@ fn static_line(alloc: Global, fields: &[&str]) -> Result<Option<PolicyLine>, All
     let Some(effect) = effect_of(word) else {
         return Ok(None);
     };
-    Ok(Some(PolicyLine::Static(PolicyID::from_string(alloc, id)?, effect)))
+    Ok(Some(PolicyCommand::Static(PolicyID::from_string(alloc, id)?, effect)))
 }
 
 // The command of `template`.
-fn template_line(alloc: Global, fields: &[&str]) -> Result<Option<PolicyLine>, AllocError>
-    ensures { IfOk result (λ o. option_map command_of o ≡ template_line (map (λ f. f.now) fields.now)) }
+fn template_of(alloc: Global, fields: &[&str]) -> Result<Option<PolicyCommand>, AllocError>
+    ensures { IfOk result (λ o. option_map command_of o ≡ template_of (map (λ f. f.now) fields.now)) }
 {
     let Some((id, rest)) = fields.split_first() else {
         return Ok(None);
@@ -163,12 +165,12 @@ fn template_line(alloc: Global, fields: &[&str]) -> Result<Option<PolicyLine>, A
         return Ok(None);
     };
     let id = PolicyID::from_string(alloc, id)?;
-    Ok(Some(PolicyLine::Template(id, principal, resource)))
+    Ok(Some(PolicyCommand::Template(id, principal, resource)))
 }
 
 // The command of `link`.
-fn link_line(alloc: Global, fields: &[&str]) -> Result<Option<PolicyLine>, AllocError>
-    ensures { IfOk result (λ o. option_map command_of o ≡ link_line (map (λ f. f.now) fields.now)) }
+fn link_of(alloc: Global, fields: &[&str]) -> Result<Option<PolicyCommand>, AllocError>
+    ensures { IfOk result (λ o. option_map command_of o ≡ link_of (map (λ f. f.now) fields.now)) }
 {
     let Some((template, rest)) = fields.split_first() else {
         return Ok(None);
@@ -181,72 +183,76 @@ fn link_line(alloc: Global, fields: &[&str]) -> Result<Option<PolicyLine>, Alloc
     };
     let template = PolicyID::from_string(alloc, template)?;
     let id = PolicyID::from_string(alloc, id)?;
-    Ok(Some(PolicyLine::Link(template, id, values)))
+    Ok(Some(PolicyCommand::Link(template, id, values)))
 }
 
 // The command of `unlink`.
-fn unlink_line(alloc: Global, fields: &[&str]) -> Result<Option<PolicyLine>, AllocError>
-    ensures { IfOk result (λ o. option_map command_of o ≡ unlink_line (map (λ f. f.now) fields.now)) }
+fn unlink_of(alloc: Global, fields: &[&str]) -> Result<Option<PolicyCommand>, AllocError>
+    ensures { IfOk result (λ o. option_map command_of o ≡ unlink_of (map (λ f. f.now) fields.now)) }
 {
     let Some(id) = only(fields) else {
         return Ok(None);
     };
-    Ok(Some(PolicyLine::Unlink(PolicyID::from_string(alloc, id)?)))
+    Ok(Some(PolicyCommand::Unlink(PolicyID::from_string(alloc, id)?)))
 }
 
 // The command of `merge`.
-fn merge_line(fields: &[&str]) -> Option<PolicyLine>
-    ensures { option_map command_of result ≡ merge_line (map (λ f. f.now) fields.now) }
+fn merge_of(fields: &[&str]) -> Option<PolicyCommand>
+    ensures { option_map command_of result ≡ merge_of (map (λ f. f.now) fields.now) }
 {
     let word = only(fields)?;
     let rename = renaming_of(word)?;
-    Some(PolicyLine::Merge(rename))
+    Some(PolicyCommand::Merge(rename))
 }
 
 // The command of `other`.
-fn other_line(fields: &[&str]) -> Option<PolicyLine>
-    ensures { option_map command_of result ≡ bare_line Other (map (λ f. f.now) fields.now) }
+fn other_of(fields: &[&str]) -> Option<PolicyCommand>
+    ensures { option_map command_of result ≡ bare_of Other (map (λ f. f.now) fields.now) }
 {
     if fields.is_empty() {
-        return Some(PolicyLine::Other);
+        return Some(PolicyCommand::Other);
     }
     None
 }
 
 // The command of `ids`.
-fn ids_line(fields: &[&str]) -> Option<PolicyLine>
-    ensures { option_map command_of result ≡ bare_line Ids (map (λ f. f.now) fields.now) }
+fn ids_of(fields: &[&str]) -> Option<PolicyCommand>
+    ensures { option_map command_of result ≡ bare_of Ids (map (λ f. f.now) fields.now) }
 {
     if fields.is_empty() {
-        return Some(PolicyLine::Ids);
+        return Some(PolicyCommand::Ids);
     }
     None
 }
 
 // The command with this word and these fields behind it.
-fn line_by(alloc: Global, word: &str, fields: &[&str]) -> Result<Option<PolicyLine>, AllocError>
+fn command_by(
+    alloc: Global,
+    word: &str,
+    fields: &[&str],
+) -> Result<Option<PolicyCommand>, AllocError>
     ensures { IfOk result (λ o. option_map command_of o ≡ command_by word.now (map (λ f. f.now) fields.now)) }
 {
     if word == "static" {
-        return static_line(alloc, fields);
+        return static_of(alloc, fields);
     }
     if word == "template" {
-        return template_line(alloc, fields);
+        return template_of(alloc, fields);
     }
     if word == "link" {
-        return link_line(alloc, fields);
+        return link_of(alloc, fields);
     }
     if word == "unlink" {
-        return unlink_line(alloc, fields);
+        return unlink_of(alloc, fields);
     }
     if word == "other" {
-        return Ok(other_line(fields));
+        return Ok(other_of(fields));
     }
     if word == "merge" {
-        return Ok(merge_line(fields));
+        return Ok(merge_of(fields));
     }
     if word == "ids" {
-        return Ok(ids_line(fields));
+        return Ok(ids_of(fields));
     }
     Ok(None)
 }
@@ -255,11 +261,14 @@ fn line_by(alloc: Global, word: &str, fields: &[&str]) -> Result<Option<PolicyLi
 ///
 /// An id is any field, the empty one too. Takes memory for the ids and the bindings, and is refused only where that is; its
 /// cost is linear in the fields. It is this project's own.
-pub fn read_policy_line(alloc: Global, fields: &[&str]) -> Result<Option<PolicyLine>, AllocError>
-    ensures { IfOk result (λ o. option_map command_of o ≡ policy_command (map (λ f. f.now) fields.now)) }
+pub fn read_policy_command(
+    alloc: Global,
+    fields: &[&str],
+) -> Result<Option<PolicyCommand>, AllocError>
+    ensures { IfOk result (ReadsAs (λ c. IsPolicyCommand c (map (λ f. f.now) fields.now)) command_of) }
 {
     let Some((word, rest)) = fields.split_first() else {
         return Ok(None);
     };
-    line_by(alloc, word, rest)
+    command_by(alloc, word, rest)
 }

@@ -1,6 +1,6 @@
 use Rattle.std.proofs.Common.{sym}
 use Rattle.cedar_policy_lines.proofs.Fields.{more_fields}
-use Rattle.cedar_policy_lines.proofs.lines.bindings_of.Goals as goal
+use Rattle.cedar_policy_lines.proofs.command.bindings_of.Goals as goal
 
 pub returns-then-not-is_empty : goal.returns-then-not-is_empty
 returns-then-not-is_empty c =

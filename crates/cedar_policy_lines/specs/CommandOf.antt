@@ -1,0 +1,15 @@
+-- Which command a command of the program's code is.
+use Rattle.cedar_binding.specs.Views.{env_of}
+use Rattle.cedar_policy_lines.specs.PolicyCommand.{PolicyCommand, Static, Template, Link, Unlink, Other, Merge, Ids}
+use Rattle.cedar_policy_lines.specs.declared.command.PolicyCommand as code
+use Rattle.cedar_policy_lines.specs.declared.command.PolicyCommand.TheVariants as read
+
+-- the command that was read, as contracts see it
+abbrev pub command_of : code.PolicyCommand → PolicyCommand
+command_of (read.Static i e) = Static i e
+command_of (read.Template i p r) = Template i p r
+command_of (read.Link t l e) = Link t l (env_of e)
+command_of (read.Unlink i) = Unlink i
+command_of read.Other = Other
+command_of (read.Merge b) = Merge b
+command_of read.Ids = Ids

@@ -1,0 +1,238 @@
+-- Fields are read as a command exactly where they are those of that command.
+use Rattle.std.specs.Prelude.{◌≡◌, ◌⊎◌, ℕ, List, [], ◌∷◌, ◌++◌, length, drop, nat_eq, Bool, true, false, Option, Some, None, if◌then◌else◌, codes, option_and_then, Result, Ok, Err}
+use Rattle.std.proofs.Common.{ap, sym, refl, subst, ◌∙◌, inl, inr}
+use Rattle.std.specs.List.{starts_with}
+use Rattle.std.specs.Option.{option_map}
+use Rattle.std.specs.Cmp.{unsigned_Decides}
+use Rattle.std.proofs.lemmas.Slice.Eq.{starts_is}
+use Rattle.cedar_ids.specs.Texts.{same_text}
+use Rattle.cedar_ids.specs.laws.TextLaws.{same_text_decides}
+use Rattle.cedar_ids.specs.TextOf.{IsPrinted}
+use Rattle.cedar_ids.specs.Uid.{UidParts}
+use Rattle.cedar_ids.specs.laws.UidReading.{uid_reading}
+use Rattle.cedar_ids.specs.laws.PrintedLaws.{uid_reading-printed}
+use Rattle.cedar_ids.specs.laws.UidTexts.{uid_found}
+use Rattle.cedar_ids.specs.declared.err.ParseErrors.{ParseErrors}
+use Rattle.cedar_terms.specs.declared.slot.SlotId.{SlotId}
+use Rattle.cedar_terms.specs.declared.slot.SlotId.TheVariants.{Principal, Resource}
+use Rattle.cedar_binding.specs.Bindings.{EnvParts}
+use Rattle.cedar_body.specs.declared.effect.Effect.{Effect}
+use Rattle.cedar_body.specs.declared.effect.Effect.TheVariants.{Permit, Forbid}
+use Rattle.cedar_policy_lines.specs.PolicyCommand.{PolicyCommand, Static, Template, Link, Unlink, Other, Merge, Ids, effect_word, slots_word, renaming_word, slot_mark, IsBinding, AreBound, AreBindings, IsPolicyCommand}
+use Rattle.cedar_policy_lines.specs.laws.PolicyReading.{effect_of, slots_of, renaming_of, read_uid, uid_read, behind, bound_as, binding_by, binding_of, one_bound, two_bound, two_by, bindings_of, only, static_of, template_of, link_of, unlink_of, merge_of, bare_of, command_by, policy_command}
+
+-- ---- the fields of a command are read as it
+
+-- the text of a uid is read as that uid
+pub uid_is : (t : List ℕ) (u : UidParts) → IsPrinted u t → uid_read t ≡ Some u
+uid_is t u h = ap read_uid (uid_reading-printed u t h)
+
+binding_is : (s : SlotId) (u : UidParts) (f : List ℕ) → IsBinding s u f → binding_of f ≡ Some (s, u)
+binding_is Principal u f h = ap binding_of h.2 ∙ ap (option_map {T = UidParts} {U = SlotId × UidParts} (λ v. (Principal, v))) (uid_is h.0 u h.1)
+binding_is Resource u f h = ap binding_of h.2 ∙ ap (option_map {T = UidParts} {U = SlotId × UidParts} (λ v. (Resource, v))) (uid_is h.0 u h.1)
+
+one_is : (s : SlotId) (u : UidParts) (f : List ℕ) (fs : List (List ℕ)) → IsBinding s u f → fs ≡ f ∷ [] → bindings_of fs ≡ Some (one_bound s u)
+one_is s u f fs h e = ap bindings_of e ∙ ap (option_map {T = SlotId × UidParts} {U = EnvParts} (λ b. one_bound b.0 b.1)) (binding_is s u f h)
+
+two_are : (s r : SlotId) (u v : UidParts) (f g : List ℕ) (fs : List (List ℕ)) → IsBinding s u f → IsBinding r v g → fs ≡ f ∷ g ∷ [] → bindings_of fs ≡ two_bound s r u v
+two_are s r u v f g fs h k e = ap bindings_of e ∙ (λ i. two_by (binding_is s u f h i) (binding_is r v g k i))
+
+bound_are : (p r : Option UidParts) (fs : List (List ℕ)) → AreBound p r fs → bindings_of fs ≡ Some (record { principal = p; resource = r })
+bound_are None None fs h = ap bindings_of h
+bound_are (Some p) None fs h = one_is Principal p h.0 fs h.1 h.2
+bound_are None (Some r) fs h = one_is Resource r h.0 fs h.1 h.2
+bound_are (Some p) (Some r) fs (f, g, h, k, inl e) = two_are Principal Resource p r f g fs h k e
+bound_are (Some p) (Some r) fs (f, g, h, k, inr e) = two_are Resource Principal r p g f fs k h e
+
+-- the fields of a command are read as that command
+pub command_is_read : (c : PolicyCommand) (fs : List (List ℕ)) → IsPolicyCommand c fs → policy_command fs ≡ Some c
+command_is_read (Static i Permit) fs h = ap policy_command h
+command_is_read (Static i Forbid) fs h = ap policy_command h
+command_is_read (Template i false false) fs h = ap policy_command h
+command_is_read (Template i true false) fs h = ap policy_command h
+command_is_read (Template i false true) fs h = ap policy_command h
+command_is_read (Template i true true) fs h = ap policy_command h
+command_is_read (Link t l e) fs h = ap policy_command h.2 ∙ ap (option_map (Link t l)) (bound_are e.principal e.resource h.0 h.1)
+command_is_read (Unlink i) fs h = ap policy_command h
+command_is_read Other fs h = ap policy_command h
+command_is_read (Merge true) fs h = ap policy_command h
+command_is_read (Merge false) fs h = ap policy_command h
+command_is_read Ids fs h = ap policy_command h
+
+-- ---- fields that are read as a command are its fields
+
+not_some : {X : Type 0} {x : X} → None ≡ Some x → ⊥
+not_some e = cc
+
+some_is : {X : Type 0} {x y : X} → Some x ≡ Some y → x ≡ y
+some_is e = cc
+
+chosen : {X : Type 0} (b : Bool) (x y : Option X) (c : X) → (if b then x else y) ≡ Some c → ((b ≡ true) × (x ≡ Some c)) ⊎ (y ≡ Some c)
+chosen true x y c e = inl (refl, e)
+chosen false x y c e = inr e
+
+mapped : {X Y : Type 0} (f : X → Y) (o : Option X) (y : Y) → option_map f o ≡ Some y → (x : X) × (o ≡ Some x) × (f x ≡ y)
+mapped f None y e = absurd (not_some e)
+mapped f (Some x) y e = (x, refl, some_is e)
+
+gone_on : {X Y : Type 0} (f : X → Option Y) (o : Option X) (y : Y) → option_and_then f o ≡ Some y → (x : X) × (o ≡ Some x) × (f x ≡ Some y)
+gone_on f None y e = absurd (not_some e)
+gone_on f (Some x) y e = (x, refl, e)
+
+word_is : (w v : List ℕ) → same_text w v ≡ true → w ≡ v
+word_is w v = (same_text_decides w v).0
+
+effect_found : (w : List ℕ) (e : Effect) → effect_of w ≡ Some e → w ≡ effect_word e
+effect_found w e h = elim (chosen (same_text w (codes "permit")) (Some Permit) (if same_text w (codes "forbid") then Some Forbid else None) e h) [
+  | inl k ↦ word_is w (codes "permit") k.0 ∙ ap effect_word (some_is k.1)
+  | inr j ↦ elim (chosen (same_text w (codes "forbid")) (Some Forbid) None e j) [
+    | inl k ↦ word_is w (codes "forbid") k.0 ∙ ap effect_word (some_is k.1)
+    | inr k ↦ absurd (not_some k)
+  ]
+]
+
+abbrev of_slots : Bool × Bool → List ℕ
+of_slots s = slots_word s.0 s.1
+
+slots_found : (w : List ℕ) (s : Bool × Bool) → slots_of w ≡ Some s → w ≡ of_slots s
+slots_found w s h = elim (chosen (same_text w (codes "none")) (Some (false, false)) (if same_text w (codes "principal") then Some (true, false) else if same_text w (codes "resource") then Some (false, true) else if same_text w (codes "both") then Some (true, true) else None) s h) [
+  | inl k ↦ word_is w (codes "none") k.0 ∙ ap of_slots (some_is k.1)
+  | inr h2 ↦ elim (chosen (same_text w (codes "principal")) (Some (true, false)) (if same_text w (codes "resource") then Some (false, true) else if same_text w (codes "both") then Some (true, true) else None) s h2) [
+    | inl k ↦ word_is w (codes "principal") k.0 ∙ ap of_slots (some_is k.1)
+    | inr h3 ↦ elim (chosen (same_text w (codes "resource")) (Some (false, true)) (if same_text w (codes "both") then Some (true, true) else None) s h3) [
+      | inl k ↦ word_is w (codes "resource") k.0 ∙ ap of_slots (some_is k.1)
+      | inr h4 ↦ elim (chosen (same_text w (codes "both")) (Some (true, true)) None s h4) [
+        | inl k ↦ word_is w (codes "both") k.0 ∙ ap of_slots (some_is k.1)
+        | inr k ↦ absurd (not_some k)
+      ]
+    ]
+  ]
+]
+
+renaming_found : (w : List ℕ) (r : Bool) → renaming_of w ≡ Some r → w ≡ renaming_word r
+renaming_found w r h = elim (chosen (same_text w (codes "keep")) (Some false) (if same_text w (codes "rename") then Some true else None) r h) [
+  | inl k ↦ word_is w (codes "keep") k.0 ∙ ap renaming_word (some_is k.1)
+  | inr j ↦ elim (chosen (same_text w (codes "rename")) (Some true) None r j) [
+    | inl k ↦ word_is w (codes "rename") k.0 ∙ ap renaming_word (some_is k.1)
+    | inr k ↦ absurd (not_some k)
+  ]
+]
+
+behind_found : (mark f t : List ℕ) → behind mark f ≡ Some t → f ≡ mark ++ t
+behind_found mark f t h = elim (chosen (starts_with nat_eq f mark) (Some (drop (length mark) f)) None t h) [
+  | inl k ↦ (starts_is unsigned_Decides f mark (starts_with nat_eq f mark) refl).0 k.0 ∙ ap (λ r. mark ++ r) (some_is k.1)
+  | inr k ↦ absurd (not_some k)
+]
+
+text_found : (t : List ℕ) (u : UidParts) (r : Result (Option UidParts) ParseErrors) → uid_reading t ≡ r → read_uid r ≡ Some u → IsPrinted u t
+text_found t u (Ok o) e h = uid_found t u (e ∙ ap Ok h)
+text_found t u (Err x) e h = absurd (not_some h)
+
+bound_found : (s : SlotId) (f t : List ℕ) (b : SlotId × UidParts) → f ≡ slot_mark s ++ t → bound_as s (Some t) ≡ Some b → IsBinding b.0 b.1 f
+bound_found s f t b e h =
+    let m = mapped {X = UidParts} {Y = SlotId × UidParts} (λ u. (s, u)) (uid_read t) b h in
+    subst (λ (x : SlotId × UidParts). IsBinding x.0 x.1 f) m.2 (t, text_found t m.0 (uid_reading t) refl m.1, e)
+
+by_marks : (f : List ℕ) (b : SlotId × UidParts) (p r : Option (List ℕ)) → behind (codes "principal=") f ≡ p → behind (codes "resource=") f ≡ r → binding_by p r ≡ Some b → IsBinding b.0 b.1 f
+by_marks f b (Some t) r e d h = bound_found Principal f t b (behind_found (codes "principal=") f t e) h
+by_marks f b None (Some t) e d h = bound_found Resource f t b (behind_found (codes "resource=") f t d) h
+by_marks f b None None e d h = absurd (not_some h)
+
+binding_found : (f : List ℕ) (b : SlotId × UidParts) → binding_of f ≡ Some b → IsBinding b.0 b.1 f
+binding_found f b h = by_marks f b (behind (codes "principal=") f) (behind (codes "resource=") f) refl refl h
+
+one_found : (s : SlotId) (u : UidParts) (f : List ℕ) → IsBinding s u f → AreBindings (one_bound s u) (f ∷ [])
+one_found Principal u f h = (f, h, refl)
+one_found Resource u f h = (f, h, refl)
+
+two_found : (s r : SlotId) (u v : UidParts) (f g : List ℕ) (e : EnvParts) → IsBinding s u f → IsBinding r v g → two_bound s r u v ≡ Some e → AreBindings e (f ∷ g ∷ [])
+two_found Principal Resource u v f g e a b h = subst (λ (x : EnvParts). AreBindings x (f ∷ g ∷ [])) (some_is h) (f, g, a, b, inl refl)
+two_found Resource Principal u v f g e a b h = subst (λ (x : EnvParts). AreBindings x (f ∷ g ∷ [])) (some_is h) (g, f, b, a, inr refl)
+two_found Principal Principal u v f g e a b h = absurd (not_some h)
+two_found Resource Resource u v f g e a b h = absurd (not_some h)
+
+two_fields : (f g : List ℕ) (e : EnvParts) (x y : Option (SlotId × UidParts)) → binding_of f ≡ x → binding_of g ≡ y → two_by x y ≡ Some e → AreBindings e (f ∷ g ∷ [])
+two_fields f g e None y p q h = absurd (not_some h)
+two_fields f g e (Some x) None p q h = absurd (not_some h)
+two_fields f g e (Some x) (Some y) p q h = two_found x.0 y.0 x.1 y.1 f g e (binding_found f x p) (binding_found g y q) h
+
+bindings_found : (fs : List (List ℕ)) (e : EnvParts) → bindings_of fs ≡ Some e → AreBindings e fs
+bindings_found [] e h = subst (λ (x : EnvParts). AreBindings x []) (some_is h) refl
+bindings_found (f ∷ []) e h =
+    let m = mapped {X = SlotId × UidParts} {Y = EnvParts} (λ b. one_bound b.0 b.1) (binding_of f) e h in
+    subst (λ (x : EnvParts). AreBindings x (f ∷ [])) m.2 (one_found m.0.0 m.0.1 f (binding_found f m.0 m.1))
+bindings_found (f ∷ g ∷ []) e h = two_fields f g e (binding_of f) (binding_of g) refl refl h
+bindings_found (f ∷ g ∷ x ∷ fs) e h = absurd (not_some h)
+
+only_is : (fs : List (List ℕ)) (w : List ℕ) → only fs ≡ Some w → fs ≡ w ∷ []
+only_is [] w h = absurd (not_some h)
+only_is (f ∷ []) w h = ap (λ x. x ∷ []) (some_is h)
+only_is (f ∷ g ∷ fs) w h = absurd (not_some h)
+
+static_found : (fs : List (List ℕ)) (c : PolicyCommand) → static_of fs ≡ Some c → IsPolicyCommand c (codes "static" ∷ fs)
+static_found [] c h = absurd (not_some h)
+static_found (i ∷ fs) c h =
+    let m = mapped (Static i) (option_and_then effect_of (only fs)) c h in
+    let n = gone_on effect_of (only fs) m.0 m.1 in
+    subst (λ d. IsPolicyCommand d (codes "static" ∷ i ∷ fs)) m.2 (ap (λ l. codes "static" ∷ i ∷ l) (only_is fs n.0 n.1 ∙ ap (λ w. w ∷ []) (effect_found n.0 m.0 n.2)))
+
+template_found : (fs : List (List ℕ)) (c : PolicyCommand) → template_of fs ≡ Some c → IsPolicyCommand c (codes "template" ∷ fs)
+template_found [] c h = absurd (not_some h)
+template_found (i ∷ fs) c h =
+    let m = mapped {X = Bool × Bool} {Y = PolicyCommand} (λ s. Template i s.0 s.1) (option_and_then slots_of (only fs)) c h in
+    let n = gone_on slots_of (only fs) m.0 m.1 in
+    subst (λ d. IsPolicyCommand d (codes "template" ∷ i ∷ fs)) m.2 (ap (λ l. codes "template" ∷ i ∷ l) (only_is fs n.0 n.1 ∙ ap (λ w. w ∷ []) (slots_found n.0 m.0 n.2)))
+
+link_found : (fs : List (List ℕ)) (c : PolicyCommand) → link_of fs ≡ Some c → IsPolicyCommand c (codes "link" ∷ fs)
+link_found [] c h = absurd (not_some h)
+link_found (t ∷ []) c h = absurd (not_some h)
+link_found (t ∷ l ∷ fs) c h =
+    let m = mapped (Link t l) (bindings_of fs) c h in
+    subst (λ d. IsPolicyCommand d (codes "link" ∷ t ∷ l ∷ fs)) m.2 (fs, bindings_found fs m.0 m.1, refl)
+
+unlink_found : (fs : List (List ℕ)) (c : PolicyCommand) → unlink_of fs ≡ Some c → IsPolicyCommand c (codes "unlink" ∷ fs)
+unlink_found fs c h =
+    let m = mapped Unlink (only fs) c h in
+    subst (λ d. IsPolicyCommand d (codes "unlink" ∷ fs)) m.2 (ap (λ l. codes "unlink" ∷ l) (only_is fs m.0 m.1))
+
+merge_found : (fs : List (List ℕ)) (c : PolicyCommand) → merge_of fs ≡ Some c → IsPolicyCommand c (codes "merge" ∷ fs)
+merge_found fs c h =
+    let m = mapped Merge (option_and_then renaming_of (only fs)) c h in
+    let n = gone_on renaming_of (only fs) m.0 m.1 in
+    subst (λ d. IsPolicyCommand d (codes "merge" ∷ fs)) m.2 (ap (λ l. codes "merge" ∷ l) (only_is fs n.0 n.1 ∙ ap (λ w. w ∷ []) (renaming_found n.0 m.0 n.2)))
+
+bare_found : (w : List ℕ) (d : PolicyCommand) (fs : List (List ℕ)) (c : PolicyCommand) → IsPolicyCommand d (w ∷ []) → bare_of d fs ≡ Some c → IsPolicyCommand c (w ∷ fs)
+bare_found w d [] c k h = subst (λ x. IsPolicyCommand x (w ∷ [])) (some_is h) k
+bare_found w d (f ∷ fs) c k h = absurd (not_some h)
+
+with_word : (w v : List ℕ) (fs : List (List ℕ)) (c : PolicyCommand) → same_text w v ≡ true → IsPolicyCommand c (v ∷ fs) → IsPolicyCommand c (w ∷ fs)
+with_word w v fs c e h = subst (λ x. IsPolicyCommand c (x ∷ fs)) (sym (word_is w v e)) h
+
+by_word : (w : List ℕ) (fs : List (List ℕ)) (c : PolicyCommand) → command_by w fs ≡ Some c → IsPolicyCommand c (w ∷ fs)
+by_word w fs c h1 = elim (chosen (same_text w (codes "static")) (static_of fs) _ c h1) [
+  | inl k ↦ with_word w (codes "static") fs c k.0 (static_found fs c k.1)
+  | inr h2 ↦ elim (chosen (same_text w (codes "template")) (template_of fs) _ c h2) [
+    | inl k ↦ with_word w (codes "template") fs c k.0 (template_found fs c k.1)
+    | inr h3 ↦ elim (chosen (same_text w (codes "link")) (link_of fs) _ c h3) [
+      | inl k ↦ with_word w (codes "link") fs c k.0 (link_found fs c k.1)
+      | inr h4 ↦ elim (chosen (same_text w (codes "unlink")) (unlink_of fs) _ c h4) [
+        | inl k ↦ with_word w (codes "unlink") fs c k.0 (unlink_found fs c k.1)
+        | inr h5 ↦ elim (chosen (same_text w (codes "other")) (bare_of Other fs) _ c h5) [
+          | inl k ↦ with_word w (codes "other") fs c k.0 (bare_found (codes "other") Other fs c refl k.1)
+          | inr h6 ↦ elim (chosen (same_text w (codes "merge")) (merge_of fs) _ c h6) [
+            | inl k ↦ with_word w (codes "merge") fs c k.0 (merge_found fs c k.1)
+            | inr h7 ↦ elim (chosen (same_text w (codes "ids")) (bare_of Ids fs) None c h7) [
+              | inl k ↦ with_word w (codes "ids") fs c k.0 (bare_found (codes "ids") Ids fs c refl k.1)
+              | inr none ↦ absurd (not_some none)
+            ]
+          ]
+        ]
+      ]
+    ]
+  ]
+]
+
+-- fields that are read as a command are those of that command
+pub read_is_command : (fs : List (List ℕ)) (c : PolicyCommand) → policy_command fs ≡ Some c → IsPolicyCommand c fs
+read_is_command [] c h = absurd (not_some h)
+read_is_command (w ∷ fs) c h = by_word w fs c h
