@@ -1,4 +1,4 @@
-use Rattle.std.proofs.Common.{◌≡◌, ◌∙◌, ◌++◌, ap, sym, subst}
+use Rattle.std.proofs.Common.{◌∙◌, ◌++◌, ap, sym, subst}
 use Rattle.std.specs.String.{string_bytes}
 use Rattle.cedar_ids.specs.TextOf.{IsNameText, IsPrinted}
 use Rattle.cedar_ids.specs.UidOf.{uid_parts}
