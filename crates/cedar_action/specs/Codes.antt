@@ -1,12 +1,9 @@
 -- How a proof tells constraints of actions apart.
-use Rattle.std.specs.Prelude.{◌≡◌, ℕ, List, [], ◌∷◌, Option, Some, None, refl, if◌then◌else◌, ◌==◌}
-use Rattle.std.specs.Coded.{Coded, code_by, coded×, coded_ℕ, coded_list, coded_option}
-use Rattle.cedar_ids.specs.Name.{NameParts}
+use Rattle.std.specs.Prelude.{◌≡◌, ℕ, List, [], ◌∷◌, refl, if◌then◌else◌, ◌==◌}
+use Rattle.std.specs.Coded.{Coded, code_by, coded×, coded_ℕ, coded_list}
 use Rattle.cedar_ids.specs.Uid.{UidParts}
-use Rattle.cedar_ids.specs.Codes.{name_code, uid_parts_code}
-use Rattle.cedar_scope.specs.Scope.{Reference, to_uid, to_slot, Constraint, any, within, equals, of_type, of_type_within}
+use Rattle.cedar_ids.specs.Codes.{uid_parts_code}
 use Rattle.cedar_action.specs.Rules.{ActionRule, any_action, among, just}
-use Rattle.cedar_scope.specs.ScopeReads.{referred_uid, constraint_kind, stated_type, reference_in}
 use Rattle.cedar_action.specs.RuleReads.{rule_kind, rule_uids}
 
 -- the rule of a kind that is not `any`, with these uids

@@ -1,16 +1,11 @@
 -- The order of constraints of actions, their equality, and what they feed to a hasher.
-use Rattle.std.specs.Prelude.{ℕ, List, [], ◌++◌, Bool, Option, Some, None}
+use Rattle.std.specs.Prelude.{ℕ, List, ◌++◌, Bool}
 use Rattle.std.specs.declared.cmp.Ordering.{Ordering}
-use Rattle.std.specs.declared.cmp.Ordering.TheVariants.{Less, Equal, Greater}
 use Rattle.std.specs.Ordering.{nat_cmp, on, then_cmp, eq_by_cmp}
-use Rattle.std.specs.Option.{option_cmp}
 use Rattle.std.specs.Cmp.Lexicographic.{slice_cmp}
 use Rattle.std.specs.Hash as fed
-use Rattle.cedar_ids.specs.Name.{NameParts, name_cmp, name_hash_input}
 use Rattle.cedar_ids.specs.Uid.{uid_cmp, uid_hash_input}
-use Rattle.cedar_scope.specs.Scope.{Reference, to_uid, to_slot, Constraint}
 use Rattle.cedar_action.specs.Rules.{ActionRule}
-use Rattle.cedar_scope.specs.ScopeReads.{constraint_kind, stated_type, reference_in}
 use Rattle.cedar_action.specs.RuleReads.{rule_kind, rule_uids}
 
 -- by kind, then by the uids item by item

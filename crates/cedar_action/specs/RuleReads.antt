@@ -1,11 +1,8 @@
 -- What stands in the constraint of an action.
-use Rattle.std.specs.Prelude.{ℕ, List, [], ◌∷◌, ◌++◌, Bool, true, false, not, Option, Some, None, reverse, codes}
-use Rattle.std.specs.Option.{option_map, option_to_list}
+use Rattle.std.specs.Prelude.{ℕ, List, [], ◌∷◌, Bool, not, reverse, codes}
 use Rattle.std.specs.Str.{bytes_eq}
 use Rattle.std.specs.List.{filter}
-use Rattle.cedar_ids.specs.Name.{NameParts}
-use Rattle.cedar_ids.specs.Uid.{UidParts, name_part}
-use Rattle.cedar_scope.specs.Scope.{Reference, to_uid, to_slot, Constraint, any, within, equals, of_type, of_type_within}
+use Rattle.cedar_ids.specs.Uid.{UidParts}
 use Rattle.cedar_action.specs.Rules.{ActionRule, any_action, among, just}
 
 -- the place of a rule's kind among the kinds

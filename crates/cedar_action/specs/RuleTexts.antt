@@ -1,16 +1,9 @@
 -- How constraints of actions are written.
 use Rattle.std.specs.Prelude.{ℕ, List, [], ◌∷◌, ◌++◌, Bool, true, Option, Some, None, if◌then◌else◌, codes}
 use Rattle.std.specs.List.{list_all, flat_map}
-use Rattle.cedar_ids.specs.Escape.{is_ascii}
 use Rattle.cedar_ids.specs.Uid.{UidParts}
-use Rattle.cedar_ids.specs.Printed.{printed_name, printed_uid}
-use Rattle.cedar_terms.specs.SlotTree.{slot_text}
-use Rattle.cedar_terms.specs.VarTree.{var_text}
-use Rattle.cedar_terms.specs.declared.slot.SlotId.{SlotId}
-use Rattle.cedar_scope.specs.Scope.{Reference, to_uid, to_slot, Constraint, any, within, equals, of_type, of_type_within}
+use Rattle.cedar_ids.specs.Printed.{printed_uid}
 use Rattle.cedar_action.specs.Rules.{ActionRule, any_action, among, just}
-use Rattle.cedar_scope.specs.ScopeTrees.{var_of, slot_id_of}
-use Rattle.cedar_scope.specs.declared.variable.PrincipalOrResource.{PrincipalOrResource}
 use Rattle.cedar_scope.specs.ScopeTexts.{is_ascii_uid}
 
 -- a uid after another one

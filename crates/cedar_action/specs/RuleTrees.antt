@@ -1,16 +1,9 @@
 -- The expressions that constraints of actions stand for.
 use Rattle.std.specs.Prelude.{map, true}
-use Rattle.cedar_ids.specs.Uid.{UidParts}
-use Rattle.cedar_terms.specs.LiteralTree.{bool_literal, uid_literal}
-use Rattle.cedar_terms.specs.ExprTree.{ExprTree, val_node, var_node, slot_node, and_node, eq_node, in_node, set_node, is_node, expr_trees}
-use Rattle.cedar_terms.specs.declared.slot.SlotId.{SlotId}
-use Rattle.cedar_terms.specs.declared.slot.SlotId.TheVariants as slots
-use Rattle.cedar_terms.specs.declared.var.Var.{Var}
+use Rattle.cedar_terms.specs.LiteralTree.{bool_literal}
+use Rattle.cedar_terms.specs.ExprTree.{ExprTree, val_node, var_node, eq_node, in_node, set_node, expr_trees}
 use Rattle.cedar_terms.specs.declared.var.Var.TheVariants as vars
-use Rattle.cedar_scope.specs.Scope.{Reference, to_uid, to_slot, Constraint, any, within, equals, of_type, of_type_within}
 use Rattle.cedar_action.specs.Rules.{ActionRule, any_action, among, just}
-use Rattle.cedar_scope.specs.declared.variable.PrincipalOrResource.{PrincipalOrResource}
-use Rattle.cedar_scope.specs.declared.variable.PrincipalOrResource.TheVariants.{Principal, Resource}
 use Rattle.cedar_scope.specs.ScopeTrees.{uid_expr}
 
 -- `true`; `action in` the set of the uids in their order; `action == U`

@@ -1,6 +1,5 @@
 -- Constraints of actions as callers see them. No location is in them.
 use Rattle.std.specs.Prelude.{List}
-use Rattle.cedar_ids.specs.Name.{NameParts}
 use Rattle.cedar_ids.specs.Uid.{UidParts}
 
 -- what an action has to be: anything; in one of some uids; equal to a uid

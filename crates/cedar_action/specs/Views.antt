@@ -3,14 +3,8 @@ use Rattle.std.specs.Prelude.{List, [], ◌∷◌, map, reverse}
 use Rattle.std.specs.Borrow.{Bor}
 use Rattle.cedar_ids.specs.Uid.{UidParts}
 use Rattle.cedar_ids.specs.UidOf.{uid_parts}
-use Rattle.cedar_ids.specs.Views.{type_name}
 use Rattle.cedar_ids.specs.declared.entity.EntityUID.{EntityUID}
-use Rattle.cedar_scope.specs.Scope.{Reference, to_uid, to_slot, Constraint, any, within, equals, of_type, of_type_within}
 use Rattle.cedar_action.specs.Rules.{ActionRule, any_action, among, just}
-use Rattle.cedar_scope.specs.declared.reference.EntityReference.{EntityReference}
-use Rattle.cedar_scope.specs.declared.reference.EntityReference.TheVariants as references
-use Rattle.cedar_scope.specs.declared.constraint.PrincipalOrResourceConstraint.{PrincipalOrResourceConstraint}
-use Rattle.cedar_scope.specs.declared.constraint.PrincipalOrResourceConstraint.TheVariants as constraints
 use Rattle.cedar_action.specs.declared.action.ActionConstraint.{ActionConstraint}
 use Rattle.cedar_action.specs.declared.action.ActionConstraint.TheVariants as actions
 use Rattle.cedar_action.specs.declared.iters.EntityIterator.{EntityIterator}

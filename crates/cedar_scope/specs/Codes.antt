@@ -1,6 +1,6 @@
 -- How a proof tells references, constraints and rules of actions apart.
-use Rattle.std.specs.Prelude.{◌≡◌, ℕ, List, [], ◌∷◌, Option, Some, None, refl, if◌then◌else◌, ◌==◌}
-use Rattle.std.specs.Coded.{Coded, code_by, coded×, coded_ℕ, coded_list, coded_option}
+use Rattle.std.specs.Prelude.{◌≡◌, ℕ, Option, Some, None, refl, if◌then◌else◌, ◌==◌}
+use Rattle.std.specs.Coded.{Coded, code_by, coded×, coded_ℕ, coded_option}
 use Rattle.cedar_ids.specs.Name.{NameParts}
 use Rattle.cedar_ids.specs.Uid.{UidParts}
 use Rattle.cedar_ids.specs.Codes.{name_code, uid_parts_code}

@@ -1,8 +1,6 @@
 -- What stands in references and constraints, and how a slot is filled.
-use Rattle.std.specs.Prelude.{ℕ, List, [], ◌∷◌, ◌++◌, Bool, true, false, not, Option, Some, None, reverse, codes}
+use Rattle.std.specs.Prelude.{ℕ, List, ◌++◌, Bool, true, false, Option, Some, None}
 use Rattle.std.specs.Option.{option_map, option_to_list}
-use Rattle.std.specs.Str.{bytes_eq}
-use Rattle.std.specs.List.{filter}
 use Rattle.cedar_ids.specs.Name.{NameParts}
 use Rattle.cedar_ids.specs.Uid.{UidParts, name_part}
 use Rattle.cedar_scope.specs.Scope.{Reference, to_uid, to_slot, Constraint, any, within, equals, of_type, of_type_within}

@@ -1,6 +1,5 @@
 -- How constraints are written.
-use Rattle.std.specs.Prelude.{ℕ, List, [], ◌∷◌, ◌++◌, Bool, true, Option, Some, None, if◌then◌else◌, codes}
-use Rattle.std.specs.List.{list_all, flat_map}
+use Rattle.std.specs.Prelude.{ℕ, List, ◌++◌, Bool, true, Option, Some, None, if◌then◌else◌, codes}
 use Rattle.cedar_ids.specs.Escape.{is_ascii}
 use Rattle.cedar_ids.specs.Uid.{UidParts}
 use Rattle.cedar_ids.specs.Printed.{printed_name, printed_uid}

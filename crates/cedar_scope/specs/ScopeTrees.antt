@@ -1,8 +1,8 @@
 -- The expressions that references and constraints stand for.
-use Rattle.std.specs.Prelude.{map, true}
+use Rattle.std.specs.Prelude.{true}
 use Rattle.cedar_ids.specs.Uid.{UidParts}
 use Rattle.cedar_terms.specs.LiteralTree.{bool_literal, uid_literal}
-use Rattle.cedar_terms.specs.ExprTree.{ExprTree, val_node, var_node, slot_node, and_node, eq_node, in_node, set_node, is_node, expr_trees}
+use Rattle.cedar_terms.specs.ExprTree.{ExprTree, val_node, var_node, slot_node, and_node, eq_node, in_node, is_node}
 use Rattle.cedar_terms.specs.declared.slot.SlotId.{SlotId}
 use Rattle.cedar_terms.specs.declared.slot.SlotId.TheVariants as slots
 use Rattle.cedar_terms.specs.declared.var.Var.{Var}

@@ -1,10 +1,6 @@
 -- What callers see of references and constraints, and of what iterators have left.
-use Rattle.std.specs.Prelude.{List, [], ◌∷◌, map, reverse}
-use Rattle.std.specs.Borrow.{Bor}
-use Rattle.cedar_ids.specs.Uid.{UidParts}
 use Rattle.cedar_ids.specs.UidOf.{uid_parts}
 use Rattle.cedar_ids.specs.Views.{type_name}
-use Rattle.cedar_ids.specs.declared.entity.EntityUID.{EntityUID}
 use Rattle.cedar_scope.specs.Scope.{Reference, to_uid, to_slot, Constraint, any, within, equals, of_type, of_type_within}
 use Rattle.cedar_scope.specs.declared.reference.EntityReference.{EntityReference}
 use Rattle.cedar_scope.specs.declared.reference.EntityReference.TheVariants as references

@@ -1,27 +1,19 @@
 -- The laws of the order, equality and hash of constraints of actions.
-use Rattle.std.specs.Prelude.{◌≡◌, ℕ, List, true, Option, Some, None, refl}
-use Rattle.std.proofs.Common.{ap, sym, ◌∙◌, subst}
+use Rattle.std.specs.Prelude.{◌≡◌, List, true}
+use Rattle.std.proofs.Common.{ap, sym, ◌∙◌}
 use Rattle.std.specs.Bool.{Decides}
-use Rattle.std.specs.declared.cmp.Ordering.{Ordering}
-use Rattle.std.specs.declared.cmp.Ordering.TheVariants.{Less, Equal, Greater}
-use Rattle.std.specs.Option.{option_cmp}
-use Rattle.std.specs.Ordering.{nat_cmp, is_eq, ordering_then}
+use Rattle.std.specs.declared.cmp.Ordering.TheVariants.{Equal}
+use Rattle.std.specs.Ordering.{nat_cmp, is_eq}
 use Rattle.std.specs.Cmp.{IsTotalOrder, IsEquivalence, on_total, then_total, nat_cmp_total, eq_by_cmp_equiv, Equal-is, tied_itself}
-use Rattle.std.specs.Cmp.Lexicographic.{slice_cmp, options_total, lists_total}
-use Rattle.cedar_ids.specs.Name.{NameParts, name_cmp}
-use Rattle.cedar_ids.specs.laws.NameLaws.{name_cmp_total}
+use Rattle.std.specs.Cmp.Lexicographic.{slice_cmp, lists_total}
 use Rattle.cedar_ids.specs.Uid.{UidParts, uid_cmp}
 use Rattle.cedar_ids.specs.laws.UidLaws.{uid_cmp_total}
-use Rattle.cedar_terms.specs.laws.KeyLaws.{key_cmp-Equal, key_cmp_total, nat_key-inj, nat_key-cmp, right, list_key-inj, list_key-cmp}
-use Rattle.cedar_terms.specs.Keys.{Key, fork, key_cmp, nat_key, list_key, name_key, uid_key}
-use Rattle.cedar_terms.specs.laws.NameKeyLaws.{name_key-inj, name_key-cmp, uid_key-inj, uid_key-cmp}
-use Rattle.cedar_scope.specs.Scope.{Reference, to_uid, to_slot, Constraint}
+use Rattle.cedar_terms.specs.laws.KeyLaws.{key_cmp-Equal, list_key-inj, list_key-cmp}
+use Rattle.cedar_terms.specs.Keys.{list_key, uid_key}
+use Rattle.cedar_terms.specs.laws.NameKeyLaws.{uid_key-inj, uid_key-cmp}
 use Rattle.cedar_action.specs.Rules.{ActionRule}
-use Rattle.cedar_scope.specs.ScopeReads.{constraint_kind, stated_type, reference_in}
 use Rattle.cedar_action.specs.RuleReads.{rule_kind, rule_uids}
-use Rattle.cedar_scope.specs.ScopeOrder.{reference_cmp, constraint_cmp, same_reference, same_constraint, reference_hash, constraint_hash}
 use Rattle.cedar_action.specs.RuleOrder.{rule_cmp, same_rule, rule_hash}
-use Rattle.cedar_scope.specs.Codes.{constraint_with, constraint_with-parts}
 use Rattle.cedar_action.specs.Codes.{rule_with, rule_with-parts}
 use Rattle.cedar_scope.specs.laws.ScopeOrders.{kinds_tied, then_tied}
 

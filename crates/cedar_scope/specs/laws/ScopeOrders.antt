@@ -1,5 +1,5 @@
 -- The laws of the order, the equality and the hash of references and constraints.
-use Rattle.std.specs.Prelude.{◌≡◌, ℕ, List, true, Option, Some, None, refl}
+use Rattle.std.specs.Prelude.{◌≡◌, ℕ, true, Option, Some, None, refl}
 use Rattle.std.proofs.Common.{ap, sym, ◌∙◌, subst}
 use Rattle.std.specs.Bool.{Decides}
 use Rattle.std.specs.declared.cmp.Ordering.{Ordering}
@@ -7,13 +7,11 @@ use Rattle.std.specs.declared.cmp.Ordering.TheVariants.{Less, Equal, Greater}
 use Rattle.std.specs.Option.{option_cmp}
 use Rattle.std.specs.Ordering.{nat_cmp, is_eq, ordering_then}
 use Rattle.std.specs.Cmp.{IsTotalOrder, IsEquivalence, on_total, then_total, nat_cmp_total, eq_by_cmp_equiv, Equal-is, tied_itself}
-use Rattle.std.specs.Cmp.Lexicographic.{slice_cmp, options_total, lists_total}
+use Rattle.std.specs.Cmp.Lexicographic.{options_total}
 use Rattle.cedar_ids.specs.Name.{NameParts, name_cmp}
 use Rattle.cedar_ids.specs.laws.NameLaws.{name_cmp_total}
-use Rattle.cedar_ids.specs.Uid.{UidParts, uid_cmp}
-use Rattle.cedar_ids.specs.laws.UidLaws.{uid_cmp_total}
-use Rattle.cedar_terms.specs.laws.KeyLaws.{key_cmp-Equal, key_cmp_total, nat_key-inj, nat_key-cmp, right, list_key-inj, list_key-cmp}
-use Rattle.cedar_terms.specs.Keys.{Key, fork, key_cmp, nat_key, list_key, name_key, uid_key}
+use Rattle.cedar_terms.specs.laws.KeyLaws.{key_cmp-Equal, key_cmp_total, nat_key-inj, nat_key-cmp, right}
+use Rattle.cedar_terms.specs.Keys.{Key, fork, key_cmp, nat_key, name_key, uid_key}
 use Rattle.cedar_terms.specs.laws.NameKeyLaws.{name_key-inj, name_key-cmp, uid_key-inj, uid_key-cmp}
 use Rattle.cedar_scope.specs.Scope.{Reference, to_uid, to_slot, Constraint}
 use Rattle.cedar_scope.specs.ScopeReads.{constraint_kind, stated_type, reference_in}

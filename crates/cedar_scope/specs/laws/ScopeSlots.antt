@@ -1,15 +1,10 @@
 -- The slots in the expressions of constraints.
-use Rattle.std.specs.Prelude.{◌≡◌, List, [], ◌∷◌, ◌++◌, map, if◌then◌else◌, refl}
-use Rattle.std.proofs.Common.{ap, ◌∙◌}
-use Rattle.std.specs.List.{filter_map}
-use Rattle.std.proofs.lemmas.List.Elements.{filter_map-append}
-use Rattle.cedar_ids.specs.Uid.{UidParts}
-use Rattle.cedar_terms.specs.ExprTree.{expr_trees}
-use Rattle.cedar_terms.specs.Walk.{walk_back, slot_of, slots_of}
+use Rattle.std.specs.Prelude.{◌≡◌, List, [], ◌∷◌, if◌then◌else◌, refl}
+use Rattle.cedar_terms.specs.Walk.{slots_of}
 use Rattle.cedar_terms.specs.declared.slot.SlotId.{SlotId}
 use Rattle.cedar_scope.specs.Scope.{to_uid, to_slot, Constraint, any, within, equals, of_type, of_type_within}
 use Rattle.cedar_scope.specs.ScopeReads.{has_slot}
-use Rattle.cedar_scope.specs.ScopeTrees.{slot_id_of, uid_expr, constraint_expr}
+use Rattle.cedar_scope.specs.ScopeTrees.{slot_id_of, constraint_expr}
 use Rattle.cedar_scope.specs.declared.variable.PrincipalOrResource.{PrincipalOrResource}
 
 -- the variable's slot, where the constraint refers to it
