@@ -1,21 +1,19 @@
 -- Lists of shared uids, by the parts of the uids.
-use Rattle.std.proofs.Common.{◌≡◌, ◌↔◌, List, [], ◌∷◌, ◌++◌, map, Bool, true, false, IsTrue, refl, ap, sym, codes, Global}
+use Rattle.std.proofs.Common.{◌≡◌, List, [], ◌∷◌, ◌++◌, map, refl, ap, sym, Global}
 use Rattle.std.specs.declared.cmp.Ordering.{Ordering}
 use Rattle.std.specs.declared.cmp.Ordering.TheVariants.{Less, Equal, Greater}
 use Rattle.std.specs.declared.rc.Rc.{Rc}
 use Rattle.std.specs.Ordering.{ordering_then}
 use Rattle.std.specs.Cmp.Lexicographic.{slice_cmp}
 use Rattle.std.specs.List.{flat_map, list_all, AllZip}
-use Rattle.std.specs.Str.{bytes_eq}
 use Rattle.std.specs.Hash as fed
 use Rattle.std.proofs.lemmas.List.Folds.{flat_map-map, list_all-map}
 use Rattle.std.proofs.lemmas.List.{length-map}
-use Rattle.std.proofs.lemmas.Slice.Eq.{bytes_eq-Decides}
 use Rattle.cedar_ids.specs.Uid.{UidParts, uid_cmp, uid_hash_input}
 use Rattle.cedar_ids.specs.UidOf.{uid_parts}
 use Rattle.cedar_ids.specs.declared.entity.EntityUID.{EntityUID}
 use Rattle.cedar_action.specs.RuleTexts.{after_comma}
-use Rattle.cedar_scope.specs.ScopeTexts.{is_ascii_uid}
+use Rattle.cedar_terms.specs.UidTrees.{is_ascii_uid}
 
 abbrev pub Shared : Type 0
 Shared = Rc EntityUID Global
@@ -55,13 +53,3 @@ copied_parts [] [] h = refl
 copied_parts [] (v ∷ vs) h = absurd h
 copied_parts (u ∷ us) [] h = absurd h
 copied_parts (u ∷ us) (v ∷ vs) h = λ i. uid_parts (h.0 i) ∷ copied_parts us vs h.1 i
-
-told : (b c : Bool) (P : Type 0) → (IsTrue b ↔ P) → (c ≡ true → P) → (P → c ≡ true) → b ≡ c
-told true true P h f g = refl
-told true false P h f g = sym (g (h.0 refl))
-told false true P h f g = h.1 (f refl)
-told false false P h f g = refl
-
--- a test whether a component is `Action`
-pub told_action : (b : Bool) (name : List _) → (IsTrue b ↔ (name ≡ codes "Action")) → b ≡ bytes_eq name (codes "Action")
-told_action b name h = told b (bytes_eq name (codes "Action")) (name ≡ codes "Action") h (bytes_eq-Decides name (codes "Action")).0 (bytes_eq-Decides name (codes "Action")).1

@@ -1,8 +1,7 @@
 -- What stands in the constraint of an action.
-use Rattle.std.specs.Prelude.{ℕ, List, [], ◌∷◌, Bool, not, reverse, codes}
-use Rattle.std.specs.Str.{bytes_eq}
+use Rattle.std.specs.Prelude.{ℕ, List, [], ◌∷◌, Bool, not, reverse}
 use Rattle.std.specs.List.{filter}
-use Rattle.cedar_ids.specs.Uid.{UidParts}
+use Rattle.cedar_ids.specs.Uid.{UidParts, is_action_uid}
 use Rattle.cedar_action.specs.Rules.{ActionRule, any_action, among, just}
 
 -- the place of a rule's kind among the kinds
@@ -22,10 +21,6 @@ abbrev pub uids_given : ActionRule → List UidParts
 uids_given any_action = []
 uids_given (among us) = reverse us
 uids_given (just u) = u ∷ []
-
--- whether it is the uid of an action: whether the last component of its type is `Action`
-abbrev pub is_action_uid : UidParts → Bool
-is_action_uid u = bytes_eq u.name.basename (codes "Action")
 
 abbrev pub is_no_action : UidParts → Bool
 is_no_action u = not (is_action_uid u)

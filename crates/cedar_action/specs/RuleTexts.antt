@@ -4,7 +4,7 @@ use Rattle.std.specs.List.{list_all, flat_map}
 use Rattle.cedar_ids.specs.Uid.{UidParts}
 use Rattle.cedar_ids.specs.Printed.{printed_uid}
 use Rattle.cedar_action.specs.Rules.{ActionRule, any_action, among, just}
-use Rattle.cedar_scope.specs.ScopeTexts.{is_ascii_uid}
+use Rattle.cedar_terms.specs.UidTrees.{is_ascii_uid}
 
 -- a uid after another one
 abbrev pub after_comma : UidParts → List ℕ

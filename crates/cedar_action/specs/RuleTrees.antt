@@ -4,7 +4,7 @@ use Rattle.cedar_terms.specs.LiteralTree.{bool_literal}
 use Rattle.cedar_terms.specs.ExprTree.{ExprTree, val_node, var_node, eq_node, in_node, set_node, expr_trees}
 use Rattle.cedar_terms.specs.declared.var.Var.TheVariants as vars
 use Rattle.cedar_action.specs.Rules.{ActionRule, any_action, among, just}
-use Rattle.cedar_scope.specs.ScopeTrees.{uid_expr}
+use Rattle.cedar_terms.specs.UidTrees.{uid_expr}
 
 -- `true`; `action in` the set of the uids in their order; `action == U`
 abbrev pub rule_expr : ActionRule → ExprTree

@@ -15,9 +15,9 @@ ghost use Rattle.cedar_action.specs.Rules.{any_action, among, just};
 ghost use Rattle.cedar_action.specs.RuleReads.{rule_kind, rule_uids, uids_given, is_no_action};
 ghost use Rattle.cedar_action.specs.RuleOrder.{rule_cmp, same_rule, rule_hash};
 ghost use Rattle.cedar_action.specs.RuleTrees.{rule_expr};
-ghost use Rattle.cedar_scope.specs.ScopeTrees.{uid_expr};
+ghost use Rattle.cedar_terms.specs.UidTrees.{uid_expr};
 ghost use Rattle.cedar_action.specs.RuleTexts.{rule_output, uids_text, uids_output, after_comma};
-ghost use Rattle.cedar_scope.specs.ScopeTexts.{is_ascii_uid};
+ghost use Rattle.cedar_terms.specs.UidTrees.{is_ascii_uid};
 ghost use Rattle.cedar_action.specs.ActionTypes.{ChecksTypes, PassesTypes};
 ghost use Rattle.cedar_action.specs.Views.{rule_of, uids_left};
 ghost use Rattle.cedar_action.specs.laws.RuleOrders.{rule_cmp_total, same_rule_equiv, rule_hash_respects};
@@ -284,7 +284,6 @@ fn references<'a>(
 }
 
 // Whether it is the uid of something that is no action.
-#[tactic(auto, using(crate::proofs::UidLists::told_action))]
 fn is_no_action(euid: &EntityUID) -> bool
     ensures { result ≡ is_no_action (uid_parts euid.now) }
 {

@@ -1,10 +1,10 @@
 -- What is wrong with an entity, in the order in which it is looked for.
-use Rattle.std.specs.Prelude.{◌≡◌, ◌⊎◌, ℕ, List, [], ◌∷◌, Bool, true, false, not, ◌&&◌, Option, Some, None, if◌then◌else◌, string_bytes, codes, IsTrue}
-use Rattle.std.specs.Str.{bytes_eq}
+use Rattle.std.specs.Prelude.{◌≡◌, ◌⊎◌, ℕ, List, [], ◌∷◌, Bool, true, false, not, ◌&&◌, Option, Some, None, if◌then◌else◌, string_bytes, IsTrue}
 use Rattle.cedar_entity.specs.declared.err.EntitiesError.{EntitiesError}
 use Rattle.cedar_entity.specs.declared.err.EntitiesError.TheVariants as errors
 use Rattle.std.specs.Option.{option_or}
 use Rattle.std.specs.FinSet as set
+use Rattle.cedar_ids.specs.Uid.{is_action_uid}
 use Rattle.cedar_ids.specs.UidOf.{uid_parts}
 use Rattle.cedar_ids.specs.declared.entity.EntityUID.{EntityUID}
 use Rattle.cedar_terms.specs.Reserved.{is_reserved_key}
@@ -48,7 +48,7 @@ reserved_key e = option_or (reserved_in_fields e.attrs) (reserved_in_fields e.ta
 
 -- the last component of its type's name is Action
 abbrev pub is_action : EntityUID → Bool
-is_action u = bytes_eq (uid_parts u).name.basename (codes "Action")
+is_action u = is_action_uid (uid_parts u)
 
 -- a parent and an indirect ancestor at once
 abbrev pub is_in_both : EntityView → EntityUID → Bool

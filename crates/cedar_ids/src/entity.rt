@@ -5,7 +5,8 @@ ghost use Rattle.std.specs.Ordering.{as_partial_cmp};
 ghost use Rattle.std.specs.String.{string_bytes};
 ghost use Rattle.std.specs.Cmp.{partial_equiv_from_equiv};
 ghost use Rattle.std.proofs.Common.{refl};
-ghost use Rattle.cedar_ids.specs.Uid.{UidParts, uid_eq, uid_cmp, uid_hash_input};
+ghost use Rattle.cedar_ids.specs.Name.{is_action_name};
+ghost use Rattle.cedar_ids.specs.Uid.{UidParts, is_action_uid, uid_eq, uid_cmp, uid_hash_input};
 ghost use Rattle.cedar_ids.specs.Views.{type_name, eid_bytes};
 ghost use Rattle.cedar_ids.specs.TextOf.{IsName};
 ghost use Rattle.cedar_ids.specs.Escape.{escaped, is_ascii};
@@ -42,7 +43,7 @@ pub enum EntityType {
 impl EntityType {
     /// Says whether the last component of the name is `Action`, whatever its path. Takes no memory.
     pub fn is_action(&self) -> bool
-        ensures { IsTrue result ↔ ((type_name self.now).basename ≡ codes "Action") }
+        ensures { result ≡ is_action_name (type_name self.now) }
     {
         self.name().basename().as_ref() == ACTION_ENTITY_TYPE
     }
@@ -395,7 +396,7 @@ impl EntityUID {
     /// Says whether the type is one of actions: whether the last component of its name is `Action`. Takes
     /// no memory.
     pub fn is_action(&self) -> bool
-        ensures { IsTrue result ↔ ((uid_parts self.now).name.basename ≡ codes "Action") }
+        ensures { result ≡ is_action_uid (uid_parts self.now) }
     {
         self.entity_type().is_action()
     }

@@ -10,7 +10,7 @@ ghost use Rattle.cedar_ids.specs.Qualified.{qualified, all_components};
 ghost use Rattle.std.specs.Ordering.{as_partial_cmp};
 ghost use Rattle.std.specs.Cmp.{partial_equiv_from_equiv};
 ghost use Rattle.std.proofs.Common.{refl};
-ghost use Rattle.cedar_ids.specs.Name.{NameParts, name_eq, name_cmp, name_hash_input};
+ghost use Rattle.cedar_ids.specs.Name.{NameParts, is_unqualified, name_eq, name_cmp, name_hash_input};
 ghost use Rattle.cedar_ids.specs.Printed.{printed_name};
 ghost use Rattle.cedar_ids.specs.laws.NameLaws.{name_eq_equiv, name_cmp_total, name_ties, name_po, name_hash_respects};
 
@@ -114,6 +114,13 @@ impl Name {
         &self.basename
     }
 
+    /// Says whether the name is a basename alone, with no path before it. Takes no memory.
+    pub fn is_unqualified(&self) -> bool
+        ensures { result ≡ is_unqualified self.now }
+    {
+        self.path.is_empty()
+    }
+
     /// The location, if the name has one. Takes no memory.
     pub fn loc(&self) -> Option<&Loc> {
         self.loc.as_ref()
@@ -147,7 +154,7 @@ impl Name {
         let Some(namespace) = namespace else {
             return self.clone();
         };
-        if !self.path.is_empty() {
+        if !self.is_unqualified() {
             return self.clone();
         }
         let path = namespace.components(alloc)?;

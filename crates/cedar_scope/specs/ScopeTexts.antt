@@ -1,9 +1,8 @@
 -- How constraints are written.
 use Rattle.std.specs.Prelude.{ℕ, List, ◌++◌, Bool, true, Option, Some, None, if◌then◌else◌, codes}
-use Rattle.cedar_ids.specs.Escape.{is_ascii}
-use Rattle.cedar_ids.specs.Uid.{UidParts}
 use Rattle.cedar_ids.specs.Printed.{printed_name, printed_uid}
 use Rattle.cedar_terms.specs.SlotTree.{slot_text}
+use Rattle.cedar_terms.specs.UidTrees.{is_ascii_uid}
 use Rattle.cedar_terms.specs.VarTree.{var_text}
 use Rattle.cedar_terms.specs.declared.slot.SlotId.{SlotId}
 use Rattle.cedar_scope.specs.Scope.{Reference, to_uid, to_slot, Constraint, any, within, equals, of_type, of_type_within}
@@ -27,10 +26,6 @@ constraint_text v (equals r) = variable_text v ++ (codes " == " ++ reference_tex
 constraint_text v (of_type t) = variable_text v ++ (codes " is " ++ printed_name t)
 constraint_text v (of_type_within t r) =
     variable_text v ++ (codes " is " ++ (printed_name t ++ (codes " in " ++ reference_text (slot_id_of v) r)))
-
--- whether the eid is ASCII
-abbrev pub is_ascii_uid : UidParts → Bool
-is_ascii_uid u = is_ascii u.eid
 
 abbrev pub is_ascii_reference : Reference → Bool
 is_ascii_reference (to_uid u) = is_ascii_uid u

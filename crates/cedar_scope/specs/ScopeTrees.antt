@@ -1,7 +1,7 @@
 -- The expressions that references and constraints stand for.
 use Rattle.std.specs.Prelude.{true}
-use Rattle.cedar_ids.specs.Uid.{UidParts}
-use Rattle.cedar_terms.specs.LiteralTree.{bool_literal, uid_literal}
+use Rattle.cedar_terms.specs.LiteralTree.{bool_literal}
+use Rattle.cedar_terms.specs.UidTrees.{uid_expr}
 use Rattle.cedar_terms.specs.ExprTree.{ExprTree, val_node, var_node, slot_node, and_node, eq_node, in_node, is_node}
 use Rattle.cedar_terms.specs.declared.slot.SlotId.{SlotId}
 use Rattle.cedar_terms.specs.declared.slot.SlotId.TheVariants as slots
@@ -24,10 +24,6 @@ slot_id_of Resource = slots.Resource
 -- the variable as an expression
 abbrev pub variable_expr : PrincipalOrResource → ExprTree
 variable_expr v = var_node (var_of v)
-
--- a uid as an expression
-abbrev pub uid_expr : UidParts → ExprTree
-uid_expr u = val_node (uid_literal u)
 
 -- the uid, or the slot
 abbrev pub reference_expr : SlotId → Reference → ExprTree

@@ -13,6 +13,7 @@ pub mod PartialViews
 pub mod Reserved
 pub mod SlotTree
 pub mod TypeViews
+pub mod UidTrees
 pub mod UnknownParts
 pub mod Validated
 pub mod ValueHash

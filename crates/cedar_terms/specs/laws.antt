@@ -10,6 +10,7 @@ pub mod NameKeyLaws
 pub mod PartialLaws
 pub mod SlotIdLaws
 pub mod SlotLaws
+pub mod Tied
 pub mod UnknownLaws
 pub mod ValueLaws
 pub mod ValueSizes

@@ -1,39 +1,23 @@
 -- What the numbers that abbreviate names and eids tell of their order.
-use Rattle.std.specs.Prelude.{◌≡◌, ◌⊎◌, ℕ, zero, suc, ◌+◌, ◌*◌, ◌^◌, ◌<◌, ◌≤◌, Bool, true, false, ◌&&◌, ◌||◌, cond, List, [], ◌∷◌, ◌++◌, length, nat_le, nat_eq, min, slice_index, IsTrue}
+use Rattle.std.specs.Prelude.{◌≡◌, ◌⊎◌, ℕ, zero, suc, ◌+◌, ◌*◌, ◌^◌, ◌<◌, ◌≤◌, Bool, true, false, ◌&&◌, ◌||◌, cond, List, [], ◌∷◌, ◌++◌, length, nat_le, nat_eq, slice_index, IsTrue}
 use Rattle.std.proofs.Common.{ap, sym, refl, subst, ◌∙◌, arith, inl, inr}
 use Rattle.std.proofs.Math.Nat.{mul-le-mul_right, pow-suc}
 use Rattle.std.proofs.lemmas.Bool.{leb-true, eqb-true, eq-eqb, false≢true}
 use Rattle.std.specs.Cmp.{ranks, first_so, second_so}
 use Rattle.std.specs.Cmp.Lexicographic.{slice_cmp, pointwise, nat_list_cmp_total}
-use Rattle.std.specs.Hash as fed
-use Rattle.std.specs.List.{AllByRecursion, fold, flat_map, list_all, list_any}
+use Rattle.std.specs.List.{AllByRecursion, list_all, list_any}
 use Rattle.std.specs.Set.{is_member}
 use Rattle.std.specs.Ordering.{nat_cmp, ordering_then, ordering_reverse, MatchOrdering}
 use Rattle.std.specs.declared.cmp.Ordering.{Ordering}
 use Rattle.std.specs.declared.cmp.Ordering.TheVariants.{Less, Equal, Greater}
-use Rattle.cedar_ids.specs.Name.{NameParts, name_cmp, name_eq}
+use Rattle.cedar_ids.specs.Name.{NameParts, is_unqualified, name_cmp, name_eq}
 use Rattle.cedar_ids.specs.laws.NameLaws.{name_cmp_total, name_eq_equiv}
 use Rattle.cedar_ids.specs.Reading.{is_id, is_id_start, is_id_part}
 use Rattle.cedar_ids.specs.TextOf.{IsName}
 use Rattle.cedar_ids.specs.UidOf.{uid_parts, uid_order, same_uid}
 use Rattle.cedar_ids.specs.laws.UidOfLaws.{same_uid_decides}
 use Rattle.cedar_ids.specs.declared.entity.EntityUID.{EntityUID}
-use Rattle.cedar_uid_sets.specs.declared.fronts.Writes.{Writes}
-use Rattle.cedar_uid_sets.specs.laws.Fronts.{number, AreDigits, front, BeginsWithBytes, is_none, is_short, kind, same_numbers, Abbreviate}
-
--- ---- the hasher that counts up to four
-
-abbrev counted : Writes → List ℕ → Writes
-counted s bytes = record { count = min (s.count + 1) 4 }
-
-full : (ws : List (List ℕ)) → fold counted (record { count = 4 }) ws ≡ record { count = 4 }
-full [] = refl
-full (w ∷ ws) = full ws
-
--- what a name gives it are three texts where it has no path, and else more
-pub counts_path : (basename : List ℕ) (path : List (List ℕ)) → nat_eq (fold counted (record { count = 0 }) (fed.str basename ++ fed.slice fed.str path)).count 3 ≡ is_none path
-counts_path basename [] = refl
-counts_path basename (id ∷ path) = ap (λ s. nat_eq s.count 3) (full (flat_map fed.str path))
+use Rattle.cedar_uid_sets.specs.laws.Fronts.{number, AreDigits, front, BeginsWithBytes, is_short, kind, same_numbers, Abbreviate}
 
 -- ---- numbers by their digits
 
@@ -169,9 +153,9 @@ record IsShort (n : NameParts) : Type 0 where
   pub long : length n.basename ≤ 8
   pub kind : kind n ≡ front n.basename
 
-is_nothing : (ids : List (List ℕ)) → is_none ids ≡ true → ids ≡ []
+is_nothing : (ids : List (List ℕ)) → nat_eq (length ids) 0 ≡ true → ids ≡ []
 is_nothing [] h = refl
-is_nothing (id ∷ ids) h = absurd (false≢true h)
+is_nothing (id ∷ ids) h = let z : length (id ∷ ids) ≡ 0 = eqb-true (length (id ∷ ids)) 0 h in absurd (omega arith)
 
 short : (n : NameParts) → (kind n ≡ 0 → ⊥) → IsShort n
 short n h = by (is_short n) refl
@@ -179,7 +163,7 @@ short n h = by (is_short n) refl
     by : (b : Bool) → is_short n ≡ b → IsShort n
     by true e = record {
       path = is_nothing n.path (first_so _ _ e);
-      long = leb-true _ 8 (second_so (is_none n.path) _ e);
+      long = leb-true _ 8 (second_so (is_unqualified n) _ e);
       kind = ap (λ b. cond b (front n.basename) 0) e;
     }
     by false e = absurd (h (ap (λ b. cond b (front n.basename) 0) e))
@@ -273,6 +257,16 @@ module _ (k l f g : ℕ) (x y : EntityUID) (a : Abbreviate k f x) (b : Abbreviat
   same_by_eids e =
       let one : name_eq (uid_parts x).name (uid_parts y).name ≡ true = ap (name_eq (uid_parts x).name) (sym (names e)) ∙ name_eq_equiv.refl (uid_parts x).name in
       sym (ap (λ b. b && pointwise nat_eq (uid_parts x).eid (uid_parts y).eid) one)
+
+-- uids whose numbers differ are not the same
+pub apart_by_numbers : (k l f g : ℕ) (x y : EntityUID) → Abbreviate k f x → Abbreviate l g y → (f ≡ g → k ≡ l → ⊥) → false ≡ same_uid x y
+apart_by_numbers k l f g x y a b differ = by (same_uid x y) refl
+  where
+    by : (t : Bool) → same_uid x y ≡ t → false ≡ t
+    by false e = refl
+    by true e =
+        let same = (same_uid_decides x y).0 e in
+        absurd (differ (a.of_eid ∙ ap (λ u. front (uid_parts u).eid) same ∙ sym b.of_eid) (a.of_name ∙ ap (λ u. kind (uid_parts u).name) same ∙ sym b.of_name))
 
 -- ---- numbers that are looked for first
 

@@ -3,50 +3,14 @@ ghost use Rattle.std.specs.Prelude.{◌≡◌, ◌<◌, nat_eq, slice_index};
 ghost use Rattle.std.specs.Ordering.{nat_cmp};
 ghost use Rattle.std.specs.Cmp.Lexicographic.{pointwise, slice_cmp};
 ghost use Rattle.cedar_ids.specs.UidOf.{same_uid, uid_order, uid_parts};
-ghost use Rattle.cedar_uid_sets.specs.laws.Fronts.{front, kind, is_none, is_short, same_numbers, BeginsWithBytes};
+ghost use Rattle.cedar_uid_sets.specs.laws.Fronts.{front, kind, is_short, same_numbers, BeginsWithBytes};
 
 use cedar_ids::entity::EntityUID;
 use cedar_ids::name::Name;
 use std::alloc::AllocError;
 use std::cmp::Ordering;
 use std::fmt;
-use std::hash::{Hash, Hasher};
 use std::marker::Model;
-
-// A hasher that counts what it is given, up to four.
-#[derive(Drop)]
-struct Writes {
-    count: u8,
-}
-
-impl Hasher for Writes {
-    ghost use Rattle.std.specs.Prelude.{min, ◌+◌};
-
-    ghost write = { λ s bytes. record { count = min (s.count + 1) 4 } };
-
-    ghost finish = { λ s. s.count };
-
-    fn finish(&self) -> u64 {
-        self.count as u64
-    }
-
-    fn write(&mut self, _bytes: &[u8]) {
-        if self.count < 4 {
-            self.count += 1;
-        } else {
-            self.count = 4;
-        }
-    }
-}
-
-// Whether a name has no path. It gives a hasher its basename, a mark and the length of its path, and then the path.
-fn has_no_path(name: &Name) -> bool
-    ensures { result ≡ is_none name.now.path }
-{
-    let mut writes = Writes { count: 0 };
-    name.hash(&mut writes);
-    writes.count == 3
-}
 
 // The byte at a place, or 0.
 fn byte(text: &[u8], at: usize) -> u64
@@ -78,7 +42,7 @@ fn front(text: &[u8]) -> u64
 fn is_short(name: &Name) -> bool
     ensures { result ≡ is_short name.now }
 {
-    has_no_path(name) && name.basename().as_ref().len() <= 8
+    name.is_unqualified() && name.basename().as_ref().len() <= 8
 }
 
 // The front of a short name, and 0 of another.

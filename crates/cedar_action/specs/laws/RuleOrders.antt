@@ -15,7 +15,7 @@ use Rattle.cedar_action.specs.Rules.{ActionRule}
 use Rattle.cedar_action.specs.RuleReads.{rule_kind, rule_uids}
 use Rattle.cedar_action.specs.RuleOrder.{rule_cmp, same_rule, rule_hash}
 use Rattle.cedar_action.specs.Codes.{rule_with, rule_with-parts}
-use Rattle.cedar_scope.specs.laws.ScopeOrders.{kinds_tied, then_tied}
+use Rattle.cedar_terms.specs.laws.Tied.{kinds_tied, then_tied}
 
 pub rule_cmp_total : IsTotalOrder rule_cmp
 rule_cmp_total = then_total (on_total rule_kind nat_cmp_total) (on_total rule_uids (lists_total uid_cmp_total))

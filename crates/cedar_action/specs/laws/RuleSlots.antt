@@ -7,7 +7,7 @@ use Rattle.cedar_ids.specs.Uid.{UidParts}
 use Rattle.cedar_terms.specs.ExprTree.{expr_trees}
 use Rattle.cedar_terms.specs.Walk.{walk_back, slot_of, slots_of}
 use Rattle.cedar_action.specs.Rules.{ActionRule, any_action, among, just}
-use Rattle.cedar_scope.specs.ScopeTrees.{uid_expr}
+use Rattle.cedar_terms.specs.UidTrees.{uid_expr}
 use Rattle.cedar_action.specs.RuleTrees.{rule_expr}
 
 none_in_uids : (us : List UidParts) → filter_map slot_of (walk_back (expr_trees (map uid_expr us))) ≡ []

@@ -1,16 +1,17 @@
 -- The laws of the order, the equality and the hash of references and constraints.
-use Rattle.std.specs.Prelude.{◌≡◌, ℕ, true, Option, Some, None, refl}
+use Rattle.std.specs.Prelude.{◌≡◌, true, Option, Some, None, refl}
 use Rattle.std.proofs.Common.{ap, sym, ◌∙◌, subst}
 use Rattle.std.specs.Bool.{Decides}
 use Rattle.std.specs.declared.cmp.Ordering.{Ordering}
-use Rattle.std.specs.declared.cmp.Ordering.TheVariants.{Less, Equal, Greater}
+use Rattle.std.specs.declared.cmp.Ordering.TheVariants.{Equal}
 use Rattle.std.specs.Option.{option_cmp}
-use Rattle.std.specs.Ordering.{nat_cmp, is_eq, ordering_then}
+use Rattle.std.specs.Ordering.{nat_cmp, is_eq}
 use Rattle.std.specs.Cmp.{IsTotalOrder, IsEquivalence, on_total, then_total, nat_cmp_total, eq_by_cmp_equiv, Equal-is, tied_itself}
 use Rattle.std.specs.Cmp.Lexicographic.{options_total}
 use Rattle.cedar_ids.specs.Name.{NameParts, name_cmp}
 use Rattle.cedar_ids.specs.laws.NameLaws.{name_cmp_total}
-use Rattle.cedar_terms.specs.laws.KeyLaws.{key_cmp-Equal, key_cmp_total, nat_key-inj, nat_key-cmp, right}
+use Rattle.cedar_terms.specs.laws.KeyLaws.{key_cmp-Equal, key_cmp_total, right}
+use Rattle.cedar_terms.specs.laws.Tied.{kinds_tied, then_tied}
 use Rattle.cedar_terms.specs.Keys.{Key, fork, key_cmp, nat_key, name_key, uid_key}
 use Rattle.cedar_terms.specs.laws.NameKeyLaws.{name_key-inj, name_key-cmp, uid_key-inj, uid_key-cmp}
 use Rattle.cedar_scope.specs.Scope.{Reference, to_uid, to_slot, Constraint}
@@ -53,9 +54,6 @@ same_constraint_equiv = eq_by_cmp_equiv constraint_cmp_total
 
 -- ---- what no order tells apart is the same
 
-pub kinds_tied : (m n : ℕ) → nat_cmp m n ≡ Equal → m ≡ n
-kinds_tied m n e = nat_key-inj m n (key_cmp-Equal (nat_key m) (nat_key n) (nat_key-cmp m n ∙ e))
-
 names_tied : (m n : NameParts) → name_cmp m n ≡ Equal → m ≡ n
 names_tied m n e = name_key-inj m n (key_cmp-Equal (name_key m) (name_key n) (name_key-cmp m n ∙ e))
 
@@ -67,11 +65,6 @@ options_tied R h None None e = refl
 options_tied R h None (Some y) e = absurd (cc)
 options_tied R h (Some x) None e = absurd (cc)
 options_tied R h (Some x) (Some y) e = ap Some (h x y e)
-
-pub then_tied : (a b : Ordering) → ordering_then a b ≡ Equal → (a ≡ Equal) × (b ≡ Equal)
-then_tied Less b e = absurd (cc)
-then_tied Equal b e = (refl, e)
-then_tied Greater b e = absurd (cc)
 
 pub constraints_tied : (x y : Constraint) → constraint_cmp x y ≡ Equal → x ≡ y
 constraints_tied x y e =

@@ -1,6 +1,6 @@
 -- Numbers that abbreviate names and eids.
 use Rattle.std.specs.Prelude.{◌≡◌, ℕ, zero, suc, ◌+◌, ◌*◌, ◌^◌, ◌<◌, Bool, true, false, ◌&&◌, cond, List, [], ◌∷◌, length, nat_le, nat_eq, slice_index, ⊤}
-use Rattle.cedar_ids.specs.Name.{NameParts}
+use Rattle.cedar_ids.specs.Name.{NameParts, is_unqualified}
 use Rattle.cedar_ids.specs.TextOf.{IsName}
 use Rattle.cedar_ids.specs.UidOf.{uid_parts}
 use Rattle.cedar_ids.specs.declared.entity.EntityUID.{EntityUID}
@@ -23,13 +23,9 @@ front text = number 8 (slice_index text)
 abbrev pub BeginsWithBytes : List ℕ → Type 0
 BeginsWithBytes text = AreDigits 8 (slice_index text)
 
-abbrev pub is_none : List (List ℕ) → Bool
-is_none [] = true
-is_none (id ∷ ids) = false
-
 -- a name without a path, of at most eight bytes
 abbrev pub is_short : NameParts → Bool
-is_short n = is_none n.path && nat_le (length n.basename) 8
+is_short n = is_unqualified n && nat_le (length n.basename) 8
 
 -- the front of a short name; 0 of any other, which says nothing of it
 abbrev pub kind : NameParts → ℕ

@@ -3,7 +3,7 @@ use Rattle.std.specs.List.{flat_map, list_all}
 use Rattle.std.specs.Fmt.{HasWritten, IsPlainFormatter}
 use Rattle.cedar_ids.specs.UidOf.{uid_parts}
 use Rattle.cedar_action.specs.RuleTexts.{after_comma}
-use Rattle.cedar_scope.specs.ScopeTexts.{is_ascii_uid}
+use Rattle.cedar_terms.specs.UidTrees.{is_ascii_uid}
 use Rattle.cedar_action.proofs.action.write_more.Given as goal
 
 abbrev pub invariant-loop-euid : goal.invariant-loop-euid
