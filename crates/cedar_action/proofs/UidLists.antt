@@ -1,25 +1,17 @@
 -- Lists of shared uids, by the parts of the uids.
-use Rattle.std.proofs.Common.{◌≡◌, List, [], ◌∷◌, ◌++◌, map, refl, ap, sym, Global}
+use Rattle.std.proofs.Common.{◌≡◌, List, [], ◌∷◌, ◌++◌, map, refl, ap, sym}
 use Rattle.std.specs.declared.cmp.Ordering.{Ordering}
 use Rattle.std.specs.declared.cmp.Ordering.TheVariants.{Less, Equal, Greater}
-use Rattle.std.specs.declared.rc.Rc.{Rc}
 use Rattle.std.specs.Ordering.{ordering_then}
 use Rattle.std.specs.Cmp.Lexicographic.{slice_cmp}
-use Rattle.std.specs.List.{flat_map, list_all, AllZip}
+use Rattle.std.specs.List.{flat_map, list_all}
 use Rattle.std.specs.Hash as fed
 use Rattle.std.proofs.lemmas.List.Folds.{flat_map-map, list_all-map}
 use Rattle.std.proofs.lemmas.List.{length-map}
 use Rattle.cedar_ids.specs.Uid.{UidParts, uid_cmp, uid_hash_input}
-use Rattle.cedar_ids.specs.UidOf.{uid_parts}
-use Rattle.cedar_ids.specs.declared.entity.EntityUID.{EntityUID}
+use Rattle.cedar_action.specs.laws.UidCopies.{Shared, parts}
 use Rattle.cedar_action.specs.RuleTexts.{after_comma}
 use Rattle.cedar_terms.specs.UidTrees.{is_ascii_uid}
-
-abbrev pub Shared : Type 0
-Shared = Rc EntityUID Global
-
-abbrev pub parts : Shared → UidParts
-parts u = uid_parts u.value
 
 -- lists are ordered as the lists of their parts
 pub shared_lists_cmp : (us vs : List Shared) → slice_cmp (λ u v. uid_cmp (parts u) (parts v)) us vs ≡ slice_cmp uid_cmp (map parts us) (map parts vs)
@@ -46,10 +38,3 @@ more_text us = flat_map-map after_comma parts us
 
 pub more_ascii : (us : List Shared) → list_all is_ascii_uid (map parts us) ≡ list_all (λ u. is_ascii_uid (parts u)) us
 more_ascii us = list_all-map is_ascii_uid parts us
-
--- a copy of a list holds the same uids
-pub copied_parts : (us vs : List Shared) → AllZip (λ (u v : Shared). v.value ≡ u.value) us vs → map parts vs ≡ map parts us
-copied_parts [] [] h = refl
-copied_parts [] (v ∷ vs) h = absurd h
-copied_parts (u ∷ us) [] h = absurd h
-copied_parts (u ∷ us) (v ∷ vs) h = λ i. uid_parts (h.0 i) ∷ copied_parts us vs h.1 i

@@ -1,2 +1,3 @@
 pub mod RuleOrders
 pub mod RuleSlots
+pub mod UidCopies

@@ -12,13 +12,9 @@ use Rattle.cedar_ids.specs.Uid.{UidParts}
 use Rattle.cedar_ids.specs.UidOf.{uid_parts, same_uid}
 use Rattle.cedar_ids.specs.laws.UidOfLaws.{same_uid_decides}
 use Rattle.cedar_ids.specs.declared.entity.EntityUID.{EntityUID}
+use Rattle.cedar_binding.specs.laws.Fits.{same_answer}
 use Rattle.cedar_policy.specs.Unknowns.{is_name}
 use Rattle.cedar_policy.specs.laws.UnknownSteps.{is_printed_uid}
-
-same_answer : (a b : Bool) → (a ≡ true → b ≡ true) → (b ≡ true → a ≡ true) → a ≡ b
-same_answer true b f g = sym (f refl)
-same_answer false true f g = absurd (false≢true (g refl))
-same_answer false false f g = refl
 
 both_true : (p q : Bool) → p ≡ true → q ≡ true → (p && q) ≡ true
 both_true p q a b = λ i. a i && b i

@@ -325,6 +325,7 @@ impl Policy {
         ensures unlinked { self.now.link ≡ None → body_slots self.now.template ≡ [] }
         ensures whole { self.now.link ≡ None → self.now ≡ static_policy self.now.template }
     {
+        // No effect at run time: this borrow says what holds of every policy.
         let _ = &self.values;
         self.link.is_none()
     }

@@ -97,15 +97,9 @@ IsMerge rename old new out =
     (r : List (List ℕ × List ℕ)) × IsRenaming old.current old.aside r × (rename ≡ false → conflicts old.current old.aside ≡ [])
     × (new ≡ with_current old (merged old.current old.aside (new_id r))) × (out ≡ merged_line r)
 
--- two boards that bind so many ids that the numbers for new ones run out stay as they are, and nothing is written. No
--- memory holds such sets
-abbrev pub IsTooLarge : Bool → Boards → Boards → List ℕ → Type 0
-IsTooLarge rename old new out =
-    (rename ≡ true) × ((r : List (List ℕ × List ℕ)) → IsRenaming old.current old.aside r → ⊥) × (new ≡ old) × (out ≡ [])
-
--- a merge is refused, or made, or asks for too much
+-- a merge is refused, or made
 abbrev pub MergeGives : Bool → Boards → Boards → List ℕ → Type 0
-MergeGives rename old new out = IsRefusedMerge rename old new out ⊎ (IsMerge rename old new out ⊎ IsTooLarge rename old new out)
+MergeGives rename old new out = IsRefusedMerge rename old new out ⊎ IsMerge rename old new out
 
 -- the boards that a command leaves, and what it writes
 abbrev pub PolicyGives : PolicyCommand → Boards → Boards → List ℕ → Type 0

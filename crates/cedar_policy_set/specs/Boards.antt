@@ -118,3 +118,7 @@ CanJoinBothBy (Some l) b p = (is_bound b l ≡ false) × (same_text l p.template
 
 abbrev pub CanJoinBoth : Board → PolicyParts → Type 0
 CanJoinBoth b p = (is_bound b p.template.id ≡ false) × CanJoinBothBy p.link b p
+
+-- a link has another id than its template
+abbrev pub HasOwnId : PolicyParts → Type 0
+HasOwnId p = p.link ≡ Some p.template.id → ⊥

@@ -1,16 +1,17 @@
 -- Merging another board into this one: the ids that conflict, what they are renamed to, and the board afterwards.
-use Rattle.std.specs.Prelude.{◌≡◌, ℕ, ◌<◌, List, [], ◌∷◌, ◌++◌, Bool, false, not, ◌&&◌, if◌then◌else◌, map, Result, Ok, Err}
+use Rattle.std.specs.Prelude.{◌≡◌, ℕ, ◌<◌, List, [], ◌∷◌, ◌++◌, Bool, false, not, ◌&&◌, if◌then◌else◌, map, Option, Some, None, Result, Ok, Err}
 use Rattle.std.specs.List.{find, filter, list_any}
 use Rattle.std.specs.Map.{lookup, keys_of, values_of}
 use Rattle.std.specs.Option.{option_eq, option_map, unwrap_or}
 use Rattle.cedar_ids.specs.Texts.{same_text}
 use Rattle.cedar_body.specs.Bodies.{BodyParts, with_id}
 use Rattle.cedar_body.specs.BodyEquality.{same_body}
+use Rattle.cedar_binding.specs.EnvEquality.{same_env}
 use Rattle.cedar_policy.specs.Policies.{PolicyParts, policy_id}
 use Rattle.cedar_policy.specs.PolicyEquality.{same_policy}
 use Rattle.cedar_policy_set.specs.declared.err.PolicySetError.{PolicySetError}
 use Rattle.cedar_policy_set.specs.declared.err.PolicySetError.TheVariants.{Occupied, Memory}
-use Rattle.cedar_policy_set.specs.Boards.{Board, is_body_at, is_policy_at, is_bound}
+use Rattle.cedar_policy_set.specs.Boards.{Board, Binding, Static, Template, Link, is_body_at, is_policy_at, is_bound}
 use Rattle.cedar_policy_set.specs.Fresh.{numbered, is_bound_in_either, AreFree}
 
 -- whether a body, or a policy, has an id
@@ -32,6 +33,18 @@ abbrev pub is_same_at : Board → Board → List ℕ → Bool
 is_same_at here other i =
     option_eq same_policy (find (is_policy_at i) here.policies) (find (is_policy_at i) other.policies)
     && option_eq same_body (find (is_body_at i) here.bodies) (find (is_body_at i) other.bodies)
+
+-- whether two bindings are alike: of one kind, and of equal bodies, and links with equal ids and bindings too
+abbrev pub same_binding : Binding → Binding → Bool
+same_binding (Static t) (Static u) = same_body t u
+same_binding (Template t) (Template u) = same_body t u
+same_binding (Link l t e) (Link m u f) = same_body t u && (same_text l m && same_env e f)
+same_binding x y = false
+
+-- both are there, and they are not alike
+abbrev pub Differ : Option Binding → Option Binding → Type 0
+Differ (Some x) (Some y) = same_binding x y ≡ false
+Differ x y = ⊥
 
 -- those of some ids of the other board that stand in an order here and are bound to something else
 abbrev pub conflicting : Board → Board → (List ℕ → Bool) → List (List ℕ) → List (List ℕ)

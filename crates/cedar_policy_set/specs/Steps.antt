@@ -1,5 +1,5 @@
 -- The step of each call on a board: the board after it, or why it is refused.
-use Rattle.std.specs.Prelude.{ℕ, List, [], ◌∷◌, Bool, ◌||◌, Option, Some, None, Result, Ok, Err, if◌then◌else◌}
+use Rattle.std.specs.Prelude.{◌≡◌, ℕ, List, [], ◌∷◌, Bool, ◌||◌, Option, Some, None, Result, Ok, Err, if◌then◌else◌}
 use Rattle.std.specs.List.{find}
 use Rattle.cedar_ids.specs.Texts.{same_text}
 use Rattle.cedar_terms.specs.declared.slot.SlotId.{SlotId}
@@ -8,7 +8,7 @@ use Rattle.cedar_body.specs.BodyEquality.{same_body}
 use Rattle.cedar_binding.specs.Bindings.{EnvParts, unbound, extra}
 use Rattle.cedar_policy.specs.Policies.{PolicyParts, static_policy}
 use Rattle.cedar_policy_set.specs.Lists.{ids_in}
-use Rattle.cedar_policy_set.specs.Boards.{Board, Binding, Static, Template, Link, bound_at, is_bound, is_body_at, has_links, with_template, with_policy, with_both}
+use Rattle.cedar_policy_set.specs.Boards.{Board, Binding, Static, Template, Link, bound_at, is_bound, is_body_at, has_links, with_template, with_policy, with_both, without_id}
 
 -- why a call is refused: an id is taken; there is no body of an id; there is no template of an id to link; the
 -- bindings don't fit its slots; the id of a link is taken; there is no link of an id; there is something else than
@@ -93,6 +93,12 @@ remove_static_step b i = static_removed_at (bound_at b i) i
 
 abbrev pub remove_template_step : Board → List ℕ → Result Binding Refusal
 remove_template_step b i = template_removed_at (bound_at b i) (has_links b i) i
+
+-- linking undone: the last board is the first with a link of this template, under this id and with these bindings, so
+-- that to unlink that id takes this link out and leaves the first board, orders included
+abbrev pub UnlinksTo : Board → List ℕ → List ℕ → EnvParts → Board → Type 0
+UnlinksTo b i l e c =
+    (t : BodyParts) × (bound_at b i ≡ Some (Template t)) × (unlink_step c l ≡ Ok (Link l t e)) × (without_id c l ≡ b)
 
 -- the ids of the policies on a body, in their order: of a template its links, of a static policy itself
 abbrev pub linked_at : Option BodyParts → Board → List ℕ → Result (List (List ℕ)) Refusal

@@ -5,6 +5,8 @@ use Rattle.cedar_terms.specs.declared.slot.SlotId.{SlotId}
 use Rattle.cedar_body.specs.Bodies.{BodyParts, body_slots}
 use Rattle.cedar_policy.specs.Policies.{PolicyParts, policy_id}
 use Rattle.cedar_policy.specs.Validation.{HasActions, IsTemplateFault, clause_fault}
+use Rattle.cedar_policy.specs.declared.err.TemplateValidationError.{TemplateValidationError}
+use Rattle.cedar_policy.specs.declared.err.TemplateValidationError.TheVariants as templates
 use Rattle.cedar_policy_set.specs.declared.err.PolicySetValidationError.{PolicySetValidationError}
 use Rattle.cedar_policy_set.specs.declared.err.PolicySetValidationError.TheVariants.{InvalidTemplate, LinkToSlotlessTemplate, Memory}
 use Rattle.cedar_policy_set.specs.Boards.{Board}
@@ -22,6 +24,11 @@ is_slotless_link p = is_some p.link && is_slotless (body_slots p.template)
 abbrev pub IsValidBody : BodyParts → Type 0
 IsValidBody t = HasActions t.clause t.action × (clause_fault t.clause ≡ None)
 
+-- a body is not valid, and this is its first fault. Want of memory is none
+abbrev pub IsBodyRefusal : TemplateValidationError → BodyParts → Type 0
+IsBodyRefusal templates.Memory t = ⊥
+IsBodyRefusal e t = IsTemplateFault e t.clause t.action
+
 -- no link is one of a template without slots
 abbrev pub HasSlottedLinks : Board → Type 0
 HasSlottedLinks b = find is_slotless_link b.policies ≡ None
@@ -34,7 +41,7 @@ IsSetFault (LinkToSlotlessTemplate l t) b =
 IsSetFault (InvalidTemplate i e) b =
     HasSlottedLinks b
     × (before : List BodyParts) × (t : BodyParts) × (after : List BodyParts)
-    × (b.bodies ≡ before ++ t ∷ after) × All IsValidBody before × (i ≡ t.id) × IsTemplateFault e t.clause t.action
+    × (b.bodies ≡ before ++ t ∷ after) × All IsValidBody before × (i ≡ t.id) × IsBodyRefusal e t
 IsSetFault Memory b = Unit {0}
 
 -- the set itself where there is no fault, else the first one

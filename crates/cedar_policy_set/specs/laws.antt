@@ -1,5 +1,6 @@
 pub mod BoardLaws
 pub mod BodyFaults
+pub mod ConflictLaws
 pub mod EqualityLaws
 pub mod Founds
 pub mod FreshLaws
@@ -11,6 +12,7 @@ pub mod ListedLaws
 pub mod MapLaws
 pub mod MergeLaws
 pub mod MergeSteps
+pub mod Numerals
 pub mod OnceLaws
 pub mod RenamingLaws
 pub mod SharedBoards

@@ -76,6 +76,7 @@ pub(crate) fn fresh_ids(
     ensures keys { IfOk result (λ r. keys_of r.entries ≡ ids.keys) }
     ensures free { IfOk result (λ r. AreFree (is_bound_in_either here.now other.now) 0 (values_of r.entries)) }
 {
+    // No effect on the answer: this count says that numbers do not run out.
     let _count = count_ids(here, other);
     let mut renaming = IndexMap::new(alloc);
     let mut start: u128 = 0;

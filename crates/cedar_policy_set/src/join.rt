@@ -4,9 +4,9 @@ ghost use Rattle.cedar_body.specs.BodyEquality.{same_body};
 ghost use Rattle.cedar_body.specs.Bodies.{body_slots};
 ghost use Rattle.cedar_binding.specs.Checks.{Binds};
 ghost use Rattle.cedar_binding.specs.Views.{env_of};
-ghost use Rattle.cedar_policy_set.specs.Boards.{empty_board, bound_at, without_id, CanJoinBoth, Template as template_binding};
+ghost use Rattle.cedar_policy_set.specs.Boards.{empty_board, bound_at, HasOwnId, Template as template_binding};
 ghost use Rattle.cedar_policy_set.specs.Refusals.{IsRefusal, Steps, Makes, told_by_set, told_by_linking};
-ghost use Rattle.cedar_policy_set.specs.Steps.{add_static_step, add_template_step, add_step, link_onto, link_step, add_then};
+ghost use Rattle.cedar_policy_set.specs.Steps.{add_static_step, add_template_step, add_step, link_onto, link_step, add_then, UnlinksTo};
 ghost use Rattle.cedar_policy_set.specs.laws.Joins.{HasNoTemplate, Stands, StandsThere};
 
 use crate::err::PolicySetError;
@@ -20,12 +20,14 @@ use std::rc::Rc;
 
 impl PolicySet {
     /// The set with this policy alone, and with its template: what adding it to the set without a binding leaves. A link
-    /// may not have its template's id; the original asks nothing. Takes memory for the two places, and is refused only
+    /// has to have another id than its template; the original asks nothing. Takes memory for the two places, and is refused only
     /// where that is.
     pub fn singleton(alloc: Global, policy: Policy) -> Result<PolicySet, AllocError>
-        requires { CanJoinBoth empty_board policy }
+        requires { HasOwnId policy }
         ensures { IfOk result (λ s. add_step empty_board policy ≡ Ok s) }
     {
+        // No effect at run time: these calls say that exactly the slots of its template are bound.
+        let _whole = (policy.is_static(), policy.env());
         let mut set = PolicySet::new(alloc);
         match set.put_both(policy) {
             Ok(()) => Ok(set),
@@ -120,6 +122,7 @@ impl PolicySet {
         requires { policy.link ≡ None }
         ensures { Steps told_by_set result self.old self.new (add_static_step self.old policy.template) }
     {
+        // No effect at run time: this call says that a policy that is no link is its body.
         let _whole = policy.is_static();
         if self.is_bound(policy.id()) {
             let id: Result<PolicyID, AllocError> = policy.id().clone();
@@ -155,6 +158,7 @@ impl PolicySet {
         requires stands { StandsThere self.old policy.template.id same policy.template }
         ensures { Steps told_by_set result self.old self.new (add_step self.old policy) }
     {
+        // No effect at run time: this call says that exactly the slots of its template are bound.
         let _total = policy.env();
         if !same {
             let id: Result<PolicyID, AllocError> = policy.template().id().clone();
@@ -176,6 +180,7 @@ impl PolicySet {
         requires missing { bound_at self.old policy.template.id ≡ None }
         ensures { Steps told_by_set result self.old self.new (add_step self.old policy) }
     {
+        // No effect at run time: this call says that exactly the slots of its template are bound.
         let _total = policy.env();
         if either(
             policy.id() == policy.template().id(),
@@ -229,7 +234,7 @@ impl PolicySet {
         values: SlotEnv,
     ) -> Result<(), LinkingError>
         ensures steps { Steps told_by_linking result self.old self.new (link_step self.old template_id new_id (env_of values)) }
-        ensures undone { OnOk result (without_id self.new new_id ≡ self.old) }
+        ensures undone { OnOk result (UnlinksTo self.old template_id new_id (env_of values) self.new) }
         ensures there { OnOk result (0 < length self.new.policies) }
     {
         self.put_link(alloc, template_id, new_id, values)

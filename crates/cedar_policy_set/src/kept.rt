@@ -97,6 +97,7 @@ impl PolicySet {
     pub(crate) fn is_linked(&self, id: &PolicyID) -> bool
         ensures { result ≡ has_links self.now id.now }
     {
+        // No effect at run time: this borrow says how the maps agree.
         let _ = &self.templates;
         match self.ids_on(id) {
             None => false,

@@ -2,9 +2,9 @@
 ghost use Rattle.std.specs.Prelude.{◌≡◌, ◌<◌, IfOk, Some, length};
 ghost use Rattle.std.specs.Borrow.{sem, RestsIfErr};
 ghost use Rattle.cedar_binding.specs.Views.{env_of};
-ghost use Rattle.cedar_policy_set.specs.Boards.{last_policy, without_id};
+ghost use Rattle.cedar_policy_set.specs.Boards.{last_policy};
 ghost use Rattle.cedar_policy_set.specs.Refusals.{Answers, told_by_linking};
-ghost use Rattle.cedar_policy_set.specs.Steps.{link_step};
+ghost use Rattle.cedar_policy_set.specs.Steps.{link_step, UnlinksTo};
 ghost use Rattle.cedar_policy_set.specs.contracts.policy_set.PolicySet.{the_row};
 
 use crate::policy_set::PolicySet;
@@ -28,8 +28,8 @@ impl PolicySet {
     ///
     /// Refused in this order: `NoSuchTemplate` where the first id is no template's, also where it is a static policy's;
     /// `ArityError` as `Template::check_binding` says; `PolicyIdConflict` where the new id is bound. Takes memory for the
-    /// place and for the lists of a refusal; a refused call, for memory too, leaves both orders as they were. To take the
-    /// new link out again leaves the former set, orders included.
+    /// place and for the lists of a refusal; a refused call, for memory too, leaves both orders as they were. To unlink
+    /// the new link gives it back and leaves the former set, orders included.
     pub fn link(
         &mut self,
         alloc: Global,
@@ -40,7 +40,7 @@ impl PolicySet {
         ensures* refused { sem 𝓛 (RestsIfErr the_row self.entry (λ l. l.set.ghost_name) result (λ n. n ≡ self.old)) }
         ensures same_set { IfOk result (λ l. l.set.ghost_name ≡ self.entry.ghost_name) }
         ensures steps { Answers told_by_linking (λ l. l.set.now) result (link_step self.old template_id new_id (env_of values)) }
-        ensures undone { IfOk result (λ l. without_id l.set.now new_id ≡ self.old) }
+        ensures undone { IfOk result (λ l. UnlinksTo self.old template_id new_id (env_of values) l.set.now) }
     {
         self.join_link(alloc, template_id, new_id, values)?;
         Ok(Linked { set: self })

@@ -1,13 +1,14 @@
 //! Merging another policy set into this one.
-ghost use Rattle.std.specs.Prelude.{◌≡◌, ◌&&◌, ◌++◌, ◌+◌, ◌∷◌, [], false, not, length, IfOk, OnErr, OnOk, IsTrue, List, ℕ};
+ghost use Rattle.std.specs.Prelude.{◌≡◌, ◌↔◌, ◌&&◌, ◌++◌, ◌+◌, ◌∷◌, [], true, false, not, length, IfOk, OnErr, OnOk, IsTrue, List, ℕ};
 ghost use Rattle.std.specs.List.{list_any};
 ghost use Rattle.std.specs.Map.{values_of};
 ghost use Rattle.std.specs.Option.{option_copied, unwrap_or};
 ghost use Rattle.cedar_body.specs.Bodies.{with_id};
 ghost use Rattle.cedar_policy.specs.Policies.{policy_id, with_policy_id};
-ghost use Rattle.cedar_policy_set.specs.Boards.{AreOnce};
+ghost use Rattle.cedar_ids.specs.Texts.{same_text};
+ghost use Rattle.cedar_policy_set.specs.Boards.{AreOnce, bound_at};
 ghost use Rattle.cedar_policy_set.specs.Fresh.{is_bound_in_either};
-ghost use Rattle.cedar_policy_set.specs.Merge.{has_body, body_ids, policy_ids, is_same_at, conflicting, gathered, conflicts, renamed_body, renamed_policy, joined_bodies, joined_policies, merged, new_id, IsRenaming, Merges, AreBelow, bound_ids};
+ghost use Rattle.cedar_policy_set.specs.Merge.{has_body, body_ids, policy_ids, is_same_at, conflicting, gathered, conflicts, Differ, renamed_body, renamed_policy, joined_bodies, joined_policies, merged, new_id, IsRenaming, Merges, AreBelow, bound_ids};
 ghost use Rattle.cedar_policy_set.specs.laws.GatherLaws.{in_groups, looked_at};
 ghost use Rattle.cedar_policy_set.specs.laws.MergeSteps.{Refuses, with_template_renamed};
 ghost use Rattle.cedar_policy_set.specs.Views.{bodies_of};
@@ -36,7 +37,7 @@ impl PolicySet {
     /// Takes memory for the three maps, what is renamed and the answer. A refused call, for memory too, leaves both orders
     /// as they were: the result is built apart and put in at the end. It costs look-ups for each id of the two sets, and
     /// a look at each of the ids `policyN` that are bound.
-    #[tactic(auto, using(crate::specs::laws::RenamingLaws::once_free, crate::specs::laws::RenamingLaws::none_bound_of, crate::specs::laws::RenamingLaws::numbers_below))]
+    #[tactic(auto, using(crate::specs::laws::ConflictLaws::conflicts_differ, crate::specs::laws::RenamingLaws::once_free, crate::specs::laws::RenamingLaws::none_bound_of, crate::specs::laws::RenamingLaws::numbers_below))]
     pub fn merge_policyset(
         &mut self,
         alloc: Global,
@@ -44,12 +45,13 @@ impl PolicySet {
         rename_duplicates: bool,
     ) -> Result<IndexMap<PolicyID, PolicyID>, PolicySetError>
         ensures merges { Merges (λ r. r.entries) result self.old other.now rename_duplicates self.new }
+        ensures conflicts { (i : List ℕ) → (list_any (same_text i) (conflicts self.old other.now) ≡ true) ↔ Differ (bound_at self.old i) (bound_at other.now i) }
         ensures apart { IfOk result (λ r. AreOnce (λ (i : List ℕ). i) (values_of r.entries)) }
         ensures unbound { IfOk result (λ r. list_any (is_bound_in_either self.old other.now) (values_of r.entries) ≡ false) }
         ensures below { IfOk result (λ r. AreBelow (length (bound_ids self.old other.now) + length r.entries) (values_of r.entries)) }
     {
-        let _ = &self.templates;
-        let _ = &other.templates;
+        // No effect at run time: these calls say that both sets are boards.
+        let _boards = (self.is_empty(), other.is_empty());
         let ids = conflicting_ids(alloc, self, other)?;
         if let Some(id) = refused(&ids, rename_duplicates) {
             let id: Result<PolicyID, AllocError> = id.clone();
@@ -77,6 +79,7 @@ impl PolicySet {
         ensures ok { OnOk result (self.new ≡ merged self.old other.now (new_id renaming.now.entries)) }
         ensures err { OnErr result (self.new ≡ self.old) }
     {
+        // No effect at run time: these borrows say how the maps agree.
         let _ = &self.templates;
         let _ = &other.templates;
         let bodies = merged_bodies(alloc, self, other, renaming)?;

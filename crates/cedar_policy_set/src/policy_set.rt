@@ -1,5 +1,5 @@
 //! Policy sets: making and reading them.
-ghost use Rattle.std.specs.Prelude.{◌≡◌, ◌↔◌, [], IsTrue};
+ghost use Rattle.std.specs.Prelude.{◌≡◌, ◌↔◌, [], IfErr, IsErr, IsTrue};
 ghost use Rattle.std.specs.List.{find};
 ghost use Rattle.std.specs.Option.{option_copied, option_map};
 ghost use Rattle.cedar_policy_set.specs.Boards.{empty_board, is_body_at, is_policy_at, IsBoard};
@@ -82,6 +82,7 @@ impl PolicySet {
         ensures value { IsTrue result ↔ (self.now ≡ empty_board) }
         ensures board { IsBoard self.now }
     {
+        // No effect at run time: this borrow says that the set is a board.
         let _ = &self.templates;
         are_empty(self.shared_bodies(), self.all_policies())
     }
@@ -161,7 +162,8 @@ impl PolicySet {
         &self,
         id: &PolicyID,
     ) -> Result<LinkedIds<'_>, PolicySetGetLinksError>
-        ensures { Answers told_by_listing (λ i. i) result (get_linked_step self.now id.now) }
+        ensures listed { Answers told_by_listing (λ i. i) result (get_linked_step self.now id.now) }
+        ensures refused { IfErr result (λ e. IsErr (get_linked_step self.now id.now)) }
     {
         match self.ids_on(id) {
             None => Err(PolicySetGetLinksError::MissingTemplate(id.clone()?)),

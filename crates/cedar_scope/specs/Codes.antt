@@ -1,4 +1,4 @@
--- How a proof tells references, constraints and rules of actions apart.
+-- How a proof tells references and constraints apart.
 use Rattle.std.specs.Prelude.{◌≡◌, ℕ, Option, Some, None, refl, if◌then◌else◌, ◌==◌}
 use Rattle.std.specs.Coded.{Coded, code_by, coded×, coded_ℕ, coded_option}
 use Rattle.cedar_ids.specs.Name.{NameParts}

@@ -21,7 +21,7 @@ use std::hash::{Hash, Hasher};
 pub enum PrincipalOrResource {
     /// Who asks.
     Principal,
-    /// What is asked for.
+    /// What it is asked of.
     Resource,
 }
 

@@ -8,7 +8,8 @@ use Rattle.cedar_terms.specs.declared.slot.SlotId.{SlotId}
 use Rattle.cedar_terms.specs.declared.slot.SlotId.TheVariants.{Principal, Resource}
 use Rattle.cedar_binding.specs.Bindings.{EnvParts, binds, is_among, unbound, extra, BindsExactly}
 
-same_answer : (a b : Bool) → (a ≡ true → b ≡ true) → (b ≡ true → a ≡ true) → a ≡ b
+-- two answers are the same where each follows from the other
+pub same_answer : (a b : Bool) → (a ≡ true → b ≡ true) → (b ≡ true → a ≡ true) → a ≡ b
 same_answer true b f g = sym (f refl)
 same_answer false true f g = absurd (false≢true (g refl))
 same_answer false false f g = refl

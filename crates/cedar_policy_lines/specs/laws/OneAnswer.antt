@@ -3,12 +3,12 @@ use Rattle.std.specs.Prelude.{◌≡◌, ℕ, List, [], ◌∷◌, Bool, true, f
 use Rattle.std.proofs.Common.{ap, sym, refl, ◌∙◌, inl, inr}
 use Rattle.std.proofs.lemmas.Bool.{false≢true}
 use Rattle.cedar_policy_set.specs.Boards.{Board, Binding, without_id}
-use Rattle.cedar_policy_set.specs.Merge.{conflicts, merged, new_id}
+use Rattle.cedar_policy_set.specs.Merge.{conflicts, merged, new_id, IsRenaming}
 use Rattle.cedar_policy_set.specs.Steps.{Refusal, occupied, add_static_step, add_template_step, link_step, unlink_step}
 use Rattle.cedar_policy_lines.specs.Boards.{Boards, with_current, swapped}
 use Rattle.cedar_policy_lines.specs.PolicyCommand.{PolicyCommand, Static, Template, Link, Unlink, Other, Merge, Ids}
 use Rattle.cedar_policy_lines.specs.PolicyOutput.{Joins, UnlinkGives, MergeGives, PolicyGives, static_body, template_body, ok_line, refused_line, merged_line, ids_lines}
-use Rattle.cedar_policy_lines.specs.laws.OneMerge.{FoundRenaming, one_renaming, renaming_found}
+use Rattle.cedar_policy_lines.specs.laws.OneMerge.{one_renaming, renaming_of}
 
 -- what is given, whatever it is
 abbrev Given : (Boards → List ℕ → Type 0) → Type 0
@@ -26,16 +26,15 @@ takes_out (Ok b) i old = (with_current old (without_id old.current i), ok_line, 
 takes_out (Err r) i old = (old, refused_line r, (refl, refl))
 
 kept : (old : Boards) (c : List (List ℕ)) → conflicts old.current old.aside ≡ c → Given (MergeGives false old)
-kept old [] e = (with_current old (merged old.current old.aside (new_id [])), merged_line [], inr (inl ([], (sym e, tt), (λ _. e), refl, refl)))
+kept old [] e = (with_current old (merged old.current old.aside (new_id [])), merged_line [], inr ([], (sym e, tt), (λ _. e), refl, refl))
 kept old (i ∷ rest) e = (old, refused_line (occupied i), inl (i, rest, refl, e, refl, refl))
 
-renamed : (old : Boards) → FoundRenaming old.current old.aside → Given (MergeGives true old)
-renamed old (inl r) = (with_current old (merged old.current old.aside (new_id r.0)), merged_line r.0, inr (inl (r.0, r.1, (λ e. absurd (false≢true (sym e))), refl, refl)))
-renamed old (inr none) = (old, [], inr (inr (refl, none, refl, refl)))
+renamed : (old : Boards) → (r : List (List ℕ × List ℕ)) × IsRenaming old.current old.aside r → Given (MergeGives true old)
+renamed old r = (with_current old (merged old.current old.aside (new_id r.0)), merged_line r.0, inr (r.0, r.1, (λ e. absurd (false≢true (sym e))), refl, refl))
 
 merges : (rename : Bool) (old : Boards) → Given (MergeGives rename old)
 merges false old = kept old (conflicts old.current old.aside) refl
-merges true old = renamed old (renaming_found old.current old.aside)
+merges true old = renamed old (renaming_of old.current old.aside)
 
 -- each gives some
 pub policy_gives : (c : PolicyCommand) (old : Boards) → (new : Boards) × (out : List ℕ) × PolicyGives c old new out
@@ -63,16 +62,11 @@ not_none p = cc
 
 one_merges : (rename : Bool) (old m n : Boards) (o p : List ℕ) → MergeGives rename old m o → MergeGives rename old n p → Same m n o p
 one_merges rename old m n o p (inl a) (inl b) = (a.4 ∙ sym b.4, a.5 ∙ ap (λ i. refused_line (occupied i)) (heads (sym a.3 ∙ b.3)) ∙ sym b.5)
-one_merges rename old m n o p (inl a) (inr (inl b)) = absurd (not_none (sym a.3 ∙ b.2 a.2))
-one_merges rename old m n o p (inl a) (inr (inr b)) = absurd (false≢true (sym a.2 ∙ b.0))
-one_merges rename old m n o p (inr (inl a)) (inl b) = absurd (not_none (sym b.3 ∙ a.2 b.2))
-one_merges rename old m n o p (inr (inl a)) (inr (inl b)) =
+one_merges rename old m n o p (inl a) (inr b) = absurd (not_none (sym a.3 ∙ b.2 a.2))
+one_merges rename old m n o p (inr a) (inl b) = absurd (not_none (sym b.3 ∙ a.2 b.2))
+one_merges rename old m n o p (inr a) (inr b) =
     let same = one_renaming old.current old.aside a.0 b.0 a.1 b.1 in
     (a.3 ∙ ap (λ r. with_current old (merged old.current old.aside (new_id r))) same ∙ sym b.3, a.4 ∙ ap merged_line same ∙ sym b.4)
-one_merges rename old m n o p (inr (inl a)) (inr (inr b)) = absurd (b.1 a.0 a.1)
-one_merges rename old m n o p (inr (inr a)) (inl b) = absurd (false≢true (sym b.2 ∙ a.0))
-one_merges rename old m n o p (inr (inr a)) (inr (inl b)) = absurd (a.1 b.0 b.1)
-one_merges rename old m n o p (inr (inr a)) (inr (inr b)) = (a.2 ∙ sym b.2, a.3 ∙ sym b.3)
 
 -- and no other
 pub one_policy_gives : (c : PolicyCommand) (old m n : Boards) (o p : List ℕ) → PolicyGives c old m o → PolicyGives c old n p → (m ≡ n) × (o ≡ p)

@@ -1,15 +1,14 @@
 -- What the check of bodies answers, one by one.
 use Rattle.std.specs.Prelude.{◌≡◌, List, ◌∷◌, ◌++◌, All}
 use Rattle.cedar_body.specs.Bodies.{BodyParts}
-use Rattle.cedar_policy.specs.Validation.{IsTemplateFault}
 use Rattle.cedar_policy_set.specs.declared.err.PolicySetValidationError.{PolicySetValidationError}
 use Rattle.cedar_policy_set.specs.declared.err.PolicySetValidationError.TheVariants.{InvalidTemplate, LinkToSlotlessTemplate, Memory}
-use Rattle.cedar_policy_set.specs.Validity.{IsValidBody}
+use Rattle.cedar_policy_set.specs.Validity.{IsValidBody, IsBodyRefusal}
 
 -- the error has the body's id and its first fault
 abbrev pub IsBodyFault : PolicySetValidationError → BodyParts → Type 0
 IsBodyFault (LinkToSlotlessTemplate l i) t = ⊥
-IsBodyFault (InvalidTemplate i e) t = (i ≡ t.id) × IsTemplateFault e t.clause t.action
+IsBodyFault (InvalidTemplate i e) t = (i ≡ t.id) × IsBodyRefusal e t
 IsBodyFault Memory t = Unit {0}
 
 -- the error is that of the first body that is not valid
@@ -17,5 +16,5 @@ abbrev pub IsFirstFault : PolicySetValidationError → List BodyParts → Type 0
 IsFirstFault (LinkToSlotlessTemplate l i) ts = ⊥
 IsFirstFault (InvalidTemplate i e) ts =
     (before : List BodyParts) × (t : BodyParts) × (after : List BodyParts)
-    × (ts ≡ before ++ t ∷ after) × All IsValidBody before × (i ≡ t.id) × IsTemplateFault e t.clause t.action
+    × (ts ≡ before ++ t ∷ after) × All IsValidBody before × (i ≡ t.id) × IsBodyRefusal e t
 IsFirstFault Memory ts = Unit {0}

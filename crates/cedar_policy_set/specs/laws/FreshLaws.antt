@@ -1,13 +1,10 @@
 -- How many numbers of free ids there are below a number.
-use Rattle.std.specs.Prelude.{◌≡◌, ℕ, ◌+◌, ◌^◌, ◌<◌, List, [], ◌∷◌, ◌++◌, length, Bool, true, false, ◌||◌, Option, Some, None, if◌then◌else◌, refl, codes, suc, zero}
+use Rattle.std.specs.Prelude.{◌≡◌, ℕ, ◌+◌, ◌<◌, List, [], ◌∷◌, ◌++◌, length, Bool, true, false, ◌||◌, Option, Some, None, if◌then◌else◌, refl, codes, suc, zero}
 use Rattle.std.proofs.Common.{◌≤◌, sym, ap, ◌∙◌, arith, add-zero, cond, subst}
 use Rattle.std.specs.List.{list_any}
 use Rattle.std.specs.Map.{lookup, keys_of, values_of}
-use Rattle.std.specs.Fmt.{decimal}
-use Rattle.std.specs.Str.Parse.{digits_value}
-use Rattle.std.proofs.lemmas.Fmt.{decimal_is_IsNumeral_wide}
 use Rattle.std.proofs.lemmas.Bool.{or_parts}
-use Rattle.std.proofs.lemmas.List.{append_cancel_left, append_assoc, length-append, length-map, map-append}
+use Rattle.std.proofs.lemmas.List.{append_assoc, length-append, length-map, map-append}
 use Rattle.std.proofs.lemmas.List.Folds.{list_any-append}
 use Rattle.cedar_ids.specs.Texts.{same_text}
 use Rattle.cedar_ids.specs.laws.TextLaws.{same_text_equiv, same_text_decides}
@@ -16,6 +13,7 @@ use Rattle.cedar_policy.specs.Policies.{policy_id}
 use Rattle.cedar_policy_set.specs.Boards.{Board, AreOnce, is_bound}
 use Rattle.cedar_policy_set.specs.Fresh.{numbered, is_bound_in_either, free_below, IsFree, AreFree}
 use Rattle.cedar_policy_set.specs.Merge.{body_ids, policy_ids, ids_of}
+use Rattle.cedar_policy_set.specs.laws.Numerals.{numbered_is}
 use Rattle.cedar_policy_set.specs.laws.OnceLaws.{any-map}
 
 -- the bound ones
@@ -56,38 +54,32 @@ unfolding bound_below
 none_below s zero h = refl
 none_below s (suc n) h = rw (h n (omega arith)) (omega (arith, none_below s n (λ m l. h m (omega arith))))
 
--- numbers of 128 bits have different ids
-pub numbered_is : (m n : ℕ) → m < 2 ^ 128 → n < 2 ^ 128 → numbered m ≡ numbered n → m ≡ n
-numbered_is m n a b e =
-    let d : decimal m ≡ decimal n = append_cancel_left (codes "policy") (decimal m) (decimal n) e in
-    sym (decimal_is_IsNumeral_wide m (omega arith)).1 ∙ ap (digits_value 10) d ∙ (decimal_is_IsNumeral_wide n (omega arith)).1
-
-another : (x : List ℕ) (m n : ℕ) → m < n → n < 2 ^ 128 → same_text (numbered n) x ≡ true → (w : Bool) → same_text (numbered m) x ≡ w → w ≡ false
-another x m n k h e false q = refl
-another x m n k h e true q =
+another : (x : List ℕ) (m n : ℕ) → m < n → same_text (numbered n) x ≡ true → (w : Bool) → same_text (numbered m) x ≡ w → w ≡ false
+another x m n k e false q = refl
+another x m n k e true q =
     let p : numbered m ≡ numbered n = (same_text_decides (numbered m) x).0 q ∙ sym ((same_text_decides (numbered n) x).0 e) in
-    let r : m ≡ n = numbered_is m n (omega arith) (omega arith) p in
+    let r : m ≡ n = numbered_is m n p in
     absurd (omega arith)
 
-once_more_below : (x : List ℕ) (n : ℕ) → suc n < 2 ^ 128 → (v : Bool) → same_text (numbered n) x ≡ v →
+once_more_below : (x : List ℕ) (n : ℕ) → (v : Bool) → same_text (numbered n) x ≡ v →
     bound_below (λ i. same_text i x) n ≤ 1 → bound_below (λ i. same_text i x) n + (if v then 1 else 0) ≤ 1
-once_more_below x n h false e l = omega arith
-once_more_below x n h true e l =
-    let z : bound_below (λ i. same_text i x) n ≡ 0 = none_below (λ i. same_text i x) n (λ m k. another x m n k (omega arith) e (same_text (numbered m) x) refl) in
+once_more_below x n false e l = omega arith
+once_more_below x n true e l =
+    let z : bound_below (λ i. same_text i x) n ≡ 0 = none_below (λ i. same_text i x) n (λ m k. another x m n k e (same_text (numbered m) x) refl) in
     omega arith
 
 -- an id is that of one number at most
-once_below : (x : List ℕ) (n : ℕ) → n < 2 ^ 128 → bound_below (λ i. same_text i x) n ≤ 1
+once_below : (x : List ℕ) (n : ℕ) → bound_below (λ i. same_text i x) n ≤ 1
 unfolding bound_below
-once_below x zero h = omega arith
-once_below x (suc n) h = once_more_below x n h (same_text (numbered n) x) refl (once_below x n (omega arith))
+once_below x zero = omega arith
+once_below x (suc n) = once_more_below x n (same_text (numbered n) x) refl (once_below x n)
 
 -- no more are bound than there are ids
-ids_below : (xs : List (List ℕ)) (n : ℕ) → n < 2 ^ 128 → bound_below (λ i. list_any (same_text i) xs) n ≤ length xs
-ids_below [] n h = omega (arith, none_below (λ i. false) n (λ m k. refl))
-ids_below (x ∷ xs) n h =
+ids_below : (xs : List (List ℕ)) (n : ℕ) → bound_below (λ i. list_any (same_text i) xs) n ≤ length xs
+ids_below [] n = omega (arith, none_below (λ i. false) n (λ m k. refl))
+ids_below (x ∷ xs) n =
     let a = either_below (λ i. same_text i x) (λ i. list_any (same_text i) xs) (λ i. list_any (same_text i) (x ∷ xs)) n (λ i e. e) in
-    omega (arith, once_below x n h, ids_below xs n h, a)
+    omega (arith, once_below x n, ids_below xs n, a)
 
 alike_below : (s t : List ℕ → Bool) (n : ℕ) → ((i : List ℕ) → s i ≡ t i) → bound_below s n ≡ bound_below t n
 unfolding bound_below
@@ -95,10 +87,10 @@ alike_below s t zero h = refl
 alike_below s t (suc n) h = rw (h (numbered n), alike_below s t n h) refl
 
 -- where some ids are those that are bound, the number of the k-th free id is at most their number and k
-pub free_within : (bound : List ℕ → Bool) (xs : List (List ℕ)) (n : ℕ) → n < 2 ^ 128 → ((i : List ℕ) → bound i ≡ list_any (same_text i) xs) → n ≤ free_below bound n + length xs
-free_within bound xs n h q =
+pub free_within : (bound : List ℕ → Bool) (xs : List (List ℕ)) (n : ℕ) → ((i : List ℕ) → bound i ≡ list_any (same_text i) xs) → n ≤ free_below bound n + length xs
+free_within bound xs n q =
     let a : bound_below bound n ≡ bound_below (λ i. list_any (same_text i) xs) n = alike_below bound _ n q in
-    omega (arith, a, ids_below xs n h, both_below bound n)
+    omega (arith, a, ids_below xs n, both_below bound n)
 
 alike_or : (a b c d : Bool) → a ≡ c → b ≡ d → (a || b) ≡ (c || d)
 alike_or a b c d p q = cc
@@ -121,9 +113,9 @@ length_ids : (b : Board) → length (ids_of b) ≡ length b.policies + length b.
 length_ids b = length-append (policy_ids b) (body_ids b) ∙ (λ j. length-map b.policies policy_id j + length-map b.bodies (λ (t : BodyParts). t.id) j)
 
 -- a number is at most the number of free ids below it and the count of ids
-pub number_within : (here other : Board) (n : ℕ) → n < 2 ^ 128 → n ≤ free_below (is_bound_in_either here other) n + count here other
-number_within here other n h =
-    omega (arith, free_within (is_bound_in_either here other) (ids_of here ++ ids_of other) n h (either_among_ids here other), length-append (ids_of here) (ids_of other), length_ids here, length_ids other)
+pub number_within : (here other : Board) (n : ℕ) → n ≤ free_below (is_bound_in_either here other) n + count here other
+number_within here other n =
+    omega (arith, free_within (is_bound_in_either here other) (ids_of here ++ ids_of other) n (either_among_ids here other), length-append (ids_of here) (ids_of other), length_ids here, length_ids other)
 
 -- past the number of a bound id as many ids are free
 pub passed : (bound : List ℕ → Bool) (n : ℕ) → bound (numbered n) ≡ true → free_below bound (suc n) ≡ free_below bound n
@@ -135,19 +127,19 @@ counted bound n t = free_more bound n ∙ rw t refl
 
 -- one more free id
 pub free_push : (bound : List ℕ → Bool) (k : ℕ) (is : List (List ℕ)) (n : ℕ) → AreFree bound k is → IsFree bound (k + length is) n → AreFree bound k (is ++ numbered n ∷ [])
-free_push bound k [] n a f = ((n, refl, (f.0, f.1, f.2 ∙ omega arith)), tt)
-free_push bound k (i ∷ is) n a f = (a.0, free_push bound (k + 1) is n a.1 (f.0, f.1, f.2 ∙ omega arith))
+free_push bound k [] n a f = ((n, refl, (f.0, f.1 ∙ omega arith)), tt)
+free_push bound k (i ∷ is) n a f = (a.0, free_push bound (k + 1) is n a.1 (f.0, f.1 ∙ omega arith))
 
 -- a search that met no free id has come no further than there are ids, and goes on past a bound one
-pub one_on : (here other : Board) (start n : ℕ) (i : List ℕ) → free_below (is_bound_in_either here other) start + count here other < 2 ^ 100 →
+pub one_on : (here other : Board) (start n : ℕ) (i : List ℕ) →
     n ≤ free_below (is_bound_in_either here other) start + count here other → free_below (is_bound_in_either here other) n ≡ free_below (is_bound_in_either here other) start →
     i ≡ numbered n → is_bound_in_either here other i ≡ true →
     (n + 1 ≤ free_below (is_bound_in_either here other) start + count here other) × (free_below (is_bound_in_either here other) (n + 1) ≡ free_below (is_bound_in_either here other) start)
-one_on here other start n i r w e q t =
+one_on here other start n i e q t =
     let b = is_bound_in_either here other in
     let f : free_below b (suc n) ≡ free_below b start = passed b n (ap b (sym q) ∙ t) ∙ e in
     let s : n + 1 ≡ suc n = omega arith in
-    rw s ((omega (arith, number_within here other (suc n) (omega arith), f), f))
+    rw s ((omega (arith, number_within here other (suc n), f), f))
 
 pub none_free_below : (bound : List ℕ → Bool) → free_below bound zero ≡ 0
 unfolding free_below
@@ -178,6 +170,6 @@ fresh_more bound es fs i v rest ids start n g k a c q f =
     let one : n + 1 ≡ suc n = omega arith in
     let place : free_below bound start ≡ 0 + length (values_of es) = c ∙ omega arith in (
       ap (λ x. x ++ rest) ks ∙ append_assoc (keys_of es) (i ∷ []) rest ∙ k,
-      subst (AreFree bound 0) (sym vs) (free_push bound 0 (values_of es) n a (f.0, f.1, f.2 ∙ place)),
-      ap (free_below bound) one ∙ counted bound n f.1 ∙ ap (λ x. x + 1) (f.2 ∙ c) ∙ sym (ap length vs ∙ length-append (values_of es) (numbered n ∷ [])),
+      subst (AreFree bound 0) (sym vs) (free_push bound 0 (values_of es) n a (f.0, f.1 ∙ place)),
+      ap (free_below bound) one ∙ counted bound n f.0 ∙ ap (λ x. x + 1) (f.1 ∙ c) ∙ sym (ap length vs ∙ length-append (values_of es) (numbered n ∷ [])),
     )

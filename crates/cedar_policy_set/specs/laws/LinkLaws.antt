@@ -1,12 +1,15 @@
 -- What linking leaves: a link under an id that was free, last.
-use Rattle.std.specs.Prelude.{◌≡◌, ℕ, ◌<◌, length, List, [], ◌∷◌, ◌++◌, Bool, true, false, Option, Some, None, Result, Ok, Err, refl, if◌then◌else◌}
-use Rattle.std.proofs.Common.{sym, ap, ◌∙◌, arith, subst}
+use Rattle.std.specs.Prelude.{◌≡◌, ℕ, ◌<◌, length, List, [], ◌∷◌, ◌++◌, Bool, true, false, Option, Some, None, Result, Ok, Err, refl, if◌then◌else◌, ◌||◌}
+use Rattle.std.proofs.Common.{sym, ap, ◌∙◌, arith, subst, cond}
+use Rattle.std.specs.List.{find, list_any}
+use Rattle.std.proofs.lemmas.Bool.{or_parts}
+use Rattle.cedar_ids.specs.laws.TextLaws.{same_text_equiv}
 use Rattle.cedar_terms.specs.declared.slot.SlotId.{SlotId}
 use Rattle.cedar_body.specs.Bodies.{BodyParts, body_slots}
 use Rattle.cedar_binding.specs.Bindings.{EnvParts, unbound, extra}
 use Rattle.cedar_policy.specs.Policies.{PolicyParts}
-use Rattle.cedar_policy_set.specs.Boards.{Board, Binding, Static, Template, Link, bound_at, is_bound, with_policy, without_id}
-use Rattle.cedar_policy_set.specs.Steps.{Refusal, id_conflict, fitting, link_at, link_step}
+use Rattle.cedar_policy_set.specs.Boards.{Board, Binding, Static, Template, Link, bound_at, bound_among, is_bound, is_body_at, is_policy_at, with_policy, without_id}
+use Rattle.cedar_policy_set.specs.Steps.{Refusal, id_conflict, fitting, link_at, link_step, unlinked_at, unlink_step, UnlinksTo}
 use Rattle.cedar_policy_set.specs.laws.BoardLaws.{undone}
 
 abbrev link_of : BodyParts → List ℕ → EnvParts → PolicyParts
@@ -23,22 +26,41 @@ freed true b c l p h = absurd (cc)
 freed false b c l p h = (refl, cc)
 
 -- what a step of linking says of the board after it
-abbrev Joined : Board → Board → List ℕ → EnvParts → Type 0
-Joined b c l e = (t : BodyParts) × (is_bound b l ≡ false) × (with_policy b (link_of t l e) ≡ c)
+abbrev Joined : Option Binding → Board → Board → List ℕ → EnvParts → Type 0
+Joined x b c l e = (t : BodyParts) × (x ≡ Some (Template t)) × (is_bound b l ≡ false) × (with_policy b (link_of t l e) ≡ c)
 
-joined : (x : Option Binding) (b c : Board) (i l : List ℕ) (e : EnvParts) → link_at x b i l e ≡ Ok c → Joined b c l e
+joined : (x : Option Binding) (b c : Board) (i l : List ℕ) (e : EnvParts) → link_at x b i l e ≡ Ok c → Joined x b c l e
 joined None b c i l e h = absurd (cc)
 joined (Some (Static t)) b c i l e h = absurd (cc)
 joined (Some (Link k t v)) b c i l e h = absurd (cc)
 joined (Some (Template t)) b c i l e h =
     let f = freed (is_bound b l) b c l (link_of t l e) (fitted (unbound (body_slots t) e) (extra (body_slots t) e) _ c h) in
-    (t, f.0, f.1)
+    (t, refl, f.0, f.1)
+
+found_at : (v : Bool) (q : PolicyParts → Bool) (x p : PolicyParts) (ps : List PolicyParts) → (v || list_any q ps) ≡ false →
+    (list_any q ps ≡ false → find q (ps ++ p ∷ []) ≡ Some p) → cond v (Some x) (find q (ps ++ p ∷ [])) ≡ Some p
+found_at true q x p ps n r = absurd (cc)
+found_at false q x p ps n r = r n
+
+-- what goes last is found where no other is
+found_last : (q : PolicyParts → Bool) (ps : List PolicyParts) (p : PolicyParts) → list_any q ps ≡ false → q p ≡ true → find q (ps ++ p ∷ []) ≡ Some p
+found_last q [] p n t = ap (λ v. cond v (Some p) None) t
+found_last q (x ∷ ps) p n t = found_at (q x) q x p ps n (λ m. found_last q ps p m t)
+
+unlinked : (b : Board) (t : BodyParts) (l : List ℕ) (e : EnvParts) → is_bound b l ≡ false → unlink_step (with_policy b (link_of t l e)) l ≡ Ok (Link l t e)
+unlinked b t l e n =
+    let f = found_last (is_policy_at l) b.policies (link_of t l e) (or_parts (list_any (is_policy_at l) b.policies) (list_any (is_body_at l) b.bodies) n).0 (same_text_equiv.refl l) in
+    ap (λ o. unlinked_at (bound_among o (find (is_body_at l) b.bodies)) l) f
 
 -- to take a link out that joined leaves the former board
-pub link_undone : (b c : Board) (i l : List ℕ) (e : EnvParts) → link_step b i l e ≡ Ok c → without_id c l ≡ b
+pub link_undone : (b c : Board) (i l : List ℕ) (e : EnvParts) → link_step b i l e ≡ Ok c → UnlinksTo b i l e c
 link_undone b c i l e h =
-    let j = joined (bound_at b i) b c i l e h in
-    ap (λ d. without_id d l) (sym j.2) ∙ undone b (link_of j.0 l e) j.1
+    let j = joined (bound_at b i) b c i l e h in (
+      j.0,
+      j.1,
+      ap (λ d. unlink_step d l) (sym j.3) ∙ unlinked b j.0 l e j.2,
+      ap (λ d. without_id d l) (sym j.3) ∙ undone b (link_of j.0 l e) j.2,
+    )
 
 pushed : (ps : List PolicyParts) (p : PolicyParts) → 0 < length (ps ++ p ∷ [])
 pushed [] p = omega arith
@@ -48,4 +70,4 @@ pushed (q ∷ qs) p = omega arith
 pub link_there : (b c : Board) (i l : List ℕ) (e : EnvParts) → link_step b i l e ≡ Ok c → 0 < length c.policies
 link_there b c i l e h =
     let j = joined (bound_at b i) b c i l e h in
-    subst (λ (d : Board). 0 < length d.policies) j.2 (pushed b.policies (link_of j.0 l e))
+    subst (λ (d : Board). 0 < length d.policies) j.3 (pushed b.policies (link_of j.0 l e))

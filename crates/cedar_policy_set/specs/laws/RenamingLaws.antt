@@ -10,12 +10,14 @@ use Rattle.std.proofs.lemmas.List.Folds.{list_any-append}
 use Rattle.cedar_ids.specs.Texts.{same_text}
 use Rattle.cedar_ids.specs.laws.TextLaws.{same_text_equiv, same_text_decides}
 use Rattle.cedar_body.specs.Bodies.{BodyParts}
+use Rattle.cedar_binding.specs.laws.Fits.{same_answer}
 use Rattle.cedar_policy.specs.Policies.{policy_id}
 use Rattle.cedar_policy_set.specs.Boards.{Board, AreOnce, is_bound}
 use Rattle.cedar_policy_set.specs.Fresh.{numbered, is_bound_in_either, free_below, IsFree, AreFree}
 use Rattle.cedar_policy_set.specs.Merge.{has_body, has_policy, body_ids, policy_ids, is_same_at, conflicting, gathered, conflicts, new_id, IsRenaming, AreBelow, bound_ids, ids_of}
-use Rattle.cedar_policy_set.specs.laws.FreshLaws.{numbered_is, either_among_ids, free_within}
+use Rattle.cedar_policy_set.specs.laws.FreshLaws.{either_among_ids, free_within}
 use Rattle.cedar_policy_set.specs.laws.MergeLaws.{Renames}
+use Rattle.cedar_policy_set.specs.laws.Numerals.{numbered_is}
 use Rattle.cedar_policy_set.specs.laws.OnceLaws.{any-map}
 
 pub itself : (i : List ℕ) → same_text i i ≡ true
@@ -129,8 +131,8 @@ found_free bound k (x ∷ r) i v a e = found_at bound k (same_text i x.0) x.1 v 
 -- the free ids at two places are two
 two_free : (bound : List ℕ → Bool) (k : ℕ) (u : List ℕ) → ((n : ℕ) × (u ≡ numbered n) × IsFree bound k n) → IsFreeFrom bound (k + 1) u → ⊥
 two_free bound k u f g =
-    let same : f.0 ≡ g.0 = numbered_is f.0 g.0 f.2.0 g.3.0 (sym f.1 ∙ g.2) in
-    let e : k ≡ g.1 = sym f.2.2 ∙ ap (free_below bound) same ∙ g.3.2 in
+    let same : f.0 ≡ g.0 = numbered_is f.0 g.0 (sym f.1 ∙ g.2) in
+    let e : k ≡ g.1 = sym f.2.1 ∙ ap (free_below bound) same ∙ g.3.1 in
     absurd (omega (arith, g.4))
 
 apart_at : (bound : List ℕ → Bool) (k : ℕ) (x : List ℕ × List ℕ) (i j v : List ℕ) (r : List (List ℕ × List ℕ)) → ((n : ℕ) × (x.1 ≡ numbered n) × IsFree bound k n) → AreFree bound (k + 1) (values_of r) →
@@ -150,7 +152,7 @@ found_apart bound k (x ∷ r) i j v a p q =
 pub not_bound_new : (h o : Board) (r : List (List ℕ × List ℕ)) (i v : List ℕ) → AreFree (is_bound_in_either h o) 0 (values_of r) → lookup (same_text i) r ≡ Some v → (is_bound h v ≡ false) × (is_bound o v ≡ false)
 not_bound_new h o r i v a e =
     let f = found_free (is_bound_in_either h o) 0 r i v a e in
-    let b : is_bound_in_either h o v ≡ false = ap (is_bound_in_either h o) f.2 ∙ f.3.1 in
+    let b : is_bound_in_either h o v ≡ false = ap (is_bound_in_either h o) f.2 ∙ f.3.0 in
     or_parts _ _ b
 
 -- ---- what the renaming of a merge keeps
@@ -185,17 +187,11 @@ renames h o r n = record {
 neither_of : (a b : Bool) → a ≡ false → b ≡ false → (a || b) ≡ false
 neither_of a b p q = cc
 
-alike_true : (a b : Bool) → (a ≡ true → b ≡ true) → (b ≡ true → a ≡ true) → a ≡ b
-alike_true true true p q = refl
-alike_true false false p q = refl
-alike_true true false p q = sym (p refl)
-alike_true false true p q = q refl
-
 other_free : (bound : List ℕ → Bool) (k m n : ℕ) (i : List ℕ) → IsFree bound k n → k < m → ((n : ℕ) × (i ≡ numbered n) × IsFree bound m n) → (v : Bool) → same_text (numbered n) i ≡ v → v ≡ false
 other_free bound k m n i f l g false e = refl
 other_free bound k m n i f l g true e =
-    let same : n ≡ g.0 = numbered_is n g.0 f.0 g.2.0 ((same_text_decides (numbered n) i).0 e ∙ g.1) in
-    let e : k ≡ m = sym f.2 ∙ ap (free_below bound) same ∙ g.2.2 in
+    let same : n ≡ g.0 = numbered_is n g.0 ((same_text_decides (numbered n) i).0 e ∙ g.1) in
+    let e : k ≡ m = sym f.1 ∙ ap (free_below bound) same ∙ g.2.1 in
     absurd (omega arith)
 
 from_append : (i x : List ℕ) (seen : List (List ℕ)) → (is_in i seen ≡ true) ⊎ (is_in i (x ∷ []) ≡ true) → (is_in i seen ≡ true) ⊎ (same_text i x ≡ true)
@@ -232,7 +228,7 @@ once_free bound k (i ∷ is) a =
 -- none is bound
 pub none_bound_of : (bound : List ℕ → Bool) (k : ℕ) (is : List (List ℕ)) → AreFree bound k is → list_any bound is ≡ false
 none_bound_of bound k [] a = refl
-none_bound_of bound k (i ∷ is) a = neither_of (bound i) (list_any bound is) (ap bound a.0.1 ∙ a.0.2.1) (none_bound_of bound (k + 1) is a.1)
+none_bound_of bound k (i ∷ is) a = neither_of (bound i) (list_any bound is) (ap bound a.0.1 ∙ a.0.2.0) (none_bound_of bound (k + 1) is a.1)
 
 from_gathered : (i : List ℕ) (seen xs : List (List ℕ)) → is_in i (gathered seen xs) ≡ true → (is_in i seen || is_in i xs) ≡ true
 from_gathered i seen [] h = first_of (is_in i seen) false h
@@ -241,7 +237,7 @@ from_gathered i seen (x ∷ xs) h =
 
 -- what is gathered is what was to be
 pub in_gathered : (i : List ℕ) (xs : List (List ℕ)) → is_in i (gathered [] xs) ≡ is_in i xs
-in_gathered i xs = alike_true (is_in i (gathered [] xs)) (is_in i xs) (λ h. from_gathered i [] xs h) (λ h. gathers i [] xs h)
+in_gathered i xs = same_answer (is_in i (gathered [] xs)) (is_in i xs) (λ h. from_gathered i [] xs h) (λ h. gathers i [] xs h)
 
 bound_in_ids : (h o : Board) (i : List ℕ) → is_bound_in_either h o i ≡ is_in i (bound_ids h o)
 bound_in_ids h o i = either_among_ids h o i ∙ sym (in_gathered i (ids_of h ++ ids_of o))
@@ -250,8 +246,8 @@ bound_in_ids h o i = either_among_ids h o i ∙ sym (in_gathered i (ids_of h ++ 
 below : (bound : List ℕ → Bool) (xs : List (List ℕ)) (k m : ℕ) (is : List (List ℕ)) → ((i : List ℕ) → bound i ≡ is_in i xs) → k + length is ≤ m → AreFree bound k is → AreBelow (length xs + m) is
 below bound xs k m [] q l a = tt
 below bound xs k m (i ∷ is) q l a =
-    let w = free_within bound xs a.0.0 a.0.2.0 q in
-    ((a.0.0, a.0.1, omega (arith, w, a.0.2.2)), below bound xs (k + 1) m is q (omega arith) a.1)
+    let w = free_within bound xs a.0.0 q in
+    ((a.0.0, a.0.1, omega (arith, w, a.0.2.1)), below bound xs (k + 1) m is q (omega arith) a.1)
 
 pub numbers_below : (h o : Board) (es : List (List ℕ × List ℕ)) → AreFree (is_bound_in_either h o) 0 (values_of es) → AreBelow (length (bound_ids h o) + length es) (values_of es)
 numbers_below h o es a = below (is_bound_in_either h o) (bound_ids h o) 0 (length es) (values_of es) (bound_in_ids h o) (omega (arith, length-map es (λ (e : List ℕ × List ℕ). e.1))) a

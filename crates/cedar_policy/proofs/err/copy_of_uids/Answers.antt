@@ -1,6 +1,6 @@
 use Rattle.std.proofs.Common.{◌∷◌}
 use Rattle.cedar_ids.specs.UidOf.{uid_parts}
-use Rattle.cedar_policy.proofs.Copies.{copied_parts}
+use Rattle.cedar_action.specs.laws.UidCopies.{copied_parts}
 use Rattle.cedar_policy.proofs.err.copy_of_uids.Goals as goal
 
 pub returns : goal.returns

@@ -1,7 +1,7 @@
 use Rattle.std.proofs.Common.{ap, sym, ◌∙◌}
 use Rattle.cedar_action.specs.Rules.{among}
 use Rattle.cedar_action.specs.Views.{rule_of}
-use Rattle.cedar_action.proofs.UidLists.{copied_parts}
+use Rattle.cedar_action.specs.laws.UidCopies.{copied_parts}
 use Rattle.cedar_action.proofs.action.ActionConstraintClone.clone.Goals as goal
 
 pub returns-in_ok-clone-in-In : goal.returns-in_ok-clone-in-In

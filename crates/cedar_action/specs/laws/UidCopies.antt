@@ -1,4 +1,4 @@
--- A copy of a list of shared uids.
+-- Lists of shared uids: a copy holds the same uids.
 use Rattle.std.proofs.Common.{◌≡◌, List, [], ◌∷◌, map, refl, Global}
 use Rattle.std.specs.List.{AllZip}
 use Rattle.std.specs.declared.rc.Rc.{Rc}
