@@ -108,17 +108,6 @@ pub record IsBoard (b : Board) : Type 0 where
   pub policies_once : AreOnce policy_id b.policies
   pub held : AreHeld b b.policies
 
--- ---- when a body and a policy on it may join a board together
-
--- the body's id is free. A static policy is that of the body, which has no slots; a link's id is free and another, and it
--- binds exactly the body's slots
-abbrev pub CanJoinBothBy : Option (List ℕ) → Board → PolicyParts → Type 0
-CanJoinBothBy None b p = (p ≡ static_policy p.template) × (body_slots p.template ≡ [])
-CanJoinBothBy (Some l) b p = (is_bound b l ≡ false) × (same_text l p.template.id ≡ false) × BindsExactly (body_slots p.template) p.env
-
-abbrev pub CanJoinBoth : Board → PolicyParts → Type 0
-CanJoinBoth b p = (is_bound b p.template.id ≡ false) × CanJoinBothBy p.link b p
-
 -- a link has another id than its template
 abbrev pub HasOwnId : PolicyParts → Type 0
 HasOwnId p = p.link ≡ Some p.template.id → ⊥

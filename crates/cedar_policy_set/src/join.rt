@@ -22,6 +22,7 @@ impl PolicySet {
     /// The set with this policy alone, and with its template: what adding it to the set without a binding leaves. A link
     /// has to have another id than its template; the original asks nothing. Takes memory for the two places, and is refused only
     /// where that is.
+    #[tactic(auto, using(crate::specs::laws::BoardLaws::alone))]
     pub fn singleton(alloc: Global, policy: Policy) -> Result<PolicySet, AllocError>
         requires { HasOwnId policy }
         ensures { IfOk result (λ s. add_step empty_board policy ≡ Ok s) }

@@ -2,12 +2,12 @@
 ghost use Rattle.std.specs.Prelude.{◌≡◌, OnOk, OnErr, Some, false, length, ◌<◌};
 ghost use Rattle.std.specs.List.{find, list_any};
 ghost use Rattle.std.specs.Option.{option_copied, option_map};
-ghost use Rattle.cedar_policy_set.specs.Boards.{bound_at, is_bound, is_body_at, is_policy_at, has_links, with_template, with_policy, with_both, without_id, last_policy, CanJoinBoth, IsBoard};
+ghost use Rattle.cedar_policy_set.specs.Boards.{bound_at, is_bound, is_body_at, is_policy_at, has_links, with_template, with_policy, with_both, without_id, last_policy, IsBoard};
 ghost use Rattle.cedar_policy_set.specs.Lists.{ids_in};
 ghost use Rattle.cedar_policy_set.specs.Views.{bodies_of};
 ghost use Rattle.cedar_policy_set.specs.laws.SharedBoards.{board_of};
 ghost use Rattle.cedar_policy_set.specs.laws.Founds.{found_binding};
-ghost use Rattle.cedar_policy_set.specs.laws.Joins.{CanJoin};
+ghost use Rattle.cedar_policy_set.specs.laws.Joins.{CanJoin, CanJoinBoth};
 ghost use Rattle.cedar_policy_set.specs.laws.MapLaws.{has_other};
 
 use crate::found::Found;

@@ -18,12 +18,12 @@ use Rattle.cedar_binding.specs.declared.err.LinkingError.{LinkingError}
 use Rattle.cedar_binding.specs.declared.err.LinkingError.TheVariants as links
 use Rattle.cedar_binding.specs.laws.Fits.{fits, nothing_left_over}
 use Rattle.cedar_terms.specs.declared.slot.SlotId.{SlotId}
-use Rattle.cedar_policy.specs.Policies.{PolicyParts, policy_id}
-use Rattle.cedar_policy_set.specs.Boards.{Board, Binding, Static, Template, Link, bound_at, bound_among, is_bound, is_body_at, is_policy_at, links_to, has_links, policy_binding, binding_by, with_template, with_policy, with_both, without_id, CanJoinBoth, CanJoinBothBy, IsHeldBy, IsHeld, AreHeld, IsBoard}
+use Rattle.cedar_policy.specs.Policies.{PolicyParts, policy_id, static_policy}
+use Rattle.cedar_policy_set.specs.Boards.{Board, Binding, Static, Template, Link, empty_board, HasOwnId, bound_at, bound_among, is_bound, is_body_at, is_policy_at, links_to, has_links, policy_binding, binding_by, with_template, with_policy, with_both, without_id, IsHeldBy, IsHeld, AreHeld, IsBoard}
 use Rattle.cedar_policy_set.specs.Refusals.{IsRefusal, told_by_linking}
 use Rattle.cedar_policy_set.specs.Steps.{Refusal, arity, no_such_template, add_by, add_link_at, fitting, link_at, linked_at, get_linked_step}
 use Rattle.cedar_policy_set.specs.Lists.{ids_in}
-use Rattle.cedar_policy_set.specs.laws.Joins.{CanJoin, CanJoinBy, HasNoTemplate, Stands}
+use Rattle.cedar_policy_set.specs.laws.Joins.{CanJoin, CanJoinBy, HasNoTemplate, Stands, CanJoinBoth, CanJoinBothBy}
 use Rattle.cedar_policy_set.specs.laws.OnceLaws.{once_more, once-push, once-filter, filter_none, any-filter_none, none_is, find-unless, find-push, find-filter, found_passes}
 
 abbrev body_id : BodyParts → List ℕ
@@ -319,3 +319,17 @@ pub listed : (b : Board) (i : List ℕ) (t : BodyParts) → Some t ≡ find (is_
 listed b i t e =
     let same : i ≡ t.id = (same_text_decides i t.id).0 (found_passes (is_body_at i) b.bodies t (sym e)) in
     (λ j. linked_at (sym e j) b i) ∙ ap (λ k. Ok (ids_in k b.policies)) same
+
+other_id : (i j : List ℕ) (v : Bool) → same_text i j ≡ v → (Some i ≡ Some j → ⊥) → v ≡ false
+other_id i j true e n = absurd (n (ap Some ((same_text_decides i j).0 e)))
+other_id i j false e n = refl
+
+alone_by : (o : Option (List ℕ)) (p : PolicyParts) → (o ≡ Some p.template.id → ⊥) → (o ≡ None → p ≡ static_policy p.template) → (o ≡ None → body_slots p.template ≡ []) →
+    BindsExactly (body_slots p.template) p.env → CanJoinBothBy o empty_board p
+alone_by None p own whole slots total = (whole refl, slots refl)
+alone_by (Some l) p own whole slots total = (refl, other_id l p.template.id (same_text l p.template.id) refl own, total)
+
+-- each policy with an id of its own joins the board without a binding
+pub alone : (p : PolicyParts) → HasOwnId p → (p.link ≡ None → p ≡ static_policy p.template) → (p.link ≡ None → body_slots p.template ≡ []) → BindsExactly (body_slots p.template) p.env →
+    CanJoinBoth empty_board p
+alone p own whole slots total = (refl, alone_by p.link p own whole slots total)

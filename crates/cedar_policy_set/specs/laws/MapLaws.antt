@@ -10,11 +10,11 @@ use Rattle.cedar_ids.specs.Texts.{same_text}
 use Rattle.cedar_ids.specs.laws.TextLaws.{same_text_equiv, same_text_decides}
 use Rattle.cedar_body.specs.Bodies.{BodyParts}
 use Rattle.cedar_policy.specs.Policies.{PolicyParts, policy_id}
-use Rattle.cedar_policy_set.specs.Boards.{Board, empty_board, AreOnce, is_bound, is_body_at, is_policy_at, links_to, has_links, with_template, with_policy, with_both, without_id, CanJoinBoth, IsHeldBy, AreHeld, IsBoard}
+use Rattle.cedar_policy_set.specs.Boards.{Board, empty_board, AreOnce, is_bound, is_body_at, is_policy_at, links_to, has_links, with_template, with_policy, with_both, without_id, IsHeldBy, AreHeld, IsBoard}
 use Rattle.cedar_policy_set.specs.Lists.{is_on, ids_in}
 use Rattle.cedar_policy_set.specs.Maps.{Maps, board_in, ids_by_body, DoAgree}
 use Rattle.cedar_policy_set.specs.laws.BoardLaws.{no_body_at, no_policy_at, ids_apart, template_joins, link_joins, free_link, both_join, taken_out, policy_has_no_links}
-use Rattle.cedar_policy_set.specs.laws.Joins.{CanJoin}
+use Rattle.cedar_policy_set.specs.laws.Joins.{CanJoin, CanJoinBoth}
 use Rattle.cedar_policy_set.specs.laws.ListedLaws.{with_listed, without_listed, keyed_last, keyed_removed, values_removed, join_listed, body_listed, both_listed, leave_listed, body_unlisted}
 use Rattle.cedar_policy_set.specs.laws.OnceLaws.{filter_none, none_is, found_passes, once-filter}
 

@@ -3,7 +3,7 @@ use Rattle.std.proofs.Common.{◌∙◌, sym, subst, refl}
 use Rattle.cedar_policy.specs.Policies.{policy_id}
 use Rattle.cedar_policy_set.specs.Maps.{Maps, maps_of, board_in}
 use Rattle.cedar_policy_set.specs.laws.BoardLaws.{both_free}
-use Rattle.cedar_policy_set.specs.Boards.{CanJoinBoth}
+use Rattle.cedar_policy_set.specs.laws.Joins.{CanJoinBoth}
 use Rattle.cedar_policy_set.specs.laws.MapLaws.{both_kept}
 use Rattle.cedar_policy_set.proofs.Entries.{absent_body, absent_policy, absent_list, read_last}
 use Rattle.cedar_policy_set.proofs.policy_set.PolicySet.put_both.Goals as goal
