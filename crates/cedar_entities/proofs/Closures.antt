@@ -1,5 +1,5 @@
 -- From what the closure calls say of the map to what is seen of it.
-use Rattle.std.specs.Prelude.{◌≡◌, Bool, true, false, Option, Some, None, Result, Ok, Err, IfErr, IsTrue}
+use Rattle.std.specs.Prelude.{◌≡◌, Bool, true, false, Option, Some, None, Result, Ok, Err, IfErr, IsTrue, ⊤}
 use Rattle.std.proofs.Common.{ap, sym, refl, subst, ◌∙◌, inl, inr}
 use Rattle.std.specs.Option.{option_map, is_some}
 use Rattle.std.proofs.lemmas.Bool.{false≢true}
@@ -13,12 +13,15 @@ use Rattle.cedar_ids.specs.declared.entity.EntityUID.{EntityUID}
 use Rattle.cedar_entity.specs.declared.node.SharedEntity.{SharedEntity}
 use Rattle.std.specs.Result.{IsErrAnd}
 use Rattle.cedar_entity.specs.declared.err.EntitiesError.{EntitiesError}
+use Rattle.cedar_entity.specs.declared.err.EntitiesError.TheVariants as errors
 use Rattle.cedar_entity.specs.ClosureRefusals.{refusal_of, Tells}
 use Rattle.cedar_entities.specs.ClosureFaults.{IsClosureFault}
-use Rattle.cedar_entities.specs.Refusals.{MatchRefusal}
+use Rattle.cedar_entities.specs.Refusals.{MatchRefusal, NamesOneOf}
 use Rattle.cedar_entities.specs.laws.Held.{held, held_map, shared}
-use Rattle.cedar_entities.specs.Modes.{ancestry, is_ancestor_in, IsClosureRefused, IsSound}
+use Rattle.cedar_entities.specs.Modes.{ancestry, is_ancestor_in, IsClosureRefused, IsSound, WhereComputed}
+use Rattle.cedar_entities.specs.laws.Refusals.{refusal_cases}
 use Rattle.cedar_entities.specs.Touching.{IsRepairOf, IsAcyclicAt}
+use Rattle.cedar_entities.specs.declared.entities.TCComputation.{TCComputation}
 use Rattle.cedar_entities.specs.declared.entities.TCComputation.TheVariants as modes
 use Rattle.cedar_entity.specs.View.{has_ancestor, Kept, kept}
 use Rattle.cedar_entities.proofs.StoreMaps.{get_seen}
@@ -111,3 +114,40 @@ pub whole_told : {S : Type 0} (m : HashMap EntityUID SharedEntity S) (t : TcErro
 whole_told m (tc.MissingTcEdge x) h = absurd h
 whole_told m (tc.HasCycle x) h = subst (λ F. Reach F x.vertex x.vertex) (same_ancestry m) h.2
 whole_told m tc.Memory h = tt
+
+-- the uid that a cycle is told by is one of those that were to be looked at
+pub cycle_named : {S : Type 0} (m : HashMap EntityUID SharedEntity S) (asked : Bool) (fix : EntityUID → Bool) (t : TcError EntityUID) → NamesCycleAt asked fix (graph_of same_uid node_edges m) t
+    → MatchRefusal (refusal_of t) (λ _. ⊥) (λ u. IsClosureFault u (λ _ _ _. ⊤) (λ v. fix v ≡ true))
+cycle_named m asked fix (tc.MissingTcEdge x) h = absurd h
+cycle_named m asked fix (tc.HasCycle x) h = h.1
+cycle_named m asked fix tc.Memory h = tt
+
+held_there : (o : Option SharedEntity) → is_some o ≡ true → is_some (option_map shared o) ≡ true
+held_there None h = h
+held_there (Some n) h = refl
+
+pub whole_named : {S : Type 0} (m : HashMap EntityUID SharedEntity S) (touched : EntityUID → Bool) → ((q : EntityUID) → is_some (held m q) ≡ true → touched q ≡ true) →
+    (t : TcError EntityUID) → NamesCycleAt true (λ v. is_some (get same_uid m v)) (graph_of same_uid node_edges m) t
+    → MatchRefusal (refusal_of t) (λ _. ⊥) (λ u. IsClosureFault u (λ _ _ _. ⊤) (λ v. touched v ≡ true))
+whole_named m touched all (tc.MissingTcEdge x) h = absurd h
+whole_named m touched all (tc.HasCycle x) h = all x.vertex (held_there (get same_uid m x.vertex) h.1)
+whole_named m touched all tc.Memory h = tt
+
+-- what is said of no duplicate is said of any
+pub named_for : (touched : EntityUID → Bool) (e : EntitiesError) → MatchRefusal e (λ _. ⊥) (λ u. IsClosureFault u (λ _ _ _. ⊤) (λ v. touched v ≡ true)) → NamesOneOf touched e
+named_for touched e h = refusal_cases (λ _. ⊥) (λ u. IsClosureFault u (λ _ _ _. ⊤) (λ v. touched v ≡ true)) (NamesOneOf touched) (λ u n. tt) (λ t k. k) tt e h
+
+-- a refusal that is no closure's names none
+pub none_named : (D : EntityUID → Type 0) (touched : EntityUID → Bool) (e : EntitiesError) → MatchRefusal e D (λ _. ⊥) → NamesOneOf touched e
+none_named D touched e h = refusal_cases D (λ _. ⊥) (NamesOneOf touched) (λ u n. tt) (λ t k. absurd k) tt e h
+
+pub where_computed : (tc : TCComputation) (P : Type 0) → P → WhereComputed tc P
+where_computed modes.AssumeAlreadyComputed P p = tt
+where_computed modes.EnforceAlreadyComputed P p = tt
+where_computed modes.ComputeNow P p = p
+
+-- what is said of the refusal for a fault, and of want of memory, is said of the error that the fault became
+pub refused_so : {X : Type 0} (P : EntitiesError → Type 0) (r : Result X EntitiesError) (t : TcError EntityUID) → IsErrAnd r (Tells t) → P (refusal_of t) → P errors.Memory → IfErr r P
+refused_so P (Ok x) t h k m = tt
+refused_so P (Err e) t (inl h) k m = subst P (sym h) k
+refused_so P (Err e) t (inr h) k m = subst P (sym h) m

@@ -1,5 +1,5 @@
 -- What the refusals of a store's calls say.
-use Rattle.std.specs.Prelude.{⊤, List}
+use Rattle.std.specs.Prelude.{◌≡◌, ⊤, Bool, true, List}
 use Rattle.cedar_graph.specs.Graph.{Reach}
 use Rattle.cedar_graph.specs.declared.err.TcError.{TcError}
 use Rattle.cedar_ids.specs.declared.entity.EntityUID.{EntityUID}
@@ -27,3 +27,7 @@ IsAddingRefused W L e = MatchRefusal e (FirstDiffers W L) (λ t. AllAgree W L ×
 -- why overwriting W by the list is refused: a cycle of what overwriting leaves
 abbrev pub IsOverwritingRefused : World → List Given → EntitiesError → Type 0
 IsOverwritingRefused W L e = MatchRefusal e (λ _. ⊥) (NamesCycle (overwritten W L))
+
+-- a uid that a closure's refusal names as one on a cycle is one of these
+abbrev pub NamesOneOf : (EntityUID → Bool) → EntitiesError → Type 0
+NamesOneOf touched e = MatchRefusal e (λ _. ⊤) (λ t. IsClosureFault t (λ _ _ _. ⊤) (λ v. touched v ≡ true))

@@ -17,7 +17,7 @@ ghost use Rattle.cedar_entities.specs.laws.Held.{held, held_map, shared, UidsMat
 ghost use Rattle.cedar_entities.specs.Modes.{IsClosureRefused, IsSound, WhereComputed};
 ghost use Rattle.cedar_entities.specs.Plain.{StoreView, entities_in, IsPlainStore, IsKeyed, AreBare, given_of, no_entities};
 ghost use Rattle.cedar_entities.specs.Present.{first_entity, with_first, AllMatch, FirstMismatch};
-ghost use Rattle.cedar_entities.specs.Refusals.{MatchRefusal, IsAddingRefused, IsOverwritingRefused};
+ghost use Rattle.cedar_entities.specs.Refusals.{MatchRefusal, NamesOneOf, IsAddingRefused, IsOverwritingRefused};
 ghost use Rattle.cedar_entity.specs.declared.err.EntitiesError.TheVariants.{Memory};
 ghost use Rattle.cedar_entities.specs.declared.entities.TCComputation.TheVariants.{EnforceAlreadyComputed, ComputeNow};
 ghost use Rattle.cedar_entities.specs.SameUids.{HaveSameUids, same_uids_and_mode};
@@ -228,6 +228,7 @@ fn repair(
         IsAcyclicAt (contains same_uid touched.now) (held_map entities.old))) }
     ensures err { IfErr result (λ e. MatchRefusal e (λ _. ⊥) (λ t. IsTrue enforce_dag
         × IsClosureRefused ComputeNow (held_map entities.old) t)) }
+    ensures named { IfErr result (NamesOneOf (contains same_uid touched.now)) }
 {
     repair_tc(alloc, touched, entities, enforce_dag)?;
     Ok(())
@@ -246,6 +247,7 @@ fn settle(
         (held_map entities.old) (held_map entities.new)) }
     ensures err { IfErr result (λ e. MatchRefusal e (λ _. ⊥)
         (IsClosureRefused tc_computation (held_map entities.old))) }
+    ensures named { IfErr result (λ e. WhereComputed tc_computation (NamesOneOf (contains same_uid touched.now) e)) }
 {
     match tc_computation {
         TCComputation::AssumeAlreadyComputed => Ok(()),
@@ -268,6 +270,9 @@ fn close(
         × IsAcyclicAt touched (held_map entities.old)) }
     ensures err { IfErr result (λ e. MatchRefusal e (λ _. ⊥)
         (IsClosureRefused ComputeNow (held_map entities.old))) }
+    ensures named { IfErr result (λ e. (touched : EntityUID → Bool) →
+        ((q : EntityUID) → is_some (held entities.old q) ≡ true → touched q ≡ true) →
+        NamesOneOf touched e) }
 {
     compute_tc(alloc, entities, true)?;
     Ok(())
@@ -286,6 +291,9 @@ fn settle_whole(
         IsSettled tc_computation touched (held_map entities.old) (held_map entities.new)) }
     ensures err { IfErr result (λ e. MatchRefusal e (λ _. ⊥)
         (IsClosureRefused tc_computation (held_map entities.old))) }
+    ensures named { IfErr result (λ e. (touched : EntityUID → Bool) →
+        ((q : EntityUID) → is_some (held entities.old q) ≡ true → touched q ≡ true) →
+        WhereComputed tc_computation (NamesOneOf touched e)) }
 {
     match tc_computation {
         TCComputation::AssumeAlreadyComputed => Ok(()),
@@ -313,6 +321,8 @@ fn fill(
         (λ t. AllMatch (held entities.old) (entities_in list.items)
         × IsClosureRefused tc_computation
         (with_first (held_map entities.old) (entities_in list.items)) t)) }
+    ensures named { IfErr result (λ e. WhereComputed tc_computation (NamesOneOf
+        (is_touched (held_map entities.old) (inserted_in (held_map entities.old) (entities_in list.items))) e)) }
 {
     put_all(alloc, entities, list)?;
     settle_whole(alloc, entities, tc_computation)
@@ -336,6 +346,8 @@ fn add_to(
         (λ t. AllMatch (held entities.old) (entities_in list.items)
         × IsClosureRefused tc_computation
         (with_first (held_map entities.old) (entities_in list.items)) t)) }
+    ensures named { IfErr result (λ e. WhereComputed tc_computation (NamesOneOf
+        (is_touched (held_map entities.old) (inserted_in (held_map entities.old) (entities_in list.items))) e)) }
 {
     let uids = uids_in(alloc, &list)?;
     let fresh = absent_uids(alloc, entities, uids)?;
@@ -365,6 +377,8 @@ fn add_all(
         (λ t. AllMatch (held entities.old) (entities_in list.items)
         × IsClosureRefused tc_computation
         (with_first (held_map entities.old) (entities_in list.items)) t)) }
+    ensures named { IfErr result (λ e. WhereComputed tc_computation (NamesOneOf
+        (is_touched (held_map entities.old) (inserted_in (held_map entities.old) (entities_in list.items))) e)) }
 {
     if entities.is_empty() {
         return fill(alloc, entities, list, tc_computation);
@@ -385,6 +399,7 @@ fn mend(
         (held_map entities.old) (held_map entities.new)) }
     ensures err { IfErr result (λ e. MatchRefusal e (λ _. ⊥) (IsMendRefused tc_computation
         (contains same_uid touched.now) (held_map entities.old))) }
+    ensures named { IfErr result (λ e. WhereComputed tc_computation (NamesOneOf (contains same_uid touched.now) e)) }
 {
     match tc_computation {
         TCComputation::AssumeAlreadyComputed => repair(alloc, entities, touched, false),
@@ -502,6 +517,8 @@ impl Entities {
             (FirstMismatch (finmap.get no_entities) list.items)
             (λ t. AllMatch (finmap.get no_entities) list.items
             × IsClosureRefused tc_computation (with_first no_entities list.items) t)) }
+        ensures named { IfErr result (λ e. WhereComputed tc_computation (NamesOneOf
+            (is_touched no_entities (inserted_in no_entities list.items)) e)) }
         ensures plain_agree { OnOk result (AreBare list.items →
             AllAgree empty_world (map given_of list.items)) }
         ensures plain { IfOk result (λ s. AreBare list.items → WhereComputed tc_computation
@@ -544,6 +561,8 @@ impl Entities {
             (λ t. AllMatch (finmap.get self.held) (entities_in list.items)
             × IsClosureRefused tc_computation
             (with_first self.held (entities_in list.items)) t)) }
+        ensures named { IfErr result (λ e. WhereComputed tc_computation (NamesOneOf
+            (is_touched self.held (inserted_in self.held (entities_in list.items))) e)) }
         ensures plain_agree { OnOk result ((W : World) → IsPlainStore W self →
             AreBare (entities_in list.items) →
             AllAgree W (map given_of (entities_in list.items))) }
@@ -585,6 +604,8 @@ impl Entities {
             (put_over self.held (entities_in list.items)) s.held) }
         ensures err { IfErr result (λ e. MatchRefusal e (λ _. ⊥) (IsClosureRefused tc_computation
             (put_over self.held (entities_in list.items)))) }
+        ensures named { IfErr result (λ e. WhereComputed tc_computation (NamesOneOf
+            (is_touched self.held (uids_of (entities_in list.items))) e)) }
         ensures untouched { IfOk result (λ s. StaysUntouched
             (uids_of (entities_in list.items)) self.held s.held) }
         ensures between { IfOk result (λ s. (W : World) → IsPlainStore W self → WhereTaken tc_computation
@@ -630,6 +651,8 @@ impl Entities {
         ensures err { IfErr result (λ e. MatchRefusal e (λ _. ⊥) (IsMendRefused tc_computation
             (is_touched self.held (removed_from self.held list.items))
             (taken_out self.held list.items))) }
+        ensures named { IfErr result (λ e. WhereComputed tc_computation (NamesOneOf
+            (is_touched self.held (removed_from self.held list.items)) e)) }
         ensures untouched { IfOk result (λ s. StaysUntouched
             (removed_from self.held list.items) self.held s.held) }
         ensures plain { IfOk result (λ s. (W : World) → IsPlainStore W self →

@@ -4,6 +4,8 @@ use Rattle.cedar_entities.specs.laws.Held.{held, held_map}
 use Rattle.cedar_entities.specs.Present.{with_first}
 use Rattle.cedar_entities.specs.Touching.{inserted_in, is_touched, IsSettled}
 use Rattle.cedar_entities.proofs.Adds.{all_inserted, put_in, mismatch_at, closure_at}
+use Rattle.cedar_entities.proofs.Closures.{none_named, where_computed}
+use Rattle.cedar_entities.specs.Present.{FirstMismatch}
 use Rattle.cedar_entities.proofs.entities.fill.Goals as goal
 
 pub returns-in_err-put_all-clause-err : goal.returns-in_err-put_all-clause-err
@@ -24,3 +26,18 @@ returns-clause-ok c =
     let put = put_in c.args.entities.now c.put_all.new.entities D L refl c.in_ok-put_all.ensures.ok in
     on_ok_weaker c.settle_whole.result (λ h. subst (λ E. IsSettled c.args.tc_computation (is_touched D (inserted_in D L)) E (held_map c.settle_whole.new.entities)) put
     (h (is_touched D (inserted_in D L)) (all_inserted c.args.entities.now c.put_all.new.entities L c.requires.empty c.in_ok-put_all.ensures.ok))) c.settle_whole.ensures.ok
+
+pub returns-in_err-put_all-clause-named : goal.returns-in_err-put_all-clause-named
+returns-in_err-put_all-clause-named c =
+    let D = held_map c.args.entities.now in
+    let L = map (λ r. r.value) c.args.list.items in
+    let p = err_from_is_err_and c.from_residual.result c.from_residual.ensures.1 in
+    rw (p.1, p.2) (where_computed c.args.tc_computation _
+    (none_named (FirstMismatch (held c.args.entities.now) L) (is_touched D (inserted_in D L)) c.in_err-put_all.field-0.0 c.in_err-put_all.ensures.err))
+
+pub returns-clause-named : goal.returns-clause-named
+returns-clause-named c =
+    let D = held_map c.args.entities.now in
+    let L = map (λ r. r.value) c.args.list.items in
+    IfErr-weaker c.settle_whole.result _ _
+    (λ e h. h (is_touched D (inserted_in D L)) (all_inserted c.args.entities.now c.put_all.new.entities L c.requires.empty c.in_ok-put_all.ensures.ok)) c.settle_whole.ensures.named

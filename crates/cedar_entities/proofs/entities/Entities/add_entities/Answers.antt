@@ -2,9 +2,9 @@ use Rattle.std.proofs.Common.{ap, subst, map, ◌≡◌}
 use Rattle.std.specs.FinMap as finmap
 use Rattle.std.proofs.lemmas.Result.{err_from_is_err_and}
 use Rattle.cedar_entities.specs.laws.Held.{held_map}
-use Rattle.cedar_entities.specs.Modes.{IsClosureRefused}
+use Rattle.cedar_entities.specs.Modes.{IsClosureRefused, WhereComputed}
 use Rattle.cedar_entities.specs.Plain.{StoreView}
-use Rattle.cedar_entities.specs.Refusals.{MatchRefusal}
+use Rattle.cedar_entities.specs.Refusals.{MatchRefusal, NamesOneOf}
 use Rattle.cedar_entities.specs.Touching.{inserted_in, is_touched, IsSettled}
 use Rattle.cedar_entities.specs.Present.{AllMatch, FirstMismatch, with_first}
 use Rattle.cedar_entities.proofs.Overwriting.{settled_untouched}
@@ -53,3 +53,9 @@ returns-clause-plain_agree c W plain bare = all_agree W c.args.self (map (λ r. 
 pub returns-clause-plain : goal.returns-clause-plain
 returns-clause-plain c W plain bare = settled_plain W c.args.self (map (λ r. r.value) c.args.list.items) plain bare c.args.tc_computation
     (record { held = held_map c.add_all.new.entities; partial = c.self.inside.partial }) (ap (λ (s : StoreView). s.partial) c.self.view_is) (returns-clause-ok c)
+
+pub returns-in_err-add_all-clause-named : goal.returns-in_err-add_all-clause-named
+returns-in_err-add_all-clause-named c =
+    let L = map (λ r. r.value) c.args.list.items in
+    let p = err_from_is_err_and c.from_residual.result c.from_residual.ensures.1 in
+    rw (p.1, p.2) (subst (λ D. WhereComputed c.args.tc_computation (NamesOneOf (is_touched D (inserted_in D L)) c.in_err-add_all.field-0.0)) (ap (λ (s : StoreView). s.held) c.self.view_is) c.in_err-add_all.ensures.named)

@@ -6,8 +6,9 @@ use Rattle.cedar_ids.specs.UidOf.{same_uid}
 use Rattle.cedar_entities.specs.Edits.{taken_out}
 use Rattle.cedar_entities.specs.laws.Held.{held_map}
 use Rattle.cedar_entities.specs.laws.Readings.{notes}
+use Rattle.cedar_entities.specs.Modes.{WhereComputed}
 use Rattle.cedar_entities.specs.Plain.{StoreView}
-use Rattle.cedar_entities.specs.Refusals.{MatchRefusal}
+use Rattle.cedar_entities.specs.Refusals.{MatchRefusal, NamesOneOf}
 use Rattle.cedar_entities.specs.Touching.{removed_from, IsMended, IsMendRefused}
 use Rattle.cedar_entities.proofs.Edited.{gone_all, noted_touched, taken_from}
 use Rattle.cedar_entities.proofs.Removing.{left_refused, mended_plain, mended_untouched, taken_untouched}
@@ -61,3 +62,14 @@ returns-clause-untouched c =
 pub returns-clause-plain : goal.returns-clause-plain
 returns-clause-plain c W plain = mended_plain W c.args.self c.args.list.items plain c.args.tc_computation
     (record { held = held_map c.mend.new.entities; partial = c.self.inside.partial }) (ap (λ (s : StoreView). s.partial) c.self.view_is) (returns-clause-ok c)
+
+pub returns-in_err-mend-clause-named : goal.returns-in_err-mend-clause-named
+returns-in_err-mend-clause-named c =
+    let is = ap (λ (s : StoreView). s.held) c.self.view_is in
+    let D = c.args.self.held in
+    let U = c.args.list.items in
+    let uids : map (λ a. a.uid) c.in_ok-read.read.items ≡ c.in_ok-gone.gone.items = c.in_ok-read.ensures.uids ∙ c.deref.ensures.value in
+    let touched = noted_touched c.self.inside.entities D (removed_from D U) c.in_ok-read.read.items (contains same_uid c.apply_each.new.touched) is (uids ∙ c.in_ok-gone.ensures ∙ gone_all c.self.inside.entities D U is) c.in_ok-read.ensures.read
+    (λ q. c.in_ok-apply_each.ensures.touched q ∙ ap (λ ks. is_member same_uid ks q || notes c.in_ok-read.read.items q) c.new-touched.ensures.empty) in
+    let p = err_from_is_err_and c.from_residual-in_err-mend.result c.from_residual-in_err-mend.ensures.1 in
+    rw (p.1, p.2) (subst (λ f. WhereComputed c.args.tc_computation (NamesOneOf f c.in_err-mend.field-0.0)) touched c.in_err-mend.ensures.named)

@@ -6,9 +6,9 @@ use Rattle.cedar_ids.specs.UidOf.{same_uid}
 use Rattle.cedar_entities.specs.Edits.{put_over, uids_of}
 use Rattle.cedar_entities.specs.laws.Held.{held_map}
 use Rattle.cedar_entities.specs.laws.Readings.{notes}
-use Rattle.cedar_entities.specs.Modes.{IsClosureRefused}
+use Rattle.cedar_entities.specs.Modes.{IsClosureRefused, WhereComputed}
 use Rattle.cedar_entities.specs.Plain.{StoreView}
-use Rattle.cedar_entities.specs.Refusals.{MatchRefusal}
+use Rattle.cedar_entities.specs.Refusals.{MatchRefusal, NamesOneOf}
 use Rattle.cedar_entities.specs.Touching.{is_touched, IsSettled}
 use Rattle.cedar_entities.proofs.Edited.{laid_over, noted_touched}
 use Rattle.cedar_entities.proofs.Overwriting.{over_between, over_plain, over_refused, over_untouched, settled_untouched}
@@ -57,3 +57,13 @@ returns-clause-between c W plain =
 pub returns-clause-plain : goal.returns-clause-plain
 returns-clause-plain c W plain bare = over_plain W c.args.self (map (λ r. r.value) c.args.list.items) plain bare c.args.tc_computation
     (record { held = held_map c.settle.new.entities; partial = c.self.inside.partial }) (ap (λ (s : StoreView). s.partial) c.self.view_is) (returns-clause-ok c)
+
+pub returns-in_err-settle-clause-named : goal.returns-in_err-settle-clause-named
+returns-in_err-settle-clause-named c =
+    let is = ap (λ (s : StoreView). s.held) c.self.view_is in
+    let L = map (λ r. r.value) c.args.list.items in
+    let uids : map (λ a. a.uid) c.in_ok-read.read.items ≡ uids_of L = c.in_ok-read.ensures.uids ∙ c.deref-2.ensures.value ∙ c.in_ok-uids.ensures ∙ ap (λ l. uids_of (map (λ r. r.value) l)) c.deref.ensures.value in
+    let touched = noted_touched c.self.inside.entities c.args.self.held (uids_of L) c.in_ok-read.read.items (contains same_uid c.apply_each.new.touched) is uids c.in_ok-read.ensures.read
+    (λ q. c.in_ok-apply_each.ensures.touched q ∙ ap (λ ks. is_member same_uid ks q || notes c.in_ok-read.read.items q) c.new-touched.ensures.empty) in
+    let p = err_from_is_err_and c.from_residual-in_err-settle.result c.from_residual-in_err-settle.ensures.1 in
+    rw (p.1, p.2) (subst (λ f. WhereComputed c.args.tc_computation (NamesOneOf f c.in_err-settle.field-0.0)) touched c.in_err-settle.ensures.named)
