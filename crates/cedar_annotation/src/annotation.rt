@@ -247,7 +247,7 @@ impl IntoIterator for Annotations {
 }
 
 /// The annotations of a policy with their keys, by key.
-#[derive(Drop)]
+#[derive(Debug, Drop)]
 pub struct Iter<'a> {
     inner: btree_map::Iter<'a, AnyId, Annotation>,
 }
@@ -276,7 +276,7 @@ impl<'a> Iterator for Iter<'a> {
 }
 
 /// The annotations of a policy with their keys, by key, handed over.
-#[derive(Drop)]
+#[derive(Debug, Drop)]
 pub struct IntoIter {
     inner: btree_map::IntoIter<AnyId, Annotation>,
 }
