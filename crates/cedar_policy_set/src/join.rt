@@ -2,7 +2,6 @@
 ghost use Rattle.std.specs.Prelude.{◌≡◌, ◌<◌, length, IfOk, IfErr, OnOk, MatchOption, Ok, Some, None};
 ghost use Rattle.cedar_body.specs.BodyEquality.{same_body};
 ghost use Rattle.cedar_body.specs.Bodies.{body_slots};
-ghost use Rattle.cedar_binding.specs.Checks.{Binds};
 ghost use Rattle.cedar_binding.specs.Views.{env_of};
 ghost use Rattle.cedar_policy_set.specs.Boards.{empty_board, bound_at, HasOwnId, Template as template_binding};
 ghost use Rattle.cedar_policy_set.specs.Refusals.{IsRefusal, Steps, Makes, told_by_set, told_by_linking};
@@ -265,28 +264,30 @@ impl PolicySet {
         requires { Stands self.old template.value }
         ensures { Steps told_by_linking result self.old self.new (link_onto template.value self.old new_id (env_of values)) }
     {
-        if let Err(error) = check_values(alloc, &template, &values) {
-            drop(template);
-            drop(new_id);
-            drop(values);
-            return Err(error);
-        }
-        if self.is_bound(&new_id) {
-            drop(template);
-            drop(values);
-            return Err(LinkingError::PolicyIdConflict { id: new_id });
-        }
+        let occupied = self.is_bound(&new_id);
         let policy = Template::link(alloc, template, new_id, values)?;
+        if occupied {
+            return Err(LinkingError::PolicyIdConflict {
+                id: own_id_of(policy),
+            });
+        }
         self.put_policy(policy)?;
         Ok(())
     }
 }
 
-// Refuses bindings that don't fit a template's slots.
-fn check_values(alloc: Global, template: &Template, values: &SlotEnv) -> Result<(), LinkingError>
-    ensures { Binds result (body_slots template.now) (env_of values.now) }
+// The own id of a link, which is let go.
+fn own_id_of(link: Policy) -> PolicyID
+    requires { link.link ≡ None → ⊥ }
+    ensures { Some result ≡ link.link }
 {
-    Template::check_binding(alloc, template, values)
+    let (template, id, values) = link.into_components();
+    drop(template);
+    drop(values);
+    match id {
+        Some(id) => id,
+        None => unreachable!(),
+    }
 }
 
 // Whether two templates are equal.
