@@ -1,37 +1,47 @@
 -- How bindings and lists of slots are written.
 use Rattle.std.specs.Prelude.{ℕ, List, [], ◌∷◌, ◌++◌, Bool, true, ◌&&◌, Option, Some, None, if◌then◌else◌, codes}
-use Rattle.std.specs.List.{flat_map}
+use Rattle.std.specs.List.{flat_map, list_all, list_any}
+use Rattle.std.specs.Ordering.{is_lt}
 use Rattle.cedar_ids.specs.Escape.{is_ascii}
 use Rattle.cedar_ids.specs.Printed.{printed_uid}
 use Rattle.cedar_ids.specs.Uid.{UidParts}
-use Rattle.cedar_terms.specs.SlotTree.{slot_text}
+use Rattle.cedar_terms.specs.SlotTree.{all_slots, slot_cmp, slot_text}
 use Rattle.cedar_terms.specs.declared.slot.SlotId.{SlotId}
-use Rattle.cedar_terms.specs.declared.slot.SlotId.TheVariants.{Principal, Resource}
-use Rattle.cedar_binding.specs.Bindings.{EnvParts}
+use Rattle.cedar_binding.specs.Bindings.{EnvParts, binds, bound_to}
 
 -- `?slot -> uid`
 abbrev pub binding_text : SlotId → UidParts → List ℕ
 binding_text s u = slot_text s ++ (codes " -> " ++ printed_uid u)
 
--- the bindings of the principal and of the resource that there are, joined by a comma
-abbrev pub bindings_text : Option UidParts → Option UidParts → List ℕ
-bindings_text None None = []
-bindings_text None (Some v) = binding_text Resource v
-bindings_text (Some u) None = binding_text Principal u
-bindings_text (Some u) (Some v) = binding_text Principal u ++ (codes "," ++ binding_text Resource v)
+-- whether a smaller slot is bound
+abbrev pub bound_before : EnvParts → SlotId → Bool
+bound_before e s = list_any (λ r. is_lt (slot_cmp r s) && binds e r) all_slots
 
--- the bindings, the principal's first
+-- a text, after a comma where there is one before it
+abbrev pub after_others : Bool → List ℕ → List ℕ
+after_others b t = (if b then codes "," else []) ++ t
+
+-- what is written of a slot: its binding, after a comma where a smaller slot is bound too; nothing where it is not bound
+abbrev pub bound_text : SlotId → Bool → Option UidParts → List ℕ
+bound_text s b None = []
+bound_text s b (Some u) = after_others b (binding_text s u)
+
+-- what is written of some slots, one after another
+abbrev pub bindings_text : EnvParts → List SlotId → List ℕ
+bindings_text e slots = flat_map (λ s. bound_text s (bound_before e s) (bound_to e s)) slots
+
+-- the bindings in the order of the slots, joined by commas
 abbrev pub env_text : EnvParts → List ℕ
-env_text e = bindings_text e.principal e.resource
+env_text e = bindings_text e all_slots
 
 -- whether the eid is ASCII, where there is a uid
 abbrev pub is_ascii_bound : Option UidParts → Bool
 is_ascii_bound None = true
 is_ascii_bound (Some u) = is_ascii u.eid
 
--- whether the eids of both are ASCII
+-- whether all eids are ASCII
 abbrev pub is_ascii_env : EnvParts → Bool
-is_ascii_env e = is_ascii_bound e.principal && is_ascii_bound e.resource
+is_ascii_env e = list_all (λ s. is_ascii_bound (bound_to e s)) all_slots
 
 -- what is known of the text of any bindings
 abbrev pub env_output : EnvParts → Option (List ℕ)

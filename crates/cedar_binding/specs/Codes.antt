@@ -1,12 +1,27 @@
 -- How a proof tells bindings apart.
-use Rattle.std.specs.Prelude.{Option, refl}
-use Rattle.std.specs.Coded.{Coded, code_by, coded×, coded_option}
+use Rattle.std.specs.Prelude.{◌≡◌, ℕ, zero, suc, List, [], ◌∷◌, Option, None, map, refl}
+use Rattle.std.specs.Coded.{Coded, code_by, coded_list, coded_option}
 use Rattle.cedar_ids.specs.Uid.{UidParts}
 use Rattle.cedar_ids.specs.Codes.{uid_parts_code}
+use Rattle.cedar_terms.specs.SlotTree.{all_slots, slot_index}
+use Rattle.cedar_terms.specs.declared.slot.SlotId.{SlotId}
+use Rattle.cedar_terms.specs.declared.slot.SlotId.TheVariants.{Principal, Action, Resource}
 use Rattle.cedar_binding.specs.Bindings.{EnvParts}
 
--- bindings: the uids of the two slots
+-- what stands at a place of a list, if anything does
+abbrev pub at_place : {X : Type 0} → List (Option X) → ℕ → Option X
+at_place [] n = None
+at_place (x ∷ xs) zero = x
+at_place (x ∷ xs) (suc n) = at_place xs n
+
+-- the uid of each slot stands at its place
+pub uid_at_place : (e : EnvParts) (s : SlotId) → at_place (map e all_slots) (slot_index s) ≡ e s
+uid_at_place e Principal = refl
+uid_at_place e Action = refl
+uid_at_place e Resource = refl
+
+-- bindings: the uids of the slots in their order
 abbrev pub env_code : Coded EnvParts
 env_code =
-    code_by (Option UidParts × Option UidParts) (coded× (coded_option uid_parts_code) (coded_option uid_parts_code))
-    (λ e. (e.principal, e.resource)) (λ p. record { principal = p.0; resource = p.1 }) (λ _. refl)
+    code_by (List (Option UidParts)) (coded_list (coded_option uid_parts_code))
+    (λ e. map e all_slots) (λ us s. at_place us (slot_index s)) (λ e i s. uid_at_place e s i)

@@ -1,19 +1,12 @@
 -- Bindings as callers see them: neither the order of a map nor a location is in it.
-use Rattle.std.specs.Prelude.{Option}
 use Rattle.std.specs.Option.{option_map}
 use Rattle.std.specs.HashMap.{HashMap, get}
-use Rattle.cedar_ids.specs.Uid.{UidParts}
 use Rattle.cedar_ids.specs.UidOf.{uid_parts}
 use Rattle.cedar_ids.specs.declared.entity.EntityUID.{EntityUID}
 use Rattle.cedar_terms.specs.SlotTree.{same_slot}
 use Rattle.cedar_terms.specs.declared.slot.SlotId.{SlotId}
-use Rattle.cedar_terms.specs.declared.slot.SlotId.TheVariants.{Principal, Resource}
 use Rattle.cedar_binding.specs.Bindings.{EnvParts}
-
--- the uid that a map has at a slot's id
-abbrev pub uid_at : {S : Type 0} → HashMap SlotId EntityUID S → SlotId → Option UidParts
-uid_at m s = option_map uid_parts (get same_slot m s)
 
 -- the bindings that a map holds
 abbrev pub env_of : {S : Type 0} → HashMap SlotId EntityUID S → EnvParts
-env_of m = record { principal = uid_at m Principal; resource = uid_at m Resource }
+env_of m s = option_map uid_parts (get same_slot m s)

@@ -1,38 +1,38 @@
 //! Whether bindings fit the slots of a template.
 ghost use Rattle.std.specs.Prelude.{◌≡◌, ◌&&◌, ◌↔◌, [], not, IfOk, IsTrue};
-ghost use Rattle.cedar_binding.specs.Bindings.{binds, is_among, unbound, extra};
+ghost use Rattle.std.specs.Option.{option_copied, option_map};
+ghost use Rattle.cedar_ids.specs.UidOf.{uid_parts};
+ghost use Rattle.cedar_binding.specs.Bindings.{binds, is_action_uid, is_among, unbound, extra, wrong_action};
 ghost use Rattle.cedar_binding.specs.Checks.{Binds};
 ghost use Rattle.cedar_binding.specs.Views.{env_of};
 
 use crate::err::LinkingError;
-use crate::slot_env::SlotEnv;
+use crate::slot_env::{SlotEnv, bound_to, is_bound};
+use cedar_ids::entity::EntityUID;
 use cedar_terms::slot::{Slot, SlotId};
 use std::alloc::{AllocError, Global};
 
-/// `Ok` exactly where the bound ids are the ids of the slots.
+/// `Ok` exactly where the bound ids are the ids of the slots, and the action's slot, if it is one of them, is bound to an
+/// action.
 ///
-/// Else the `ArityError` has exactly the slots that are not bound, in their order, as often as they stand
-/// there, and the bound ids that are no slots, the principal's first. Takes memory for these lists alone;
-/// `Memory` comes only where that was refused. Reads each slot a few times.
+/// Where the ids are others, the `ArityError` has exactly the slots that are not bound, in their order, as often as they
+/// stand there, and the bound ids that are no slots, in the order of ids. Where they are not, `NotAnAction` has the uid.
+/// Takes memory for what a refusal has alone; `Memory` comes only where that was refused. Reads each slot a few times.
 pub fn check_bindings(alloc: Global, slots: &[Slot], values: &SlotEnv) -> Result<(), LinkingError>
     ensures { Binds result slots.now (env_of values.now) }
 {
     let unbound_values = unbound(alloc, slots, values)?;
     let extra_values = extra(alloc, slots, values)?;
-    if are_empty(&unbound_values, &extra_values) {
-        return Ok(());
+    if !are_empty(&unbound_values, &extra_values) {
+        return Err(LinkingError::ArityError {
+            unbound_values,
+            extra_values,
+        });
     }
-    Err(LinkingError::ArityError {
-        unbound_values,
-        extra_values,
-    })
-}
-
-// Whether a slot is bound.
-fn is_bound(values: &SlotEnv, id: SlotId) -> bool
-    ensures { result ≡ binds (env_of values.now) id }
-{
-    values.contains_key(&id)
+    match wrong_action(values) {
+        None => Ok(()),
+        Some(uid) => Err(LinkingError::NotAnAction { uid: copy_of(uid)? }),
+    }
 }
 
 // Whether an id stands among some slots.
@@ -67,13 +67,42 @@ fn extra(alloc: Global, slots: &[Slot], values: &SlotEnv) -> Result<Vec<SlotId>,
     ensures { IfOk result (λ ids. ids.items ≡ extra slots.now (env_of values.now)) }
 {
     let mut ids = Vec::new(alloc);
-    if is_extra(slots, values, SlotId::Principal) {
-        ids.push(SlotId::Principal)?;
-    }
-    if is_extra(slots, values, SlotId::Resource) {
-        ids.push(SlotId::Resource)?;
+    for id in SlotId::ALL.iter() {
+        if is_extra(slots, values, *id) {
+            ids.push(*id)?;
+        }
     }
     Ok(ids)
+}
+
+// The uid that the action's slot is bound to, if it is no action.
+fn wrong_action(values: &SlotEnv) -> Option<&EntityUID>
+    ensures { option_map uid_parts (option_copied result) ≡ wrong_action (env_of values.now) }
+{
+    match bound_to(values, SlotId::Action) {
+        None => None,
+        Some(uid) => {
+            if is_action(uid) {
+                return None;
+            }
+            Some(uid)
+        }
+    }
+}
+
+// Whether it is the uid of an action.
+#[tactic(auto, using(crate::proofs::Actions::told_action))]
+fn is_action(uid: &EntityUID) -> bool
+    ensures { result ≡ is_action_uid (uid_parts uid.now) }
+{
+    uid.is_action()
+}
+
+// A copy of a uid.
+fn copy_of(uid: &EntityUID) -> Result<EntityUID, AllocError>
+    ensures { IfOk result (λ copy. copy ≡ uid.now) }
+{
+    uid.clone()
 }
 
 // Whether nothing is left over.

@@ -5,6 +5,7 @@ ghost use Rattle.std.specs.List.{flat_map};
 ghost use Rattle.cedar_binding.specs.BindingTexts.{slots_text, slot_after_comma, unbound_text, arity_text};
 ghost use Rattle.cedar_binding.specs.declared.err.LinkingError.TheVariants.{Memory};
 
+use cedar_ids::entity::EntityUID;
 use cedar_ids::policy_id::PolicyID;
 use cedar_terms::slot::SlotId;
 use std::alloc::{AllocError, AllocFailed};
@@ -22,8 +23,14 @@ pub enum LinkingError {
     ArityError {
         /// The slots of the template that are not bound, in their order, as often as they stand there.
         unbound_values: Vec<SlotId>,
-        /// The bound ids that are no slots of the template, the principal's first.
+        /// The bound ids that are no slots of the template, in the order of ids.
         extra_values: Vec<SlotId>,
+    },
+    /// The action's slot is bound to a uid that is no action. The original has no slot of the action.
+    #[error("the action slot is bound to `{uid}`, which is not an action")]
+    NotAnAction {
+        /// The uid that it is bound to.
+        uid: EntityUID,
     },
     /// There is no template of this id.
     #[error("failed to find a template with id `{id}`")]

@@ -1,11 +1,12 @@
 //! Bindings: making, reading, copying, comparing and writing them.
 ghost use Rattle.std.specs.Prelude.{◌≡◌, ◌&&◌, true, Some, IfOk};
 ghost use Rattle.std.specs.Fmt.{WritesOnOk};
+ghost use Rattle.std.specs.List.{list_all};
 ghost use Rattle.std.specs.Option.{option_copied, option_map, option_eq};
 ghost use Rattle.cedar_ids.specs.Uid.{uid_eq};
 ghost use Rattle.cedar_ids.specs.UidOf.{uid_parts};
-ghost use Rattle.cedar_binding.specs.Bindings.{no_env, bound_to};
-ghost use Rattle.cedar_binding.specs.BindingTexts.{env_output, is_ascii_bound, binding_text, bindings_text};
+ghost use Rattle.cedar_binding.specs.Bindings.{binds, no_env, bound_to};
+ghost use Rattle.cedar_binding.specs.BindingTexts.{after_others, bindings_text, bound_before, bound_text, env_output, is_ascii_bound, binding_text};
 ghost use Rattle.cedar_binding.specs.EnvEquality.{same_env};
 ghost use Rattle.cedar_binding.specs.Views.{env_of};
 
@@ -46,7 +47,7 @@ pub fn copy_of_bindings(values: &SlotEnv) -> Result<SlotEnv, AllocError>
 pub fn same_bindings(one: &SlotEnv, other: &SlotEnv) -> bool
     ensures { result ≡ same_env (env_of one.now) (env_of other.now) }
 {
-    same_at(one, other, SlotId::Principal) && same_at(one, other, SlotId::Resource)
+    SlotId::ALL.iter().all(|id| same_at(one, other, *id))
 }
 
 // Whether both leave a slot unbound, or bind it to equal uids.
@@ -62,7 +63,7 @@ fn same_at(one: &SlotEnv, other: &SlotEnv, id: SlotId) -> bool
     }
 }
 
-/// Bindings as a link writes them: `?slot -> uid`, the principal's first, joined by a comma with no blank.
+/// Bindings as a link writes them: `?slot -> uid`, in the order of slots, joined by commas with no blank.
 ///
 /// Writing them takes no memory. The text is exactly so where the eids are ASCII, else with an eid past ASCII
 /// as `str::escape_debug` writes it.
@@ -73,38 +74,73 @@ impl fmt::Display for JoinedBindings<'_> {
     ghost output = { λ b. env_output (env_of b.0.now) };
 
     fn fmt<W: fmt::Write>(&self, f: &mut fmt::Formatter<W>) -> fmt::Result {
-        let principal = bound_to(self.0, SlotId::Principal);
-        let resource = bound_to(self.0, SlotId::Resource);
-        write_bindings(principal, resource, f)
+        write_bindings(self.0, &SlotId::ALL, f)
     }
 }
 
-// Writes the bindings of the two slots that there are.
+// Writes the bindings of some slots.
 fn write_bindings<W: fmt::Write>(
-    principal: Option<&EntityUID>,
-    resource: Option<&EntityUID>,
+    values: &SlotEnv,
+    ids: &[SlotId],
     f: &mut fmt::Formatter<W>,
 ) -> fmt::Result
-    ensures { (is_ascii_bound (option_map uid_parts (option_copied principal.entry))
-        && is_ascii_bound (option_map uid_parts (option_copied resource.entry))) ≡ true
-        → WritesOnOk W.write_str_gives f.old result
-        (bindings_text (option_map uid_parts (option_copied principal.entry))
-        (option_map uid_parts (option_copied resource.entry))) f.new }
+    ensures { list_all (λ s. is_ascii_bound (bound_to (env_of values.now) s)) ids.now ≡ true
+        → WritesOnOk W.write_str_gives f.old result (bindings_text (env_of values.now) ids.now) f.new }
 {
-    match principal {
-        None => match resource {
-            None => Ok(()),
-            Some(value) => write_binding(SlotId::Resource, value, f),
-        },
-        Some(uid) => match resource {
-            None => write_binding(SlotId::Principal, uid, f),
-            Some(value) => {
-                write_binding(SlotId::Principal, uid, f)?;
-                f.write_str(",")?;
-                write_binding(SlotId::Resource, value, f)
-            }
-        },
+    for id in ids {
+        write_bound(values, *id, f)?;
     }
+    Ok(())
+}
+
+// Writes the binding of a slot, if it is bound, after a comma where a smaller one is bound too.
+fn write_bound<W: fmt::Write>(
+    values: &SlotEnv,
+    id: SlotId,
+    f: &mut fmt::Formatter<W>,
+) -> fmt::Result
+    ensures { is_ascii_bound (bound_to (env_of values.now) id) ≡ true
+        → WritesOnOk W.write_str_gives f.old result
+        (bound_text id (bound_before (env_of values.now) id) (bound_to (env_of values.now) id)) f.new }
+{
+    match bound_to(values, id) {
+        None => Ok(()),
+        Some(uid) => {
+            let others = is_bound_before(values, id);
+            write_next(others, id, uid, f)
+        }
+    }
+}
+
+// Whether a smaller slot is bound.
+fn is_bound_before(values: &SlotEnv, id: SlotId) -> bool
+    ensures { result ≡ bound_before (env_of values.now) id }
+{
+    SlotId::ALL.iter().any(|other| *other < id && is_bound(values, *other))
+}
+
+// Whether a slot is bound.
+pub(crate) fn is_bound(values: &SlotEnv, id: SlotId) -> bool
+    ensures { result ≡ binds (env_of values.now) id }
+{
+    values.contains_key(&id)
+}
+
+// Writes one binding, after a comma where there are others before it.
+fn write_next<W: fmt::Write>(
+    others: bool,
+    id: SlotId,
+    uid: &EntityUID,
+    f: &mut fmt::Formatter<W>,
+) -> fmt::Result
+    ensures { is_ascii_bound (Some (uid_parts uid.now)) ≡ true
+        → WritesOnOk W.write_str_gives f.old result
+        (after_others others (binding_text id (uid_parts uid.now))) f.new }
+{
+    if others {
+        f.write_str(",")?;
+    }
+    write_binding(id, uid, f)
 }
 
 // Writes one binding.

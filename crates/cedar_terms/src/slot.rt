@@ -3,7 +3,7 @@ ghost use Rattle.std.specs.Prelude.{◌≡◌, Some, IsTrue};
 ghost use Rattle.std.proofs.Common.{refl};
 ghost use Rattle.std.specs.Ordering.{as_partial_cmp};
 ghost use Rattle.std.specs.Cmp.{partial_equiv_from_equiv};
-ghost use Rattle.cedar_terms.specs.SlotTree.{slot_index, same_slot, slot_cmp, slot_hash, slot_text};
+ghost use Rattle.cedar_terms.specs.SlotTree.{all_slots, slot_index, same_slot, slot_cmp, slot_hash, slot_text};
 ghost use Rattle.cedar_terms.specs.laws.SlotIdLaws.{same_slot_equiv, slot_cmp_total, slot_ties, slot_po, slot_hash_respects};
 
 use cedar_ids::loc::Loc;
@@ -13,24 +13,36 @@ use std::fmt;
 use std::hash::{Hash, Hasher};
 use std::marker::Model;
 
-/// The id of a slot of a template: there are two.
+/// The id of a slot of a template: there are three.
 ///
-/// The principal's is the smaller. Copying, comparing, hashing and writing it take no memory. In the
-/// original the two are behind a private field.
+/// They stand in their order. Copying, comparing, hashing and writing one take no memory. In the
+/// original they are behind a private field, and the action has none.
 #[derive(Clone, Copy, Debug)]
 pub enum SlotId {
     /// Written `?principal`.
     Principal,
+    /// Written `?action`.
+    Action,
     /// Written `?resource`.
     Resource,
 }
 
 impl SlotId {
+    /// All slot ids, in their order.
+    pub const ALL: [SlotId; 3] = [SlotId::Principal, SlotId::Action, SlotId::Resource];
+
     /// The id of the principal's slot. It takes no memory.
     pub fn principal() -> SlotId
         ensures { result ≡ SlotId.Principal }
     {
         Self::Principal
+    }
+
+    /// The id of the action's slot, which the original has not. It takes no memory.
+    pub fn action() -> SlotId
+        ensures { result ≡ SlotId.Action }
+    {
+        Self::Action
     }
 
     /// The id of the resource's slot. It takes no memory.
@@ -40,13 +52,14 @@ impl SlotId {
         Self::Resource
     }
 
-    // The place of the id among the two.
+    // The place of the id among all.
     fn index(self) -> u8
         ensures { result ≡ slot_index self }
     {
         match self {
             SlotId::Principal => 0,
-            SlotId::Resource => 1,
+            SlotId::Action => 1,
+            SlotId::Resource => 2,
         }
     }
 }
@@ -105,6 +118,7 @@ impl fmt::Display for SlotId {
     fn fmt<W: fmt::Write>(&self, f: &mut fmt::Formatter<W>) -> fmt::Result {
         match self {
             SlotId::Principal => f.write_str("?principal"),
+            SlotId::Action => f.write_str("?action"),
             SlotId::Resource => f.write_str("?resource"),
         }
     }

@@ -1,18 +1,15 @@
 -- The laws of the equality of bindings.
 use Rattle.std.specs.Prelude.{◌≡◌, true, Option, Some, None, refl}
-use Rattle.std.proofs.Common.{sym, ap, ◌∙◌}
+use Rattle.std.proofs.Common.{ap}
 use Rattle.std.specs.Bool.{Decides}
 use Rattle.std.specs.Option.{option_eq}
-use Rattle.std.specs.Cmp.{IsEquivalence, and_equiv, on_equiv, first_so, second_so}
+use Rattle.std.specs.Cmp.{IsEquivalence, decided}
 use Rattle.std.specs.Cmp.Lexicographic.{options_equiv}
 use Rattle.cedar_ids.specs.Uid.{UidParts, uid_eq}
 use Rattle.cedar_ids.specs.laws.UidLaws.{uid_eq_equiv, uid_eq-Decides}
+use Rattle.cedar_terms.specs.laws.SlotIdLaws.{of_each, at_each}
 use Rattle.cedar_binding.specs.Bindings.{EnvParts}
-use Rattle.cedar_binding.specs.EnvEquality.{bound_principal, bound_resource, same_env}
-
--- it is an equivalence
-pub same_env_equiv : IsEquivalence same_env
-same_env_equiv = and_equiv (on_equiv bound_principal (options_equiv uid_eq_equiv)) (on_equiv bound_resource (options_equiv uid_eq_equiv))
+use Rattle.cedar_binding.specs.EnvEquality.{same_env}
 
 same_bound : (x y : Option UidParts) → option_eq uid_eq x y ≡ true → x ≡ y
 same_bound None None e = refl
@@ -20,12 +17,16 @@ same_bound None (Some v) e = absurd (cc)
 same_bound (Some u) None e = absurd (cc)
 same_bound (Some u) (Some v) e = ap Some ((uid_eq-Decides u v).0 e)
 
+bound_alike : (x y : Option UidParts) → x ≡ y → option_eq uid_eq x y ≡ true
+bound_alike x y e = Rattle.std.proofs.Common.subst (λ z. option_eq uid_eq x z ≡ true) e ((options_equiv uid_eq_equiv).refl x)
+
 -- bindings are equal exactly where they are the same
 pub same_env_decides : (x y : EnvParts) → Decides (same_env x y) (x ≡ y)
 same_env_decides x y = (
-  λ e.
-      let p : x.principal ≡ y.principal = same_bound x.principal y.principal (first_so _ _ e) in
-      let r : x.resource ≡ y.resource = same_bound x.resource y.resource (second_so (option_eq uid_eq x.principal y.principal) _ e) in
-      λ i. record { principal = p i; resource = r i },
-  λ e. sym (ap (same_env x) e) ∙ same_env_equiv.refl x,
+  λ h i s. same_bound (x s) (y s) (at_each (λ t. option_eq uid_eq (x t) (y t)) h s) i,
+  λ e. of_each (λ t. option_eq uid_eq (x t) (y t)) (λ s. bound_alike (x s) (y s) (λ i. e i s)),
 )
+
+-- it is an equivalence
+pub same_env_equiv : IsEquivalence same_env
+same_env_equiv = decided same_env same_env_decides

@@ -3,9 +3,8 @@ use Rattle.std.specs.Prelude.{◌≡◌, List, [], ◌∷◌, Bool, true, false,
 use Rattle.std.proofs.Common.{cond, sym, ap, ◌∙◌, ◌⊎◌, inl, inr}
 use Rattle.std.proofs.lemmas.Bool.{false≢true}
 use Rattle.cedar_terms.specs.SlotTree.{same_slot}
-use Rattle.cedar_terms.specs.laws.SlotIdLaws.{same_slot_decides}
+use Rattle.cedar_terms.specs.laws.SlotIdLaws.{none_passes, passes_none, same_slot_decides}
 use Rattle.cedar_terms.specs.declared.slot.SlotId.{SlotId}
-use Rattle.cedar_terms.specs.declared.slot.SlotId.TheVariants.{Principal, Resource}
 use Rattle.cedar_binding.specs.Bindings.{EnvParts, binds, is_among, unbound, extra, BindsExactly}
 
 -- two answers are the same where each follows from the other
@@ -35,11 +34,6 @@ slots_are_bound (x ∷ xs) e h s p =
     let b = first_bound (binds e x) x (unbound xs e) h in
     bound_among x xs e s b.0 (slots_are_bound xs e b.1 s) (either (same_slot s x) (is_among xs s) p)
 
-neither_listed : (a b : Bool) → cond a (Principal ∷ cond b (Resource ∷ []) []) (cond b (Resource ∷ []) []) ≡ [] → (a ≡ false) × (b ≡ false)
-neither_listed true b h = absurd (cc)
-neither_listed false true h = absurd (cc)
-neither_listed false false h = (refl, refl)
-
 then_listed : (a b : Bool) → (a && not b) ≡ false → a ≡ true → b ≡ true
 then_listed true true h p = refl
 then_listed true false h p = absurd (cc)
@@ -47,8 +41,7 @@ then_listed false b h p = absurd (cc)
 
 -- where none is extra each bound id is that of a slot
 bound_are_slots : (slots : List SlotId) (e : EnvParts) → extra slots e ≡ [] → (s : SlotId) → binds e s ≡ true → is_among slots s ≡ true
-bound_are_slots slots e h Principal p = then_listed _ _ (neither_listed (binds e Principal && not (is_among slots Principal)) (binds e Resource && not (is_among slots Resource)) h).0 p
-bound_are_slots slots e h Resource p = then_listed _ _ (neither_listed (binds e Principal && not (is_among slots Principal)) (binds e Resource && not (is_among slots Resource)) h).1 p
+bound_are_slots slots e h s p = then_listed _ _ (none_passes (λ t. binds e t && not (is_among slots t)) h s) p
 
 -- with nothing unbound and nothing extra the bindings fit
 pub fits : (slots : List SlotId) (e : EnvParts) → unbound slots e ≡ [] → extra slots e ≡ [] → BindsExactly slots e
@@ -75,5 +68,5 @@ not_listed false b h = refl
 pub nothing_left_over : (slots : List SlotId) (e : EnvParts) → BindsExactly slots e → (unbound slots e ≡ []) × (extra slots e ≡ [])
 nothing_left_over slots e f = (
   none_unbound slots e (λ s p. f s ∙ p),
-  rw (not_listed _ _ (f Principal), not_listed _ _ (f Resource)) refl,
+  passes_none (λ t. binds e t && not (is_among slots t)) (λ t. not_listed (binds e t) (is_among slots t) (f t)),
 )

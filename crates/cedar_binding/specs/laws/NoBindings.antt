@@ -5,17 +5,14 @@ use Rattle.std.proofs.lemmas.Bool.{false≢true}
 use Rattle.cedar_ids.specs.Uid.{UidParts}
 use Rattle.cedar_terms.specs.laws.SlotIdLaws.{same_slot_decides}
 use Rattle.cedar_terms.specs.declared.slot.SlotId.{SlotId}
-use Rattle.cedar_terms.specs.declared.slot.SlotId.TheVariants.{Principal, Resource}
 use Rattle.cedar_binding.specs.Bindings.{EnvParts, no_env, binds, is_among, BindsExactly}
 
 -- where there is no slot they fit
 pub no_env-fits : (slots : List SlotId) → slots ≡ [] → BindsExactly slots no_env
-no_env-fits slots h Principal = ap (λ xs. is_among xs Principal) (sym h)
-no_env-fits slots h Resource = ap (λ xs. is_among xs Resource) (sym h)
+no_env-fits slots h s = ap (λ xs. is_among xs s) (sym h)
 
 not_bound : (s : SlotId) → binds no_env s ≡ true → ⊥
-not_bound Principal h = false≢true h
-not_bound Resource h = false≢true h
+not_bound s h = false≢true h
 
 -- and where they fit there is none
 pub no_slot_fits : (slots : List SlotId) → BindsExactly slots no_env → slots ≡ []
@@ -28,7 +25,4 @@ unbound_is_none (Some u) h = absurd (false≢true (sym h))
 
 -- what fits no slots binds nothing
 pub nothing_bound : (e : EnvParts) → BindsExactly [] e → e ≡ no_env
-nothing_bound e f =
-    let p = unbound_is_none e.principal (f Principal) in
-    let r = unbound_is_none e.resource (f Resource) in
-    λ i. record { principal = p i; resource = r i }
+nothing_bound e f = λ i s. unbound_is_none (e s) (f s) i

@@ -12,16 +12,7 @@ use Rattle.cedar_terms.specs.laws.VarLaws.{var_at, var_at-var_index}
 use Rattle.cedar_terms.specs.UnknownParts.{UnknownParts}
 use Rattle.cedar_terms.specs.ExprTree.{operator_index, Operator, and_operator, eq_operator, in_operator, ExprTree, val_node, var_node, slot_node, unknown_node, set_node, call_node, not_node, binary_node, is_node, ExprTrees, no_exprs, expr_then}
 use Rattle.cedar_terms.specs.declared.slot.SlotId.{SlotId}
-use Rattle.cedar_terms.specs.declared.slot.SlotId.TheVariants.{Principal, Resource}
-
--- the slot id at a place
-abbrev pub slot_at : ℕ → SlotId
-slot_at zero = Principal
-slot_at (suc n) = Resource
-
-slot_at-slot_index : (s : SlotId) → slot_at (slot_index s) ≡ s
-slot_at-slot_index Principal = refl
-slot_at-slot_index Resource = refl
+use Rattle.cedar_terms.specs.laws.SlotIdLaws.{slot_at, slot_at-slot_index}
 
 -- the annotation of a key
 abbrev pub annotation_at : Key → Option NameParts

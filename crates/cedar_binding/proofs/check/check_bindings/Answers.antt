@@ -1,21 +1,35 @@
-use Rattle.std.proofs.Common.{refl, sym, ◌∙◌}
+use Rattle.std.proofs.Common.{Some, ap, refl, sym, ◌∙◌}
 use Rattle.std.proofs.lemmas.Bool.{false≢true}
+use Rattle.std.specs.Option.{option_copied, option_map}
+use Rattle.cedar_ids.specs.UidOf.{uid_parts}
 use Rattle.cedar_binding.specs.Views.{env_of}
 use Rattle.cedar_binding.specs.laws.Fits.{fits, nothing_left_over}
 use Rattle.cedar_binding.proofs.check.check_bindings.Goals as goal
 
-pub returns : goal.returns
-returns c = (
+pub returns-then-not-are_empty : goal.returns-then-not-are_empty
+returns-then-not-are_empty c = (
   λ f.
       let none = nothing_left_over c.args.slots.now (env_of c.args.values.now) f in
-      false≢true ((rw c.if-are_empty.false at c.are_empty.ensures).1 (c.deref.ensures.value ∙ c.in_ok-unbound_values.ensures ∙ none.0, c.deref-2.ensures.value ∙ c.in_ok-extra_values.ensures ∙ none.1)),
+      false≢true ((rw c.if-not-are_empty.true at c.are_empty.ensures).1 (c.deref.ensures.value ∙ c.in_ok-unbound_values.ensures ∙ none.0, c.deref-2.ensures.value ∙ c.in_ok-extra_values.ensures ∙ none.1)),
   c.in_ok-unbound_values.ensures,
   c.in_ok-extra_values.ensures,
 )
 
-pub returns-then-are_empty : goal.returns-then-are_empty
-returns-then-are_empty c =
-    let empty = (rw c.if-are_empty.true at c.are_empty.ensures).0 refl in
-    fits c.args.slots.now (env_of c.args.values.now)
-    (sym c.in_ok-unbound_values.ensures ∙ sym c.deref.ensures.value ∙ empty.0)
-    (sym c.in_ok-extra_values.ensures ∙ sym c.deref-2.ensures.value ∙ empty.1)
+pub returns-in-None : goal.returns-in-None
+returns-in-None c =
+    let empty = (rw c.if-not-are_empty.false at c.are_empty.ensures).0 refl in
+    record {
+      exactly = fits c.args.slots.now (env_of c.args.values.now)
+          (sym c.in_ok-unbound_values.ensures ∙ sym c.deref.ensures.value ∙ empty.0)
+          (sym c.in_ok-extra_values.ensures ∙ sym c.deref-2.ensures.value ∙ empty.1);
+      action = sym c.wrong_action.ensures ∙ ap (λ o. option_map uid_parts (option_copied o)) c.in-None.is;
+    }
+
+pub returns : goal.returns
+returns c =
+    let empty = (rw c.if-not-are_empty.false at c.are_empty.ensures).0 refl in (
+      fits c.args.slots.now (env_of c.args.values.now)
+          (sym c.in_ok-unbound_values.ensures ∙ sym c.deref.ensures.value ∙ empty.0)
+          (sym c.in_ok-extra_values.ensures ∙ sym c.deref-2.ensures.value ∙ empty.1),
+      sym c.wrong_action.ensures ∙ ap (λ o. option_map uid_parts (option_copied o)) c.in-Some.is ∙ ap (λ u. Some (uid_parts u)) (sym c.in_ok-copy_of-in-Some.ensures),
+    )
