@@ -3,7 +3,7 @@ use Rattle.std.specs.Prelude.{◌≡◌, ℕ, List, [], ◌∷◌, refl, if◌th
 use Rattle.std.specs.Coded.{Coded, code_by, coded×, coded_ℕ, coded_list}
 use Rattle.cedar_ids.specs.Uid.{UidParts}
 use Rattle.cedar_ids.specs.Codes.{uid_parts_code}
-use Rattle.cedar_action.specs.Rules.{ActionRule, any_action, among, just}
+use Rattle.cedar_action.specs.Rules.{ActionRule, any_action, among, just, among_slot, just_slot}
 use Rattle.cedar_action.specs.RuleReads.{rule_kind, rule_uids}
 
 -- the rule of a kind that is not `any`, with these uids
@@ -13,7 +13,8 @@ rule_with_uids k (u ∷ us) = if k == 1 then among (u ∷ us) else just u
 
 -- the rule of a kind, with these uids
 abbrev pub rule_with : ℕ → List UidParts → ActionRule
-rule_with k us = if k == 0 then any_action else rule_with_uids k us
+rule_with k us =
+    if k == 0 then any_action else (if k == 3 then among_slot else (if k == 4 then just_slot else rule_with_uids k us))
 
 -- a rule is that of its kind, with its uids
 pub rule_with-parts : (a : ActionRule) → rule_with (rule_kind a) (rule_uids a) ≡ a
@@ -21,6 +22,8 @@ rule_with-parts any_action = refl
 rule_with-parts (among []) = refl
 rule_with-parts (among (u ∷ us)) = refl
 rule_with-parts (just u) = refl
+rule_with-parts among_slot = refl
+rule_with-parts just_slot = refl
 
 abbrev pub rule_code : Coded ActionRule
 rule_code =

@@ -4,7 +4,7 @@ use Rattle.std.specs.Borrow.{Bor}
 use Rattle.cedar_ids.specs.Uid.{UidParts}
 use Rattle.cedar_ids.specs.UidOf.{uid_parts}
 use Rattle.cedar_ids.specs.declared.entity.EntityUID.{EntityUID}
-use Rattle.cedar_action.specs.Rules.{ActionRule, any_action, among, just}
+use Rattle.cedar_action.specs.Rules.{ActionRule, any_action, among, just, among_slot, just_slot}
 use Rattle.cedar_action.specs.declared.action.ActionConstraint.{ActionConstraint}
 use Rattle.cedar_action.specs.declared.action.ActionConstraint.TheVariants as actions
 use Rattle.cedar_action.specs.declared.iters.EntityIterator.{EntityIterator}
@@ -15,6 +15,8 @@ abbrev pub rule_of : ActionConstraint → ActionRule
 rule_of actions.Any = any_action
 rule_of (actions.In us) = among (map (λ u. uid_parts u.value) us.items)
 rule_of (actions.Eq u) = just (uid_parts u.value)
+rule_of (actions.InSlot l) = among_slot
+rule_of (actions.EqSlot l) = just_slot
 
 -- the uids of a list, from the back
 abbrev pub from_the_back : List (Bor EntityUID) → List UidParts

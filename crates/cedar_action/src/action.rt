@@ -1,5 +1,5 @@
-//! What a policy asks of the action: anything, one uid, or one of a list.
-ghost use Rattle.std.specs.Prelude.{◌≡◌, ◌&&◌, ◌++◌, IfOk, List, map, true};
+//! What a policy asks of the action: anything, one uid, one of a list, or what its slot is bound to.
+ghost use Rattle.std.specs.Prelude.{◌≡◌, ◌&&◌, ◌++◌, IfOk, List, map, true, false};
 ghost use Rattle.std.specs.Fmt.{WritesOnOk};
 ghost use Rattle.std.specs.List.{list_all, flat_map, filter};
 ghost use Rattle.std.specs.Ordering.{on, as_partial_cmp};
@@ -10,9 +10,10 @@ ghost use Rattle.cedar_ids.specs.NonEmpties.{all_of};
 ghost use Rattle.cedar_ids.specs.Printed.{printed_uid};
 ghost use Rattle.cedar_ids.specs.Uid.{name_part};
 ghost use Rattle.cedar_ids.specs.UidOf.{uid_parts};
-ghost use Rattle.cedar_terms.specs.ExprTree.{set_node, expr_trees};
-ghost use Rattle.cedar_action.specs.Rules.{any_action, among, just};
-ghost use Rattle.cedar_action.specs.RuleReads.{rule_kind, rule_uids, uids_given, is_no_action};
+ghost use Rattle.cedar_terms.specs.ExprTree.{set_node, slot_node, expr_trees};
+ghost use Rattle.cedar_terms.specs.declared.slot.SlotId.TheVariants.{Action};
+ghost use Rattle.cedar_action.specs.Rules.{any_action, among, just, among_slot, just_slot};
+ghost use Rattle.cedar_action.specs.RuleReads.{rule_kind, rule_uids, rule_has_slot, uids_given, is_no_action, filled_rule};
 ghost use Rattle.cedar_action.specs.RuleOrder.{rule_cmp, same_rule, rule_hash};
 ghost use Rattle.cedar_action.specs.RuleTrees.{rule_expr};
 ghost use Rattle.cedar_terms.specs.UidTrees.{uid_expr};
@@ -25,9 +26,11 @@ ghost use Rattle.cedar_action.specs.declared.action.ActionTypesError.TheVariants
 
 use crate::iters::{ActionTypeNames, EntityIterator};
 use cedar_ids::entity::EntityUID;
+use cedar_ids::loc::Loc;
 use cedar_ids::non_empty::NonEmpty;
 use cedar_terms::expr::Expr;
 use cedar_terms::literal::Literal;
+use cedar_terms::slot::SlotId;
 use cedar_terms::var::Var;
 use std::alloc::{AllocError, AllocFailed, Global};
 use std::cmp::Ordering;
@@ -40,8 +43,9 @@ use thiserror::Error;
 ///
 /// The order is by kind, as the kinds are listed here, then by the uids item by item. Equality, order and
 /// hash look at no location and take no memory. `clone` takes memory for a list and shares its uids.
-/// `Display` writes `action`, `action in [U,W]` or `action == U` and takes no memory: exactly so where all
-/// eids are ASCII, else with an eid past ASCII as `str::escape_debug` writes it.
+/// `Display` writes `action`, `action in [U,W]`, `action == U`, `action in ?action` or `action == ?action` and takes no
+/// memory: exactly so where all eids are ASCII, else with an eid past ASCII as `str::escape_debug` writes it. The original
+/// has no slot of the action.
 #[derive(Debug, Drop)]
 pub enum ActionConstraint {
     /// Anything.
@@ -50,6 +54,10 @@ pub enum ActionConstraint {
     In(Vec<Rc<EntityUID>>),
     /// Equal to this uid.
     Eq(Rc<EntityUID>),
+    /// In what the action's slot is bound to, and where that slot stands in a source, if it is known.
+    InSlot(Option<Loc>),
+    /// Equal to what the action's slot is bound to, and where that slot stands, if it is known.
+    EqSlot(Option<Loc>),
 }
 
 /// Why the types of an action's constraint were refused. The original answers the uids alone, and has no
@@ -117,8 +125,46 @@ impl ActionConstraint {
         Ok(ActionConstraint::Eq(euid))
     }
 
-    /// The expression of the constraint: `true`, `action in` the set of the uids in their order, or `action
-    /// ==` the uid. Takes memory linear in the list; the uids are shared.
+    /// In what the action's slot is bound to; the slot has no location. Takes no memory. It is this project's own.
+    pub fn is_in_slot() -> ActionConstraint
+        ensures { rule_of result ≡ among_slot }
+    {
+        ActionConstraint::InSlot(None)
+    }
+
+    /// Equal to what the action's slot is bound to; the slot has no location. Takes no memory. It is this project's own.
+    pub fn is_eq_slot() -> ActionConstraint
+        ensures { rule_of result ≡ just_slot }
+    {
+        ActionConstraint::EqSlot(None)
+    }
+
+    /// The constraint with the uid in the place of the slot: in the list of that one uid, or equal to it. Any other stays.
+    ///
+    /// Takes memory for that list alone, and is refused only where that is; a refusal drops the constraint. It is this
+    /// project's own.
+    pub fn with_filled_slot(
+        self,
+        alloc: Global,
+        euid: Rc<EntityUID>,
+    ) -> Result<ActionConstraint, AllocError>
+        ensures fills { IfOk result (λ c. rule_of c ≡ filled_rule (uid_parts euid.value) (rule_of self)) }
+        ensures no_slot { IfOk result (λ c. rule_has_slot (rule_of c) ≡ false) }
+    {
+        match self {
+            ActionConstraint::InSlot(_) => {
+                let mut euids = Vec::new(alloc);
+                euids.push(euid)?;
+                Ok(ActionConstraint::In(euids))
+            }
+            ActionConstraint::EqSlot(_) => Ok(ActionConstraint::Eq(euid)),
+            other => Ok(other),
+        }
+    }
+
+    /// The expression of the constraint: `true`, `action in` the set of the uids in their order, `action ==` the uid, or
+    /// `action in` or `==` its slot, which stands where the constraint has it. Takes memory linear in the list; the uids
+    /// are shared.
     pub fn as_expr(&self, alloc: Global) -> Result<Expr, AllocError>
         ensures { IfOk result (λ e. e ≡ rule_expr (rule_of self.now)) }
     {
@@ -134,10 +180,20 @@ impl ActionConstraint {
                 let right = Expr::val(alloc, Literal::EntityUID(euid.clone()?))?;
                 Expr::is_eq(alloc, left, right)
             }
+            ActionConstraint::InSlot(loc) => {
+                let left = Expr::var(alloc, Var::Action)?;
+                let right = slot_at(alloc, loc)?;
+                Expr::is_in(alloc, left, right)
+            }
+            ActionConstraint::EqSlot(loc) => {
+                let left = Expr::var(alloc, Var::Action)?;
+                let right = slot_at(alloc, loc)?;
+                Expr::is_eq(alloc, left, right)
+            }
         }
     }
 
-    /// The uids of the constraint: of a list from the back, repeats kept. Takes memory for a list of
+    /// The uids of the constraint: of a list from the back, repeats kept; of the slot none. Takes memory for a list of
     /// references where the constraint has a list, else none.
     pub fn iter_euids(&self, alloc: Global) -> Result<EntityIterator<'_>, AllocError>
         ensures { IfOk result (λ i. uids_left i ≡ uids_given (rule_of self.now)) }
@@ -146,6 +202,8 @@ impl ActionConstraint {
             ActionConstraint::Any => Ok(EntityIterator::None),
             ActionConstraint::In(euids) => bunch(alloc, euids),
             ActionConstraint::Eq(euid) => Ok(EntityIterator::One(euid)),
+            ActionConstraint::InSlot(_) => Ok(EntityIterator::None),
+            ActionConstraint::EqSlot(_) => Ok(EntityIterator::None),
         }
     }
 
@@ -158,7 +216,7 @@ impl ActionConstraint {
     }
 
     /// `Ok` exactly where each uid is an action: where the last component of its type is `Action`, whatever
-    /// its path.
+    /// its path. The slot passes.
     ///
     /// `NotActions` has exactly the others, in the order of the list, repeats kept, and they are shared.
     /// Takes memory for these alone; `Memory` comes only where that was refused. Reads each uid's type once.
@@ -169,6 +227,8 @@ impl ActionConstraint {
             ActionConstraint::Any => Ok(()),
             ActionConstraint::In(euids) => check_all(alloc, euids),
             ActionConstraint::Eq(euid) => check_one(alloc, euid),
+            ActionConstraint::InSlot(_) => Ok(()),
+            ActionConstraint::EqSlot(_) => Ok(()),
         }
     }
 
@@ -194,6 +254,8 @@ impl ActionConstraint {
             ActionConstraint::Any => 0,
             ActionConstraint::In(_) => 1,
             ActionConstraint::Eq(_) => 2,
+            ActionConstraint::InSlot(_) => 3,
+            ActionConstraint::EqSlot(_) => 4,
         }
     }
 
@@ -211,6 +273,8 @@ impl ActionConstraint {
                 ActionConstraint::Eq(v) => compare_uids(u, v),
                 _ => self.kind().cmp(&other.kind()),
             },
+            ActionConstraint::InSlot(_) => self.kind().cmp(&other.kind()),
+            ActionConstraint::EqSlot(_) => self.kind().cmp(&other.kind()),
         }
     }
 }
@@ -244,6 +308,14 @@ fn shared(alloc: Global, euids: Vec<EntityUID>) -> Result<Vec<Rc<EntityUID>>, Al
         all.push(Rc::new(alloc, euid)?)?;
     }
     Ok(all)
+}
+
+// The action's slot, where it stands.
+fn slot_at(alloc: Global, loc: &Option<Loc>) -> Result<Expr, AllocError>
+    ensures { IfOk result (λ e. e ≡ slot_node Action) }
+{
+    let expr = Expr::slot(alloc, SlotId::Action)?;
+    Ok(expr.with_maybe_source_loc(loc.clone()?))
 }
 
 // The set of some uids.
@@ -350,6 +422,8 @@ impl fmt::Display for ActionConstraint {
                 f.write_str("]")
             }
             ActionConstraint::Eq(euid) => write!(f, "action == {euid}"),
+            ActionConstraint::InSlot(_) => f.write_str("action in ?action"),
+            ActionConstraint::EqSlot(_) => f.write_str("action == ?action"),
         }
     }
 }
@@ -414,6 +488,8 @@ impl Clone for ActionConstraint {
             ActionConstraint::Any => Ok(ActionConstraint::Any),
             ActionConstraint::In(euids) => Ok(ActionConstraint::In(euids.clone()?)),
             ActionConstraint::Eq(euid) => Ok(ActionConstraint::Eq(euid.clone()?)),
+            ActionConstraint::InSlot(loc) => Ok(ActionConstraint::InSlot(loc.clone()?)),
+            ActionConstraint::EqSlot(loc) => Ok(ActionConstraint::EqSlot(loc.clone()?)),
         }
     }
 }
@@ -467,6 +543,8 @@ impl Hash for ActionConstraint {
             ActionConstraint::Any => hash_list(&[], state),
             ActionConstraint::In(euids) => hash_list(euids, state),
             ActionConstraint::Eq(euid) => hash_list(slice::from_ref(euid), state),
+            ActionConstraint::InSlot(_) => hash_list(&[], state),
+            ActionConstraint::EqSlot(_) => hash_list(&[], state),
         }
     }
 }

@@ -1,8 +1,7 @@
 -- What the slots are bound to, and how that fits some slots.
-use Rattle.std.specs.Prelude.{◌≡◌, List, Bool, not, ◌&&◌, Option, Some, None, is_some, option_and_then, if◌then◌else◌, codes}
-use Rattle.std.specs.Str.{bytes_eq}
+use Rattle.std.specs.Prelude.{◌≡◌, List, Bool, not, ◌&&◌, Option, Some, None, is_some, option_and_then, if◌then◌else◌}
 use Rattle.std.specs.List.{filter, list_any}
-use Rattle.cedar_ids.specs.Uid.{UidParts}
+use Rattle.cedar_ids.specs.Uid.{UidParts, is_action_uid}
 use Rattle.cedar_terms.specs.SlotTree.{all_slots, same_slot}
 use Rattle.cedar_terms.specs.declared.slot.SlotId.{SlotId}
 use Rattle.cedar_terms.specs.declared.slot.SlotId.TheVariants.{Action}
@@ -30,10 +29,6 @@ is_among slots s = list_any (same_slot s) slots
 -- the bound ids are the ids of the slots
 abbrev pub BindsExactly : List SlotId → EnvParts → Type 0
 BindsExactly slots e = (s : SlotId) → binds e s ≡ is_among slots s
-
--- whether it is the uid of an action: whether the last component of its type is `Action`
-abbrev pub is_action_uid : UidParts → Bool
-is_action_uid u = bytes_eq u.name.basename (codes "Action")
 
 -- the uid, if it is no action
 abbrev pub unless_action : UidParts → Option UidParts

@@ -2,7 +2,7 @@
 ghost use Rattle.std.specs.Prelude.{◌≡◌, ◌&&◌, ◌↔◌, [], not, IfOk, IsTrue};
 ghost use Rattle.std.specs.Option.{option_copied, option_map};
 ghost use Rattle.cedar_ids.specs.UidOf.{uid_parts};
-ghost use Rattle.cedar_binding.specs.Bindings.{binds, is_action_uid, is_among, unbound, extra, wrong_action};
+ghost use Rattle.cedar_binding.specs.Bindings.{binds, is_among, unbound, extra, wrong_action};
 ghost use Rattle.cedar_binding.specs.Checks.{Binds};
 ghost use Rattle.cedar_binding.specs.Views.{env_of};
 
@@ -82,20 +82,12 @@ fn wrong_action(values: &SlotEnv) -> Option<&EntityUID>
     match bound_to(values, SlotId::Action) {
         None => None,
         Some(uid) => {
-            if is_action(uid) {
+            if uid.is_action() {
                 return None;
             }
             Some(uid)
         }
     }
-}
-
-// Whether it is the uid of an action.
-#[tactic(auto, using(crate::proofs::Actions::told_action))]
-fn is_action(uid: &EntityUID) -> bool
-    ensures { result ≡ is_action_uid (uid_parts uid.now) }
-{
-    uid.is_action()
 }
 
 // A copy of a uid.
