@@ -5,11 +5,13 @@ use Rattle.cedar_ids.specs.Uid.{UidParts}
 use Rattle.cedar_terms.specs.ExprTree.{ExprTree}
 use Rattle.cedar_annotation.specs.Annotations.{AnnotationsView}
 use Rattle.cedar_scope.specs.Scope.{Constraint, any}
-use Rattle.cedar_action.specs.Rules.{any_action}
+use Rattle.cedar_terms.specs.declared.slot.SlotId.TheVariants.{Principal, Action, Resource}
+use Rattle.cedar_action.specs.Rules.{ActionRule, any_action}
+use Rattle.cedar_action.specs.RuleReads.{filled_rule}
 use Rattle.cedar_scope.specs.ScopeReads.{filled}
 use Rattle.cedar_body.specs.Bodies.{BodyParts, body_slots, with_id}
 use Rattle.cedar_body.specs.declared.effect.Effect.{Effect}
-use Rattle.cedar_binding.specs.Bindings.{EnvParts, no_env, BindsExactly}
+use Rattle.cedar_binding.specs.Bindings.{EnvParts, no_env, FitsSlots}
 
 -- its template, its own id where it is a link, and what it binds
 pub record PolicyParts : Type 0 where
@@ -30,9 +32,10 @@ abbrev pub unconstrained : List ℕ → AnnotationsView → Effect → ExprTree 
 unconstrained i a f e =
     record { id = i; annotations = a; effect = f; principal = any; action = any_action; resource = any; clause = Some e }
 
--- what holds of each policy: the bound ids are the ids of its template's slots, and what is no link has none
+-- what holds of each policy: the bound ids are the ids of its template's slots, the action's, if it is one of them, is bound
+-- to an action, and what is no link has none
 pub record IsPolicy (p : PolicyParts) : Type 0 where
-  pub total : BindsExactly (body_slots p.template) p.env
+  pub total : FitsSlots (body_slots p.template) p.env
   pub unlinked : p.link ≡ None → body_slots p.template ≡ []
 
 -- another id for a policy whose link is this: the template's where there is none, else the link's
@@ -53,9 +56,17 @@ abbrev pub filled_by : Option UidParts → Constraint → Constraint
 filled_by None c = c
 filled_by (Some u) c = filled u c
 
--- what the principal and the resource of a policy have to be
+-- and so with the constraint of an action
+abbrev pub filled_rule_by : Option UidParts → ActionRule → ActionRule
+filled_rule_by None a = a
+filled_rule_by (Some u) a = filled_rule u a
+
+-- what the principal, the action and the resource of a policy have to be
 abbrev pub principal_of : PolicyParts → Constraint
-principal_of p = filled_by p.env.principal p.template.principal
+principal_of p = filled_by (p.env Principal) p.template.principal
+
+abbrev pub action_of : PolicyParts → ActionRule
+action_of p = filled_rule_by (p.env Action) p.template.action
 
 abbrev pub resource_of : PolicyParts → Constraint
-resource_of p = filled_by p.env.resource p.template.resource
+resource_of p = filled_by (p.env Resource) p.template.resource

@@ -5,11 +5,12 @@ ghost use Rattle.std.specs.Cmp.{partial_equiv_from_equiv};
 ghost use Rattle.cedar_terms.specs.Walk.{slots_of, unknowns_of};
 ghost use Rattle.cedar_annotation.specs.Annotations.{value_at, KeysAscend};
 ghost use Rattle.cedar_scope.specs.ScopeReads.{has_slot};
+ghost use Rattle.cedar_action.specs.RuleReads.{rule_has_slot};
 ghost use Rattle.cedar_action.specs.Views.{rule_of};
-ghost use Rattle.cedar_binding.specs.Bindings.{BindsExactly};
+ghost use Rattle.cedar_binding.specs.Bindings.{BindsExactly, wrong_action};
 ghost use Rattle.cedar_binding.specs.Views.{env_of};
 ghost use Rattle.cedar_body.specs.Bodies.{condition, body_slots};
-ghost use Rattle.cedar_policy.specs.Policies.{policy_id, static_policy, unconstrained, with_policy_id, with_template_id, principal_of, resource_of};
+ghost use Rattle.cedar_policy.specs.Policies.{policy_id, static_policy, unconstrained, with_policy_id, with_template_id, principal_of, action_of, resource_of};
 ghost use Rattle.cedar_policy.specs.PolicyEquality.{same_policy};
 ghost use Rattle.cedar_policy.specs.PolicyTexts.{policy_output};
 ghost use Rattle.cedar_policy.specs.Unknowns.{AreUnknownEntities};
@@ -44,7 +45,7 @@ use std::rc::Rc;
 /// Contracts see the parts of the template, the id of the link and the bindings, without locations. Equality is
 /// theirs, looks at no location and takes no memory. `clone` shares the template and takes memory for the id and
 /// the bindings. `Display` writes a static policy as its template; a link by the id of its template and its
-/// bindings, the principal's first. It takes no memory.
+/// bindings, in the order of slots. It takes no memory.
 #[derive(Debug, Drop)]
 pub struct Policy {
     pub(crate) template: Rc<Template>,
@@ -196,11 +197,18 @@ impl Policy {
         }
     }
 
-    /// What the action has to be.
-    pub fn action_constraint(&self) -> &ActionConstraint
-        ensures { rule_of result.now ≡ self.now.template.action }
+    /// What the action has to be: what the template says, with the bound uid in place of the slot. No slot stands in it.
+    /// Takes memory for a list and for the uid, which it copies, and is refused only where that is. The original has no slot
+    /// of the action, and answers a reference.
+    pub fn action_constraint(&self, alloc: Global) -> Result<ActionConstraint, AllocError>
+        ensures fills { IfOk result (λ c. rule_of c ≡ action_of self.now) }
+        ensures no_slot { IfOk result (λ c. rule_has_slot (rule_of c) ≡ false) }
     {
-        self.template.action_constraint()
+        let constraint = self.template.action_constraint().clone()?;
+        match bound_to(&self.values, SlotId::Action) {
+            None => Ok(constraint),
+            Some(uid) => constraint.with_filled_slot(alloc, Rc::new(alloc, uid.clone()?)?),
+        }
     }
 
     /// What the resource has to be: what the template says, with the bound uid in place of the slot. No slot
@@ -237,10 +245,11 @@ impl Policy {
         self.template.condition(alloc)
     }
 
-    /// What the slots are bound to: the bound ids are the ids of the template's slots.
+    /// What the slots are bound to: the bound ids are the ids of the template's slots, and the action's is bound to an action.
     pub fn env(&self) -> &SlotEnv
         ensures value { env_of result.now ≡ self.now.env }
         ensures total { BindsExactly (body_slots self.now.template) self.now.env }
+        ensures action { wrong_action self.now.env ≡ None }
     {
         &self.values
     }

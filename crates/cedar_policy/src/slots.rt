@@ -5,9 +5,13 @@ ghost use Rattle.std.specs.Option.{option_copied};
 ghost use Rattle.cedar_scope.specs.ScopeReads.{has_slot};
 ghost use Rattle.cedar_scope.specs.Views.{constraint_of};
 ghost use Rattle.cedar_scope.specs.laws.ScopeSlots.{constraint_slots};
+ghost use Rattle.cedar_action.specs.RuleReads.{rule_has_slot};
+ghost use Rattle.cedar_action.specs.Views.{rule_of};
+ghost use Rattle.cedar_action.specs.laws.RuleSlots.{rule_slots};
 ghost use Rattle.cedar_body.specs.Bodies.{body_slots, clause_slots};
 ghost use Rattle.cedar_body.specs.Views.{body_of};
 
+use cedar_action::ActionConstraint;
 use cedar_body::TemplateBody;
 use cedar_ids::loc::Loc;
 use cedar_scope::{EntityReference, PrincipalOrResource, PrincipalOrResourceConstraint};
@@ -57,7 +61,8 @@ impl<'a> Iterator for Slots<'a> {
     }
 }
 
-// The slots in a body's condition, which is not made: those of the clause, then the resource's, then the principal's.
+// The slots in a body's condition, which is not made: those of the clause, then the resource's, the action's and the
+// principal's.
 #[tactic(auto, using(crate::specs::laws::PolicySlots::slots_in_turn))]
 pub(crate) fn slots_in(alloc: Global, body: &TemplateBody) -> Result<Vec<Slot>, AllocError>
     ensures { IfOk result (λ v. v.items ≡ body_slots (body_of body.now)) }
@@ -65,6 +70,7 @@ pub(crate) fn slots_in(alloc: Global, body: &TemplateBody) -> Result<Vec<Slot>, 
     let mut slots = slots_in_clause(alloc, body.non_scope_constraints())?;
     let resource = body.resource_constraint().as_inner();
     push_slot(&mut slots, PrincipalOrResource::Resource, resource)?;
+    push_action_slot(&mut slots, body.action_constraint())?;
     let principal = body.principal_constraint().as_inner();
     push_slot(&mut slots, PrincipalOrResource::Principal, principal)?;
     Ok(slots)
@@ -95,6 +101,35 @@ fn push_slot(
         })?;
     }
     Ok(())
+}
+
+// Puts the action's slot last, if the constraint refers to it: at the location that the constraint has.
+fn push_action_slot(
+    slots: &mut Vec<Slot>,
+    constraint: &ActionConstraint,
+) -> Result<(), AllocError>
+    ensures { OnOk result (slots.new.items ≡ slots.old.items ++ rule_slots (rule_of constraint.now)) }
+{
+    if let Some(loc) = action_slot_at(constraint) {
+        slots.push(Slot {
+            id: SlotId::Action,
+            loc: loc.clone()?,
+        })?;
+    }
+    Ok(())
+}
+
+// The location of the slot that an action's constraint refers to, if it refers to it.
+fn action_slot_at(constraint: &ActionConstraint) -> Option<&Option<Loc>>
+    ensures { is_some result ≡ rule_has_slot (rule_of constraint.now) }
+{
+    match constraint {
+        ActionConstraint::InSlot(loc) => Some(loc),
+        ActionConstraint::EqSlot(loc) => Some(loc),
+        ActionConstraint::Any => None,
+        ActionConstraint::In(_) => None,
+        ActionConstraint::Eq(_) => None,
+    }
 }
 
 // The location of the slot that a constraint refers to, if it refers to one.

@@ -260,11 +260,12 @@ impl Template {
         self.slots.is_empty()
     }
 
-    /// `Ok` exactly where the bound ids are the ids of the template's slots.
+    /// `Ok` exactly where the bound ids are the ids of the template's slots, and the action's, if it is one of them, is bound
+    /// to an action.
     ///
-    /// Else the `ArityError` has exactly the template's slots that are not bound, in their order, as often as
-    /// they stand there, and the bound ids that are no slots, the principal's first. Takes memory for these
-    /// lists alone; `Memory` comes only where that was refused.
+    /// Where the ids are others, the `ArityError` has exactly the template's slots that are not bound, in their order, as
+    /// often as they stand there, and the bound ids that are no slots, in the order of ids. Where they are not, `NotAnAction`
+    /// has the uid. Takes memory for what a refusal has alone; `Memory` comes only where that was refused.
     pub fn check_binding(
         alloc: Global,
         template: &Template,

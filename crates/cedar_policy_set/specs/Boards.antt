@@ -3,7 +3,7 @@ use Rattle.std.specs.Prelude.{◌≡◌, ℕ, ◌-◌, length, slice_get, List, 
 use Rattle.std.specs.List.{find, filter, list_any}
 use Rattle.cedar_ids.specs.Texts.{same_text}
 use Rattle.cedar_body.specs.Bodies.{BodyParts, body_slots}
-use Rattle.cedar_binding.specs.Bindings.{EnvParts, BindsExactly}
+use Rattle.cedar_binding.specs.Bindings.{EnvParts, FitsSlots}
 use Rattle.cedar_policy.specs.Policies.{PolicyParts, policy_id, static_policy}
 
 -- the bodies of static policies and of templates, and the static policies and links, each in their order
@@ -84,7 +84,7 @@ AreOnce id [] = Unit {0}
 AreOnce id (x ∷ xs) = (list_any (λ y. same_text (id x) (id y)) xs ≡ false) × AreOnce id xs
 
 -- a static policy stands on the body of its id; a link has an id that no body has, and its template stands among
--- the bodies, is no static policy's, and has exactly the slots that are bound
+-- the bodies, is no static policy's, and has exactly the slots that are bound, the action's to an action
 abbrev pub IsHeldBy : Option (List ℕ) → Board → PolicyParts → Type 0
 IsHeldBy None b p =
     (p ≡ static_policy p.template) × (body_slots p.template ≡ []) × (find (is_body_at p.template.id) b.bodies ≡ Some p.template)
@@ -92,7 +92,7 @@ IsHeldBy (Some l) b p =
     (list_any (is_body_at l) b.bodies ≡ false)
     × (find (is_body_at p.template.id) b.bodies ≡ Some p.template)
     × (list_any (is_policy_at p.template.id) b.policies ≡ false)
-    × BindsExactly (body_slots p.template) p.env
+    × FitsSlots (body_slots p.template) p.env
 
 abbrev pub IsHeld : Board → PolicyParts → Type 0
 IsHeld b p = IsHeldBy p.link b p

@@ -1,5 +1,6 @@
 -- What each error tells, and how an answer goes with a step.
 use Rattle.std.specs.Prelude.{◌≡◌, ℕ, List, Option, Some, None, Result, Ok, Err}
+use Rattle.cedar_ids.specs.UidOf.{uid_parts}
 use Rattle.cedar_binding.specs.declared.err.LinkingError.{LinkingError}
 use Rattle.cedar_binding.specs.declared.err.LinkingError.TheVariants as links
 use Rattle.cedar_policy_set.specs.declared.err.PolicySetError.{PolicySetError}
@@ -13,7 +14,7 @@ use Rattle.cedar_policy_set.specs.declared.err.PolicySetTemplateRemovalError.The
 use Rattle.cedar_policy_set.specs.declared.err.PolicySetUnlinkError.{PolicySetUnlinkError}
 use Rattle.cedar_policy_set.specs.declared.err.PolicySetUnlinkError.TheVariants as unlinks
 use Rattle.cedar_policy_set.specs.Boards.{Board, Binding, without_id}
-use Rattle.cedar_policy_set.specs.Steps.{Refusal, occupied, no_body, no_such_template, arity, id_conflict, no_link, not_a_link, no_template, with_links, not_a_template, no_static, not_static}
+use Rattle.cedar_policy_set.specs.Steps.{Refusal, occupied, no_body, no_such_template, arity, not_an_action, id_conflict, no_link, not_a_link, no_template, with_links, not_a_template, no_static, not_static}
 
 -- what an error tells; want of memory tells nothing
 abbrev pub told_by_set : PolicySetError → Option Refusal
@@ -26,6 +27,7 @@ told_by_listing listings.Memory = None
 
 abbrev pub told_by_linking : LinkingError → Option Refusal
 told_by_linking (links.ArityError u x) = Some (arity u.items x.items)
+told_by_linking (links.NotAnAction u) = Some (not_an_action (uid_parts u))
 told_by_linking (links.NoSuchTemplate i) = Some (no_such_template i)
 told_by_linking (links.PolicyIdConflict i) = Some (id_conflict i)
 told_by_linking links.Memory = None

@@ -2,16 +2,17 @@
 use Rattle.std.specs.Prelude.{◌≡◌, ℕ, List, [], ◌∷◌, Bool, ◌||◌, Option, Some, None, Result, Ok, Err, if◌then◌else◌}
 use Rattle.std.specs.List.{find}
 use Rattle.cedar_ids.specs.Texts.{same_text}
+use Rattle.cedar_ids.specs.Uid.{UidParts}
 use Rattle.cedar_terms.specs.declared.slot.SlotId.{SlotId}
 use Rattle.cedar_body.specs.Bodies.{BodyParts, body_slots}
 use Rattle.cedar_body.specs.BodyEquality.{same_body}
-use Rattle.cedar_binding.specs.Bindings.{EnvParts, unbound, extra}
+use Rattle.cedar_binding.specs.Bindings.{EnvParts, unbound, extra, wrong_action}
 use Rattle.cedar_policy.specs.Policies.{PolicyParts, static_policy}
 use Rattle.cedar_policy_set.specs.Lists.{ids_in}
 use Rattle.cedar_policy_set.specs.Boards.{Board, Binding, Static, Template, Link, bound_at, is_bound, is_body_at, has_links, with_template, with_policy, with_both, without_id}
 
 -- why a call is refused: an id is taken; there is no body of an id; there is no template of an id to link; the
--- bindings don't fit its slots; the id of a link is taken; there is no link of an id; there is something else than
+-- bindings don't fit its slots; the action's slot is bound to no action; the id of a link is taken; there is no link of an id; there is something else than
 -- a link; there is no template of an id to take out; it has links; there is something else than a template; there is
 -- no static policy of an id; there is a link
 pub data Refusal : Type 0 where
@@ -19,6 +20,7 @@ pub data Refusal : Type 0 where
   no_body : List ℕ → Refusal
   no_such_template : List ℕ → Refusal
   arity : List SlotId → List SlotId → Refusal
+  not_an_action : UidParts → Refusal
   id_conflict : List ℕ → Refusal
   no_link : List ℕ → Refusal
   not_a_link : List ℕ → Refusal
@@ -51,15 +53,16 @@ add_by (Some l) b p = add_link_at (bound_at b p.template.id) b l p
 abbrev pub add_step : Board → PolicyParts → Result Board Refusal
 add_step b p = add_by p.link b p
 
--- bindings that leave nothing unbound and nothing extra go on
-abbrev pub fitting : List SlotId → List SlotId → Result Board Refusal → Result Board Refusal
-fitting [] [] r = r
-fitting u x r = Err (arity u x)
+-- bindings that leave nothing unbound and nothing extra, and the action's slot to no uid that is no action, go on
+abbrev pub fitting : List SlotId → List SlotId → Option UidParts → Result Board Refusal → Result Board Refusal
+fitting [] [] None r = r
+fitting [] [] (Some u) r = Err (not_an_action u)
+fitting u x o r = Err (arity u x)
 
 -- a link of a template, under a free id
 abbrev pub link_onto : BodyParts → Board → List ℕ → EnvParts → Result Board Refusal
 link_onto t b l e =
-    fitting (unbound (body_slots t) e) (extra (body_slots t) e)
+    fitting (unbound (body_slots t) e) (extra (body_slots t) e) (wrong_action e)
     (if is_bound b l then Err (id_conflict l) else Ok (with_policy b (record { template = t; link = Some l; env = e })))
 
 abbrev pub link_at : Option Binding → Board → List ℕ → List ℕ → EnvParts → Result Board Refusal

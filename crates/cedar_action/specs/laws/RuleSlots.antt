@@ -1,5 +1,5 @@
 -- The slots in the expressions of constraints of actions.
-use Rattle.std.specs.Prelude.{◌≡◌, List, [], ◌∷◌, ◌++◌, map, refl, if◌then◌else◌}
+use Rattle.std.specs.Prelude.{◌≡◌, List, [], ◌∷◌, ◌++◌, map, refl, false, if◌then◌else◌}
 use Rattle.std.proofs.Common.{ap, ◌∙◌}
 use Rattle.std.specs.List.{filter_map}
 use Rattle.std.proofs.lemmas.List.Elements.{filter_map-append}
@@ -10,7 +10,7 @@ use Rattle.cedar_action.specs.Rules.{ActionRule, any_action, among, just, among_
 use Rattle.cedar_terms.specs.UidTrees.{uid_expr}
 use Rattle.cedar_terms.specs.declared.slot.SlotId.{SlotId}
 use Rattle.cedar_terms.specs.declared.slot.SlotId.TheVariants.{Action}
-use Rattle.cedar_action.specs.RuleReads.{rule_has_slot}
+use Rattle.cedar_action.specs.RuleReads.{rule_has_slot, filled_rule}
 use Rattle.cedar_action.specs.RuleTrees.{rule_expr}
 
 none_in_uids : (us : List UidParts) → filter_map slot_of (walk_back (expr_trees (map uid_expr us))) ≡ []
@@ -28,3 +28,11 @@ slots_of-rule_expr (among us) = filter_map-append slot_of (walk_back (expr_trees
 slots_of-rule_expr (just u) = refl
 slots_of-rule_expr among_slot = refl
 slots_of-rule_expr just_slot = refl
+
+-- a filled rule holds no slot
+pub rule_has_slot-filled : (u : UidParts) (a : ActionRule) → rule_has_slot (filled_rule u a) ≡ false
+rule_has_slot-filled u any_action = refl
+rule_has_slot-filled u (among us) = refl
+rule_has_slot-filled u (just v) = refl
+rule_has_slot-filled u among_slot = refl
+rule_has_slot-filled u just_slot = refl

@@ -5,11 +5,14 @@ use Rattle.std.proofs.lemmas.Bool.{false≢true}
 use Rattle.cedar_ids.specs.Uid.{UidParts}
 use Rattle.cedar_terms.specs.laws.SlotIdLaws.{same_slot_decides}
 use Rattle.cedar_terms.specs.declared.slot.SlotId.{SlotId}
-use Rattle.cedar_binding.specs.Bindings.{EnvParts, no_env, binds, is_among, BindsExactly}
+use Rattle.cedar_binding.specs.Bindings.{EnvParts, no_env, binds, is_among, BindsExactly, FitsSlots}
 
 -- where there is no slot they fit
 pub no_env-fits : (slots : List SlotId) → slots ≡ [] → BindsExactly slots no_env
 no_env-fits slots h s = ap (λ xs. is_among xs s) (sym h)
+
+pub fits_nothing : (slots : List SlotId) → slots ≡ [] → FitsSlots slots no_env
+fits_nothing slots h = record { exactly = no_env-fits slots h; action = refl }
 
 not_bound : (s : SlotId) → binds no_env s ≡ true → ⊥
 not_bound s h = false≢true h

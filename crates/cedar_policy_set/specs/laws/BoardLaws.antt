@@ -8,12 +8,14 @@ use Rattle.std.proofs.lemmas.List.{append-nil}
 use Rattle.std.proofs.lemmas.List.Folds.{list_any-append}
 use Rattle.std.proofs.lemmas.List.Elements.{filter-append}
 use Rattle.cedar_ids.specs.Texts.{same_text}
+use Rattle.cedar_ids.specs.Uid.{UidParts}
+use Rattle.cedar_ids.specs.UidOf.{uid_parts}
 use Rattle.cedar_ids.specs.laws.TextLaws.{same_text_equiv, same_text_decides}
 use Rattle.cedar_body.specs.Bodies.{BodyParts, body_slots}
 use Rattle.cedar_body.specs.BodyEquality.{same_body}
 use Rattle.cedar_body.specs.laws.BodyLaws.{same_body_decides}
-use Rattle.cedar_binding.specs.Bindings.{EnvParts, BindsExactly, unbound, extra}
-use Rattle.cedar_binding.specs.Checks.{IsArity}
+use Rattle.cedar_binding.specs.Bindings.{EnvParts, BindsExactly, FitsSlots, unbound, extra, wrong_action}
+use Rattle.cedar_binding.specs.Checks.{IsUnfit}
 use Rattle.cedar_binding.specs.declared.err.LinkingError.{LinkingError}
 use Rattle.cedar_binding.specs.declared.err.LinkingError.TheVariants as links
 use Rattle.cedar_binding.specs.laws.Fits.{fits, nothing_left_over}
@@ -256,7 +258,7 @@ none_bound b i e =
 
 -- a link of a missing template may join with it
 pub can_join_both : (o : Option (List ℕ)) (b : Board) (p : PolicyParts) → o ≡ p.link → (o ≡ None → ⊥) → is_bound b (policy_id p) ≡ false → same_text (policy_id p) p.template.id ≡ false →
-    BindsExactly (body_slots p.template) p.env → CanJoinBothBy o b p
+    FitsSlots (body_slots p.template) p.env → CanJoinBothBy o b p
 can_join_both None b p e n f s t = absurd (n refl)
 can_join_both (Some l) b p e n f s t =
     let own : policy_id p ≡ l = ap (λ o. unwrap_or o p.template.id) (sym e) in
@@ -264,7 +266,7 @@ can_join_both (Some l) b p e n f s t =
 
 -- a link of a template that stands may join
 pub can_join : (o : Option (List ℕ)) (b : Board) (p : PolicyParts) (u : BodyParts) → o ≡ p.link → (o ≡ None → ⊥) → is_bound b (policy_id p) ≡ false → bound_at b p.template.id ≡ Some (Template u) →
-    same_body u p.template ≡ true → BindsExactly (body_slots p.template) p.env → CanJoinBy o b p
+    same_body u p.template ≡ true → FitsSlots (body_slots p.template) p.env → CanJoinBy o b p
 can_join None b p u e n f t s x = absurd (n refl)
 can_join (Some l) b p u e n f t s x =
     let own : policy_id p ≡ l = ap (λ o. unwrap_or o p.template.id) (sym e) in
@@ -290,26 +292,31 @@ no_template_step (Some (Template t)) b i l e h = absurd h
 no_template_step (Some (Link k t v)) b i l e h = refl
 
 -- bindings that fit go on
-pub fit_goes_on : (slots : List SlotId) (e : EnvParts) (r : Result Board Refusal) → BindsExactly slots e → fitting (unbound slots e) (extra slots e) r ≡ r
-fit_goes_on slots e r h = let n = nothing_left_over slots e h in (λ i. fitting (n.0 i) (n.1 i) r)
+pub fit_goes_on : (slots : List SlotId) (e : EnvParts) (r : Result Board Refusal) → FitsSlots slots e → fitting (unbound slots e) (extra slots e) (wrong_action e) r ≡ r
+fit_goes_on slots e r h = let n = nothing_left_over slots e h.exactly in (λ i. fitting (n.0 i) (n.1 i) (h.action i) r)
 
-unfit : (us xs : List SlotId) (r : Result Board Refusal) → ((us ≡ []) → (xs ≡ []) → ⊥) → fitting us xs r ≡ Err (arity us xs)
-unfit [] [] r h = absurd (h refl refl)
-unfit [] (x ∷ xs) r h = refl
-unfit (u ∷ us) [] r h = refl
-unfit (u ∷ us) (x ∷ xs) r h = refl
+unfit : (us xs : List SlotId) (o : Option UidParts) (r : Result Board Refusal) → ((us ≡ []) → (xs ≡ []) → ⊥) → fitting us xs o r ≡ Err (arity us xs)
+unfit [] [] o r h = absurd (h refl refl)
+unfit [] (x ∷ xs) o r h = refl
+unfit (u ∷ us) [] o r h = refl
+unfit (u ∷ us) (x ∷ xs) o r h = refl
 
--- and others are refused with the two lists
-pub unfit_is_refused : (d : LinkingError) (slots : List SlotId) (e : EnvParts) (r : Result Board Refusal) → IsArity d slots e → IsRefusal (told_by_linking d) (fitting (unbound slots e) (extra slots e) r)
+-- and others are refused: with the two lists, or by the uid that is no action
+pub unfit_is_refused : (d : LinkingError) (slots : List SlotId) (e : EnvParts) (r : Result Board Refusal) → IsUnfit d slots e → IsRefusal (told_by_linking d) (fitting (unbound slots e) (extra slots e) (wrong_action e) r)
 unfit_is_refused (links.ArityError u x) slots e r h =
-    unfit (unbound slots e) (extra slots e) r (λ p q. h.0 (fits slots e p q)) ∙ (λ i. Err (arity (sym h.1 i) (sym h.2 i)))
+    unfit (unbound slots e) (extra slots e) (wrong_action e) r (λ p q. h.0 (fits slots e p q)) ∙ (λ i. Err (arity (sym h.1 i) (sym h.2 i)))
+unfit_is_refused (links.NotAnAction u) slots e r h = let n = nothing_left_over slots e h.0 in (λ i. fitting (n.0 i) (n.1 i) (h.1 i) r)
 unfit_is_refused (links.NoSuchTemplate i) slots e r h = absurd h
 unfit_is_refused (links.PolicyIdConflict i) slots e r h = absurd h
 unfit_is_refused links.Memory slots e r h = tt
 
+none_wrong : (u : UidParts) (o : Option UidParts) → o ≡ None → o ≡ Some u → ⊥
+none_wrong u o p q = cc
+
 -- what fits is not refused but for memory
-pub fit_is_not_refused : (d : LinkingError) (slots : List SlotId) (e : EnvParts) (step : Result Board Refusal) → BindsExactly slots e → IsArity d slots e → IsRefusal (told_by_linking d) step
-fit_is_not_refused (links.ArityError u x) slots e step f h = absurd (h.0 f)
+pub fit_is_not_refused : (d : LinkingError) (slots : List SlotId) (e : EnvParts) (step : Result Board Refusal) → FitsSlots slots e → IsUnfit d slots e → IsRefusal (told_by_linking d) step
+fit_is_not_refused (links.ArityError u x) slots e step f h = absurd (h.0 f.exactly)
+fit_is_not_refused (links.NotAnAction u) slots e step f h = absurd (none_wrong (uid_parts u) (wrong_action e) f.action h.1)
 fit_is_not_refused (links.NoSuchTemplate i) slots e step f h = absurd h
 fit_is_not_refused (links.PolicyIdConflict i) slots e step f h = absurd h
 fit_is_not_refused links.Memory slots e step f h = tt
@@ -325,11 +332,11 @@ other_id i j true e n = absurd (n (ap Some ((same_text_decides i j).0 e)))
 other_id i j false e n = refl
 
 alone_by : (o : Option (List ℕ)) (p : PolicyParts) → (o ≡ Some p.template.id → ⊥) → (o ≡ None → p ≡ static_policy p.template) → (o ≡ None → body_slots p.template ≡ []) →
-    BindsExactly (body_slots p.template) p.env → CanJoinBothBy o empty_board p
+    FitsSlots (body_slots p.template) p.env → CanJoinBothBy o empty_board p
 alone_by None p own whole slots total = (whole refl, slots refl)
 alone_by (Some l) p own whole slots total = (refl, other_id l p.template.id (same_text l p.template.id) refl own, total)
 
 -- each policy with an id of its own joins the board without a binding
 pub alone : (p : PolicyParts) → HasOwnId p → (p.link ≡ None → p ≡ static_policy p.template) → (p.link ≡ None → body_slots p.template ≡ []) → BindsExactly (body_slots p.template) p.env →
-    CanJoinBoth empty_board p
-alone p own whole slots total = (refl, alone_by p.link p own whole slots total)
+    wrong_action p.env ≡ None → CanJoinBoth empty_board p
+alone p own whole slots total action = (refl, alone_by p.link p own whole slots (record { exactly = total; action = action }))

@@ -3,7 +3,7 @@ use Rattle.std.specs.Prelude.{◌≡◌, ℕ, Bool, List, [], false, Option, Som
 use Rattle.cedar_ids.specs.Texts.{same_text}
 use Rattle.cedar_body.specs.Bodies.{BodyParts, body_slots}
 use Rattle.cedar_body.specs.BodyEquality.{same_body}
-use Rattle.cedar_binding.specs.Bindings.{BindsExactly}
+use Rattle.cedar_binding.specs.Bindings.{FitsSlots}
 use Rattle.cedar_policy.specs.Policies.{PolicyParts, static_policy}
 use Rattle.cedar_policy_set.specs.Boards.{Board, Binding, Static, Template, Link, bound_at, is_bound}
 
@@ -11,7 +11,7 @@ use Rattle.cedar_policy_set.specs.Boards.{Board, Binding, Static, Template, Link
 abbrev pub CanJoinBy : Option (List ℕ) → Board → PolicyParts → Type 0
 CanJoinBy None b p = ⊥
 CanJoinBy (Some l) b p =
-    (is_bound b l ≡ false) × (bound_at b p.template.id ≡ Some (Template p.template)) × BindsExactly (body_slots p.template) p.env
+    (is_bound b l ≡ false) × (bound_at b p.template.id ≡ Some (Template p.template)) × FitsSlots (body_slots p.template) p.env
 
 abbrev pub CanJoin : Board → PolicyParts → Type 0
 CanJoin b p = CanJoinBy p.link b p
@@ -20,7 +20,7 @@ CanJoin b p = CanJoinBy p.link b p
 -- binds exactly the body's slots
 abbrev pub CanJoinBothBy : Option (List ℕ) → Board → PolicyParts → Type 0
 CanJoinBothBy None b p = (p ≡ static_policy p.template) × (body_slots p.template ≡ [])
-CanJoinBothBy (Some l) b p = (is_bound b l ≡ false) × (same_text l p.template.id ≡ false) × BindsExactly (body_slots p.template) p.env
+CanJoinBothBy (Some l) b p = (is_bound b l ≡ false) × (same_text l p.template.id ≡ false) × FitsSlots (body_slots p.template) p.env
 
 abbrev pub CanJoinBoth : Board → PolicyParts → Type 0
 CanJoinBoth b p = (is_bound b p.template.id ≡ false) × CanJoinBothBy p.link b p

@@ -3,10 +3,11 @@ use Rattle.std.specs.Prelude.{◌≡◌, ℕ, ◌<◌, length, List, [], ◌∷�
 use Rattle.std.proofs.Common.{sym, ap, ◌∙◌, arith, subst, cond}
 use Rattle.std.specs.List.{find, list_any}
 use Rattle.std.proofs.lemmas.Bool.{or_parts}
+use Rattle.cedar_ids.specs.Uid.{UidParts}
 use Rattle.cedar_ids.specs.laws.TextLaws.{same_text_equiv}
 use Rattle.cedar_terms.specs.declared.slot.SlotId.{SlotId}
 use Rattle.cedar_body.specs.Bodies.{BodyParts, body_slots}
-use Rattle.cedar_binding.specs.Bindings.{EnvParts, unbound, extra}
+use Rattle.cedar_binding.specs.Bindings.{EnvParts, unbound, extra, wrong_action}
 use Rattle.cedar_policy.specs.Policies.{PolicyParts}
 use Rattle.cedar_policy_set.specs.Boards.{Board, Binding, Static, Template, Link, bound_at, bound_among, is_bound, is_body_at, is_policy_at, with_policy, without_id}
 use Rattle.cedar_policy_set.specs.Steps.{Refusal, id_conflict, fitting, link_at, link_step, unlinked_at, unlink_step, UnlinksTo}
@@ -15,11 +16,12 @@ use Rattle.cedar_policy_set.specs.laws.BoardLaws.{undone}
 abbrev link_of : BodyParts → List ℕ → EnvParts → PolicyParts
 link_of t l e = record { template = t; link = Some l; env = e }
 
-fitted : (us xs : List SlotId) (r : Result Board Refusal) (c : Board) → fitting us xs r ≡ Ok c → r ≡ Ok c
-fitted [] [] r c h = h
-fitted [] (x ∷ xs) r c h = absurd (cc)
-fitted (u ∷ us) [] r c h = absurd (cc)
-fitted (u ∷ us) (x ∷ xs) r c h = absurd (cc)
+fitted : (us xs : List SlotId) (o : Option UidParts) (r : Result Board Refusal) (c : Board) → fitting us xs o r ≡ Ok c → r ≡ Ok c
+fitted [] [] None r c h = h
+fitted [] [] (Some u) r c h = absurd (cc)
+fitted [] (x ∷ xs) o r c h = absurd (cc)
+fitted (u ∷ us) [] o r c h = absurd (cc)
+fitted (u ∷ us) (x ∷ xs) o r c h = absurd (cc)
 
 freed : (v : Bool) (b c : Board) (l : List ℕ) (p : PolicyParts) → (if v then Err (id_conflict l) else Ok (with_policy b p)) ≡ Ok c → (v ≡ false) × (with_policy b p ≡ c)
 freed true b c l p h = absurd (cc)
@@ -34,7 +36,7 @@ joined None b c i l e h = absurd (cc)
 joined (Some (Static t)) b c i l e h = absurd (cc)
 joined (Some (Link k t v)) b c i l e h = absurd (cc)
 joined (Some (Template t)) b c i l e h =
-    let f = freed (is_bound b l) b c l (link_of t l e) (fitted (unbound (body_slots t) e) (extra (body_slots t) e) _ c h) in
+    let f = freed (is_bound b l) b c l (link_of t l e) (fitted (unbound (body_slots t) e) (extra (body_slots t) e) (wrong_action e) _ c h) in
     (t, refl, f.0, f.1)
 
 found_at : (v : Bool) (q : PolicyParts → Bool) (x p : PolicyParts) (ps : List PolicyParts) → (v || list_any q ps) ≡ false →

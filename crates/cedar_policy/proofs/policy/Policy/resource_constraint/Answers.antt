@@ -7,4 +7,4 @@ use Rattle.cedar_policy.proofs.policy.Policy.resource_constraint.Goals as goal
 pub returns-in-None-clause-no_slot : goal.returns-in-None-clause-no_slot
 returns-in-None-clause-no_slot c =
     ap has_slot (c.in_ok-constraint.ensures.cases ∙ c.resource_constraint.ensures ∙ ap (λ t. t.resource) c.deref.ensures)
-    ∙ resource_unbound (record { template = c.self.inside.template.value; link = c.self.inside.link; env = env_of c.self.inside.values }) c.self.invariant.total (sym c.in-None.ensures)
+    ∙ resource_unbound (record { template = c.self.inside.template.value; link = c.self.inside.link; env = env_of c.self.inside.values }) c.self.invariant.total.exactly (sym c.in-None.ensures)

@@ -16,5 +16,5 @@ put_both-requires c =
     let other : same_text (policy_id c.args.policy) c.args.policy.template.id ≡ false = (λ i. same_text (sym c.id.ensures i) (sym theirs i)) ∙ sym c.eq.ensures ∙ p.0 in
     let free : is_bound c.args.self.now (policy_id c.args.policy) ≡ false = ap (is_bound c.args.self.now) (sym c.id-3.ensures) ∙ sym c.is_bound.ensures ∙ p.1 in (
       none_bound c.args.self.now c.args.policy.template.id c.requires.missing,
-      can_join_both c.args.policy.link c.args.self.now c.args.policy refl c.requires.link free other c.env-total.ensures.total,
+      can_join_both c.args.policy.link c.args.self.now c.args.policy refl c.requires.link free other (record { exactly = c.env-total.ensures.total; action = c.env-total.ensures.action }),
     )
