@@ -1,6 +1,7 @@
 -- Reading fields.
 use Rattle.std.specs.Prelude.{◌≡◌, ℕ, List, [], ◌∷◌, ◌++◌, length, drop, nat_eq, Bool, true, false, Option, Some, None, Result, Ok, Err, MatchOption, ◌==◌, map, if◌then◌else◌}
-use Rattle.std.proofs.Common.{ap, sym, refl, ◌∙◌, arith}
+use Rattle.std.proofs.Common.{ap, sym, refl, ◌∙◌, arith, get_or, ◌<◌, ◌+◌, suc}
+use Rattle.std.proofs.Math.Seq.{drop-cons}
 use Rattle.std.specs.Borrow.{Bor}
 use Rattle.std.specs.List.{starts_with}
 use Rattle.std.specs.Option.{option_map}
@@ -17,9 +18,10 @@ use Rattle.cedar_ids.specs.declared.err.ParseErrors.{ParseErrors}
 use Rattle.cedar_ids.specs.declared.entity.EntityUID.{EntityUID}
 use Rattle.cedar_ids.specs.declared.entity.EntityUID.TheVariants as uids
 use Rattle.cedar_policy_lines.specs.PolicyCommand.{PolicyCommand, IsPolicyCommand}
+use Rattle.cedar_binding.specs.Bindings.{EnvParts}
 use Rattle.cedar_policy_lines.specs.Reads.{ReadsAs}
-use Rattle.cedar_policy_lines.specs.laws.PolicyReading.{behind, uid_read, read_uid, bindings_of, policy_command}
-use Rattle.cedar_policy_lines.specs.laws.ReadCommands.{command_is_read, read_is_command}
+use Rattle.cedar_policy_lines.specs.laws.PolicyReading.{behind, uid_read, read_uid, binding_of, with_binding, bindings_from, policy_command}
+use Rattle.cedar_policy_lines.specs.laws.ReadCommands.{command_is_read, read_is_command, none_goes_on}
 
 lacks : (mark s : List ℕ) (b : Bool) → starts_with nat_eq s mark ≡ b → LacksTextAt mark s 0 → None ≡ (if b then Some (drop (length mark) s) else None)
 lacks mark s false e l = refl
@@ -45,10 +47,22 @@ none_by t (Err x) e none = refl
 pub no_uid : (t : List ℕ) → ((u : EntityUID) → IsPrinted (uid_parts u) t → ⊥) → uid_read t ≡ None
 no_uid t none = none_by t (uid_reading t) refl none
 
--- three fields and more bind nothing
-pub more_fields : (rest : List (Bor (List ℕ))) (b : Bool) → b ≡ (length rest == 0) → b ≡ false → (f g : List ℕ) → bindings_of (f ∷ g ∷ map (λ x. x.now) rest) ≡ None
-more_fields [] b e t f g = absurd (false≢true (sym t ∙ e))
-more_fields (x ∷ rest) b e t f g = refl
+-- the fields from one on are that one and those behind it
+pub field_first : (fs : List (Bor (List ℕ))) (k : ℕ) (f : Bor (List ℕ)) → k < length fs → f ≡ get_or fs k f → map (λ x. x.now) (drop k fs) ≡ f.now ∷ map (λ x. x.now) (drop (k + 1) fs)
+field_first fs k f l e =
+    ap (map (λ x. x.now)) (drop-cons fs k f l ∙ ap (λ x. x ∷ drop (suc k) fs) (sym e)) ∙ ap (λ n. f.now ∷ map (λ x. x.now) (drop n fs)) {x = suc k} {y = k + 1} (omega arith)
+
+-- a field that is no further binding ends the reading with none
+pub none_behind : (d : EnvParts) (f : List ℕ) (fs : List (List ℕ)) (o : Option EnvParts) → bindings_from (Some d) (f ∷ fs) ≡ o → with_binding d (binding_of f) ≡ None → None ≡ o
+none_behind d f fs o h n = sym (none_goes_on fs) ∙ ap (λ x. bindings_from x fs) (sym n) ∙ h
+
+pub bound_twice : (b : Bool) (x : EnvParts) → b ≡ true → (if b then None else Some x) ≡ None
+bound_twice true x e = refl
+bound_twice false x e = absurd (cc)
+
+pub bound_once : (b : Bool) (x : EnvParts) → b ≡ false → (if b then None else Some x) ≡ Some x
+bound_once true x e = absurd (cc)
+bound_once false x e = refl
 
 none_some : (c : PolicyCommand) → None ≡ Some c → ⊥
 none_some c e = cc

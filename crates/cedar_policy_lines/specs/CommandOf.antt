@@ -7,7 +7,7 @@ use Rattle.cedar_policy_lines.specs.declared.command.PolicyCommand.TheVariants a
 -- the command that was read, as contracts see it
 abbrev pub command_of : code.PolicyCommand → PolicyCommand
 command_of (read.Static i e) = Static i e
-command_of (read.Template i p r) = Template i p r
+command_of (read.Template i w) = Template i w
 command_of (read.Link t l e) = Link t l (env_of e)
 command_of (read.Unlink i) = Unlink i
 command_of read.Other = Other

@@ -1,19 +1,22 @@
 -- The commands of the program on policy sets, and which fields are which.
-use Rattle.std.specs.Prelude.{◌≡◌, ◌⊎◌, ℕ, List, [], ◌∷◌, ◌++◌, Bool, true, false, Option, Some, None, codes}
+use Rattle.std.specs.Prelude.{◌≡◌, ℕ, List, [], ◌∷◌, ◌++◌, Bool, true, false, Some, codes, if◌then◌else◌}
 use Rattle.cedar_ids.specs.TextOf.{IsPrinted}
 use Rattle.cedar_ids.specs.Uid.{UidParts}
+use Rattle.cedar_terms.specs.SlotTree.{all_slots, same_slot}
 use Rattle.cedar_terms.specs.declared.slot.SlotId.{SlotId}
-use Rattle.cedar_terms.specs.declared.slot.SlotId.TheVariants.{Principal, Resource}
-use Rattle.cedar_binding.specs.Bindings.{EnvParts}
+use Rattle.cedar_terms.specs.declared.slot.SlotId.TheVariants.{Principal, Action, Resource}
+use Rattle.cedar_binding.specs.Bindings.{EnvParts, no_env, binds}
 use Rattle.cedar_body.specs.declared.effect.Effect.{Effect}
 use Rattle.cedar_body.specs.declared.effect.Effect.TheVariants.{Permit, Forbid}
+use Rattle.cedar_policy_lines.specs.declared.field.TemplateSlots.{TemplateSlots}
+use Rattle.cedar_policy_lines.specs.declared.field.TemplateSlots.TheVariants.{NoSlots, OnPrincipal, OnAction, OnResource, OnBoth, OnAll}
 
--- `static` with an id and an effect; `template` with an id and whether it has the principal's and the resource's slot;
+-- `static` with an id and an effect; `template` with an id and the slots that it has;
 -- `link` with a template's id, a new id and bindings; `unlink` with an id; `other`; `merge`, with renaming or without;
 -- `ids`
 pub data PolicyCommand : Type 0 where
   Static : List ℕ → Effect → PolicyCommand
-  Template : List ℕ → Bool → Bool → PolicyCommand
+  Template : List ℕ → TemplateSlots → PolicyCommand
   Link : List ℕ → List ℕ → EnvParts → PolicyCommand
   Unlink : List ℕ → PolicyCommand
   Other : PolicyCommand
@@ -27,12 +30,23 @@ abbrev pub effect_word : Effect → List ℕ
 effect_word Permit = codes "permit"
 effect_word Forbid = codes "forbid"
 
--- the word of a template's slots: whether it has the principal's, and the resource's
-abbrev pub slots_word : Bool → Bool → List ℕ
-slots_word false false = codes "none"
-slots_word true false = codes "principal"
-slots_word false true = codes "resource"
-slots_word true true = codes "both"
+-- the word of a template's slots
+abbrev pub slots_word : TemplateSlots → List ℕ
+slots_word NoSlots = codes "none"
+slots_word OnPrincipal = codes "principal"
+slots_word OnAction = codes "action"
+slots_word OnResource = codes "resource"
+slots_word OnBoth = codes "both"
+slots_word OnAll = codes "all"
+
+-- the slots that it names
+abbrev pub slots_named : TemplateSlots → List SlotId
+slots_named NoSlots = []
+slots_named OnPrincipal = Principal ∷ []
+slots_named OnAction = Action ∷ []
+slots_named OnResource = Resource ∷ []
+slots_named OnBoth = Principal ∷ Resource ∷ []
+slots_named OnAll = all_slots
 
 -- the word of a merge: whether ids are renamed, or keep theirs
 abbrev pub renaming_word : Bool → List ℕ
@@ -42,6 +56,7 @@ renaming_word false = codes "keep"
 -- the mark before the uid that a slot is bound to
 abbrev pub slot_mark : SlotId → List ℕ
 slot_mark Principal = codes "principal="
+slot_mark Action = codes "action="
 slot_mark Resource = codes "resource="
 
 -- the field binds the slot to the uid: the slot's mark, and the text of the uid, whose eid is ASCII
@@ -50,24 +65,25 @@ IsBinding s u f = (t : List ℕ) × IsPrinted u t × (f ≡ slot_mark s ++ t)
 
 -- ---- bindings
 
--- one field for each slot that is bound, in either order
-abbrev pub AreBound : Option UidParts → Option UidParts → List (List ℕ) → Type 0
-AreBound None None fs = fs ≡ []
-AreBound (Some p) None fs = (f : List ℕ) × IsBinding Principal p f × (fs ≡ f ∷ [])
-AreBound None (Some r) fs = (g : List ℕ) × IsBinding Resource r g × (fs ≡ g ∷ [])
-AreBound (Some p) (Some r) fs =
-    (f : List ℕ) × (g : List ℕ) × IsBinding Principal p f × IsBinding Resource r g × ((fs ≡ f ∷ g ∷ []) ⊎ (fs ≡ g ∷ f ∷ []))
+-- one slot more is bound
+abbrev pub bound_more : EnvParts → SlotId → UidParts → EnvParts
+bound_more e s u r = if same_slot r s then Some u else e r
 
--- the fields are the bindings
+-- the fields bind further slots, one each, which leaves e
+abbrev pub BindMore : EnvParts → List (List ℕ) → EnvParts → Type 0
+BindMore d [] e = e ≡ d
+BindMore d (f ∷ fs) e = (s : SlotId) × (u : UidParts) × IsBinding s u f × (binds d s ≡ false) × BindMore (bound_more d s u) fs e
+
+-- the fields are the bindings: one field for each slot that is bound, in whatever order
 abbrev pub AreBindings : EnvParts → List (List ℕ) → Type 0
-AreBindings e fs = AreBound e.principal e.resource fs
+AreBindings e fs = BindMore no_env fs e
 
 -- ---- commands
 
 -- the fields are those of the command: its word, and what it is given
 abbrev pub IsPolicyCommand : PolicyCommand → List (List ℕ) → Type 0
 IsPolicyCommand (Static i e) fs = fs ≡ codes "static" ∷ i ∷ effect_word e ∷ []
-IsPolicyCommand (Template i p r) fs = fs ≡ codes "template" ∷ i ∷ slots_word p r ∷ []
+IsPolicyCommand (Template i w) fs = fs ≡ codes "template" ∷ i ∷ slots_word w ∷ []
 IsPolicyCommand (Link t l e) fs = (bs : List (List ℕ)) × AreBindings e bs × (fs ≡ codes "link" ∷ t ∷ l ∷ bs)
 IsPolicyCommand (Unlink i) fs = fs ≡ codes "unlink" ∷ i ∷ []
 IsPolicyCommand Other fs = fs ≡ codes "other" ∷ []

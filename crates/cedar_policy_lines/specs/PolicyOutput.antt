@@ -3,16 +3,21 @@ use Rattle.std.specs.Prelude.{◌≡◌, ◌⊎◌, ℕ, List, [], ◌∷◌, �
 use Rattle.std.specs.List.{flat_map}
 use Rattle.std.specs.Option.{unwrap_or}
 use Rattle.cedar_ids.specs.Escape.{escaped_output}
+use Rattle.cedar_ids.specs.Uid.{UidParts}
+use Rattle.cedar_ids.specs.Printed.{uid_output}
+use Rattle.cedar_terms.specs.declared.slot.SlotId.TheVariants.{Principal, Action, Resource}
+use Rattle.cedar_binding.specs.Bindings.{is_among}
 use Rattle.cedar_scope.specs.Scope.{Constraint, any, equals, to_slot}
-use Rattle.cedar_action.specs.Rules.{any_action}
+use Rattle.cedar_action.specs.Rules.{ActionRule, any_action, just_slot}
 use Rattle.cedar_body.specs.Bodies.{BodyParts}
 use Rattle.cedar_body.specs.declared.effect.Effect.{Effect}
 use Rattle.cedar_body.specs.declared.effect.Effect.TheVariants.{Permit}
 use Rattle.cedar_policy_set.specs.Boards.{Board, Binding, without_id}
 use Rattle.cedar_policy_set.specs.Merge.{conflicts, merged, new_id, IsRenaming, body_ids, policy_ids}
-use Rattle.cedar_policy_set.specs.Steps.{Refusal, occupied, no_such_template, arity, id_conflict, no_link, not_a_link, add_static_step, add_template_step, link_step, unlink_step}
+use Rattle.cedar_policy_set.specs.Steps.{Refusal, occupied, no_body, no_such_template, arity, not_an_action, id_conflict, no_link, not_a_link, no_template, with_links, not_a_template, no_static, not_static, add_static_step, add_template_step, link_step, unlink_step}
 use Rattle.cedar_policy_lines.specs.Boards.{Boards, with_current, swapped}
-use Rattle.cedar_policy_lines.specs.PolicyCommand.{PolicyCommand, Static, Template, Link, Unlink, Other, Merge, Ids}
+use Rattle.cedar_policy_lines.specs.PolicyCommand.{PolicyCommand, Static, Template, Link, Unlink, Other, Merge, Ids, slots_named}
+use Rattle.cedar_policy_lines.specs.declared.field.TemplateSlots.{TemplateSlots}
 
 -- ---- texts
 
@@ -32,15 +37,25 @@ id_field i = 9 ∷ id_text i
 abbrev pub ok_line : List ℕ
 ok_line = written_line (codes "ok")
 
--- why a call was refused. No line makes a call that is refused for another reason
+-- the text of a uid. Nothing is written of a uid past ASCII, which no line gives
+abbrev pub uid_text : UidParts → List ℕ
+uid_text u = unwrap_or (uid_output u) []
+
+-- why a call was refused. No line makes a call that is refused for one of the reasons that have no words
 abbrev pub refusal_words : Refusal → List ℕ
 refusal_words (occupied i) = codes "occupied " ++ id_text i
 refusal_words (id_conflict i) = codes "occupied " ++ id_text i
 refusal_words (no_such_template i) = codes "no template " ++ id_text i
 refusal_words (arity u x) = codes "arity"
+refusal_words (not_an_action u) = codes "not an action " ++ uid_text u
 refusal_words (no_link i) = codes "no link " ++ id_text i
 refusal_words (not_a_link i) = codes "not a link " ++ id_text i
-refusal_words r = []
+refusal_words (no_body i) = []
+refusal_words (no_template i) = []
+refusal_words (with_links i) = []
+refusal_words (not_a_template i) = []
+refusal_words (no_static i) = []
+refusal_words (not_static i) = []
 
 -- that a call was refused
 abbrev pub refused_line : Refusal → List ℕ
@@ -69,10 +84,21 @@ static_body i e = record { id = i; annotations = []; effect = e; principal = any
 abbrev pub slot_constraint : Bool → Constraint
 slot_constraint b = if b then equals to_slot else any
 
+-- and so of an action
+abbrev pub slot_rule : Bool → ActionRule
+slot_rule b = if b then just_slot else any_action
+
 -- a template that permits, with the slots that are named
-abbrev pub template_body : List ℕ → Bool → Bool → BodyParts
-template_body i p r =
-    record { id = i; annotations = []; effect = Permit; principal = slot_constraint p; action = any_action; resource = slot_constraint r; clause = None }
+abbrev pub template_body : List ℕ → TemplateSlots → BodyParts
+template_body i w = record {
+  id = i;
+  annotations = [];
+  effect = Permit;
+  principal = slot_constraint (is_among (slots_named w) Principal);
+  action = slot_rule (is_among (slots_named w) Action);
+  resource = slot_constraint (is_among (slots_named w) Resource);
+  clause = None;
+}
 
 -- ---- commands
 
@@ -104,7 +130,7 @@ MergeGives rename old new out = IsRefusedMerge rename old new out ⊎ IsMerge re
 -- the boards that a command leaves, and what it writes
 abbrev pub PolicyGives : PolicyCommand → Boards → Boards → List ℕ → Type 0
 PolicyGives (Static i e) old new out = Joins (add_static_step old.current (static_body i e)) old new out
-PolicyGives (Template i p r) old new out = Joins (add_template_step old.current (template_body i p r)) old new out
+PolicyGives (Template i w) old new out = Joins (add_template_step old.current (template_body i w)) old new out
 PolicyGives (Link t l e) old new out = Joins (link_step old.current t l e) old new out
 PolicyGives (Unlink i) old new out = UnlinkGives (unlink_step old.current i) i old new out
 PolicyGives Other old new out = (new ≡ swapped old) × (out ≡ ok_line)

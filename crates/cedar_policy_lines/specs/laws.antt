@@ -1,4 +1,3 @@
-pub mod Lines
 pub mod Machines
 pub mod OneAnswer
 pub mod OneMerge

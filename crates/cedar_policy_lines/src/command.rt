@@ -1,17 +1,16 @@
 //! Which fields are which command.
-ghost use Rattle.std.specs.Prelude.{◌≡◌, ◌∷◌, [], OnOk, IfOk, map};
+ghost use Rattle.std.specs.Prelude.{◌≡◌, OnOk, IfOk, map};
 ghost use Rattle.std.specs.Option.{option_map};
 ghost use Rattle.cedar_ids.specs.UidOf.{uid_parts};
-ghost use Rattle.cedar_terms.specs.declared.slot.SlotId.TheVariants.{Principal, Resource};
+ghost use Rattle.cedar_binding.specs.Bindings.{binds};
 ghost use Rattle.cedar_binding.specs.Views.{env_of};
-ghost use Rattle.cedar_policy_lines.specs.PolicyCommand.{IsPolicyCommand, Other, Ids};
+ghost use Rattle.cedar_policy_lines.specs.PolicyCommand.{IsPolicyCommand, Other, Ids, bound_more};
 ghost use Rattle.cedar_policy_lines.specs.CommandOf.{command_of};
 ghost use Rattle.cedar_policy_lines.specs.Reads.{ReadsAs};
-ghost use Rattle.cedar_policy_lines.specs.laws.Lines.{bound_more};
-ghost use Rattle.cedar_policy_lines.specs.laws.PolicyReading.{only, one_bound, two_bound, bindings_of, static_of, template_of, link_of, unlink_of, merge_of, bare_of, command_by};
+ghost use Rattle.cedar_policy_lines.specs.laws.PolicyReading.{only, bindings_of, static_of, template_of, link_of, unlink_of, merge_of, bare_of, command_by};
 
-use crate::field::{binding_of, effect_of, renaming_of, slots_of};
-use cedar_binding::no_bindings;
+use crate::field::{TemplateSlots, binding_of, effect_of, renaming_of, slots_of};
+use cedar_binding::{bound_to, no_bindings};
 use cedar_body::Effect;
 use cedar_ids::entity::EntityUID;
 use cedar_ids::policy_id::PolicyID;
@@ -24,8 +23,8 @@ use std::alloc::{AllocError, Global};
 pub enum PolicyCommand {
     /// A static policy of this id and effect joins.
     Static(PolicyID, Effect),
-    /// A template of this id joins, with the principal's slot or without, and with the resource's or without.
-    Template(PolicyID, bool, bool),
+    /// A template of this id joins, with these slots.
+    Template(PolicyID, TemplateSlots),
     /// A link of the template with the first id joins under the second, with these bindings.
     Link(PolicyID, PolicyID, SlotEnv),
     /// The link with this id goes.
@@ -57,82 +56,28 @@ fn bind(values: &mut SlotEnv, slot: SlotId, uid: EntityUID) -> Result<(), AllocE
     Ok(())
 }
 
-// The bindings of one slot.
-fn one_bound(alloc: Global, slot: SlotId, uid: EntityUID) -> Result<SlotEnv, AllocError>
-    ensures { IfOk result (λ v. env_of v ≡ one_bound slot (uid_parts uid)) }
+// Whether a slot is bound.
+fn is_bound(values: &SlotEnv, slot: SlotId) -> bool
+    ensures { result ≡ binds (env_of values.now) slot }
 {
-    let mut values = no_bindings(alloc);
-    bind(&mut values, slot, uid)?;
-    Ok(values)
+    bound_to(values, slot).is_some()
 }
 
-// The bindings of both slots.
-fn both_bound(
-    alloc: Global,
-    principal: EntityUID,
-    resource: EntityUID,
-) -> Result<Option<SlotEnv>, AllocError>
-    ensures { IfOk result (λ o. option_map env_of o ≡ two_bound Principal Resource (uid_parts principal) (uid_parts resource)) }
-{
-    let mut values = no_bindings(alloc);
-    bind(&mut values, SlotId::Principal, principal)?;
-    bind(&mut values, SlotId::Resource, resource)?;
-    Ok(Some(values))
-}
-
-// The bindings of two slots, if they are two.
-fn two_bound(
-    alloc: Global,
-    one: (SlotId, EntityUID),
-    other: (SlotId, EntityUID),
-) -> Result<Option<SlotEnv>, AllocError>
-    ensures { IfOk result (λ o. option_map env_of o ≡ two_bound one.0 other.0 (uid_parts one.1) (uid_parts other.1)) }
-{
-    match (one.0, other.0) {
-        (SlotId::Principal, SlotId::Resource) => both_bound(alloc, one.1, other.1),
-        (SlotId::Resource, SlotId::Principal) => both_bound(alloc, other.1, one.1),
-        (SlotId::Principal, SlotId::Principal) => Ok(None),
-        (SlotId::Resource, SlotId::Resource) => Ok(None),
-    }
-}
-
-// The bindings that two fields are, if they are some.
-fn two_fields(alloc: Global, one: &str, other: &str) -> Result<Option<SlotEnv>, AllocError>
-    ensures { IfOk result (λ o. option_map env_of o ≡ bindings_of (one.now ∷ other.now ∷ [])) }
-{
-    let Some(one) = binding_of(alloc, one)? else {
-        return Ok(None);
-    };
-    let Some(other) = binding_of(alloc, other)? else {
-        return Ok(None);
-    };
-    two_bound(alloc, one, other)
-}
-
-// The bindings that one field is, if it is some.
-fn one_field(alloc: Global, field: &str) -> Result<Option<SlotEnv>, AllocError>
-    ensures { IfOk result (λ o. option_map env_of o ≡ bindings_of (field.now ∷ [])) }
-{
-    let Some((slot, uid)) = binding_of(alloc, field)? else {
-        return Ok(None);
-    };
-    Ok(Some(one_bound(alloc, slot, uid)?))
-}
-
-// The bindings that the fields are, if they are some.
+// The bindings that the fields are, if they are some: one field for each slot that is bound.
 fn bindings_of(alloc: Global, fields: &[&str]) -> Result<Option<SlotEnv>, AllocError>
     ensures { IfOk result (λ o. option_map env_of o ≡ bindings_of (map (λ f. f.now) fields.now)) }
 {
-    let Some((one, rest)) = fields.split_first() else {
-        return Ok(Some(no_bindings(alloc)));
-    };
-    let Some((other, rest)) = rest.split_first() else {
-        return one_field(alloc, one);
-    };
-    if !rest.is_empty() {
-        return Ok(None);
+    let mut values = no_bindings(alloc);
+    for field in fields {
+        let Some((slot, uid)) = binding_of(alloc, field)? else {
+            return Ok(None);
+        };
+        if is_bound(&values, slot) {
+            return Ok(None);
+        }
+        bind(&mut values, slot, uid)?;
     }
-    two_fields(alloc, one, other)
+    Ok(Some(values))
 }
 
 // The command of `static`.
@@ -161,11 +106,11 @@ fn template_of(alloc: Global, fields: &[&str]) -> Result<Option<PolicyCommand>, 
     let Some(word) = only(rest) else {
         return Ok(None);
     };
-    let Some((principal, resource)) = slots_of(word) else {
+    let Some(slots) = slots_of(word) else {
         return Ok(None);
     };
     let id = PolicyID::from_string(alloc, id)?;
-    Ok(Some(PolicyCommand::Template(id, principal, resource)))
+    Ok(Some(PolicyCommand::Template(id, slots)))
 }
 
 // The command of `link`.

@@ -55,21 +55,44 @@ pub(crate) fn effect_of(word: &str) -> Option<Effect>
     None
 }
 
-// The slots that a word names: whether the principal's, and whether the resource's.
-pub(crate) fn slots_of(word: &str) -> Option<(bool, bool)>
+/// The slots of a template that a line makes, by the line's word. It is this project's own.
+#[derive(Clone, Copy, Debug)]
+pub enum TemplateSlots {
+    /// None.
+    NoSlots,
+    /// The principal's.
+    OnPrincipal,
+    /// The action's.
+    OnAction,
+    /// The resource's.
+    OnResource,
+    /// The principal's and the resource's.
+    OnBoth,
+    /// All three.
+    OnAll,
+}
+
+// The slots that a word names.
+pub(crate) fn slots_of(word: &str) -> Option<TemplateSlots>
     ensures { result ≡ slots_of word.now }
 {
     if word == "none" {
-        return Some((false, false));
+        return Some(TemplateSlots::NoSlots);
     }
     if word == "principal" {
-        return Some((true, false));
+        return Some(TemplateSlots::OnPrincipal);
+    }
+    if word == "action" {
+        return Some(TemplateSlots::OnAction);
     }
     if word == "resource" {
-        return Some((false, true));
+        return Some(TemplateSlots::OnResource);
     }
     if word == "both" {
-        return Some((true, true));
+        return Some(TemplateSlots::OnBoth);
+    }
+    if word == "all" {
+        return Some(TemplateSlots::OnAll);
     }
     None
 }
@@ -117,6 +140,9 @@ pub(crate) fn binding_of(
 {
     if let Some(text) = behind(field, "principal=") {
         return bound_as(alloc, SlotId::Principal, text);
+    }
+    if let Some(text) = behind(field, "action=") {
+        return bound_as(alloc, SlotId::Action, text);
     }
     if let Some(text) = behind(field, "resource=") {
         return bound_as(alloc, SlotId::Resource, text);

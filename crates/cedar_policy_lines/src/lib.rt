@@ -12,4 +12,5 @@ mod making;
 mod writing;
 
 pub use command::{PolicyCommand, read_policy_command};
+pub use field::TemplateSlots;
 pub use machine::PolicySets;

@@ -7,6 +7,7 @@ ghost use Rattle.cedar_policy_lines.specs.CommandOf.{command_of};
 ghost use Rattle.cedar_policy_lines.specs.PolicyOutput.{PolicyWrites};
 
 use crate::command::PolicyCommand;
+use crate::field::TemplateSlots;
 use crate::making::{link, static_policy, template};
 use crate::writing::{
     push_by_linking, push_by_merging, push_by_set, push_by_unlinking, push_ids, push_ok,
@@ -68,13 +69,12 @@ impl PolicySets {
         &mut self,
         alloc: Global,
         id: PolicyID,
-        principal: bool,
-        resource: bool,
+        slots: TemplateSlots,
         out: &mut Vec<u8>,
     ) -> Result<(), AllocError>
-        ensures { OnOk result (PolicyWrites (template_command id principal resource) self.old self.new out.old.items out.new.items) }
+        ensures { OnOk result (PolicyWrites (template_command id slots) self.old self.new out.old.items out.new.items) }
     {
-        let template = template(alloc, id, principal, resource)?;
+        let template = template(alloc, id, slots)?;
         let answer = self.current.add_template(alloc, template);
         push_by_set(alloc, out, answer)
     }
@@ -140,9 +140,7 @@ impl PolicySets {
     {
         match command {
             PolicyCommand::Static(id, effect) => self.add_static(alloc, id, effect, out),
-            PolicyCommand::Template(id, principal, resource) => {
-                self.add_template(alloc, id, principal, resource, out)
-            }
+            PolicyCommand::Template(id, slots) => self.add_template(alloc, id, slots, out),
             PolicyCommand::Link(template, id, values) => self.link(
                 alloc, template, id, values, out,
             ),

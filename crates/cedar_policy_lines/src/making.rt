@@ -3,8 +3,13 @@ ghost use Rattle.std.specs.Prelude.{◌≡◌, IfOk};
 ghost use Rattle.cedar_binding.specs.Views.{env_of};
 ghost use Rattle.cedar_policy_set.specs.Refusals.{Steps, told_by_linking};
 ghost use Rattle.cedar_policy_set.specs.Steps.{link_step};
-ghost use Rattle.cedar_policy_lines.specs.PolicyOutput.{static_body, template_body, slot_constraint};
+ghost use Rattle.cedar_policy_lines.specs.PolicyOutput.{static_body, template_body, slot_constraint, slot_rule};
+ghost use Rattle.cedar_policy_lines.specs.PolicyCommand.{slots_named};
+ghost use Rattle.cedar_action.specs.Views.{rule_of};
+ghost use Rattle.cedar_binding.specs.Bindings.{is_among};
+ghost use Rattle.cedar_terms.specs.declared.slot.SlotId.TheVariants.{Principal, Action, Resource};
 
+use crate::field::TemplateSlots;
 use cedar_action::ActionConstraint;
 use cedar_annotation::Annotations;
 use cedar_body::Effect;
@@ -40,6 +45,48 @@ pub(crate) fn static_policy(
     }
 }
 
+// Whether some slots have the principal's among them.
+fn on_principal(slots: TemplateSlots) -> bool
+    ensures { result ≡ is_among (slots_named slots) Principal }
+{
+    match slots {
+        TemplateSlots::NoSlots => false,
+        TemplateSlots::OnPrincipal => true,
+        TemplateSlots::OnAction => false,
+        TemplateSlots::OnResource => false,
+        TemplateSlots::OnBoth => true,
+        TemplateSlots::OnAll => true,
+    }
+}
+
+// Whether they have the action's.
+fn on_action(slots: TemplateSlots) -> bool
+    ensures { result ≡ is_among (slots_named slots) Action }
+{
+    match slots {
+        TemplateSlots::NoSlots => false,
+        TemplateSlots::OnPrincipal => false,
+        TemplateSlots::OnAction => true,
+        TemplateSlots::OnResource => false,
+        TemplateSlots::OnBoth => false,
+        TemplateSlots::OnAll => true,
+    }
+}
+
+// Whether they have the resource's.
+fn on_resource(slots: TemplateSlots) -> bool
+    ensures { result ≡ is_among (slots_named slots) Resource }
+{
+    match slots {
+        TemplateSlots::NoSlots => false,
+        TemplateSlots::OnPrincipal => false,
+        TemplateSlots::OnAction => false,
+        TemplateSlots::OnResource => true,
+        TemplateSlots::OnBoth => true,
+        TemplateSlots::OnAll => true,
+    }
+}
+
 // The principal is what its slot is bound to, where that is named.
 fn principal_of(named: bool) -> PrincipalConstraint
     ensures { result ≡ slot_constraint named }
@@ -48,6 +95,16 @@ fn principal_of(named: bool) -> PrincipalConstraint
         return PrincipalConstraint::is_eq_slot();
     }
     PrincipalConstraint::any()
+}
+
+// The action is what its slot is bound to, where that is named.
+fn action_of(named: bool) -> ActionConstraint
+    ensures { rule_of result ≡ slot_rule named }
+{
+    if named {
+        return ActionConstraint::is_eq_slot();
+    }
+    ActionConstraint::any()
 }
 
 // The resource is what its slot is bound to, where that is named.
@@ -64,10 +121,9 @@ fn resource_of(named: bool) -> ResourceConstraint
 pub(crate) fn template(
     alloc: Global,
     id: PolicyID,
-    principal: bool,
-    resource: bool,
+    slots: TemplateSlots,
 ) -> Result<Template, AllocError>
-    ensures { IfOk result (λ t. t ≡ template_body id principal resource) }
+    ensures { IfOk result (λ t. t ≡ template_body id slots) }
 {
     Template::new(
         alloc,
@@ -75,9 +131,9 @@ pub(crate) fn template(
         None,
         Annotations::new(alloc),
         Effect::Permit,
-        principal_of(principal),
-        ActionConstraint::any(),
-        resource_of(resource),
+        principal_of(on_principal(slots)),
+        action_of(on_action(slots)),
+        resource_of(on_resource(slots)),
         None,
     )
 }

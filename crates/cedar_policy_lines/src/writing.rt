@@ -2,11 +2,13 @@
 ghost use Rattle.std.specs.Prelude.{◌≡◌, ◌++◌, ◌∷◌, OnOk, IfOk, map, codes, ℕ, List};
 ghost use Rattle.std.specs.List.{flat_map};
 ghost use Rattle.std.specs.String.{string_bytes};
+ghost use Rattle.cedar_ids.specs.UidOf.{uid_parts};
 ghost use Rattle.cedar_policy_set.specs.Refusals.{told_by_set, told_by_linking, told_by_unlinking};
 ghost use Rattle.cedar_policy_set.specs.Merge.{body_ids, policy_ids};
-ghost use Rattle.cedar_policy_lines.specs.PolicyOutput.{written_line, ok_line, merged_line, id_text, id_field, renamed_fields, ids_lines};
+ghost use Rattle.cedar_policy_lines.specs.PolicyOutput.{written_line, ok_line, merged_line, id_text, uid_text, id_field, renamed_fields, ids_lines};
 ghost use Rattle.cedar_policy_lines.specs.laws.Machines.{Said, SaidMerged, refused_with};
 
+use cedar_ids::entity::EntityUID;
 use cedar_ids::policy_id::PolicyID;
 use cedar_policy::{LinkingError, Policy};
 use cedar_policy_set::{PolicySet, PolicySetError, PolicySetUnlinkError};
@@ -37,6 +39,27 @@ fn id_text(alloc: Global, id: &PolicyID) -> Result<String, AllocError>
         return id.to_string(alloc);
     }
     Ok(String::new(alloc))
+}
+
+// The text of a uid.
+fn uid_text(alloc: Global, uid: &EntityUID) -> Result<String, AllocError>
+    ensures { IfOk result (λ s. string_bytes s ≡ uid_text (uid_parts uid.now)) }
+{
+    if uid.eid().as_ref().is_ascii() {
+        return uid.to_string(alloc);
+    }
+    Ok(String::new(alloc))
+}
+
+// Adds that linking was refused for a uid that is no action.
+fn push_not_an_action(alloc: Global, out: &mut Vec<u8>, uid: &EntityUID) -> Result<(), AllocError>
+    ensures { OnOk result (out.new.items ≡ out.old.items ++ refused_with (codes "not an action ") (uid_text (uid_parts uid.now))) }
+{
+    out.extend_from_slice(b"refused: not an action ")?;
+    let text = uid_text(alloc, uid)?;
+    out.extend_from_slice(text.as_bytes())?;
+    out.push(b'\n')?;
+    Ok(())
 }
 
 // Adds a text and an id.
@@ -89,6 +112,7 @@ pub(crate) fn push_by_linking(
     match answer {
         Ok(()) => push_ok(out),
         Err(LinkingError::ArityError { .. }) => push_line(out, "refused: arity"),
+        Err(LinkingError::NotAnAction { uid }) => push_not_an_action(alloc, out, &uid),
         Err(LinkingError::NoSuchTemplate { id }) => push_refused(alloc, out, "no template ", &id),
         Err(LinkingError::PolicyIdConflict { id }) => push_refused(alloc, out, "occupied ", &id),
         Err(LinkingError::Memory) => Err(AllocError),

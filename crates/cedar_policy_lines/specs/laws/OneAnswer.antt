@@ -39,7 +39,7 @@ merges true old = renamed old (renaming_of old.current old.aside)
 -- each gives some
 pub policy_gives : (c : PolicyCommand) (old : Boards) → (new : Boards) × (out : List ℕ) × PolicyGives c old new out
 policy_gives (Static i e) old = joins (add_static_step old.current (static_body i e)) old
-policy_gives (Template i p r) old = joins (add_template_step old.current (template_body i p r)) old
+policy_gives (Template i w) old = joins (add_template_step old.current (template_body i w)) old
 policy_gives (Link t l e) old = joins (link_step old.current t l e) old
 policy_gives (Unlink i) old = takes_out (unlink_step old.current i) i old
 policy_gives Other old = (swapped old, ok_line, (refl, refl))
@@ -71,7 +71,7 @@ one_merges rename old m n o p (inr a) (inr b) =
 -- and no other
 pub one_policy_gives : (c : PolicyCommand) (old m n : Boards) (o p : List ℕ) → PolicyGives c old m o → PolicyGives c old n p → (m ≡ n) × (o ≡ p)
 one_policy_gives (Static i e) old m n o p h k = one_joins (add_static_step old.current (static_body i e)) old m n o p h k
-one_policy_gives (Template i q r) old m n o p h k = one_joins (add_template_step old.current (template_body i q r)) old m n o p h k
+one_policy_gives (Template i w) old m n o p h k = one_joins (add_template_step old.current (template_body i w)) old m n o p h k
 one_policy_gives (Link t l e) old m n o p h k = one_joins (link_step old.current t l e) old m n o p h k
 one_policy_gives (Unlink i) old m n o p h k = one_takes_out (unlink_step old.current i) i old m n o p h k
 one_policy_gives Other old m n o p h k = (h.0 ∙ sym k.0, h.1 ∙ sym k.1)

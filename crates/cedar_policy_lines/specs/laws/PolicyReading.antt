@@ -7,11 +7,13 @@ use Rattle.cedar_ids.specs.Uid.{UidParts}
 use Rattle.cedar_ids.specs.laws.UidReading.{uid_reading}
 use Rattle.cedar_ids.specs.declared.err.ParseErrors.{ParseErrors}
 use Rattle.cedar_terms.specs.declared.slot.SlotId.{SlotId}
-use Rattle.cedar_terms.specs.declared.slot.SlotId.TheVariants.{Principal, Resource}
-use Rattle.cedar_binding.specs.Bindings.{EnvParts, no_env}
+use Rattle.cedar_terms.specs.SlotTree.{all_slots}
+use Rattle.cedar_binding.specs.Bindings.{EnvParts, no_env, binds}
 use Rattle.cedar_body.specs.declared.effect.Effect.{Effect}
 use Rattle.cedar_body.specs.declared.effect.Effect.TheVariants.{Permit, Forbid}
-use Rattle.cedar_policy_lines.specs.PolicyCommand.{PolicyCommand, Static, Template, Link, Unlink, Other, Merge, Ids}
+use Rattle.cedar_policy_lines.specs.PolicyCommand.{PolicyCommand, Static, Template, Link, Unlink, Other, Merge, Ids, slot_mark, bound_more}
+use Rattle.cedar_policy_lines.specs.declared.field.TemplateSlots.{TemplateSlots}
+use Rattle.cedar_policy_lines.specs.declared.field.TemplateSlots.TheVariants.{NoSlots, OnPrincipal, OnAction, OnResource, OnBoth, OnAll}
 
 -- ---- single fields
 
@@ -19,13 +21,15 @@ use Rattle.cedar_policy_lines.specs.PolicyCommand.{PolicyCommand, Static, Templa
 abbrev pub effect_of : List ℕ → Option Effect
 effect_of w = if same_text w (codes "permit") then Some Permit else if same_text w (codes "forbid") then Some Forbid else None
 
--- the slots of a word: whether the principal's is among them, and the resource's
-abbrev pub slots_of : List ℕ → Option (Bool × Bool)
+-- the slots of a word
+abbrev pub slots_of : List ℕ → Option TemplateSlots
 slots_of w =
-    if same_text w (codes "none") then Some (false, false)
-    else if same_text w (codes "principal") then Some (true, false)
-    else if same_text w (codes "resource") then Some (false, true)
-    else if same_text w (codes "both") then Some (true, true)
+    if same_text w (codes "none") then Some NoSlots
+    else if same_text w (codes "principal") then Some OnPrincipal
+    else if same_text w (codes "action") then Some OnAction
+    else if same_text w (codes "resource") then Some OnResource
+    else if same_text w (codes "both") then Some OnBoth
+    else if same_text w (codes "all") then Some OnAll
     else None
 
 -- whether a word asks for renaming
@@ -46,44 +50,36 @@ abbrev pub behind : List ℕ → List ℕ → Option (List ℕ)
 behind mark t = if starts_with nat_eq t mark then Some (drop (length mark) t) else None
 
 -- a slot and the uid that the text behind its mark is
-abbrev pub bound_as : SlotId → Option (List ℕ) → Option (SlotId × UidParts)
-bound_as s t = option_map (λ u. (s, u)) (option_and_then uid_read t)
+abbrev pub bound_as : SlotId → List ℕ → Option (SlotId × UidParts)
+bound_as s t = option_map (λ u. (s, u)) (uid_read t)
 
--- a binding that is told of two slots, the first that has something
-abbrev pub binding_by : Option (List ℕ) → Option (List ℕ) → Option (SlotId × UidParts)
-binding_by (Some t) r = bound_as Principal (Some t)
-binding_by None r = bound_as Resource r
+-- the binding of the first slot of some whose mark the field begins with
+abbrev pub bound_by : SlotId → Option (List ℕ) → Option (SlotId × UidParts) → Option (SlotId × UidParts)
+bound_by s (Some t) o = bound_as s t
+bound_by s None o = o
 
--- the binding that a field is: `principal=` or `resource=` and the text of a uid
+abbrev pub binding_among : List SlotId → List ℕ → Option (SlotId × UidParts)
+binding_among [] f = None
+binding_among (s ∷ ss) f = bound_by s (behind (slot_mark s) f) (binding_among ss f)
+
+-- the binding that a field is: a slot's mark and the text of a uid
 abbrev pub binding_of : List ℕ → Option (SlotId × UidParts)
-binding_of f = binding_by (behind (codes "principal=") f) (behind (codes "resource=") f)
+binding_of f = binding_among all_slots f
 
 -- ---- bindings
 
--- the bindings of one slot
-abbrev pub one_bound : SlotId → UidParts → EnvParts
-one_bound Principal u = record { principal = Some u; resource = None }
-one_bound Resource u = record { principal = None; resource = Some u }
+-- bindings with one more, where that slot is not bound yet
+abbrev pub with_binding : EnvParts → Option (SlotId × UidParts) → Option EnvParts
+with_binding d None = None
+with_binding d (Some b) = if binds d b.0 then None else Some (bound_more d b.0 b.1)
 
--- the bindings of two slots, of which each is named once
-abbrev pub two_bound : SlotId → SlotId → UidParts → UidParts → Option EnvParts
-two_bound Principal Resource u v = Some (record { principal = Some u; resource = Some v })
-two_bound Resource Principal u v = Some (record { principal = Some v; resource = Some u })
-two_bound Principal Principal u v = None
-two_bound Resource Resource u v = None
+abbrev pub bindings_from : Option EnvParts → List (List ℕ) → Option EnvParts
+bindings_from o [] = o
+bindings_from o (f ∷ fs) = bindings_from (option_and_then (λ d. with_binding d (binding_of f)) o) fs
 
--- the bindings of two fields, where each is one
-abbrev pub two_by : Option (SlotId × UidParts) → Option (SlotId × UidParts) → Option EnvParts
-two_by None y = None
-two_by (Some x) None = None
-two_by (Some x) (Some y) = two_bound x.0 y.0 x.1 y.1
-
--- the bindings that the fields are, in either order, each slot at most once
+-- the bindings that the fields are, in whatever order, each slot at most once
 abbrev pub bindings_of : List (List ℕ) → Option EnvParts
-bindings_of [] = Some no_env
-bindings_of (f ∷ []) = option_map (λ b. one_bound b.0 b.1) (binding_of f)
-bindings_of (f ∷ g ∷ []) = two_by (binding_of f) (binding_of g)
-bindings_of (f ∷ g ∷ h ∷ fs) = None
+bindings_of fs = bindings_from (Some no_env) fs
 
 -- ---- the fields behind each word
 
@@ -101,7 +97,7 @@ static_of (i ∷ fs) = option_map (Static i) (option_and_then effect_of (only fs
 -- an id and slots
 abbrev pub template_of : List (List ℕ) → Option PolicyCommand
 template_of [] = None
-template_of (i ∷ fs) = option_map (λ s. Template i s.0 s.1) (option_and_then slots_of (only fs))
+template_of (i ∷ fs) = option_map (Template i) (option_and_then slots_of (only fs))
 
 -- a template's id, a new id, and bindings
 abbrev pub link_of : List (List ℕ) → Option PolicyCommand

@@ -13,13 +13,16 @@ use Rattle.cedar_ids.specs.laws.UidReading.{uid_reading}
 use Rattle.cedar_ids.specs.laws.PrintedLaws.{uid_reading-printed}
 use Rattle.cedar_ids.specs.laws.UidTexts.{uid_found}
 use Rattle.cedar_ids.specs.declared.err.ParseErrors.{ParseErrors}
+use Rattle.cedar_terms.specs.SlotTree.{all_slots}
 use Rattle.cedar_terms.specs.declared.slot.SlotId.{SlotId}
-use Rattle.cedar_terms.specs.declared.slot.SlotId.TheVariants.{Principal, Resource}
-use Rattle.cedar_binding.specs.Bindings.{EnvParts}
+use Rattle.cedar_terms.specs.declared.slot.SlotId.TheVariants.{Principal, Action, Resource}
+use Rattle.cedar_binding.specs.Bindings.{EnvParts, no_env, binds}
 use Rattle.cedar_body.specs.declared.effect.Effect.{Effect}
 use Rattle.cedar_body.specs.declared.effect.Effect.TheVariants.{Permit, Forbid}
-use Rattle.cedar_policy_lines.specs.PolicyCommand.{PolicyCommand, Static, Template, Link, Unlink, Other, Merge, Ids, effect_word, slots_word, renaming_word, slot_mark, IsBinding, AreBound, AreBindings, IsPolicyCommand}
-use Rattle.cedar_policy_lines.specs.laws.PolicyReading.{effect_of, slots_of, renaming_of, read_uid, uid_read, behind, bound_as, binding_by, binding_of, one_bound, two_bound, two_by, bindings_of, only, static_of, template_of, link_of, unlink_of, merge_of, bare_of, command_by, policy_command}
+use Rattle.cedar_policy_lines.specs.PolicyCommand.{PolicyCommand, Static, Template, Link, Unlink, Other, Merge, Ids, effect_word, slots_word, renaming_word, slot_mark, bound_more, IsBinding, BindMore, AreBindings, IsPolicyCommand}
+use Rattle.cedar_policy_lines.specs.declared.field.TemplateSlots.{TemplateSlots}
+use Rattle.cedar_policy_lines.specs.declared.field.TemplateSlots.TheVariants.{NoSlots, OnPrincipal, OnAction, OnResource, OnBoth, OnAll}
+use Rattle.cedar_policy_lines.specs.laws.PolicyReading.{effect_of, slots_of, renaming_of, read_uid, uid_read, behind, bound_as, bound_by, binding_among, binding_of, with_binding, bindings_from, bindings_of, only, static_of, template_of, link_of, unlink_of, merge_of, bare_of, command_by, policy_command}
 
 -- ---- the fields of a command are read as it
 
@@ -27,32 +30,35 @@ use Rattle.cedar_policy_lines.specs.laws.PolicyReading.{effect_of, slots_of, ren
 pub uid_is : (t : List ℕ) (u : UidParts) → IsPrinted u t → uid_read t ≡ Some u
 uid_is t u h = ap read_uid (uid_reading-printed u t h)
 
+-- a field that binds is read so
 binding_is : (s : SlotId) (u : UidParts) (f : List ℕ) → IsBinding s u f → binding_of f ≡ Some (s, u)
 binding_is Principal u f h = ap binding_of h.2 ∙ ap (option_map {T = UidParts} {U = SlotId × UidParts} (λ v. (Principal, v))) (uid_is h.0 u h.1)
+binding_is Action u f h = ap binding_of h.2 ∙ ap (option_map {T = UidParts} {U = SlotId × UidParts} (λ v. (Action, v))) (uid_is h.0 u h.1)
 binding_is Resource u f h = ap binding_of h.2 ∙ ap (option_map {T = UidParts} {U = SlotId × UidParts} (λ v. (Resource, v))) (uid_is h.0 u h.1)
 
-one_is : (s : SlotId) (u : UidParts) (f : List ℕ) (fs : List (List ℕ)) → IsBinding s u f → fs ≡ f ∷ [] → bindings_of fs ≡ Some (one_bound s u)
-one_is s u f fs h e = ap bindings_of e ∙ ap (option_map {T = SlotId × UidParts} {U = EnvParts} (λ b. one_bound b.0 b.1)) (binding_is s u f h)
+free_is : (b : Bool) (x : EnvParts) → b ≡ false → (if b then None else Some x) ≡ Some x
+free_is true x e = absurd (cc)
+free_is false x e = refl
 
-two_are : (s r : SlotId) (u v : UidParts) (f g : List ℕ) (fs : List (List ℕ)) → IsBinding s u f → IsBinding r v g → fs ≡ f ∷ g ∷ [] → bindings_of fs ≡ two_bound s r u v
-two_are s r u v f g fs h k e = ap bindings_of e ∙ (λ i. two_by (binding_is s u f h i) (binding_is r v g k i))
-
-bound_are : (p r : Option UidParts) (fs : List (List ℕ)) → AreBound p r fs → bindings_of fs ≡ Some (record { principal = p; resource = r })
-bound_are None None fs h = ap bindings_of h
-bound_are (Some p) None fs h = one_is Principal p h.0 fs h.1 h.2
-bound_are None (Some r) fs h = one_is Resource r h.0 fs h.1 h.2
-bound_are (Some p) (Some r) fs (f, g, h, k, inl e) = two_are Principal Resource p r f g fs h k e
-bound_are (Some p) (Some r) fs (f, g, h, k, inr e) = two_are Resource Principal r p g f fs k h e
+-- and so are fields that bind further slots
+more_is : (d : EnvParts) (fs : List (List ℕ)) (e : EnvParts) → BindMore d fs e → bindings_from (Some d) fs ≡ Some e
+more_is d [] e h = ap Some (sym h)
+more_is d (f ∷ fs) e h =
+    ap (λ o. bindings_from (with_binding d o) fs) (binding_is h.0 h.1 f h.2)
+    ∙ ap (λ o. bindings_from o fs) (free_is (binds d h.0) (bound_more d h.0 h.1) h.3)
+    ∙ more_is (bound_more d h.0 h.1) fs e h.4
 
 -- the fields of a command are read as that command
 pub command_is_read : (c : PolicyCommand) (fs : List (List ℕ)) → IsPolicyCommand c fs → policy_command fs ≡ Some c
 command_is_read (Static i Permit) fs h = ap policy_command h
 command_is_read (Static i Forbid) fs h = ap policy_command h
-command_is_read (Template i false false) fs h = ap policy_command h
-command_is_read (Template i true false) fs h = ap policy_command h
-command_is_read (Template i false true) fs h = ap policy_command h
-command_is_read (Template i true true) fs h = ap policy_command h
-command_is_read (Link t l e) fs h = ap policy_command h.2 ∙ ap (option_map (Link t l)) (bound_are e.principal e.resource h.0 h.1)
+command_is_read (Template i NoSlots) fs h = ap policy_command h
+command_is_read (Template i OnPrincipal) fs h = ap policy_command h
+command_is_read (Template i OnAction) fs h = ap policy_command h
+command_is_read (Template i OnResource) fs h = ap policy_command h
+command_is_read (Template i OnBoth) fs h = ap policy_command h
+command_is_read (Template i OnAll) fs h = ap policy_command h
+command_is_read (Link t l e) fs h = ap policy_command h.2 ∙ ap (option_map (Link t l)) (more_is no_env h.0 e h.1)
 command_is_read (Unlink i) fs h = ap policy_command h
 command_is_read Other fs h = ap policy_command h
 command_is_read (Merge true) fs h = ap policy_command h
@@ -91,19 +97,22 @@ effect_found w e h = elim (chosen (same_text w (codes "permit")) (Some Permit) (
   ]
 ]
 
-abbrev of_slots : Bool × Bool → List ℕ
-of_slots s = slots_word s.0 s.1
-
-slots_found : (w : List ℕ) (s : Bool × Bool) → slots_of w ≡ Some s → w ≡ of_slots s
-slots_found w s h = elim (chosen (same_text w (codes "none")) (Some (false, false)) (if same_text w (codes "principal") then Some (true, false) else if same_text w (codes "resource") then Some (false, true) else if same_text w (codes "both") then Some (true, true) else None) s h) [
-  | inl k ↦ word_is w (codes "none") k.0 ∙ ap of_slots (some_is k.1)
-  | inr h2 ↦ elim (chosen (same_text w (codes "principal")) (Some (true, false)) (if same_text w (codes "resource") then Some (false, true) else if same_text w (codes "both") then Some (true, true) else None) s h2) [
-    | inl k ↦ word_is w (codes "principal") k.0 ∙ ap of_slots (some_is k.1)
-    | inr h3 ↦ elim (chosen (same_text w (codes "resource")) (Some (false, true)) (if same_text w (codes "both") then Some (true, true) else None) s h3) [
-      | inl k ↦ word_is w (codes "resource") k.0 ∙ ap of_slots (some_is k.1)
-      | inr h4 ↦ elim (chosen (same_text w (codes "both")) (Some (true, true)) None s h4) [
-        | inl k ↦ word_is w (codes "both") k.0 ∙ ap of_slots (some_is k.1)
-        | inr k ↦ absurd (not_some k)
+slots_found : (w : List ℕ) (s : TemplateSlots) → slots_of w ≡ Some s → w ≡ slots_word s
+slots_found w s h = elim (chosen (same_text w (codes "none")) (Some NoSlots) (if same_text w (codes "principal") then Some OnPrincipal else if same_text w (codes "action") then Some OnAction else if same_text w (codes "resource") then Some OnResource else if same_text w (codes "both") then Some OnBoth else if same_text w (codes "all") then Some OnAll else None) s h) [
+  | inl k ↦ word_is w (codes "none") k.0 ∙ ap slots_word (some_is k.1)
+  | inr h2 ↦ elim (chosen (same_text w (codes "principal")) (Some OnPrincipal) (if same_text w (codes "action") then Some OnAction else if same_text w (codes "resource") then Some OnResource else if same_text w (codes "both") then Some OnBoth else if same_text w (codes "all") then Some OnAll else None) s h2) [
+    | inl k ↦ word_is w (codes "principal") k.0 ∙ ap slots_word (some_is k.1)
+    | inr h3 ↦ elim (chosen (same_text w (codes "action")) (Some OnAction) (if same_text w (codes "resource") then Some OnResource else if same_text w (codes "both") then Some OnBoth else if same_text w (codes "all") then Some OnAll else None) s h3) [
+      | inl k ↦ word_is w (codes "action") k.0 ∙ ap slots_word (some_is k.1)
+      | inr h4 ↦ elim (chosen (same_text w (codes "resource")) (Some OnResource) (if same_text w (codes "both") then Some OnBoth else if same_text w (codes "all") then Some OnAll else None) s h4) [
+        | inl k ↦ word_is w (codes "resource") k.0 ∙ ap slots_word (some_is k.1)
+        | inr h5 ↦ elim (chosen (same_text w (codes "both")) (Some OnBoth) (if same_text w (codes "all") then Some OnAll else None) s h5) [
+          | inl k ↦ word_is w (codes "both") k.0 ∙ ap slots_word (some_is k.1)
+          | inr h6 ↦ elim (chosen (same_text w (codes "all")) (Some OnAll) None s h6) [
+            | inl k ↦ word_is w (codes "all") k.0 ∙ ap slots_word (some_is k.1)
+            | inr k ↦ absurd (not_some k)
+          ]
+        ]
       ]
     ]
   ]
@@ -128,41 +137,40 @@ text_found : (t : List ℕ) (u : UidParts) (r : Result (Option UidParts) ParseEr
 text_found t u (Ok o) e h = uid_found t u (e ∙ ap Ok h)
 text_found t u (Err x) e h = absurd (not_some h)
 
-bound_found : (s : SlotId) (f t : List ℕ) (b : SlotId × UidParts) → f ≡ slot_mark s ++ t → bound_as s (Some t) ≡ Some b → IsBinding b.0 b.1 f
+bound_found : (s : SlotId) (f t : List ℕ) (b : SlotId × UidParts) → f ≡ slot_mark s ++ t → bound_as s t ≡ Some b → IsBinding b.0 b.1 f
 bound_found s f t b e h =
     let m = mapped {X = UidParts} {Y = SlotId × UidParts} (λ u. (s, u)) (uid_read t) b h in
     subst (λ (x : SlotId × UidParts). IsBinding x.0 x.1 f) m.2 (t, text_found t m.0 (uid_reading t) refl m.1, e)
 
-by_marks : (f : List ℕ) (b : SlotId × UidParts) (p r : Option (List ℕ)) → behind (codes "principal=") f ≡ p → behind (codes "resource=") f ≡ r → binding_by p r ≡ Some b → IsBinding b.0 b.1 f
-by_marks f b (Some t) r e d h = bound_found Principal f t b (behind_found (codes "principal=") f t e) h
-by_marks f b None (Some t) e d h = bound_found Resource f t b (behind_found (codes "resource=") f t d) h
-by_marks f b None None e d h = absurd (not_some h)
+by_mark : (s : SlotId) (f : List ℕ) (b : SlotId × UidParts) (p : Option (List ℕ)) (o : Option (SlotId × UidParts)) → behind (slot_mark s) f ≡ p → (o ≡ Some b → IsBinding b.0 b.1 f) → bound_by s p o ≡ Some b → IsBinding b.0 b.1 f
+by_mark s f b (Some t) o e k h = bound_found s f t b (behind_found (slot_mark s) f t e) h
+by_mark s f b None o e k h = k h
 
-binding_found : (f : List ℕ) (b : SlotId × UidParts) → binding_of f ≡ Some b → IsBinding b.0 b.1 f
-binding_found f b h = by_marks f b (behind (codes "principal=") f) (behind (codes "resource=") f) refl refl h
+among_found : (ss : List SlotId) (f : List ℕ) (b : SlotId × UidParts) → binding_among ss f ≡ Some b → IsBinding b.0 b.1 f
+among_found [] f b h = absurd (not_some h)
+among_found (s ∷ ss) f b h = by_mark s f b (behind (slot_mark s) f) (binding_among ss f) refl (among_found ss f b) h
 
-one_found : (s : SlotId) (u : UidParts) (f : List ℕ) → IsBinding s u f → AreBindings (one_bound s u) (f ∷ [])
-one_found Principal u f h = (f, h, refl)
-one_found Resource u f h = (f, h, refl)
+-- where one field is no further binding the fields are none
+pub none_goes_on : (fs : List (List ℕ)) → bindings_from None fs ≡ None
+none_goes_on [] = refl
+none_goes_on (f ∷ fs) = none_goes_on fs
 
-two_found : (s r : SlotId) (u v : UidParts) (f g : List ℕ) (e : EnvParts) → IsBinding s u f → IsBinding r v g → two_bound s r u v ≡ Some e → AreBindings e (f ∷ g ∷ [])
-two_found Principal Resource u v f g e a b h = subst (λ (x : EnvParts). AreBindings x (f ∷ g ∷ [])) (some_is h) (f, g, a, b, inl refl)
-two_found Resource Principal u v f g e a b h = subst (λ (x : EnvParts). AreBindings x (f ∷ g ∷ [])) (some_is h) (g, f, b, a, inr refl)
-two_found Principal Principal u v f g e a b h = absurd (not_some h)
-two_found Resource Resource u v f g e a b h = absurd (not_some h)
+by_binding : (d : EnvParts) (f : List ℕ) (fs : List (List ℕ)) (e : EnvParts) (o : Option (SlotId × UidParts)) → binding_of f ≡ o
+    → ((c : EnvParts) → bindings_from (Some c) fs ≡ Some e → BindMore c fs e)
+    → bindings_from (with_binding d o) fs ≡ Some e → BindMore d (f ∷ fs) e
+by_binding d f fs e None is more h = absurd (not_some (sym (none_goes_on fs) ∙ h))
+by_binding d f fs e (Some b) is more h = by_free (binds d b.0) refl h
+  where
+    by_free : (t : Bool) → binds d b.0 ≡ t → bindings_from (if t then None else Some (bound_more d b.0 b.1)) fs ≡ Some e → BindMore d (f ∷ fs) e
+    by_free true free k = absurd (not_some (sym (none_goes_on fs) ∙ k))
+    by_free false free k = (b.0, b.1, among_found all_slots f b is, free, more (bound_more d b.0 b.1) k)
 
-two_fields : (f g : List ℕ) (e : EnvParts) (x y : Option (SlotId × UidParts)) → binding_of f ≡ x → binding_of g ≡ y → two_by x y ≡ Some e → AreBindings e (f ∷ g ∷ [])
-two_fields f g e None y p q h = absurd (not_some h)
-two_fields f g e (Some x) None p q h = absurd (not_some h)
-two_fields f g e (Some x) (Some y) p q h = two_found x.0 y.0 x.1 y.1 f g e (binding_found f x p) (binding_found g y q) h
+more_found : (fs : List (List ℕ)) (d e : EnvParts) → bindings_from (Some d) fs ≡ Some e → BindMore d fs e
+more_found [] d e h = sym (some_is h)
+more_found (f ∷ fs) d e h = by_binding d f fs e (binding_of f) refl (λ c. more_found fs c e) h
 
 bindings_found : (fs : List (List ℕ)) (e : EnvParts) → bindings_of fs ≡ Some e → AreBindings e fs
-bindings_found [] e h = subst (λ (x : EnvParts). AreBindings x []) (some_is h) refl
-bindings_found (f ∷ []) e h =
-    let m = mapped {X = SlotId × UidParts} {Y = EnvParts} (λ b. one_bound b.0 b.1) (binding_of f) e h in
-    subst (λ (x : EnvParts). AreBindings x (f ∷ [])) m.2 (one_found m.0.0 m.0.1 f (binding_found f m.0 m.1))
-bindings_found (f ∷ g ∷ []) e h = two_fields f g e (binding_of f) (binding_of g) refl refl h
-bindings_found (f ∷ g ∷ x ∷ fs) e h = absurd (not_some h)
+bindings_found fs e h = more_found fs no_env e h
 
 only_is : (fs : List (List ℕ)) (w : List ℕ) → only fs ≡ Some w → fs ≡ w ∷ []
 only_is [] w h = absurd (not_some h)
@@ -179,7 +187,7 @@ static_found (i ∷ fs) c h =
 template_found : (fs : List (List ℕ)) (c : PolicyCommand) → template_of fs ≡ Some c → IsPolicyCommand c (codes "template" ∷ fs)
 template_found [] c h = absurd (not_some h)
 template_found (i ∷ fs) c h =
-    let m = mapped {X = Bool × Bool} {Y = PolicyCommand} (λ s. Template i s.0 s.1) (option_and_then slots_of (only fs)) c h in
+    let m = mapped (Template i) (option_and_then slots_of (only fs)) c h in
     let n = gone_on slots_of (only fs) m.0 m.1 in
     subst (λ d. IsPolicyCommand d (codes "template" ∷ i ∷ fs)) m.2 (ap (λ l. codes "template" ∷ i ∷ l) (only_is fs n.0 n.1 ∙ ap (λ w. w ∷ []) (slots_found n.0 m.0 n.2)))
 
