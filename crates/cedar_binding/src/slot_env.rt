@@ -116,7 +116,9 @@ fn write_bound<W: fmt::Write>(
 fn is_bound_before(values: &SlotEnv, id: SlotId) -> bool
     ensures { result ≡ bound_before (env_of values.now) id }
 {
-    SlotId::ALL.iter().any(|other| *other < id && is_bound(values, *other))
+    SlotId::ALL
+        .iter()
+        .any(|other| *other < id && is_bound(values, *other))
 }
 
 // Whether a slot is bound.

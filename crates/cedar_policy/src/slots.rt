@@ -104,10 +104,7 @@ fn push_slot(
 }
 
 // Puts the action's slot last, if the constraint refers to it: at the location that the constraint has.
-fn push_action_slot(
-    slots: &mut Vec<Slot>,
-    constraint: &ActionConstraint,
-) -> Result<(), AllocError>
+fn push_action_slot(slots: &mut Vec<Slot>, constraint: &ActionConstraint) -> Result<(), AllocError>
     ensures { OnOk result (slots.new.items ≡ slots.old.items ++ rule_slots (rule_of constraint.now)) }
 {
     if let Some(loc) = action_slot_at(constraint) {
