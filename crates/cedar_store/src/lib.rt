@@ -1,5 +1,5 @@
-//! The store layer of the Cedar authorization language: one crate with the public names of the layers below it, but
-//! for some helpers, and the program over them.
+//! The store layer of the Cedar authorization language: one crate with all public names of the layers below it, and the
+//! program over them.
 //!
 //! The names stand at the original's module paths: [`ast`] has ids, values, expressions, entities, templates, policies
 //! and their sets, [`entities`] the store, [`transitive_closure`] the closure calls. Beside them are this project's own:
@@ -15,14 +15,22 @@ mod program;
 mod replay;
 mod uid_text;
 
+pub use cedar_action::action::JoinedUids;
+pub use cedar_action::iters::ActionTypeNames;
 pub use cedar_action::{ActionConstraint, ActionTypesError, EntityIterator};
 pub use cedar_annotation::{Annotation, Annotations};
+pub use cedar_binding::err::ArityText;
+pub use cedar_binding::{
+    JoinedBindings, bound_to, check_bindings, copy_of_bindings, no_bindings, same_bindings,
+};
+pub use cedar_components::{Reached, reach};
 pub use cedar_entities::{
     Ancestors, Dereference, Entities, EntitiesError, Entity, Keys, Pairs, SharedEntity, SharedUid,
     TCComputation, UidSet, Uids,
 };
 pub use cedar_graph::{
-    HasCycle, MissingTcEdge, TCNode, TcError, compute_tc, enforce_tc_and_dag, repair_tc,
+    HasCycle, MissingTcEdge, TCNode, TcError, Work, compute_tc, compute_tc_counted,
+    enforce_tc_and_dag, repair_tc, repair_tc_counted,
 };
 pub use cedar_ids::{
     ACTION_ENTITY_TYPE, AnyId, Eid, EntityType, EntityUID, EntityUIDImpl, Escaped, Id, Loc, Name,
@@ -32,12 +40,15 @@ pub use cedar_policy::{
     Effect, LinkingError, Policy, SlotEnv, Slots, StaticPolicy, Template, TemplateBody,
     TemplateBodyImpl, TemplateValidationError, UnexpectedSlotError,
 };
+pub use cedar_policy_lines::field::uid_field;
+pub use cedar_policy_lines::{PolicyCommand, PolicySets, read_policy_command};
 pub use cedar_policy_replay::{Answer, PolicyCall, replay_policies};
 pub use cedar_policy_set::{
     AllTemplates, IntoPolicies, Linked, LinkedIds, Policies, PolicySet, PolicySetError,
     PolicySetGetLinksError, PolicySetPolicyRemovalError, PolicySetTemplateRemovalError,
     PolicySetUnlinkError, PolicySetValidationError, StaticPolicies, Templates,
 };
+pub use cedar_scope::iters::ConstraintTypeNames;
 pub use cedar_scope::{
     EntityReference, PrincipalConstraint, PrincipalOrResource, PrincipalOrResourceConstraint,
     ResourceConstraint,
@@ -46,6 +57,7 @@ pub use cedar_terms::{
     Expr, ExprValidationError, ExtensionValue, Literal, PartialValue, Slot, SlotId, StaticType,
     StaticallyTyped, Unknown, Value, ValueKind, Var, is_reserved_key,
 };
+pub use cedar_uid_sets::Union;
 pub use program::{RunError, run, run_and_leave};
 pub use replay::{EntityCall, replay_entities};
 
@@ -75,6 +87,11 @@ pub mod ast {
         Expr, ExprValidationError, ExtensionValue, Literal, PartialValue, Slot, SlotId, StaticType,
         StaticallyTyped, Unknown, Value, ValueKind, Var, is_reserved_key,
     };
+
+    /// Annotations and their iterators, at the original's path: these two have the names of the store's.
+    pub mod annotation {
+        pub use cedar_annotation::annotation::{Annotation, Annotations, IntoIter, Iter};
+    }
 }
 
 /// The store of entities, at the original's path.
@@ -102,6 +119,7 @@ pub mod parser {
 /// Nodes with edges and the closure calls, at the original's path.
 pub mod transitive_closure {
     pub use cedar_graph::{
-        HasCycle, MissingTcEdge, Result, TCNode, TcError, compute_tc, enforce_tc_and_dag, repair_tc,
+        HasCycle, MissingTcEdge, Result, TCNode, TcError, Work, compute_tc, compute_tc_counted,
+        enforce_tc_and_dag, repair_tc, repair_tc_counted,
     };
 }
