@@ -23,7 +23,7 @@ use Rattle.cedar_entities.specs.Plain.{StoreView, Held, IsPlainStore, IsKeyed, I
 use Rattle.cedar_entities.specs.Present.{first_entity, keyed}
 use Rattle.cedar_entities.specs.Refusals.{MatchRefusal, IsOverwritingRefused}
 use Rattle.cedar_entities.specs.laws.Refusals.{refusal_cases}
-use Rattle.cedar_entities.specs.Touching.{is_touched, is_indirect_in, IsSettled, LosesBetween, StaysUntouched, WhereTaken}
+use Rattle.cedar_entities.specs.Touching.{is_touched, is_indirect_in, IsSettled, LosesBetween, StaysUntouched, WhereTaken, StripsBetween}
 use Rattle.cedar_entities.specs.World.{World, graph, is_parent_in, entry_of, reversed, overwritten}
 use Rattle.cedar_entities.specs.declared.entities.TCComputation.{TCComputation}
 use Rattle.cedar_entities.specs.declared.entities.TCComputation.TheVariants as modes
@@ -172,6 +172,10 @@ module _ (W : World) (S : StoreView) (plain : IsPlainStore W S) where
       no_more : (b : Bool) → not b ≡ true → b ≡ true → ⊥
       no_more true h k = both_ways true (sym h) refl
       no_more false h k = both_ways false refl k
+
+  -- so do the uids that were applied so far
+  pub so_far : (A : List EntityUID) → StripsBetween W A S.held
+  so_far A q w = stays_at A q w (finmap.get S.held q) refl
 
   between_at : (L : List EntityView) (N : Held) → N ≡ put_over S.held L → LosesBetween W (uids_of L) S.held N
   between_at L N s q w out = subst (λ o. (is_indirect_in o w ≡ true) ↔ ((is_indirect_in (finmap.get S.held q) w ≡ true)

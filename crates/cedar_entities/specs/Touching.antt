@@ -10,7 +10,7 @@ use Rattle.cedar_graph.specs.declared.err.TcError.{TcError}
 use Rattle.cedar_ids.specs.UidOf.{same_uid}
 use Rattle.cedar_ids.specs.declared.entity.EntityUID.{EntityUID}
 use Rattle.cedar_entity.specs.View.{EntityView, kept}
-use Rattle.cedar_entities.specs.Edits.{uids_of}
+use Rattle.cedar_entities.specs.Edits.{lessened, uids_of}
 use Rattle.cedar_entities.specs.Modes.{ancestry, IsSound, IsClosureRefused}
 use Rattle.cedar_entities.specs.Plain.{Held}
 use Rattle.cedar_entities.specs.World.{World, graph}
@@ -75,6 +75,13 @@ abbrev pub LosesBetween : World → List EntityUID → Held → Held → Type 0
 LosesBetween W A D N =
     (q w : EntityUID) → is_member same_uid A q ≡ false
     → (is_indirect_in (finmap.get N q) w ≡ true) ↔ ((is_indirect_in (finmap.get D q) w ≡ true)
+    × ((u : EntityUID) → is_member same_uid A u ≡ true → finmap.contains_key W.entities u ≡ true → Reach (graph W) q u → (u ≡ w) ⊎ Reach (graph W) u w → ⊥))
+
+-- what some uids of a list strip, before any repair: each entity, lessened by them, has exactly those of its indirect
+-- ancestors w where none of them that W holds is w or lies between
+abbrev pub StripsBetween : World → List EntityUID → Held → Type 0
+StripsBetween W A D =
+    (q w : EntityUID) → (is_indirect_in (option_map (lessened D A) (finmap.get D q)) w ≡ true) ↔ ((is_indirect_in (finmap.get D q) w ≡ true)
     × ((u : EntityUID) → is_member same_uid A u ≡ true → finmap.contains_key W.entities u ≡ true → Reach (graph W) q u → (u ≡ w) ⊎ Reach (graph W) u w → ⊥))
 
 -- P, where nothing is computed

@@ -1,5 +1,5 @@
 //! The store of entities.
-ghost use Rattle.std.specs.Prelude.{◌≡◌, Bool, true, false, cond, map, Some, None, IfOk, IfErr, OnOk, OnErr, IsTrue, ⊤, ◌&&◌, is_some, ◌↔◌};
+ghost use Rattle.std.specs.Prelude.{◌≡◌, Bool, true, false, cond, map, Some, None, IfOk, IfErr, OnOk, OnErr, IsTrue, ⊤, ◌&&◌, is_some, take, ℕ, ◌↔◌};
 ghost use Rattle.std.specs.Option.{option_or, option_map, IfSome};
 ghost use Rattle.std.specs.FinMap as finmap;
 ghost use Rattle.std.specs.HashMap.{get};
@@ -22,7 +22,7 @@ ghost use Rattle.cedar_entity.specs.declared.err.EntitiesError.TheVariants.{Memo
 ghost use Rattle.cedar_entities.specs.declared.entities.TCComputation.TheVariants.{EnforceAlreadyComputed, ComputeNow};
 ghost use Rattle.cedar_entities.specs.SameUids.{HaveSameUids, same_uids_and_mode};
 ghost use Rattle.cedar_entities.specs.StoreFaults.{IsStoreFault, IsValidStore};
-ghost use Rattle.cedar_entities.specs.Touching.{IsAcyclicAt, IsMended, IsMendRefused, IsRepairOf, IsSettled, LosesBetween, StaysUntouched, WhereTaken, inserted_in, is_touched, removed_from};
+ghost use Rattle.cedar_entities.specs.Touching.{IsAcyclicAt, IsMended, IsMendRefused, IsRepairOf, IsSettled, LosesBetween, StaysUntouched, StripsBetween, WhereTaken, inserted_in, is_touched, removed_from};
 ghost use Rattle.cedar_entities.specs.World.{World, empty_world, added, overwritten, deleted, graph, AllAgree, FirstDiffers};
 
 use crate::dereference::Dereference;
@@ -608,6 +608,9 @@ impl Entities {
             (is_touched self.held (uids_of (entities_in list.items))) e)) }
         ensures untouched { IfOk result (λ s. StaysUntouched
             (uids_of (entities_in list.items)) self.held s.held) }
+        // after each uid of the list, before any repair: what the uids applied so far have stripped
+        ensures so_far { OnOk result ((W : World) → IsPlainStore W self → (k : ℕ) →
+            StripsBetween W (take k (uids_of (entities_in list.items))) self.held) }
         ensures between { IfOk result (λ s. (W : World) → IsPlainStore W self → WhereTaken tc_computation
             (LosesBetween W (uids_of (entities_in list.items)) self.held s.held)) }
         ensures plain { IfOk result (λ s. (W : World) → IsPlainStore W self →

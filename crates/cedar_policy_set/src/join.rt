@@ -27,7 +27,8 @@ impl PolicySet {
         ensures { IfOk result (λ s. add_step empty_board policy ≡ Ok s) }
     {
         // No effect at run time: these calls say that exactly the slots of its template are bound.
-        let _whole = (policy.is_static(), policy.env());
+        let _whole = policy.is_static();
+        let _total = policy.env();
         let mut set = PolicySet::new(alloc);
         match set.put_both(policy) {
             Ok(()) => Ok(set),

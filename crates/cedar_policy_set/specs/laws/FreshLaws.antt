@@ -135,7 +135,7 @@ pub one_on : (here other : Board) (start n : ℕ) (i : List ℕ) →
     n ≤ free_below (is_bound_in_either here other) start + count here other → free_below (is_bound_in_either here other) n ≡ free_below (is_bound_in_either here other) start →
     i ≡ numbered n → is_bound_in_either here other i ≡ true →
     (n + 1 ≤ free_below (is_bound_in_either here other) start + count here other) × (free_below (is_bound_in_either here other) (n + 1) ≡ free_below (is_bound_in_either here other) start)
-one_on here other start n i e q t =
+one_on here other start n i w e q t =
     let b = is_bound_in_either here other in
     let f : free_below b (suc n) ≡ free_below b start = passed b n (ap b (sym q) ∙ t) ∙ e in
     let s : n + 1 ≡ suc n = omega arith in

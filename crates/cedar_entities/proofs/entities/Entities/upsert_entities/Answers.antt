@@ -1,4 +1,4 @@
-use Rattle.std.proofs.Common.{ap, subst, map, ◌∙◌, ◌≡◌, ◌||◌}
+use Rattle.std.proofs.Common.{ap, subst, take, map, ◌∙◌, ◌≡◌, ◌||◌}
 use Rattle.std.proofs.lemmas.Result.{err_from_is_err_and}
 use Rattle.std.specs.HashSet.{contains}
 use Rattle.std.specs.Set.{is_member}
@@ -11,7 +11,7 @@ use Rattle.cedar_entities.specs.Plain.{StoreView}
 use Rattle.cedar_entities.specs.Refusals.{MatchRefusal, NamesOneOf}
 use Rattle.cedar_entities.specs.Touching.{is_touched, IsSettled}
 use Rattle.cedar_entities.proofs.Edited.{laid_over, noted_touched}
-use Rattle.cedar_entities.proofs.Overwriting.{over_between, over_plain, over_refused, over_untouched, settled_untouched}
+use Rattle.cedar_entities.proofs.Overwriting.{so_far, over_between, over_plain, over_refused, over_untouched, settled_untouched}
 use Rattle.cedar_entities.proofs.entities.Entities.upsert_entities.Goals as goal
 
 pub returns-in_err-settle-clause-err : goal.returns-in_err-settle-clause-err
@@ -67,3 +67,6 @@ returns-in_err-settle-clause-named c =
     (λ q. c.in_ok-apply_each.ensures.touched q ∙ ap (λ ks. is_member same_uid ks q || notes c.in_ok-read.read.items q) c.new-touched.ensures.empty) in
     let p = err_from_is_err_and c.from_residual-in_err-settle.result c.from_residual-in_err-settle.ensures.1 in
     rw (p.1, p.2) (subst (λ f. WhereComputed c.args.tc_computation (NamesOneOf f c.in_err-settle.field-0.0)) touched c.in_err-settle.ensures.named)
+
+pub returns-clause-so_far : goal.returns-clause-so_far
+returns-clause-so_far c W plain k = so_far W c.args.self plain (take k (uids_of (map (λ r. r.value) c.args.list.items)))
