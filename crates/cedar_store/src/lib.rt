@@ -19,7 +19,7 @@ pub use cedar_action::{ActionConstraint, ActionTypesError, EntityIterator};
 pub use cedar_annotation::{Annotation, Annotations};
 pub use cedar_entities::{
     Ancestors, Dereference, Entities, EntitiesError, Entity, Keys, Pairs, SharedEntity, SharedUid,
-    TCComputation, UidSet, Uids,
+    SharedUids, TCComputation, UidSet, Uids,
 };
 pub use cedar_graph::{
     HasCycle, MissingTcEdge, TCNode, TcError, compute_tc, enforce_tc_and_dag, repair_tc,
@@ -42,6 +42,7 @@ pub use cedar_scope::{
     EntityReference, PrincipalConstraint, PrincipalOrResource, PrincipalOrResourceConstraint,
     ResourceConstraint,
 };
+pub use cedar_slice::slice;
 pub use cedar_terms::{
     Expr, ExprValidationError, ExtensionValue, Literal, PartialValue, Slot, SlotId, StaticType,
     StaticallyTyped, Unknown, Value, ValueKind, Var, is_reserved_key,
