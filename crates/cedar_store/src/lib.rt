@@ -18,15 +18,12 @@ mod uid_text;
 pub use cedar_action::ActionConstraint;
 pub use cedar_action::ActionTypesError;
 pub use cedar_action::EntityIterator;
-pub use cedar_action::action::JoinedUids;
-pub use cedar_action::iters::ActionTypeNames;
 pub use cedar_annotation::Annotation;
 pub use cedar_annotation::Annotations;
 pub use cedar_binding::JoinedBindings;
 pub use cedar_binding::bound_to;
 pub use cedar_binding::check_bindings;
 pub use cedar_binding::copy_of_bindings;
-pub use cedar_binding::err::ArityText;
 pub use cedar_binding::no_bindings;
 pub use cedar_binding::same_bindings;
 pub use cedar_components::Reached;
@@ -40,6 +37,7 @@ pub use cedar_entities::Keys;
 pub use cedar_entities::Pairs;
 pub use cedar_entities::SharedEntity;
 pub use cedar_entities::SharedUid;
+pub use cedar_entities::SharedUids;
 pub use cedar_entities::TCComputation;
 pub use cedar_entities::UidSet;
 pub use cedar_entities::Uids;
@@ -79,7 +77,6 @@ pub use cedar_policy::TemplateValidationError;
 pub use cedar_policy::UnexpectedSlotError;
 pub use cedar_policy_lines::PolicyCommand;
 pub use cedar_policy_lines::PolicySets;
-pub use cedar_policy_lines::field::uid_field;
 pub use cedar_policy_lines::read_policy_command;
 pub use cedar_policy_replay::Answer;
 pub use cedar_policy_replay::PolicyCall;
@@ -103,7 +100,7 @@ pub use cedar_scope::PrincipalConstraint;
 pub use cedar_scope::PrincipalOrResource;
 pub use cedar_scope::PrincipalOrResourceConstraint;
 pub use cedar_scope::ResourceConstraint;
-pub use cedar_scope::iters::ConstraintTypeNames;
+pub use cedar_slice::slice;
 pub use cedar_terms::Expr;
 pub use cedar_terms::ExprValidationError;
 pub use cedar_terms::ExtensionValue;
@@ -124,6 +121,15 @@ pub use program::run;
 pub use program::run_and_leave;
 pub use replay::EntityCall;
 pub use replay::replay_entities;
+
+/// The iterators of the types that constraints name, texts that refusals are written with, and the reading of a field.
+pub mod helpers {
+    pub use cedar_action::action::JoinedUids;
+    pub use cedar_action::iters::ActionTypeNames;
+    pub use cedar_binding::err::ArityText;
+    pub use cedar_policy_lines::field::uid_field;
+    pub use cedar_scope::iters::ConstraintTypeNames;
+}
 
 /// Ids, names, uids, values, expressions, entities, scope constraints, templates, policies and policy sets, at the
 /// original's path.
