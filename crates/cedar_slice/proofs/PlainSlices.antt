@@ -1,5 +1,5 @@
 -- The slice of the plain store of a world.
-use Rattle.std.specs.Prelude.{◌≡◌, ◌↔◌, ◌⊎◌, Bool, true, false, cond, List, [], ◌∷◌, Option, Some, None, is_some}
+use Rattle.std.specs.Prelude.{◌≡◌, ◌↔◌, Bool, true, false, cond, List, [], ◌∷◌, Option, Some, None, is_some}
 use Rattle.std.proofs.Common.{ap, sym, refl, subst, ◌∙◌, inl, inr}
 use Rattle.std.proofs.lemmas.Bool.{false≢true}
 use Rattle.std.specs.Option.{IfSome, option_map}
@@ -9,12 +9,12 @@ use Rattle.cedar_graph.specs.laws.Reaches.{reach_edge, reach_trans, reach_over_r
 use Rattle.cedar_ids.specs.UidOf.{uid_order}
 use Rattle.cedar_ids.specs.declared.entity.EntityUID.{EntityUID}
 use Rattle.cedar_uid_sets.specs.laws.Sets.{one_equal}
-use Rattle.cedar_entity.specs.View.{EntityView, has_ancestor}
+use Rattle.cedar_entity.specs.View.{has_ancestor}
 use Rattle.cedar_entities.specs.Modes.{ancestry}
-use Rattle.cedar_entities.specs.Plain.{StoreView, Held, IsPlainStore, IsApart, parts_of}
+use Rattle.cedar_entities.specs.Plain.{StoreView, IsPlainStore, IsApart, parts_of}
 use Rattle.cedar_entities.specs.World.{World, graph, is_parent_in}
 use Rattle.cedar_entities.specs.laws.PlainAncestors.{ancestry_plain, first_key}
-use Rattle.cedar_slice.specs.Slices.{is_wanted, sliced, part_of, IsWanted, IsSliceOf, IsPlainSlice, IsPartWith}
+use Rattle.cedar_slice.specs.Slices.{is_wanted, sliced, part_of, IsWanted, IsPlainSlice, IsPartWith}
 use Rattle.cedar_slice.specs.laws.OneSlice.{part_edges, wanted_by}
 
 -- what a map has of the keys that pass a test
