@@ -397,8 +397,9 @@ impl Entity {
         SharedUids::of(self.parents.pointers(), self.indirect_ancestors.pointers())
     }
 
-    // The parents and the indirect ancestors, each once, in the order of uids.
-    pub(crate) fn ancestors_in_order(&self) -> Union<'_>
+    /// The parents and the indirect ancestors, each once, in the order of uids: a walk through both at a time, of a comparison
+    /// or two a uid. It takes no memory. This is the project's own.
+    pub fn ancestors_in_order(&self) -> Union<'_>
         ensures members { (q : EntityUID) → is_member same_uid result q ≡ has_ancestor self.now q }
         ensures ascending { Ascend result }
     {

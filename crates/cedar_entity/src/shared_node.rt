@@ -19,7 +19,10 @@ use std::mem;
 use std::rc::Rc;
 
 // What an iterator has left, as a list.
-fn listed_pointers<'a>(alloc: Global, uids: SharedUids<'a>) -> Result<Vec<&'a SharedUid>, AllocError>
+fn listed_pointers<'a>(
+    alloc: Global,
+    uids: SharedUids<'a>,
+) -> Result<Vec<&'a SharedUid>, AllocError>
     ensures { IfOk result (λ v. map (λ x. x.now) v.items ≡ uids.entry) }
 {
     uids.collect(alloc)
