@@ -26,7 +26,8 @@ use Rattle.cedar_entities.specs.Edits.{uids_of}
 use Rattle.cedar_entities.specs.Touching.{inserted_in, is_touched, IsSettled, StaysUntouched}
 use Rattle.cedar_entities.proofs.Reaching.{untouched}
 use Rattle.cedar_entities.proofs.Readings.{any_member, is_none}
-use Rattle.cedar_entities.proofs.Repaired.{ancestry_plain, repaired}
+use Rattle.cedar_entities.specs.laws.PlainAncestors.{ancestry_plain}
+use Rattle.cedar_entities.proofs.Repaired.{repaired}
 use Rattle.cedar_entities.specs.declared.entities.TCComputation.{TCComputation}
 use Rattle.cedar_entities.specs.declared.entities.TCComputation.TheVariants as modes
 use Rattle.cedar_entities.specs.Present.{first_entity, with_first, MatchesPresent, AllMatch, FirstMismatch}

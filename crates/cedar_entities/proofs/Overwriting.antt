@@ -32,7 +32,8 @@ use Rattle.cedar_entities.specs.laws.Worlds.{get_joined, find-append, find-mappe
 use Rattle.cedar_entities.proofs.PlainStores.{plain_from, cycle_in, found_parts, map_or, if_or, first_all, first_keyed, bare_apart, bare_leads}
 use Rattle.cedar_entities.proofs.Reaching.{first_edge, kept_over, untouched}
 use Rattle.cedar_entities.proofs.Readings.{any_member, any_found, is_none, untouched_at}
-use Rattle.cedar_entities.proofs.Repaired.{ancestry_plain, repaired}
+use Rattle.cedar_entities.specs.laws.PlainAncestors.{ancestry_plain}
+use Rattle.cedar_entities.proofs.Repaired.{repaired}
 
 map_append : {X Y : Type 0} (f : X → Y) (xs ys : List X) → map f (xs ++ ys) ≡ map f xs ++ map f ys
 map_append f [] ys = refl

@@ -34,7 +34,8 @@ use Rattle.cedar_entities.proofs.Overwriting.{map_keyed, held_alike, goes_betwee
 use Rattle.cedar_entities.proofs.PlainStores.{plain_from}
 use Rattle.cedar_entities.proofs.Reaching.{kept_between}
 use Rattle.cedar_entities.proofs.Readings.{any_filter, any_less, any_member, none_retained}
-use Rattle.cedar_entities.proofs.Repaired.{ancestry_plain, repaired}
+use Rattle.cedar_entities.specs.laws.PlainAncestors.{ancestry_plain}
+use Rattle.cedar_entities.proofs.Repaired.{repaired}
 
 -- what a removal leaves of an entity
 abbrev pub remains : Held → List EntityUID → EntityView → EntityView

@@ -1,34 +1,14 @@
 -- When the repair of what an edit leaves is the closure.
-use Rattle.std.specs.Prelude.{◌≡◌, ◌↔◌, Bool, true, false, Option, Some, None}
-use Rattle.std.proofs.Common.{ap, sym, refl, ◌∙◌}
-use Rattle.std.proofs.lemmas.Bool.{false≢true}
-use Rattle.std.specs.Option.{option_map, IfSome}
+use Rattle.std.specs.Prelude.{◌≡◌, ◌↔◌, Bool, true, false}
+use Rattle.std.proofs.Common.{ap, refl, ◌∙◌}
 use Rattle.std.specs.FinMap as finmap
 use Rattle.cedar_graph.specs.Graph.{Reach, AddsOnlyReached, IsTrusted}
 use Rattle.cedar_graph.specs.laws.Reaches.{reach_over_reach}
 use Rattle.cedar_ids.specs.declared.entity.EntityUID.{EntityUID}
-use Rattle.cedar_entity.specs.View.{EntityView, has_ancestor}
 use Rattle.cedar_entities.specs.Modes.{ancestry, is_ancestor_in}
 use Rattle.cedar_entities.specs.laws.Closures.{IsClosureOf}
-use Rattle.cedar_entities.specs.Plain.{StoreView, Held, IsPlainStore, parts_of}
+use Rattle.cedar_entities.specs.Plain.{Held}
 use Rattle.cedar_entities.specs.Touching.{IsRepairOf, IsAcyclicAt}
-use Rattle.cedar_entities.specs.World.{World, graph, is_parent_in}
-use Rattle.cedar_entities.proofs.Reaching.{first_edge}
-
-module _ (W : World) (S : StoreView) (plain : IsPlainStore W S) where
-  no_row : (a b : EntityUID) → finmap.get S.held a ≡ None → Reach (graph W) a b → ⊥
-  no_row a b none r =
-      let f = first_edge (graph W) a b r in
-      false≢true (sym (ap (λ o. is_parent_in o f.0) (sym (plain.holds a) ∙ ap (option_map parts_of) none)) ∙ f.1)
-
-  plain_at : (a b : EntityUID) (o : Option EntityView) → IfSome o (λ e. (x : EntityUID) → (has_ancestor e x ≡ true) ↔ Reach (graph W) a x) → (o ≡ None → Reach (graph W) a b → ⊥)
-      → (is_ancestor_in o b ≡ true) ↔ Reach (graph W) a b
-  plain_at a b None h n = (λ t. absurd (false≢true t), λ r. absurd (n refl r))
-  plain_at a b (Some e) h n = h b
-
-  -- the ancestors in a plain store are what is reached over the parents
-  pub ancestry_plain : (a b : EntityUID) → (ancestry S.held a b ≡ true) ↔ Reach (graph W) a b
-  ancestry_plain a b = plain_at a b (finmap.get S.held a) (plain.reached a) (no_row a b)
 
 module _ (D M : Held) (G H : EntityUID → EntityUID → Bool) (touched : EntityUID → Bool)
     (plain : (a b : EntityUID) → (ancestry D a b ≡ true) ↔ Reach G a b)

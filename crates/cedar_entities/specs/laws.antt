@@ -2,6 +2,7 @@ pub mod Closures
 pub mod Edits
 pub mod Held
 pub mod Lists
+pub mod PlainAncestors
 pub mod Readings
 pub mod Refusals
 pub mod SameUids

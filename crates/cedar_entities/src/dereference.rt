@@ -1,9 +1,19 @@
 //! The answer of a look-up.
-ghost use Rattle.std.specs.Prelude.{◌≡◌};
-ghost use Rattle.cedar_entities.specs.Answers.{HasData, WithData};
+ghost use Rattle.std.specs.Prelude.{◌≡◌, IfOk};
+ghost use Rattle.cedar_entities.specs.Answers.{HasData, IsUnknownOf, WithData};
 
-use cedar_terms::Expr;
-use std::alloc::AllocError;
+use cedar_ids::entity::EntityUID;
+use cedar_terms::{Expr, StaticallyTyped, Unknown};
+use std::alloc::{AllocError, Global};
+
+// The unknown that stands for the entity with a uid.
+pub(crate) fn unknown_of(alloc: Global, uid: &EntityUID) -> Result<Expr, AllocError>
+    ensures { IfOk result (IsUnknownOf uid.now) }
+{
+    let name = uid.to_string(alloc)?;
+    let ty = uid.type_of(alloc)?;
+    Expr::unknown(alloc, Unknown::new_with_type(name, ty))
+}
 
 /// What a look-up of a uid finds.
 #[derive(Debug, Drop)]

@@ -9,7 +9,7 @@ ghost use Rattle.cedar_ids.specs.declared.entity.EntityUID.{EntityUID};
 ghost use Rattle.cedar_graph.specs.Graph.{Reach};
 ghost use Rattle.cedar_entities.specs.ClosureFaults.{IsClosureFault};
 ghost use Rattle.cedar_entity.specs.View.{EntityView, IsDeepEqual, IsEquivalenceRelation};
-ghost use Rattle.cedar_entities.specs.Answers.{AreDeepEqual, HasDeepEqual, Finds, IsUnknownOf, ListsHeld};
+ghost use Rattle.cedar_entities.specs.Answers.{AreDeepEqual, HasDeepEqual, Finds, ListsHeld};
 ghost use Rattle.std.specs.HashSet.{contains};
 ghost use Rattle.cedar_entities.specs.Edits.{put_over, taken_out, uids_of};
 ghost use Rattle.cedar_entities.specs.laws.Edits.{last_entity};
@@ -25,19 +25,17 @@ ghost use Rattle.cedar_entities.specs.StoreFaults.{IsStoreFault, IsValidStore};
 ghost use Rattle.cedar_entities.specs.Touching.{IsAcyclicAt, IsMended, IsMendRefused, IsRepairOf, IsSettled, LosesBetween, StaysUntouched, StripsBetween, WhereTaken, inserted_in, is_touched, removed_from};
 ghost use Rattle.cedar_entities.specs.World.{World, empty_world, added, overwritten, deleted, graph, AllAgree, FirstDiffers};
 
-use crate::dereference::Dereference;
+use crate::dereference::{Dereference, unknown_of};
 use crate::store_iters::{IntoIter, Iter};
 use crate::store_valid::check_each;
 use crate::touching::{
-    absent_uids, apply_each, held_uids, note_all, plain_copy_of, read_each, shared_copy_of,
-    touched_by_any, uids_in,
+    absent_uids, apply_each, held_uids, note_all, plain_copy_of, read_each, touched_by_any, uids_in,
 };
 use cedar_entity::entity::Entity;
 use cedar_entity::err::EntitiesError;
 use cedar_entity::node::SharedEntity;
 use cedar_graph::{compute_tc, enforce_tc_and_dag, repair_tc};
 use cedar_ids::entity::EntityUID;
-use cedar_terms::{Expr, StaticallyTyped, Unknown};
 use cedar_uid_sets::SharedUid;
 use std::alloc::{AllocError, Global};
 use std::collections::{HashMap, HashSet};
@@ -80,15 +78,6 @@ impl Model for Entities {
     ghost invariant = { λ s. UidsMatch s.entities };
 }
 
-// The unknown that stands for the entity with a uid.
-fn unknown_of(alloc: Global, uid: &EntityUID) -> Result<Expr, AllocError>
-    ensures { IfOk result (IsUnknownOf uid.now) }
-{
-    let name = uid.to_string(alloc)?;
-    let ty = uid.type_of(alloc)?;
-    Expr::unknown(alloc, Unknown::new_with_type(name, ty))
-}
-
 // Puts in an entity whose uid is absent; one that is present has to be deeply equal.
 fn put_new(
     alloc: Global,
@@ -111,7 +100,7 @@ fn put_new(
         }
         return Ok(());
     }
-    let uid = shared_copy_of(alloc, entity.uid())?;
+    let uid = SharedUid::copy_of(alloc, entity.uid())?;
     entities.insert(uid, SharedEntity(entity))?;
     Ok(())
 }
@@ -148,7 +137,7 @@ fn put_over(
         (cond (same_uid entity.value.uid q) (Some entity.value) None) (held entities.old q)) }
     ensures err { IfErr result (λ e. e ≡ Memory) }
 {
-    let key = shared_copy_of(alloc, entity.uid())?;
+    let key = SharedUid::copy_of(alloc, entity.uid())?;
     entities.insert(key, SharedEntity(entity))?;
     Ok(())
 }
@@ -690,6 +679,17 @@ impl Entities {
         self.len() == 0
     }
 
+    /// The entity that the store has with a uid, if there is one. It takes no memory. This is the project's own.
+    pub fn stored(&self, uid: &EntityUID) -> Option<&Entity>
+        ensures value { option_map (λ e. e.now) result ≡ finmap.get self.now.held uid.now }
+        ensures keyed { IsKeyed self.now.held }
+    {
+        match self.entities.get(uid) {
+            Some(node) => Some(&*node.0),
+            None => None,
+        }
+    }
+
     /// What the store has with a uid: the entity or, where there is none, nothing or, in a partial store, an
     /// unknown that is named by the printed uid and typed by its entity type.
     ///
@@ -704,8 +704,8 @@ impl Entities {
         ensures err { OnErr result ((finmap.get self.now.held uid.now ≡ None)
             × (self.now.partial ≡ true)) }
     {
-        match self.entities.get(uid) {
-            Some(node) => Ok(Dereference::Data(&*node.0)),
+        match self.stored(uid) {
+            Some(entity) => Ok(Dereference::Data(entity)),
             None => {
                 if !self.partial {
                     return Ok(Dereference::NoSuchEntity);

@@ -13,8 +13,8 @@ mod store_valid;
 mod touching;
 
 pub use cedar_entity::{
-    Ancestors, EntitiesError, Entity, Keys, Pairs, SharedEntity, SharedUid, UidSet, Uids, entity,
-    err, iters, node,
+    Ancestors, EntitiesError, Entity, Keys, Pairs, SharedEntity, SharedUid, SharedUids, UidSet,
+    Uids, entity, err, iters, node,
 };
 pub use dereference::Dereference;
 pub use entities::{Entities, TCComputation};

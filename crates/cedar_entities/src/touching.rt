@@ -48,14 +48,6 @@ pub(crate) fn plain_copy_of(uid: &EntityUID) -> Result<EntityUID, AllocError>
     uid.clone()
 }
 
-// A copy of a uid, to be shared.
-pub(crate) fn shared_copy_of(alloc: Global, uid: &EntityUID) -> Result<SharedUid, AllocError>
-    ensures { IfOk result (λ copy. copy ≡ uid.now) }
-{
-    let copy = uid.clone()?;
-    Ok(SharedUid::new(alloc, copy)?)
-}
-
 // Copies of the uids of the entities that have a uid among their ancestors.
 fn touched_by(
     alloc: Global,
@@ -270,7 +262,7 @@ pub(crate) fn uids_in(alloc: Global, list: &[Rc<Entity>]) -> Result<Vec<SharedUi
 {
     let mut uids = Vec::new(alloc);
     for entity in list {
-        uids.push(shared_copy_of(alloc, entity.uid())?)?;
+        uids.push(SharedUid::copy_of(alloc, entity.uid())?)?;
     }
     Ok(uids)
 }

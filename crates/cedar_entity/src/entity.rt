@@ -16,7 +16,7 @@ ghost use Rattle.cedar_entity.specs.View.{EntityView, has_ancestor, with_indirec
 
 use crate::err::EntitiesError;
 use crate::fault::Fault;
-use crate::iters::{Ancestors, Keys, Pairs, Pointers};
+use crate::iters::{Ancestors, Keys, Pairs, SharedUids};
 use crate::least::{least_common, least_non_action};
 use crate::reserved::in_fields;
 use cedar_ids::entity::EntityUID;
@@ -382,22 +382,24 @@ impl Entity {
         Ancestors::of(&self.parents, &self.indirect_ancestors)
     }
 
-    // The parents' pointers.
-    pub(crate) fn parent_pointers(&self) -> Pointers<'_>
+    /// The parents, as they are shared, in the order of uids. It takes no memory. This is the project's own.
+    pub fn shared_parents(&self) -> SharedUids<'_>
         ensures { (q : EntityUID) → is_member same_uid result q ≡ set.contains self.now.parents q }
     {
-        Pointers::of(self.parents.pointers(), &[])
+        SharedUids::of(self.parents.pointers(), &[])
     }
 
-    // The pointers of the parents, then those of the indirect ancestors.
-    pub(crate) fn ancestor_pointers(&self) -> Pointers<'_>
+    /// The parents, then the indirect ancestors, as they are shared, each in the order of uids; what is both comes
+    /// twice. It takes no memory. This is the project's own.
+    pub fn shared_ancestors(&self) -> SharedUids<'_>
         ensures { (q : EntityUID) → is_member same_uid result q ≡ has_ancestor self.now q }
     {
-        Pointers::of(self.parents.pointers(), self.indirect_ancestors.pointers())
+        SharedUids::of(self.parents.pointers(), self.indirect_ancestors.pointers())
     }
 
-    // The parents and the indirect ancestors, each once, in the order of uids.
-    pub(crate) fn ancestors_in_order(&self) -> Union<'_>
+    /// The parents and the indirect ancestors, each once, in the order of uids: a walk through both at a time, of a comparison
+    /// or two a uid. It takes no memory. This is the project's own.
+    pub fn ancestors_in_order(&self) -> Union<'_>
         ensures members { (q : EntityUID) → is_member same_uid result q ≡ has_ancestor self.now q }
         ensures ascending { Ascend result }
     {

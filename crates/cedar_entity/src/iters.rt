@@ -93,14 +93,14 @@ impl<'a> Iterator for Pairs<'a> {
     }
 }
 
-// The shared uids of two lists in turn.
+/// The shared uids of one set, then those of another, each in the order of uids.
 #[derive(Drop)]
-pub(crate) struct Pointers<'a> {
+pub struct SharedUids<'a> {
     first: slice::Iter<'a, SharedUid>,
     others: slice::Iter<'a, SharedUid>,
 }
 
-impl<'a> Model for Pointers<'a> {
+impl<'a> Model for SharedUids<'a> {
     ghost use Rattle.std.specs.Prelude.{List, ◌++◌};
     ghost use Rattle.std.specs.Coded.{coded_list};
     ghost use Rattle.std.specs.Slice.Iter.{iter_rest};
@@ -114,19 +114,19 @@ impl<'a> Model for Pointers<'a> {
     ghost view = { λ a. iter_rest a.first ++ iter_rest a.others };
 }
 
-impl<'a> Pointers<'a> {
+impl<'a> SharedUids<'a> {
     // Those of one list, then those of the other.
-    pub(crate) fn of(first: &'a [SharedUid], others: &'a [SharedUid]) -> Pointers<'a>
+    pub(crate) fn of(first: &'a [SharedUid], others: &'a [SharedUid]) -> SharedUids<'a>
         ensures { result ≡ first.now ++ others.now }
     {
-        Pointers {
+        SharedUids {
             first: first.iter(),
             others: others.iter(),
         }
     }
 }
 
-impl<'a> Iterator for Pointers<'a> {
+impl<'a> Iterator for SharedUids<'a> {
     type Item = &'a SharedUid;
 
     ghost next_gives = { YieldsFirstRef (λ s. s) };

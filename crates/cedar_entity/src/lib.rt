@@ -18,5 +18,5 @@ mod shared_node;
 pub use cedar_uid_sets::{SharedUid, UidSet, Uids};
 pub use entity::Entity;
 pub use err::EntitiesError;
-pub use iters::{Ancestors, Keys, Pairs};
+pub use iters::{Ancestors, Keys, Pairs, SharedUids};
 pub use node::SharedEntity;

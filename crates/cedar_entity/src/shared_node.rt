@@ -10,7 +10,7 @@ ghost use Rattle.cedar_graph.specs.Graph.{Grows};
 ghost use Rattle.cedar_entity.specs.View.{has_ancestor, rest, kept};
 
 use crate::entity::Entity;
-use crate::iters::Pointers;
+use crate::iters::SharedUids;
 use crate::node::{SharedEntity, reset};
 use cedar_graph::TCNode;
 use cedar_uid_sets::SharedUid;
@@ -19,7 +19,10 @@ use std::mem;
 use std::rc::Rc;
 
 // What an iterator has left, as a list.
-fn listed_pointers<'a>(alloc: Global, uids: Pointers<'a>) -> Result<Vec<&'a SharedUid>, AllocError>
+fn listed_pointers<'a>(
+    alloc: Global,
+    uids: SharedUids<'a>,
+) -> Result<Vec<&'a SharedUid>, AllocError>
     ensures { IfOk result (λ v. map (λ x. x.now) v.items ≡ uids.entry) }
 {
     uids.collect(alloc)
@@ -77,8 +80,7 @@ impl TCNode<SharedUid> for Entity {
 
     /// A copy of the uid, to be shared. It takes memory, and is refused only where that is.
     fn get_key(&self, alloc: Global) -> Result<SharedUid, AllocError> {
-        let copy = self.uid().clone()?;
-        Ok(SharedUid::new(alloc, copy)?)
+        SharedUid::copy_of(alloc, self.uid())
     }
 
     /// As [`Entity::add_indirect_ancestor`], but for sharing the uid.
@@ -88,7 +90,7 @@ impl TCNode<SharedUid> for Entity {
 
     /// The ancestors. It takes memory for the list, and is refused only where that is.
     fn out_edges(&self, alloc: Global) -> Result<Vec<&SharedUid>, AllocError> {
-        listed_pointers(alloc, self.ancestor_pointers())
+        listed_pointers(alloc, self.shared_ancestors())
     }
 
     /// As [`Entity::is_descendant_of_shared`].
@@ -117,7 +119,7 @@ impl TCNode<SharedUid> for Entity {
         ensures exact { IfOk result (λ v. (q : _) →
             is_member same_uid (map (λ x. x.now) v.items) q ≡ set.contains self.now.parents q) }
     {
-        listed_pointers(alloc, self.parent_pointers())
+        listed_pointers(alloc, self.shared_parents())
     }
 
     /// The places of the keys in the order of uids. It takes memory, and is refused only where that is.

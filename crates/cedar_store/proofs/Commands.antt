@@ -14,7 +14,7 @@ use Rattle.cedar_ids.specs.declared.entity.EntityUID.TheVariants as uids
 use Rattle.cedar_policy_lines.specs.PolicyCommand.{PolicyCommand, IsPolicyCommand}
 use Rattle.cedar_policy_lines.specs.laws.PolicyReading.{policy_command}
 use Rattle.cedar_policy_lines.specs.laws.ReadCommands.{command_is_read, read_is_command}
-use Rattle.cedar_store.specs.Command.{Command, Nothing, Ent, Build, Add, Upsert, Remove, Anc, Policy, AreTexts, AreFields, IsCommand}
+use Rattle.cedar_store.specs.Command.{Command, Nothing, Ent, Build, Add, Upsert, Remove, Slice, Anc, Policy, AreTexts, AreFields, IsCommand}
 
 abbrev pub Text : EntityUID → List ℕ → Type 0
 Text u t = IsPrinted (uid_parts u) t
@@ -81,6 +81,7 @@ word_of Build = codes "build"
 word_of Add = codes "add"
 word_of Upsert = codes "upsert"
 word_of (Remove us) = codes "remove"
+word_of (Slice us) = codes "slice"
 word_of (Anc u) = codes "anc"
 word_of (Policy c) = []
 
@@ -91,6 +92,7 @@ named_by Build = []
 named_by Add = []
 named_by Upsert = []
 named_by (Remove us) = us
+named_by (Slice us) = us
 named_by (Anc u) = u ∷ []
 named_by (Policy c) = []
 
@@ -102,6 +104,7 @@ policy_of Build = None
 policy_of Add = None
 policy_of Upsert = None
 policy_of (Remove us) = None
+policy_of (Slice us) = None
 policy_of (Anc u) = None
 policy_of (Policy c) = Some c
 
@@ -118,6 +121,7 @@ policy_told Build fs h = none_behind (codes "build") [] fs (λ ts. refl) h
 policy_told Add fs h = none_behind (codes "add") [] fs (λ ts. refl) h
 policy_told Upsert fs h = none_behind (codes "upsert") [] fs (λ ts. refl) h
 policy_told (Remove us) fs h = none_behind (codes "remove") us fs (λ ts. refl) h.0
+policy_told (Slice us) fs h = none_behind (codes "slice") us fs (λ ts. refl) h.0
 policy_told (Anc u) fs h = none_behind (codes "anc") (u ∷ []) fs (λ ts. refl) h
 policy_told (Policy c) fs h = sym (command_is_read c fs h)
 
@@ -129,6 +133,7 @@ fields_are Build fs e h = h
 fields_are Add fs e h = h
 fields_are Upsert fs e h = h
 fields_are (Remove us) fs e h = h.0
+fields_are (Slice us) fs e h = h.0
 fields_are (Anc u) fs e h = h
 fields_are (Policy c) fs e h = absurd (cc)
 
@@ -145,6 +150,7 @@ command_by w us =
     else if bytes_eq w (codes "add") then Add
     else if bytes_eq w (codes "upsert") then Upsert
     else if bytes_eq w (codes "remove") then Remove us
+    else if bytes_eq w (codes "slice") then Slice us
     else if bytes_eq w (codes "anc") then with_first (λ u _. Anc u) us
     else Nothing
 
@@ -161,6 +167,7 @@ read_back Build = refl
 read_back Add = refl
 read_back Upsert = refl
 read_back (Remove us) = refl
+read_back (Slice us) = refl
 read_back (Anc u) = refl
 read_back (Policy c) = refl
 
@@ -196,6 +203,7 @@ no_fields Build h = h
 no_fields Add h = h
 no_fields Upsert h = h
 no_fields (Remove us) h = h.0
+no_fields (Slice us) h = h.0
 no_fields (Anc u) h = h
 no_fields (Policy c) h = none_read [] c refl h
 
@@ -231,6 +239,13 @@ not_remove w ts e none c h =
     let r : IsCommand (Remove t.0) (w ∷ ts) = subst (λ d. IsCommand d (w ∷ ts)) (sym same) h in
     none t.0 (r.1, t.1)
 
+pub not_slice : (w : List ℕ) (ts : List (List ℕ)) → w ≡ codes "slice" → ((us : List EntityUID) → (us ≡ [] → ⊥) × AreTexts us ts → ⊥) → (c : Command) → IsCommand c (w ∷ ts) → ⊥
+not_slice w ts e none c h =
+    let t = told_by w ts (ap (λ v. policy_command (v ∷ ts)) e) c h in
+    let same : Slice t.0 ≡ c = ap (λ v. command_by v t.0) (sym e) ∙ t.2 in
+    let r : IsCommand (Slice t.0) (w ∷ ts) = subst (λ d. IsCommand d (w ∷ ts)) (sym same) h in
+    none t.0 (r.1, t.1)
+
 anc_told : (w : List ℕ) (ts : List (List ℕ)) (us : List EntityUID) → w ≡ codes "anc" → ((u : EntityUID) → AreTexts (u ∷ []) ts → ⊥) → (c : Command) → command_by w us ≡ c → IsCommand c (w ∷ ts) → ⊥
 anc_told w ts [] e none c same h = differs (codes "anc") [] refl refl (sym e ∙ is_nothing w ts c (ap (λ v. command_by v []) (sym e) ∙ same) h)
 anc_told w ts (u ∷ us) e none c same h =
@@ -254,25 +269,28 @@ not_word w policy build add upsert empty Add h = add h.0
 not_word w policy build add upsert empty Upsert h = upsert h.0
 not_word w policy build add upsert empty (Remove []) h = h.1 refl
 not_word w policy build add upsert empty (Remove (u ∷ us)) h = h.0.1
+not_word w policy build add upsert empty (Slice []) h = h.1 refl
+not_word w policy build add upsert empty (Slice (u ∷ us)) h = h.0.1
 not_word w policy build add upsert empty (Anc u) h = h.1
 not_word w policy build add upsert empty (Policy c) h = none_read (w ∷ []) c policy h
 
--- a word before other fields is that of an entity, of a removal or of ancestors, where it is none on policy sets
-pub no_such_word : (w t : List ℕ) (ts : List (List ℕ)) → policy_command (w ∷ t ∷ ts) ≡ None → (w ≡ codes "ent" → ⊥) → (w ≡ codes "remove" → ⊥) → (w ≡ codes "anc" → ⊥) → (c : Command) → IsCommand c (w ∷ t ∷ ts) → ⊥
-no_such_word w t ts policy ent remove anc Nothing h = cc
-no_such_word w t ts policy ent remove anc (Ent u ps) h = ent h.0
-no_such_word w t ts policy ent remove anc Build h = h.1
-no_such_word w t ts policy ent remove anc Add h = h.1
-no_such_word w t ts policy ent remove anc Upsert h = h.1
-no_such_word w t ts policy ent remove anc (Remove us) h = remove h.0.0
-no_such_word w t ts policy ent remove anc (Anc u) h = anc h.0
-no_such_word w t ts policy ent remove anc (Policy c) h = none_read (w ∷ t ∷ ts) c policy h
+-- a word before other fields is that of an entity, of a removal, of a slice or of ancestors, where it is none on policy sets
+pub no_such_word : (w t : List ℕ) (ts : List (List ℕ)) → policy_command (w ∷ t ∷ ts) ≡ None → (w ≡ codes "ent" → ⊥) → (w ≡ codes "remove" → ⊥) → (w ≡ codes "slice" → ⊥) → (w ≡ codes "anc" → ⊥) → (c : Command) → IsCommand c (w ∷ t ∷ ts) → ⊥
+no_such_word w t ts policy ent remove cut anc Nothing h = cc
+no_such_word w t ts policy ent remove cut anc (Ent u ps) h = ent h.0
+no_such_word w t ts policy ent remove cut anc Build h = h.1
+no_such_word w t ts policy ent remove cut anc Add h = h.1
+no_such_word w t ts policy ent remove cut anc Upsert h = h.1
+no_such_word w t ts policy ent remove cut anc (Remove us) h = remove h.0.0
+no_such_word w t ts policy ent remove cut anc (Slice us) h = cut h.0.0
+no_such_word w t ts policy ent remove cut anc (Anc u) h = anc h.0
+no_such_word w t ts policy ent remove cut anc (Policy c) h = none_read (w ∷ t ∷ ts) c policy h
 
 -- and so before fields that are looked at
 pub no_such_fields : (w : List ℕ) (fs : List (Bor (List ℕ))) (b : Bool) → b ≡ (length fs == 0) → b ≡ false → policy_command (w ∷ map (λ f. f.now) fs) ≡ None
-    → (w ≡ codes "ent" → ⊥) → (w ≡ codes "remove" → ⊥) → (w ≡ codes "anc" → ⊥) → (c : Command) → IsCommand c (w ∷ map (λ f. f.now) fs) → ⊥
-no_such_fields w [] b e t policy ent remove anc = absurd (false≢true (sym t ∙ e))
-no_such_fields w (f ∷ fs) b e t policy ent remove anc = no_such_word w f.now (map (λ f. f.now) fs) policy ent remove anc
+    → (w ≡ codes "ent" → ⊥) → (w ≡ codes "remove" → ⊥) → (w ≡ codes "slice" → ⊥) → (w ≡ codes "anc" → ⊥) → (c : Command) → IsCommand c (w ∷ map (λ f. f.now) fs) → ⊥
+no_such_fields w [] b e t policy ent remove cut anc = absurd (false≢true (sym t ∙ e))
+no_such_fields w (f ∷ fs) b e t policy ent remove cut anc = no_such_word w f.now (map (λ f. f.now) fs) policy ent remove cut anc
 
 -- no field is the text of no uid, and of no others
 pub no_uids : (fs : List (Bor (List ℕ))) (b : Bool) → b ≡ (length fs == 0) → b ≡ true → (us : List EntityUID) → (us ≡ [] → ⊥) × AreTexts us (map (λ f. f.now) fs) → ⊥

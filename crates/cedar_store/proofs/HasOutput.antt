@@ -21,7 +21,8 @@ use Rattle.cedar_policy_lines.specs.PolicyCommand.{PolicyCommand}
 use Rattle.cedar_policy_lines.specs.laws.OneAnswer.{policy_gives}
 use Rattle.cedar_policy_lines.specs.laws.PolicyReading.{policy_command}
 use Rattle.cedar_policy_lines.specs.laws.ReadCommands.{read_is_command}
-use Rattle.cedar_store.specs.Command.{Command, Nothing, Ent, Build, Add, Upsert, Remove, Anc, Policy, AreTexts, IsCommand, IsLine, is_plain}
+use Rattle.cedar_slice.specs.laws.OneSlice.{slice_there}
+use Rattle.cedar_store.specs.Command.{Command, Nothing, Ent, Build, Add, Upsert, Remove, Slice, Anc, Policy, AreTexts, IsCommand, IsLine, is_plain}
 use Rattle.cedar_store.specs.Output.{State, Written, Adds, Overwrites, AreAncestors, ShowsAncestors, Gives, IsOutput, IsOutputFrom, HasOneOutput, start, after, written_line, count_line, uid_text, field_of, not_command}
 use Rattle.cedar_store.proofs.OneOutput.{one_output}
 use Rattle.cedar_store.proofs.Commands.{Text, no_fields, not_anc, not_word, no_such_word, no_uid_texts}
@@ -97,9 +98,12 @@ with_found w t ts policy (inl (u ∷ us, h)) = elim (word_is w (codes "ent")) [
   | inl e ↦ inl (Ent u us, (e, h))
   | inr ent ↦ elim (word_is w (codes "remove")) [
     | inl e ↦ inl (Remove (u ∷ us), ((e, h), not_empty u us))
-    | inr remove ↦ elim (word_is w (codes "anc")) [
-      | inl e ↦ anc_found w t ts u us e h
-      | inr anc ↦ inr (no_such_word w t ts policy ent remove anc)
+    | inr remove ↦ elim (word_is w (codes "slice")) [
+      | inl e ↦ inl (Slice (u ∷ us), ((e, h), not_empty u us))
+      | inr cut ↦ elim (word_is w (codes "anc")) [
+        | inl e ↦ anc_found w t ts u us e h
+        | inr anc ↦ inr (no_such_word w t ts policy ent remove cut anc)
+      ]
     ]
   ]
 ]
@@ -163,6 +167,7 @@ gives s Build = let a = adds empty_world s.waiting in (record { waiting = []; wo
 gives s Add = let a = adds s.world s.waiting in (record { waiting = []; world = a.0; boards = s.boards }, a.1, (refl, a.2, refl))
 gives s Upsert = let a = overwrites s.world s.waiting in (record { waiting = []; world = a.0; boards = s.boards }, a.1, (refl, a.2, refl))
 gives s (Remove us) = (record { waiting = s.waiting; world = deleted s.world us; boards = s.boards }, count_line (deleted s.world us), (refl, (refl, refl), refl))
+gives s (Slice us) = let p = slice_there s.world us in (record { waiting = s.waiting; world = p.0; boards = s.boards }, count_line p.0, (refl, (p.1, refl), refl))
 gives s (Anc u) = let a = shows s.world u in (s, a.0, (refl, a.1))
 gives s (Policy c) = let a = policy_gives c s.boards in (record { waiting = s.waiting; world = s.world; boards = a.0 }, a.1, (refl, refl, a.2))
 

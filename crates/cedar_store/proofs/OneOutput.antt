@@ -15,9 +15,10 @@ use Rattle.cedar_ids.specs.UidOf.{uid_order, same_uid}
 use Rattle.cedar_ids.specs.laws.UidOfLaws.{same_uid_decides, same_uid_equiv, uid_order_total}
 use Rattle.cedar_ids.specs.declared.entity.EntityUID.{EntityUID}
 use Rattle.cedar_policy_lines.specs.laws.OneAnswer.{one_policy_gives}
-use Rattle.cedar_store.specs.Command.{Command, Nothing, Ent, Build, Add, Upsert, Remove, Anc, Policy}
+use Rattle.cedar_slice.specs.laws.OneSlice.{one_slice}
+use Rattle.cedar_store.specs.Command.{Command, Nothing, Ent, Build, Add, Upsert, Remove, Slice, Anc, Policy}
 use Rattle.cedar_entities.specs.World.{World, Given, AllAgree, Agrees, FirstDiffers, empty_world}
-use Rattle.cedar_store.specs.Output.{State, Written, Adds, Overwrites, Deletes, AreAncestors, Gives, IsOutput, IsOutputFrom, after, written_line, uid_text, field_of}
+use Rattle.cedar_store.specs.Output.{State, Written, Adds, Overwrites, Deletes, Slices, AreAncestors, Gives, IsOutput, IsOutputFrom, after, written_line, uid_text, field_of}
 use Rattle.cedar_store.proofs.Commands.{one_command}
 use Rattle.cedar_store.proofs.Lists.{all_at}
 
@@ -69,6 +70,11 @@ one_overwrites base L V W out out' (inr a) (inr b) =
 one_deletes : (base : World) (U : List EntityUID) (V W : World) (out out' : List ℕ) → Deletes base U V out → Deletes base U W out' → (V ≡ W) × (out ≡ out')
 one_deletes base U V W out out' a b =
     let same : V ≡ W = a.0 ∙ sym b.0 in
+    (same, a.1 ∙ ap (λ X. written_line (codes "ok " ++ decimal (finmap.len X.entities))) same ∙ sym b.1)
+
+one_slices : (base : World) (U : List EntityUID) (V W : World) (out out' : List ℕ) → Slices base U V out → Slices base U W out' → (V ≡ W) × (out ≡ out')
+one_slices base U V W out out' a b =
+    let same : V ≡ W = one_slice base U V W a.0 b.0 in
     (same, a.1 ∙ ap (λ X. written_line (codes "ok " ++ decimal (finmap.len X.entities))) same ∙ sym b.1)
 
 -- a list that ascends is one by its members
@@ -140,6 +146,7 @@ one_step s t t' Build out out' h k = joined t t' _ _ (h.0 ∙ sym k.0) (one_adds
 one_step s t t' Add out out' h k = joined t t' _ _ (h.0 ∙ sym k.0) (one_adds s.world s.waiting t.world t'.world out out' h.1 k.1) (h.2 ∙ sym k.2)
 one_step s t t' Upsert out out' h k = joined t t' _ _ (h.0 ∙ sym k.0) (one_overwrites s.world s.waiting t.world t'.world out out' h.1 k.1) (h.2 ∙ sym k.2)
 one_step s t t' (Remove us) out out' h k = joined t t' _ _ (h.0 ∙ sym k.0) (one_deletes s.world us t.world t'.world out out' h.1 k.1) (h.2 ∙ sym k.2)
+one_step s t t' (Slice us) out out' h k = joined t t' _ _ (h.0 ∙ sym k.0) (one_slices s.world us t.world t'.world out out' h.1 k.1) (h.2 ∙ sym k.2)
 one_step s t t' (Anc u) out out' h k = (h.0 ∙ sym k.0, one_shown s.world u out out' (finmap.contains_key s.world.entities u) h.1 k.1)
 one_step s t t' (Policy c) out out' h k =
     let same = one_policy_gives c s.boards t.boards t'.boards out out' h.2 k.2 in

@@ -31,9 +31,11 @@ use Rattle.cedar_policy_lines.specs.Boards.{Boards}
 use Rattle.cedar_policy_lines.specs.PolicyCommand.{PolicyCommand}
 use Rattle.cedar_policy_lines.specs.PolicyOutput.{PolicyGives}
 use Rattle.cedar_policy_lines.specs.PolicyOutput as policies
+use Rattle.cedar_slice.specs.Slices.{IsPlainSlice}
+use Rattle.cedar_slice.specs.laws.OneSlice.{slice_edges}
 use Rattle.cedar_store.specs.Output.{State, Adds, Overwrites, AreAncestors, ShowsAncestors, count_line, written_line, uid_text, field_of}
 use Rattle.cedar_store.specs.laws.Machines.{IsAsciiUid, IsAsciiGiven, IsAsciiWorld, AreAsciiUids, Refused, Holds, MachineGives, HasAsciiUids, Settles, waits}
-use Rattle.cedar_store.specs.Command.{Command, Nothing, Ent, Build, Add, Upsert, Remove, Anc, Policy, AreTexts, IsCommand}
+use Rattle.cedar_store.specs.Command.{Command, Nothing, Ent, Build, Add, Upsert, Remove, Slice, Anc, Policy, AreTexts, IsCommand}
 use Rattle.cedar_store.specs.declared.machine.Machine.{Machine}
 use Rattle.std.specs.Borrow.{Bor}
 use mathlib.Core.List.{append-nil}
@@ -296,6 +298,29 @@ remove_takes m n s us store (Ok S) old new h at same sets ok err settles =
     )
 remove_takes m n s us store (Err e) old new h at same sets ok err settles = absurd (subst (λ x. Refused x old new) (err s.world (subst (IsPlainStore s.world) (sym at) h.plain)) settles.1)
 
+-- the machine takes a slice
+pub slice_takes : (m n : Machine) (s : State) (us : List EntityUID) (r : Result StoreView EntitiesError) (old new : List ℕ) → Holds m s → waits n ≡ waits m → n.sets ≡ m.sets
+    → IfOk r (λ S. (W : World) → IsPlainStore W m.store → IsPlainSlice W us S)
+    → IfErr r (λ e. e ≡ errors.Memory)
+    → Settles r n old new → MachineGives (Slice us) s n old new
+slice_takes m n s us (Ok S) old new h same sets ok err settles =
+    let p = ok s.world h.plain in
+    let k = settles p.world p.is_plain in (
+      record { waiting = s.waiting; world = p.world; boards = s.boards },
+      count_line p.world,
+      (refl, (p.is_slice, refl), refl),
+      record {
+        waiting = ap (map given_of) same ∙ h.waiting;
+        bare = subst AreBare (sym same) h.bare;
+        plain = k.0;
+        ascii_waiting = h.ascii_waiting;
+        ascii_world = λ a b e. h.ascii_world a b (slice_edges s.world us p.world p.is_slice a b e);
+        boards = sets ∙ h.boards;
+      },
+      k.1,
+    )
+slice_takes m n s us (Err e) old new h same sets ok err settles = absurd (subst (λ x. Refused x old new) err settles.1)
+
 -- one field more
 pub fields_more : (done : List (Bor EntityUID)) (x : Bor EntityUID) (start now new : List ℕ) → (AreAsciiUids (map (λ y. y.now) done) → now ≡ start ++ flat_map field_of (map (λ y. y.now) done))
     → (IsAsciiUid x.now → new ≡ now ++ field_of x.now) → AreAsciiUids (map (λ y. y.now) (done ++ x ∷ [])) → new ≡ start ++ flat_map field_of (map (λ y. y.now) (done ++ x ∷ []))
@@ -346,5 +371,6 @@ command_ascii Build fs h = tt
 command_ascii Add fs h = tt
 command_ascii Upsert fs h = tt
 command_ascii (Remove us) fs h = tt
+command_ascii (Slice us) fs h = tt
 command_ascii (Anc u) fs h = tt
 command_ascii (Policy c) fs h = tt

@@ -6,8 +6,8 @@ use Rattle.cedar_ids.specs.UidOf.{uid_parts}
 use Rattle.cedar_ids.specs.declared.entity.EntityUID.{EntityUID}
 use Rattle.cedar_policy_lines.specs.PolicyCommand.{PolicyCommand, IsPolicyCommand}
 
--- an empty line; `ent` with a uid and its parents; `build`; `add`; `upsert`; `remove` with uids; `anc` with a uid; a
--- command on policy sets
+-- an empty line; `ent` with a uid and its parents; `build`; `add`; `upsert`; `remove` and `slice` with uids; `anc` with
+-- a uid; a command on policy sets
 pub data Command : Type 0 where
   Nothing : Command
   Ent : EntityUID → List EntityUID → Command
@@ -15,6 +15,7 @@ pub data Command : Type 0 where
   Add : Command
   Upsert : Command
   Remove : List EntityUID → Command
+  Slice : List EntityUID → Command
   Anc : EntityUID → Command
   Policy : PolicyCommand → Command
 
@@ -34,7 +35,7 @@ abbrev pub AreFields : List ℕ → List EntityUID → List (List ℕ) → Type 
 AreFields word us [] = ⊥
 AreFields word us (f ∷ fs) = (f ≡ word) × AreTexts us fs
 
--- the fields are those of the command; a removal names one uid or more
+-- the fields are those of the command; a removal, and a slice, names one uid or more
 abbrev pub IsCommand : Command → List (List ℕ) → Type 0
 IsCommand Nothing fs = fs ≡ [] ∷ []
 IsCommand (Ent u ps) fs = AreFields (codes "ent") (u ∷ ps) fs
@@ -42,6 +43,7 @@ IsCommand Build fs = AreFields (codes "build") [] fs
 IsCommand Add fs = AreFields (codes "add") [] fs
 IsCommand Upsert fs = AreFields (codes "upsert") [] fs
 IsCommand (Remove us) fs = AreFields (codes "remove") us fs × (us ≡ [] → ⊥)
+IsCommand (Slice us) fs = AreFields (codes "slice") us fs × (us ≡ [] → ⊥)
 IsCommand (Anc u) fs = AreFields (codes "anc") (u ∷ []) fs
 IsCommand (Policy c) fs = IsPolicyCommand c fs
 

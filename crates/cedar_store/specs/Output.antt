@@ -14,9 +14,10 @@ use Rattle.cedar_entities.specs.World.{World, Given, given, graph, empty_world, 
 use Rattle.cedar_policy_lines.specs.Boards.{Boards, no_boards}
 pub use Rattle.cedar_policy_lines.specs.PolicyOutput.{written_line}
 use Rattle.cedar_policy_lines.specs.PolicyOutput.{PolicyGives}
+use Rattle.cedar_slice.specs.Slices.{IsSliceOf}
 use Rattle.cedar_store.specs.Calls.{made, Passes}
 use Rattle.cedar_store.specs.Calls as calls
-use Rattle.cedar_store.specs.Command.{Command, Nothing, Ent, Build, Add, Upsert, Remove, Anc, Policy, IsLine}
+use Rattle.cedar_store.specs.Command.{Command, Nothing, Ent, Build, Add, Upsert, Remove, Slice, Anc, Policy, IsLine}
 
 -- what waits for a call on the store, the world that the store holds, and the two boards
 pub record State : Type 0 where
@@ -54,6 +55,10 @@ Overwrites base L W out =
 abbrev pub Deletes : World → List EntityUID → World → List ℕ → Type 0
 Deletes base U W out = (W ≡ made base (calls.Remove U)) × (out ≡ count_line W)
 
+-- the world became its slice at the uids, which nothing refuses
+abbrev pub Slices : World → List EntityUID → World → List ℕ → Type 0
+Slices base U W out = IsSliceOf base U W × (out ≡ count_line W)
+
 -- a tab and the text of a uid
 abbrev pub field_of : EntityUID → List ℕ
 field_of u = 9 ∷ uid_text u
@@ -78,6 +83,7 @@ Gives s Build t out = (t.waiting ≡ []) × Adds empty_world s.waiting t.world o
 Gives s Add t out = (t.waiting ≡ []) × Adds s.world s.waiting t.world out × (t.boards ≡ s.boards)
 Gives s Upsert t out = (t.waiting ≡ []) × Overwrites s.world s.waiting t.world out × (t.boards ≡ s.boards)
 Gives s (Remove us) t out = (t.waiting ≡ s.waiting) × Deletes s.world us t.world out × (t.boards ≡ s.boards)
+Gives s (Slice us) t out = (t.waiting ≡ s.waiting) × Slices s.world us t.world out × (t.boards ≡ s.boards)
 Gives s (Anc u) t out = (t ≡ s) × ShowsAncestors s.world u out
 Gives s (Policy c) t out = (t.waiting ≡ s.waiting) × (t.world ≡ s.world) × PolicyGives c s.boards t.boards out
 

@@ -29,6 +29,8 @@ pub(crate) enum Command {
     Upsert,
     // The entities with these uids go out of the store.
     Remove(Vec<EntityUID>),
+    // The store becomes its slice at these uids.
+    Slice(Vec<EntityUID>),
     // The ancestors of an entity are asked for.
     Anc(EntityUID),
     // A command on policy sets.
@@ -78,7 +80,7 @@ fn ent_fields(
 }
 
 // The uids whose texts the fields are, if there is a field and each is one.
-fn remove_fields(
+fn some_fields(
     alloc: Global,
     known: &mut Known,
     fields: &[&str],
@@ -193,9 +195,15 @@ fn other_command(
         };
     }
     if *word == "remove" {
-        return match remove_fields(alloc, known, rest)? {
+        return match some_fields(alloc, known, rest)? {
             None => Ok(None),
             Some(uids) => Ok(Some(Command::Remove(uids))),
+        };
+    }
+    if *word == "slice" {
+        return match some_fields(alloc, known, rest)? {
+            None => Ok(None),
+            Some(uids) => Ok(Some(Command::Slice(uids))),
         };
     }
     if !rest.is_empty() {

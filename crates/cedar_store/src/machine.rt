@@ -2,8 +2,6 @@
 ghost use Rattle.std.specs.Prelude.{◌≡◌, ◌++◌, [], ◌∷◌, List, ℕ, IfOk, IfErr, OnOk, map, length, codes};
 ghost use Rattle.std.specs.List.{AllByRecursion, flat_map};
 ghost use Rattle.std.specs.List.Sorted.{IsStrictlySortedBy};
-ghost use Rattle.std.specs.Option.{option_map};
-ghost use Rattle.std.specs.FinMap as finmap;
 ghost use Rattle.std.specs.Set.{is_member};
 ghost use Rattle.std.specs.Fmt.{decimal};
 ghost use Rattle.cedar_ids.specs.UidOf.{same_uid, uid_order};
@@ -11,17 +9,18 @@ ghost use Rattle.cedar_ids.specs.declared.entity.EntityUID.{EntityUID};
 ghost use Rattle.cedar_entities.specs.Plain.{IsPlainStore, IsBare, given_of};
 ghost use Rattle.cedar_entity.specs.View.{EntityView, has_ancestor};
 ghost use Rattle.cedar_entities.specs.World.{World, empty_world, given};
-ghost use Rattle.cedar_store.specs.Command.{Ent, Build, Add, Upsert, Remove, Anc};
+ghost use Rattle.cedar_store.specs.Command.{Ent, Build, Add, Upsert, Remove, Slice, Anc};
 ghost use Rattle.cedar_store.specs.laws.CommandOf.{command_of};
 ghost use Rattle.cedar_store.specs.laws.Machines.{Holds, MachineGives, LineTakes, IsAsciiUid, AreAsciiUids, HasAsciiUids, IsTold, Refused, Settles};
 ghost use Rattle.cedar_store.specs.Output.{State, start, Gives, ShowsAncestors, count_line, written_line, uid_text, field_of, not_command};
 
 use crate::line::{Command, read_line};
 use crate::parent_fields::Known;
-use cedar_entities::{Dereference, Entities, EntitiesError, Entity, TCComputation};
+use cedar_entities::{Entities, EntitiesError, Entity, TCComputation};
 use cedar_graph::TcError;
 use cedar_ids::entity::EntityUID;
 use cedar_policy_lines::PolicySets;
+use cedar_slice::slice;
 use cedar_uid_sets::SharedUid;
 use std::alloc::{AllocError, Global};
 use std::collections::BTreeSet;
@@ -138,21 +137,6 @@ fn push_ancestors(
     Ok(())
 }
 
-// The entity with a uid, where the store has one.
-fn entity_at<'a>(
-    alloc: Global,
-    store: &'a Entities,
-    uid: &EntityUID,
-) -> Result<Option<&'a Entity>, AllocError>
-    ensures { IfOk result (λ o. option_map (λ e. e.now) o ≡ finmap.get store.now.held uid.now) }
-{
-    match store.entity(alloc, uid)? {
-        Dereference::Data(entity) => Ok(Some(entity)),
-        Dereference::NoSuchEntity => Ok(None),
-        Dereference::Residual(_) => Ok(None),
-    }
-}
-
 // The ancestors of an entity in their order, each once.
 fn ancestors_of(alloc: Global, entity: &Entity) -> Result<BTreeSet<&EntityUID>, AllocError>
     ensures ascend { IfOk result (λ s. IsStrictlySortedBy uid_order (map (λ x. x.now) s.keys)) }
@@ -262,12 +246,26 @@ impl Machine {
         self.settle(alloc, given, out)
     }
 
+    // The store becomes its slice at these uids.
+    fn slice(
+        &mut self,
+        alloc: Global,
+        uids: Vec<EntityUID>,
+        out: &mut Vec<u8>,
+    ) -> Result<(), AllocError>
+        ensures { OnOk result ((s : State) → Holds self.old s →
+            MachineGives (Slice uids.items) s self.new out.old.items out.new.items) }
+    {
+        let given = slice(alloc, &self.store, &uids);
+        self.settle(alloc, given, out)
+    }
+
     // The ancestors of an entity are written.
     fn anc(&self, alloc: Global, uid: &EntityUID, out: &mut Vec<u8>) -> Result<(), AllocError>
         ensures { OnOk result ((s : State) → Holds self.now s →
             (text : List ℕ) × ShowsAncestors s.world uid.now text × (out.new.items ≡ out.old.items ++ text)) }
     {
-        match entity_at(alloc, &self.store, uid)? {
+        match self.store.stored(uid) {
             None => push_line(out, "no entity"),
             Some(entity) => push_ancestors(alloc, out, ancestors_of(alloc, entity)?),
         }
@@ -285,6 +283,7 @@ impl Machine {
             Command::Add => self.add(alloc, out),
             Command::Upsert => self.upsert(alloc, out),
             Command::Remove(uids) => self.remove(alloc, uids, out),
+            Command::Slice(uids) => self.slice(alloc, uids, out),
             Command::Anc(uid) => self.anc(alloc, &uid, out),
             Command::Policy(command) => self.sets.take(alloc, command, out),
         }

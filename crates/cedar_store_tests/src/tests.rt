@@ -2,6 +2,7 @@ mod edits;
 mod known_lines;
 mod policies;
 mod replays;
+mod slices;
 mod store_edits;
 mod store_faults;
 mod store_modes;

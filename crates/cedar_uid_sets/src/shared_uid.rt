@@ -44,6 +44,14 @@ impl SharedUid {
         Ok(SharedUid(Rc::new(alloc, Fronted::new(uid))?))
     }
 
+    /// A copy of the uid, to be shared. It takes memory, and is refused only where that is.
+    pub fn copy_of(alloc: Global, uid: &EntityUID) -> Result<SharedUid, AllocError>
+        ensures { IfOk result (λ s. s ≡ uid.now) }
+    {
+        let copy = uid.clone()?;
+        Ok(SharedUid::new(alloc, copy)?)
+    }
+
     /// The uid. It takes no memory.
     pub fn uid(&self) -> &EntityUID
         ensures { result.now ≡ self.now }

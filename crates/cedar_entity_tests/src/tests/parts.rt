@@ -156,6 +156,43 @@ fn parents_come_before_indirect_ancestors(rt: HostRuntime) -> Result<(), Fail> {
     Ok(())
 }
 
+// Whether a shared uid was found that is this one.
+fn shares(found: Option<&SharedUid>, want: &EntityUID) -> bool {
+    match found {
+        Some(one) => one.uid() == want,
+        None => false,
+    }
+}
+
+// Whether the parents are shared in their order.
+fn shares_its_parents(entity: &Entity) -> bool {
+    let mut shared = entity.shared_parents();
+    for parent in entity.parents() {
+        if !shares(shared.next(), parent) {
+            return false;
+        }
+    }
+    shared.next().is_none()
+}
+
+// Whether the ancestors are shared in their order.
+fn shares_its_ancestors(entity: &Entity) -> bool {
+    let mut shared = entity.shared_ancestors();
+    for ancestor in entity.ancestors() {
+        if !shares(shared.next(), ancestor) {
+            return false;
+        }
+    }
+    shared.next().is_none()
+}
+
+#[test]
+fn ancestors_are_shared_in_their_order(rt: HostRuntime) -> Result<(), Fail> {
+    assert!(rt; asked(with_both(rt.alloc()), shares_its_parents)?);
+    assert!(rt; asked(with_both(rt.alloc()), shares_its_ancestors)?);
+    Ok(())
+}
+
 // Whether an entity has the uid with this text as a parent, and as an indirect ancestor.
 fn is_above(
     alloc: Global,

@@ -5,7 +5,7 @@ use Rattle.std.specs.FinSet as set
 use Rattle.cedar_ids.specs.Escape.{is_ascii}
 use Rattle.cedar_ids.specs.UidOf.{uid_parts}
 use Rattle.cedar_ids.specs.declared.entity.EntityUID.{EntityUID}
-use Rattle.cedar_store.specs.Command.{Command, Nothing, Ent, Build, Add, Upsert, Remove, Anc, Policy, IsLine}
+use Rattle.cedar_store.specs.Command.{Command, Nothing, Ent, Build, Add, Upsert, Remove, Slice, Anc, Policy, IsLine}
 use Rattle.cedar_graph.specs.declared.err.TcError.TheVariants.{HasCycle}
 use Rattle.cedar_entities.specs.ClosureFaults.{IsClosureFault}
 use Rattle.cedar_entities.specs.Refusals.{MatchRefusal}
@@ -64,6 +64,7 @@ HasAsciiUids Build = Unit {0}
 HasAsciiUids Add = Unit {0}
 HasAsciiUids Upsert = Unit {0}
 HasAsciiUids (Remove us) = Unit {0}
+HasAsciiUids (Slice us) = Unit {0}
 HasAsciiUids (Anc u) = Unit {0}
 HasAsciiUids (Policy c) = Unit {0}
 

@@ -71,6 +71,18 @@ fn are_made_into(alloc: Global, n: u32) -> Result<bool, Fail> {
     Ok(first && second)
 }
 
+// Whether the shared copy of the uid of a number is equal to the shared uid of that number.
+fn is_copied(alloc: Global, n: u32) -> Result<bool, Fail> {
+    match uid(alloc, n) {
+        Ok(one) => {
+            let copy = SharedUid::copy_of(alloc, &one);
+            drop(one);
+            equal(copy?, shared(alloc, n))
+        }
+        Err(fail) => Err(fail),
+    }
+}
+
 // Whether it is equal to another one of the same number.
 fn is_its_like(alloc: Global, n: u32) -> Result<bool, Fail> {
     equal(shared(alloc, n)?, shared(alloc, n))
@@ -87,6 +99,7 @@ fn a_shared_uid_is_its_uid(rt: HostRuntime) -> Result<(), Fail> {
     assert!(rt; is_written(alloc, shared(alloc, 1), "A::\"1001\"")?);
     assert!(rt; is_its_copy(alloc, 1)?);
     assert!(rt; is_its_like(alloc, 1)?);
+    assert!(rt; is_copied(alloc, 1)?);
     assert!(rt; is_before(alloc, 1, 2)?);
     assert!(rt; are_made_into(alloc, 1)?);
     Ok(())

@@ -1,7 +1,7 @@
 use Rattle.std.proofs.Common.{◌≡◌, ◌∙◌, sym, codes}
 use Rattle.std.proofs.lemmas.Bool.{false≢true}
 use Rattle.std.specs.Cmp.Lexicographic.{bytes_decides}
-use Rattle.cedar_store.proofs.Commands.{not_ent, not_anc, not_remove, no_such_fields}
+use Rattle.cedar_store.proofs.Commands.{not_ent, not_anc, not_remove, not_slice, no_such_fields}
 use Rattle.cedar_store.proofs.line.other_command.Goals as goal
 
 pub returns-in-None : goal.returns-in-None
@@ -17,7 +17,12 @@ returns-in-None-2 c d =
 pub returns-in-None-3 : goal.returns-in-None-3
 returns-in-None-3 c d =
     let word : c.in-Some.word.now.now ≡ codes "remove" = (bytes_decides _ _).0 (sym c.eq-3.ensures ∙ c.if-eq-3.true) in
-    rw c.in-Some.ensures.cases.0 (not_remove c.in-Some.word.now.now _ word (rw c.in-None-3.is at c.in_ok-remove_fields.ensures) d)
+    rw c.in-Some.ensures.cases.0 (not_remove c.in-Some.word.now.now _ word (rw c.in-None-3.is at c.in_ok-some_fields.ensures) d)
+
+pub returns-in-None-4 : goal.returns-in-None-4
+returns-in-None-4 c d =
+    let word : c.in-Some.word.now.now ≡ codes "slice" = (bytes_decides _ _).0 (sym c.eq-4.ensures ∙ c.if-eq-4.true) in
+    rw c.in-Some.ensures.cases.0 (not_slice c.in-Some.word.now.now _ word (rw c.in-None-4.is at c.in_ok-some_fields-2.ensures) d)
 
 pub returns-then-not-is_empty : goal.returns-then-not-is_empty
 returns-then-not-is_empty c =
@@ -25,4 +30,5 @@ returns-then-not-is_empty c =
     (no_such_fields c.in-Some.word.now.now c.in-Some.rest.now c.is_empty.result c.is_empty.ensures c.if-not-is_empty.true (rw c.in-Some.ensures.cases.0 at c.requires)
     (λ e. false≢true (sym c.if-eq.false ∙ c.eq.ensures ∙ (bytes_decides _ _).1 e))
     (λ e. false≢true (sym c.if-eq-3.false ∙ c.eq-3.ensures ∙ (bytes_decides _ _).1 e))
+    (λ e. false≢true (sym c.if-eq-4.false ∙ c.eq-4.ensures ∙ (bytes_decides _ _).1 e))
     (λ e. false≢true (sym c.if-eq-2.false ∙ c.eq-2.ensures ∙ (bytes_decides _ _).1 e)))

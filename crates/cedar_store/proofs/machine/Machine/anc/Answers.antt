@@ -2,16 +2,21 @@ use Rattle.std.specs.Prelude.{codes, map, ◌++◌}
 use Rattle.std.specs.List.{flat_map}
 use Rattle.std.proofs.lemmas.Result.{on_ok_weaker}
 use Rattle.cedar_store.specs.Output.{written_line, field_of}
-use Rattle.cedar_store.proofs.Steps.{shows_some, found_reach, found_ascii}
+use Rattle.cedar_store.proofs.Steps.{shows_none, shows_some, found_reach, found_ascii}
 use Rattle.cedar_store.proofs.machine.Machine.anc.Goals as goal
 
-pub returns-in_ok-ancestors_of-in-Some : goal.returns-in_ok-ancestors_of-in-Some
-returns-in_ok-ancestors_of-in-Some c =
+pub returns-in-None : goal.returns-in-None
+returns-in-None c = on_ok_weaker c.push_line.result
+    (λ text s h. (written_line (codes "no entity"), shows_none s.world _ c.args.uid.now h.plain c.in-None.ensures.value, text))
+    c.push_line.ensures
+
+pub returns-in_ok-ancestors_of : goal.returns-in_ok-ancestors_of
+returns-in_ok-ancestors_of c =
     let e = c.in-Some.entity.now in
-    let us = map (λ x. x.now) c.in_ok-ancestors_of-in-Some.field-0.keys in
-    let at = rw c.in-Some.is at c.in_ok-entity_at.ensures in
-    let ascend = c.in_ok-ancestors_of-in-Some.ensures.ascend in
-    let members = c.in_ok-ancestors_of-in-Some.ensures.members in
+    let us = map (λ x. x.now) c.in_ok-ancestors_of.field-0.keys in
+    let at = c.in-Some.ensures.value in
+    let ascend = c.in_ok-ancestors_of.ensures.ascend in
+    let members = c.in_ok-ancestors_of.ensures.members in
     on_ok_weaker c.push_ancestors.result
     (λ text s h.
     let found = found_reach s.world _ c.args.uid.now e h.plain at in (

@@ -42,6 +42,12 @@ returns-in-Remove c = on_ok_weaker c.remove.result
     (λ a. k s h))
     c.remove.ensures
 
+pub returns-in-Slice : goal.returns-in-Slice
+returns-in-Slice c = on_ok_weaker c.slice.result
+    (λ k s h. subst (λ (d : Command). HasAsciiUids (command_of d) → MachineGives (command_of d) s c.slice.new.self c.args.out.now.items c.slice.new.out.items) (sym c.in-Slice.is)
+    (λ a. k s h))
+    c.slice.ensures
+
 pub returns-in-Anc : goal.returns-in-Anc
 returns-in-Anc c = on_ok_weaker c.anc.result
     (λ k s h. subst (λ (d : Command). HasAsciiUids (command_of d) → MachineGives (command_of d) s c.args.self.now c.args.out.now.items c.anc.new.out.items) (sym c.in-Anc.is)

@@ -4,7 +4,7 @@ use Rattle.cedar_ids.specs.UidOf.{same_uid}
 use Rattle.cedar_ids.specs.declared.entity.EntityUID.{EntityUID}
 use Rattle.cedar_entity.specs.View.{EntityView, has_ancestor}
 use Rattle.cedar_entity.proofs.UidSteps.{both_listed}
-use Rattle.cedar_entity.proofs.entity.Entity.ancestor_pointers.Goals as goal
+use Rattle.cedar_entity.proofs.entity.Entity.shared_ancestors.Goals as goal
 
 pub returns : goal.returns
 returns c q =

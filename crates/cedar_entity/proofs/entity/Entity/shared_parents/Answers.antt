@@ -7,7 +7,7 @@ use Rattle.cedar_uid_sets.specs.UidSets.{UidValues}
 use Rattle.cedar_uid_sets.specs.laws.Sets.{contains_listed, is_member-append}
 use Rattle.cedar_entity.specs.View.{EntityView}
 use Rattle.cedar_entity.proofs.AncestorSets.{or_false}
-use Rattle.cedar_entity.proofs.entity.Entity.parent_pointers.Goals as goal
+use Rattle.cedar_entity.proofs.entity.Entity.shared_parents.Goals as goal
 
 pub returns : goal.returns
 returns c q =

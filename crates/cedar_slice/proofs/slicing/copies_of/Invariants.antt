@@ -1,0 +1,8 @@
+use Rattle.std.proofs.Common.{◌≡◌, map, filter_map}
+use Rattle.std.specs.FinMap as finmap
+use Rattle.cedar_entities.specs.Plain.{StoreView}
+use Rattle.cedar_slice.proofs.Copies.{AreKeyed}
+use Rattle.cedar_slice.proofs.slicing.copies_of.Given as goal
+
+abbrev pub invariant-loop-uid : goal.invariant-loop-uid
+invariant-loop-uid l = (l.list.items ≡ filter_map (finmap.get l.store.held) (map (λ x. x.now) l.yielded)) × AreKeyed l.store.held (map (λ x. x.now) l.yielded)

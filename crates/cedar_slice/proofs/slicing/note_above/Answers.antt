@@ -1,0 +1,11 @@
+use Rattle.std.proofs.Common.{ap, ◌∙◌, ◌||◌}
+use Rattle.std.proofs.lemmas.Result.{on_ok_weaker}
+use Rattle.std.specs.HashSet.{contains}
+use Rattle.cedar_ids.specs.UidOf.{same_uid}
+use Rattle.cedar_entities.specs.Modes.{is_ancestor_in}
+use Rattle.cedar_slice.proofs.slicing.note_above.Goals as goal
+
+pub returns-in-Some : goal.returns-in-Some
+returns-in-Some c = on_ok_weaker c.note_all.result
+    (λ h q. h q ∙ ap (λ b. contains same_uid c.args.noted.now q || b) (c.shared_ancestors.ensures q ∙ ap (λ o. is_ancestor_in o q) c.in-Some.ensures.value))
+    c.note_all.ensures

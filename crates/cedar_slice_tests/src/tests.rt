@@ -1,0 +1,4 @@
+mod random;
+mod stores;
+mod worked;
+mod worlds;
