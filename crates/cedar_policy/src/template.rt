@@ -296,7 +296,6 @@ impl Template {
 
     /// The static policy of this template, if it has no slots; else the refusal of binding nothing to them.
     /// Takes memory as `check_binding` does.
-    #[tactic(auto, using(cedar_binding::specs::laws::NoBindings::no_slot_fits))]
     pub fn try_as_policy(alloc: Global, template: Rc<Template>) -> Result<Policy, LinkingError>
         ensures { MakesPolicy result template.value }
     {
