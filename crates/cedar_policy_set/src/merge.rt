@@ -37,7 +37,7 @@ impl PolicySet {
     /// Takes memory for the three maps, what is renamed and the answer. A refused call, for memory too, leaves both orders
     /// as they were: the result is built apart and put in at the end. It costs look-ups for each id of the two sets, and
     /// a look at each of the ids `policyN` that are bound.
-    #[tactic(auto, using(crate::specs::laws::ConflictLaws::conflicts_differ, crate::specs::laws::RenamingLaws::once_free, crate::specs::laws::RenamingLaws::none_bound_of, crate::specs::laws::RenamingLaws::numbers_below))]
+    #[tactic(auto, using(crate::specs::laws::RenamingLaws::once_free, crate::specs::laws::RenamingLaws::none_bound_of, crate::specs::laws::RenamingLaws::numbers_below))]
     pub fn merge_policyset(
         &mut self,
         alloc: Global,

@@ -71,16 +71,20 @@ whole : (v : Bool) → (v && true) ≡ v
 whole true = refl
 whole false = refl
 
+at_ends : {p p2 q q2 : Option PolicyParts} {t t2 u u2 : Option BodyParts} {x x2 y y2 : Binding} → p ≡ p2 → q ≡ q2 → t ≡ t2 → u ≡ u2 → x ≡ x2 → y ≡ y2 →
+    (option_eq same_policy p2 q2 && option_eq same_body t2 u2) ≡ same_binding x2 y2 → (option_eq same_policy p q && option_eq same_body t u) ≡ same_binding x y
+at_ends p q t u x y h = (λ i. option_eq same_policy (p i) (q i) && option_eq same_body (t i) (u i)) ∙ h ∙ sym (λ i. same_binding (x i) (y i))
+
 alike : (p q : Option PolicyParts) (t u : Option BodyParts) (x y : Binding) → Shape p t x → Shape q u y → (option_eq same_policy p q && option_eq same_body t u) ≡ same_binding x y
-alike p q t u x y (inl a) (inl b) = rw (a.1, a.2, a.3, b.1, b.2, b.3) (twice (same_body a.0 b.0))
-alike p q t u x y (inl a) (inr (inl b)) = rw (a.1, a.2, a.3, b.3, b.4, b.5) (never (same_body a.0 b.1) false)
-alike p q t u x y (inl a) (inr (inr b)) = rw (a.1, a.2, a.3, b.1, b.2, b.3) refl
-alike p q t u x y (inr (inl a)) (inl b) = rw (a.3, a.4, a.5, b.1, b.2, b.3) (never (same_body a.1 b.0) false)
-alike p q t u x y (inr (inl a)) (inr (inl b)) = rw (a.3, a.4, a.5, b.3, b.4, b.5) (whole (same_binding (Link a.0 a.1 a.2) (Link b.0 b.1 b.2)))
-alike p q t u x y (inr (inl a)) (inr (inr b)) = rw (a.3, a.4, a.5, b.1, b.2, b.3) refl
-alike p q t u x y (inr (inr a)) (inl b) = rw (a.1, a.2, a.3, b.1, b.2, b.3) refl
-alike p q t u x y (inr (inr a)) (inr (inl b)) = rw (a.1, a.2, a.3, b.3, b.4, b.5) refl
-alike p q t u x y (inr (inr a)) (inr (inr b)) = rw (a.1, a.2, a.3, b.1, b.2, b.3) refl
+alike p q t u x y (inl a) (inl b) = at_ends a.1 b.1 a.2 b.2 a.3 b.3 (twice (same_body a.0 b.0))
+alike p q t u x y (inl a) (inr (inl b)) = at_ends a.1 b.3 a.2 b.4 a.3 b.5 (never (same_body a.0 b.1) false)
+alike p q t u x y (inl a) (inr (inr b)) = at_ends a.1 b.1 a.2 b.2 a.3 b.3 refl
+alike p q t u x y (inr (inl a)) (inl b) = at_ends a.3 b.1 a.4 b.2 a.5 b.3 (never (same_body a.1 b.0) false)
+alike p q t u x y (inr (inl a)) (inr (inl b)) = at_ends a.3 b.3 a.4 b.4 a.5 b.5 (whole (same_binding (Link a.0 a.1 a.2) (Link b.0 b.1 b.2)))
+alike p q t u x y (inr (inl a)) (inr (inr b)) = at_ends a.3 b.1 a.4 b.2 a.5 b.3 refl
+alike p q t u x y (inr (inr a)) (inl b) = at_ends a.1 b.1 a.2 b.2 a.3 b.3 refl
+alike p q t u x y (inr (inr a)) (inr (inl b)) = at_ends a.1 b.3 a.2 b.4 a.3 b.5 refl
+alike p q t u x y (inr (inr a)) (inr (inr b)) = at_ends a.1 b.1 a.2 b.2 a.3 b.3 refl
 
 same_bound : (h o : Board) (i : List ℕ) (x y : Binding) → IsBoard h → IsBoard o → bound_at h i ≡ Some x → bound_at o i ≡ Some y → is_same_at h o i ≡ same_binding x y
 same_bound h o i x y b c e f = alike _ _ _ _ x y (shape h i x b e) (shape o i y c f)

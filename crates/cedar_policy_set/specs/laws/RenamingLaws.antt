@@ -31,7 +31,7 @@ pub second_of : (a b : Bool) → b ≡ true → (a || b) ≡ true
 second_of true b h = refl
 second_of false b h = h
 
-either_of : (a b : Bool) → (a || b) ≡ true → (a ≡ true) ⊎ (b ≡ true)
+pub either_of : (a b : Bool) → (a || b) ≡ true → (a ≡ true) ⊎ (b ≡ true)
 either_of true b h = inl refl
 either_of false b h = inr h
 
