@@ -1,47 +1,100 @@
+// Where things lie: a row asks what lies where, and is told the start and the end of each place and the text that it is of.
 use super::{is_equal, is_other};
 use cedar_ids::entity::{Eid, EntityType, EntityUID, EntityUIDImpl};
 use cedar_ids::err::ParseErrors;
 use cedar_ids::loc::Loc;
 use cedar_ids::name::Name;
+use cedar_test_helpers::made::both;
+use cedar_test_helpers::rows::all_hold;
+use cedar_test_helpers::tried::{beside, owned, written};
 use std::alloc::{AllocError, Global};
+use std::fmt::Write;
 use std::rc::RcStr;
+use std::test::Fail;
 
-// Whether there is a location, and it is this one.
-fn lies_at(loc: Option<&Loc>, start: usize, end: usize, src: &str) -> bool {
-    match loc {
-        Some(loc) => loc.start == start && loc.end == end && loc.src.as_str() == src,
-        None => false,
+// The places of some things, in turn.
+fn places(alloc: Global, all: &[Option<&Loc>]) -> Result<String, Fail> {
+    let mut text = String::new(alloc);
+    for one in all {
+        match one {
+            Some(loc) => write!(text, "{}..{} of {};", loc.start, loc.end, loc.src.as_str())?,
+            None => text.push_str("nowhere;")?,
+        }
+    }
+    Ok(text)
+}
+
+// A text and a further one behind it.
+fn with(text: String, more: Result<String, Fail>) -> Result<String, Fail> {
+    let mut text = text;
+    text.push_str(more?.as_str())?;
+    Ok(text)
+}
+
+// A copy of a thing that could be made.
+fn copied<T: Clone + Drop>(made: Result<T, ParseErrors>) -> Result<T, ParseErrors> {
+    match made {
+        Ok(x) => {
+            let copy: Result<T, AllocError> = x.clone();
+            drop(x);
+            Ok(copy?)
+        }
+        Err(error) => Err(error),
     }
 }
 
-// Whether a name that could be made lies so.
-fn name_lies_at<E: Drop>(made: Result<Name, E>, start: usize, end: usize, src: &str) -> bool {
+// Where a name that could be made lies.
+fn of_name(alloc: Global, made: Result<Name, ParseErrors>) -> Result<String, Fail> {
     match made {
         Ok(name) => {
-            let told = lies_at(name.loc(), start, end, src);
+            let told = places(alloc, &[name.loc()]);
             drop(name);
             told
         }
-        Err(error) => {
-            drop(error);
-            false
-        }
+        Err(error) => written(alloc, error),
     }
 }
 
-// Whether a type that could be made lies so.
-fn type_lies_at<E: Drop>(made: Result<EntityType, E>, start: usize, end: usize, src: &str) -> bool {
+// Where a type that could be made lies, and its name, by itself too.
+fn of_type(alloc: Global, made: Result<EntityType, ParseErrors>) -> Result<String, Fail> {
     match made {
         Ok(ty) => {
-            let told = lies_at(ty.loc(), start, end, src);
-            drop(ty);
+            let told = places(alloc, &[ty.loc(), ty.name().loc()]);
+            let name = ty.into_name();
+            let (name, told) = beside(name, told)?;
+            with(told, of_name(alloc, Ok(name)))
+        }
+        Err(error) => written(alloc, error),
+    }
+}
+
+// Where a uid that could be made lies, its type and what it holds.
+fn of_uid(alloc: Global, made: Result<EntityUID, ParseErrors>) -> Result<String, Fail> {
+    match made {
+        Ok(uid) => {
+            let ty = uid.entity_type();
+            let told = places(alloc, &[uid.loc(), ty.loc(), ty.name().loc()]);
+            let EntityUID::EntityUID(inner) = uid;
+            let (inner, told) = beside(inner, told)?;
+            with(told, of_inner(alloc, inner))
+        }
+        Err(error) => written(alloc, error),
+    }
+}
+
+// Where what a uid holds lies, and a copy of it.
+fn of_inner(alloc: Global, inner: EntityUIDImpl) -> Result<String, Fail> {
+    let copy: Result<EntityUIDImpl, AllocError> = inner.clone();
+    let told = match copy {
+        Ok(copy) => {
+            let told = places(alloc, &[inner.loc(), copy.loc()]);
+            drop(copy);
             told
         }
-        Err(error) => {
-            drop(error);
-            false
-        }
-    }
+        Err(error) => Err(error.into()),
+    };
+    drop(inner);
+    told
 }
 
 fn located(alloc: Global, start: usize, end: usize, src: &str) -> Result<Loc, AllocError> {
@@ -49,11 +102,131 @@ fn located(alloc: Global, start: usize, end: usize, src: &str) -> Result<Loc, Al
     Ok(Loc::new(start, end, src))
 }
 
-// Whether a location that could be made holds its parts, as its copy does, and differs in each part.
+// The uid `A::"a"` at a place within a text, its type at a place of its own.
+fn told_place(alloc: Global) -> Result<EntityUID, ParseErrors> {
+    let eid = Eid::new(String::from_str(alloc, "a")?);
+    let ty = EntityType::from_normalized_str(alloc, "A");
+    match both(ty.ok(), located(alloc, 3, 9, "xx A::\"a\" yy").ok()) {
+        Some((ty, loc)) => Ok(EntityUID::from_components(ty, eid, Some(loc))),
+        None => {
+            drop(eid);
+            Err(ParseErrors::Memory)
+        }
+    }
+}
+
+// That uid, of its parts alone.
+fn bare(alloc: Global) -> Result<EntityUID, ParseErrors> {
+    let (ty, eid) = told_place(alloc)?.components();
+    Ok(EntityUID::from_components(ty, eid, None))
+}
+
+// A type and the same at another place and at none: where each lies, if they are equal.
+fn of_moved(alloc: Global, ty: &EntityType, loc: &Loc) -> Result<String, Fail> {
+    match both(ty.with_loc(Some(loc)).ok(), ty.with_loc(None).ok()) {
+        Some((moved, bare)) => {
+            let told = if moved == *ty && bare == *ty {
+                places(alloc, &[ty.loc(), moved.loc(), bare.loc()])
+            } else {
+                owned(alloc, "other types")
+            };
+            drop(moved);
+            drop(bare);
+            told
+        }
+        None => owned(alloc, "no memory"),
+    }
+}
+
+// Where the type of a text lies that takes another place.
+fn moved(alloc: Global, text: &str) -> Result<String, Fail> {
+    let loc = located(alloc, 1, 5, " A::B")?;
+    match EntityType::from_normalized_str(alloc, text) {
+        Ok(ty) => {
+            let told = of_moved(alloc, &ty, &loc);
+            drop(ty);
+            drop(loc);
+            told
+        }
+        Err(error) => {
+            drop(loc);
+            Err(error.into())
+        }
+    }
+}
+
+// The name of a text, in the namespace of another or in none.
+fn qualified(alloc: Global, namespace: &str, text: &str) -> Result<Name, ParseErrors> {
+    let name = Name::from_normalized_str(alloc, text)?;
+    let namespace = Name::from_normalized_str(alloc, namespace).ok();
+    let made = name.qualify_with_name(alloc, namespace.as_ref());
+    drop(namespace);
+    drop(name);
+    Ok(made?)
+}
+
+// The type of a text, in the namespace of another.
+fn qualified_type(alloc: Global, namespace: &str, text: &str) -> Result<EntityType, ParseErrors> {
+    let ty: EntityType = Name::from_normalized_str(alloc, text)?.into();
+    let namespace = Name::from_normalized_str(alloc, namespace).ok();
+    let made = ty.qualify_with(alloc, namespace.as_ref());
+    drop(namespace);
+    drop(ty);
+    Ok(made?)
+}
+
+fn row(alloc: Global, asked: &str) -> Result<String, Fail> {
+    let (word, text) = asked.split_once('|').unwrap_or((asked, ""));
+    let (one, other) = text.split_once('|').unwrap_or((text, ""));
+    match word {
+        "name" => of_name(alloc, Name::from_normalized_str(alloc, text)),
+        "copy of a name" => of_name(alloc, copied(Name::from_normalized_str(alloc, text))),
+        "unqualified" => of_name(alloc, Name::parse_unqualified_name(alloc, text)),
+        "type" => of_type(alloc, EntityType::from_normalized_str(alloc, text)),
+        "copy of a type" => of_type(alloc, copied(EntityType::from_normalized_str(alloc, text))),
+        "uid" => of_uid(alloc, EntityUID::from_normalized_str(alloc, text)),
+        "copy of a uid" => of_uid(alloc, copied(EntityUID::from_normalized_str(alloc, text))),
+        "typename" => of_uid(alloc, EntityUID::with_eid_and_type(alloc, text, "a")),
+        "told" => of_uid(alloc, told_place(alloc)),
+        "bare" => of_uid(alloc, bare(alloc)),
+        "moved" => moved(alloc, text),
+        "within" => of_name(alloc, qualified(alloc, one, other)),
+        "type within" => of_type(alloc, qualified_type(alloc, one, other)),
+        _ => owned(alloc, "what is this word?"),
+    }
+}
+
+const ROWS: &str = "# what is read lies at the whole text, and so does its copy\n\
+name|A::B => 0..4 of A::B;\n\
+copy of a name|A::B => 0..4 of A::B;\n\
+type|C::D::E => 0..7 of C::D::E;0..7 of C::D::E;0..7 of C::D::E;\n\
+copy of a type|C::D::E => 0..7 of C::D::E;0..7 of C::D::E;0..7 of C::D::E;\n\
+# a uid, its type, that one's name, what the uid holds and a copy of that\n\
+uid|A::B::\"it\\'s\" => 0..13 of A::B::\"it\\'s\";0..4 of A::B::\"it\\'s\";0..4 of A::B::\"it\\'s\";0..13 of A::B::\"it\\'s\";0..13 of A::B::\"it\\'s\";\n\
+copy of a uid|A::B::\"it\\'s\" => 0..13 of A::B::\"it\\'s\";0..4 of A::B::\"it\\'s\";0..4 of A::B::\"it\\'s\";0..13 of A::B::\"it\\'s\";0..13 of A::B::\"it\\'s\";\n\
+# a uid that is made lies where it is told, and its type keeps its own place; of its parts alone it has none\n\
+told => 3..9 of xx A::\"a\" yy;0..1 of A;0..1 of A;3..9 of xx A::\"a\" yy;3..9 of xx A::\"a\" yy;\n\
+bare => nowhere;0..1 of A;0..1 of A;nowhere;nowhere;\n\
+typename|A => nowhere;nowhere;nowhere;nowhere;nowhere;\n\
+unqualified|A => nowhere;\n\
+# a type takes another place, or none, and stays where it is itself\n\
+moved|A::B => 0..4 of A::B;1..5 of  A::B;nowhere;\n\
+# what goes into a namespace, or into none, lies where it lay at first\n\
+within|N::M|B => 0..1 of B;\n\
+within||B => 0..1 of B;\n\
+within|B|N::M => 0..4 of N::M;\n\
+type within|N::M|B => 0..1 of B;0..1 of B;0..1 of B;";
+
+#[test]
+fn things_lie_where_they_are_read_or_told(rt: HostRuntime) -> Result<(), Fail> {
+    all_hold(rt.alloc(), ROWS, row)
+}
+
+// Whether a location that could be made is equal to its copy, and differs in each part.
 fn holds_its_parts(alloc: Global) -> bool {
     match located(alloc, 2, 5, "ab A") {
         Ok(loc) => {
-            let told = lies_at(Some(&loc), 2, 5, "ab A")
+            let told = (loc.start, loc.end, loc.src.as_str()) == (2, 5, "ab A")
                 && is_equal(loc.clone(), &loc)
                 && is_other(located(alloc, 1, 5, "ab A"), &loc)
                 && is_other(located(alloc, 2, 4, "ab A"), &loc)
@@ -68,320 +241,4 @@ fn holds_its_parts(alloc: Global) -> bool {
 #[test]
 fn a_location_holds_its_parts_and_compares_them(rt: HostRuntime) {
     assert!(rt; holds_its_parts(rt.alloc()));
-}
-
-// The text of a uid of a type of four bytes, and where the two lie.
-const PLACED: &str = "A::B::\"it\\'s\"";
-
-// Whether this uid lies at all of `PLACED`, and its type at the first four bytes.
-fn uid_is_placed(uid: &EntityUID) -> bool {
-    let ty = uid.entity_type();
-    lies_at(uid.loc(), 0, 13, PLACED)
-        && lies_at(ty.loc(), 0, 4, PLACED)
-        && lies_at(ty.name().loc(), 0, 4, PLACED)
-}
-
-// Whether what a uid holds lies at all of `PLACED`.
-fn inner_is_placed(inner: &EntityUIDImpl) -> bool {
-    lies_at(inner.loc(), 0, 13, PLACED)
-}
-
-// Whether a uid that could be made lies so, itself and what it holds.
-fn is_placed<E: Drop>(made: Result<EntityUID, E>) -> bool {
-    match made {
-        Ok(uid) => {
-            let told = uid_is_placed(&uid);
-            let EntityUID::EntityUID(inner) = uid;
-            let within = inner_is_placed(&inner);
-            drop(inner);
-            told && within
-        }
-        Err(error) => {
-            drop(error);
-            false
-        }
-    }
-}
-
-#[test]
-fn a_uid_that_is_read_lies_at_the_whole_text(rt: HostRuntime) {
-    assert!(rt; is_placed(EntityUID::from_normalized_str(rt.alloc(), PLACED)));
-}
-
-// A copy of the uid of `PLACED`.
-fn copied(alloc: Global) -> Result<EntityUID, ParseErrors> {
-    match EntityUID::from_normalized_str(alloc, PLACED) {
-        Ok(uid) => {
-            let copy: Result<EntityUID, AllocError> = uid.clone();
-            drop(uid);
-            Ok(copy?)
-        }
-        Err(error) => Err(error),
-    }
-}
-
-// Whether a copy of what the uid of `PLACED` holds lies as that does.
-fn copy_within_is_placed(alloc: Global) -> bool {
-    match EntityUID::from_normalized_str(alloc, PLACED) {
-        Ok(uid) => {
-            let EntityUID::EntityUID(inner) = uid;
-            let copy: Result<EntityUIDImpl, AllocError> = inner.clone();
-            drop(inner);
-            match copy {
-                Ok(copy) => {
-                    let told = inner_is_placed(&copy);
-                    drop(copy);
-                    told
-                }
-                Err(_) => false,
-            }
-        }
-        Err(_) => false,
-    }
-}
-
-#[test]
-fn a_copy_of_a_uid_lies_where_the_uid_lies(rt: HostRuntime) {
-    let alloc = rt.alloc();
-    assert!(rt; is_placed(copied(alloc)));
-    assert!(rt; copy_within_is_placed(alloc));
-}
-
-// The uid `A::"a"` at a place within a text, its type at a place of its own.
-fn told_place(alloc: Global) -> Result<EntityUID, ParseErrors> {
-    let eid = String::from_str(alloc, "a")?;
-    match located(alloc, 3, 9, "xx A::\"a\" yy") {
-        Ok(loc) => match EntityType::from_normalized_str(alloc, "A") {
-            Ok(ty) => Ok(EntityUID::from_components(ty, Eid::new(eid), Some(loc))),
-            Err(error) => {
-                drop(loc);
-                drop(eid);
-                Err(error)
-            }
-        },
-        Err(error) => {
-            drop(eid);
-            Err(error.into())
-        }
-    }
-}
-
-// Whether a uid of this type and no location has none.
-fn is_bare(ty: EntityType, eid: Eid) -> bool {
-    let bare = EntityUID::from_components(ty, eid, None);
-    let told = bare.loc().is_none();
-    drop(bare);
-    told
-}
-
-// Whether the uid of `told_place` lies where it is told, its type keeps its own place when the uid is taken
-// apart, and a uid that is made of its parts alone has no place.
-fn lies_where_told(alloc: Global) -> bool {
-    match told_place(alloc) {
-        Ok(uid) => {
-            let told = lies_at(uid.loc(), 3, 9, "xx A::\"a\" yy")
-                && lies_at(uid.entity_type().loc(), 0, 1, "A");
-            let (ty, eid) = uid.components();
-            let kept = lies_at(ty.loc(), 0, 1, "A");
-            is_bare(ty, eid) && told && kept
-        }
-        Err(_) => false,
-    }
-}
-
-#[test]
-fn a_uid_that_is_made_lies_where_it_is_told(rt: HostRuntime) {
-    assert!(rt; lies_where_told(rt.alloc()));
-}
-
-// Whether a uid that is made of a typename has no location, nor its type.
-fn of_a_typename_lies_nowhere(alloc: Global) -> bool {
-    match EntityUID::with_eid_and_type(alloc, "A", "a") {
-        Ok(uid) => {
-            let told = uid.loc().is_none() && uid.entity_type().loc().is_none();
-            drop(uid);
-            told
-        }
-        Err(_) => false,
-    }
-}
-
-#[test]
-fn a_uid_of_a_typename_lies_nowhere(rt: HostRuntime) {
-    assert!(rt; of_a_typename_lies_nowhere(rt.alloc()));
-}
-
-// Whether the name of a text lies at all of it, and so does its copy.
-fn name_is_placed(alloc: Global, text: &str) -> bool {
-    match Name::from_normalized_str(alloc, text) {
-        Ok(name) => {
-            let told = lies_at(name.loc(), 0, text.len(), text)
-                && name_lies_at(name.clone(), 0, text.len(), text);
-            drop(name);
-            told
-        }
-        Err(_) => false,
-    }
-}
-
-#[test]
-fn a_name_that_is_read_lies_at_the_whole_text(rt: HostRuntime) {
-    assert!(rt; name_is_placed(rt.alloc(), "A::B"));
-}
-
-// Whether the type of a text lies at all of it, and so do its copy and its name.
-fn type_is_placed(alloc: Global, text: &str) -> bool {
-    match EntityType::from_normalized_str(alloc, text) {
-        Ok(ty) => {
-            let told = lies_at(ty.loc(), 0, text.len(), text)
-                && type_lies_at(ty.clone(), 0, text.len(), text);
-            let name = ty.into_name();
-            let kept = lies_at(name.loc(), 0, text.len(), text);
-            drop(name);
-            told && kept
-        }
-        Err(_) => false,
-    }
-}
-
-#[test]
-fn a_type_that_is_read_lies_at_the_whole_text(rt: HostRuntime) {
-    assert!(rt; type_is_placed(rt.alloc(), "C::D::E"));
-}
-
-// Whether an unqualified name has no location.
-fn unqualified_lies_nowhere(alloc: Global) -> bool {
-    match Name::parse_unqualified_name(alloc, "A") {
-        Ok(name) => {
-            let told = name.loc().is_none();
-            drop(name);
-            told
-        }
-        Err(_) => false,
-    }
-}
-
-#[test]
-fn an_unqualified_name_lies_nowhere(rt: HostRuntime) {
-    assert!(rt; unqualified_lies_nowhere(rt.alloc()));
-}
-
-// Whether a type with another location lies there, is the same type, and can lie nowhere.
-fn moves(moved: EntityType, ty: &EntityType, start: usize, end: usize, src: &str) -> bool {
-    let told = lies_at(moved.loc(), start, end, src) && moved == *ty;
-    let bare = moved.with_loc(None);
-    drop(moved);
-    match bare {
-        Ok(bare) => {
-            let nowhere = bare.loc().is_none();
-            drop(bare);
-            told && nowhere
-        }
-        Err(_) => false,
-    }
-}
-
-// The type of this text and the same at another place, in turn.
-fn takes_another_place(alloc: Global, ty: &EntityType) -> bool {
-    match located(alloc, 1, 5, " A::B") {
-        Ok(loc) => {
-            let moved = ty.with_loc(Some(&loc));
-            drop(loc);
-            match moved {
-                Ok(moved) => moves(moved, ty, 1, 5, " A::B"),
-                Err(_) => false,
-            }
-        }
-        Err(_) => false,
-    }
-}
-
-// Whether `A::B` takes another location, and stays where it lies itself.
-fn type_takes_another_place(alloc: Global) -> bool {
-    match EntityType::from_normalized_str(alloc, "A::B") {
-        Ok(ty) => {
-            let told = takes_another_place(alloc, &ty) && lies_at(ty.loc(), 0, 4, "A::B");
-            drop(ty);
-            told
-        }
-        Err(_) => false,
-    }
-}
-
-#[test]
-fn a_type_takes_another_location(rt: HostRuntime) {
-    assert!(rt; type_takes_another_place(rt.alloc()));
-}
-
-// Whether a name that goes into a namespace lies where it lay at first, at all of this text.
-fn stays(alloc: Global, name: &Name, namespace: Option<&Name>, text: &str) -> bool {
-    let qualified = name.qualify_with_name(alloc, namespace);
-    name_lies_at(qualified, 0, text.len(), text)
-}
-
-// Whether `B` keeps its place in a namespace and in none, and the namespace keeps its own in `B`.
-fn qualified_stays(alloc: Global, namespace: &Name) -> bool {
-    match Name::from_normalized_str(alloc, "B") {
-        Ok(name) => {
-            let told = stays(alloc, &name, Some(namespace), "B")
-                && stays(alloc, &name, None, "B")
-                && stays(alloc, namespace, Some(&name), "N::M");
-            drop(name);
-            told
-        }
-        Err(_) => false,
-    }
-}
-
-// The type `B` in a namespace.
-fn qualified_type(alloc: Global, namespace: &Name) -> Result<EntityType, ParseErrors> {
-    match Name::from_normalized_str(alloc, "B") {
-        Ok(name) => {
-            let ty: EntityType = name.into();
-            let qualified = ty.qualify_with(alloc, Some(namespace));
-            drop(ty);
-            Ok(qualified?)
-        }
-        Err(error) => Err(error),
-    }
-}
-
-// Whether the type `B` keeps its place in a namespace, and as a name again.
-fn qualified_type_stays(alloc: Global, namespace: &Name) -> bool {
-    match qualified_type(alloc, namespace) {
-        Ok(qualified) => {
-            let told = lies_at(qualified.loc(), 0, 1, "B");
-            let back: Name = qualified.into();
-            let kept = lies_at(back.loc(), 0, 1, "B");
-            drop(back);
-            told && kept
-        }
-        Err(_) => false,
-    }
-}
-
-// Whether a name and a type keep their places in the namespace `N::M`.
-fn keep_their_places(alloc: Global, of_types: bool) -> bool {
-    match Name::from_normalized_str(alloc, "N::M") {
-        Ok(namespace) => {
-            let told = if of_types {
-                qualified_type_stays(alloc, &namespace)
-            } else {
-                qualified_stays(alloc, &namespace)
-            };
-            drop(namespace);
-            told
-        }
-        Err(_) => false,
-    }
-}
-
-#[test]
-fn a_qualified_name_keeps_its_own_location(rt: HostRuntime) {
-    assert!(rt; keep_their_places(rt.alloc(), false));
-}
-
-#[test]
-fn a_qualified_type_keeps_its_own_location(rt: HostRuntime) {
-    assert!(rt; keep_their_places(rt.alloc(), true));
 }
