@@ -1,5 +1,5 @@
 -- Merging another board into this one: the ids that conflict, what they are renamed to, and the board afterwards.
-use Rattle.std.specs.Prelude.{◌≡◌, ℕ, ◌<◌, List, [], ◌∷◌, ◌++◌, Bool, false, not, ◌&&◌, if◌then◌else◌, map, Option, Some, None, Result, Ok, Err}
+use Rattle.std.specs.Prelude.{◌≡◌, ℕ, ◌<◌, List, [], ◌∷◌, ◌++◌, Bool, false, not, ◌&&◌, if◌then◌else◌, map, Option, Some, Result, Ok, Err}
 use Rattle.std.specs.List.{find, filter, list_any}
 use Rattle.std.specs.Map.{lookup, keys_of, values_of}
 use Rattle.std.specs.Option.{option_eq, option_map, unwrap_or}

@@ -1,6 +1,6 @@
 -- The text of a number: the library's where that has digits enough, and no two numbers have one text.
-use Rattle.std.specs.Prelude.{◌≡◌, ℕ, ◌+◌, ◌-◌, ◌*◌, ◌/◌, ◌%◌, ◌^◌, ◌<◌, ◌==◌, List, [], ◌∷◌, ◌++◌, Bool, true, false, if◌then◌else◌, refl, suc, zero, codes}
-use Rattle.std.proofs.Common.{◌≤◌, sym, ap, ◌∙◌, arith, subst, pow-suc, mod-lt, div-add-mod', eq-eqb, ne_eqb, lt-ltb, cond}
+use Rattle.std.specs.Prelude.{◌≡◌, ℕ, ◌+◌, ◌-◌, ◌*◌, ◌/◌, ◌%◌, ◌^◌, ◌<◌, List, [], ◌∷◌, Bool, false, refl, suc, zero, codes}
+use Rattle.std.proofs.Common.{◌≤◌, sym, ap, ◌∙◌, arith, pow-suc, mod-lt, div-add-mod', eq-eqb, ne_eqb, lt-ltb, cond}
 use Rattle.std.specs.Fmt.{digit_glyph, digits_onto, digits, decimal}
 use Rattle.std.proofs.lemmas.List.{append_cancel_left}
 use Rattle.cedar_policy_set.specs.Fresh.{numeral, numbered}

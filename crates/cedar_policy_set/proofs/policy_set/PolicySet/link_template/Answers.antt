@@ -1,0 +1,25 @@
+use Rattle.std.proofs.Common.{refl, ap, sym, ◌∙◌, ◌≡◌, Some, Ok, Err, [], if◌then◌else◌}
+use Rattle.std.specs.Option.{option_map_or}
+use Rattle.std.proofs.lemmas.Result.{err_from_is_err_and}
+use Rattle.cedar_body.specs.Bodies.{body_slots}
+use Rattle.cedar_binding.specs.Views.{env_of}
+use Rattle.cedar_policy.specs.Policies.{PolicyParts}
+use Rattle.cedar_policy_set.specs.Boards.{with_policy}
+use Rattle.cedar_policy_set.specs.Steps.{id_conflict}
+use Rattle.cedar_policy_set.specs.laws.BoardLaws.{unfit_is_refused, fit_goes_on}
+use Rattle.cedar_policy_set.proofs.policy_set.PolicySet.link_template.Goals as goal
+
+pub returns-in_err-policy : goal.returns-in_err-policy
+returns-in_err-policy c =
+    let p = err_from_is_err_and c.from_residual.result c.from_residual.ensures.1 in
+    rw (p.1, p.2) (refl, unfit_is_refused c.in_err-policy.field-0.0 (body_slots c.args.template.value) (env_of c.args.values) _ c.in_err-policy.ensures)
+
+pub returns-then-occupied : goal.returns-then-occupied
+returns-then-occupied c =
+    let kept = with_policy c.args.self.now (record { template = c.args.template.value; link = Some c.args.new_id; env = env_of c.args.values }) in
+    let same : c.own_id_of.result ≡ c.args.new_id = ap (λ o. option_map_or (λ x. x) o []) (c.own_id_of.ensures ∙ ap (λ (q : PolicyParts). q.link) c.in_ok-policy.ensures.1) in (
+      refl,
+      fit_goes_on (body_slots c.args.template.value) (env_of c.args.values) _ c.in_ok-policy.ensures.0
+      ∙ ap (λ b. if b then Err (id_conflict c.args.new_id) else Ok kept) (sym c.if-occupied.ensures)
+      ∙ ap (λ i. Err (id_conflict i)) (sym same),
+    )
