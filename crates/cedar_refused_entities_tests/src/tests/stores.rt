@@ -14,6 +14,7 @@ use cedar_refusals::{
     Calls, Row, Tried, both, counted, has_words, is_worded, judged, on, refuse, relent,
     shown_copied, tried_rows, unmade, with_last, with_word,
 };
+use cedar_slice::slice;
 use std::alloc::{AllocError, Global};
 use std::rc::Rc;
 
@@ -265,6 +266,8 @@ const READING: &str = "
     IntoIter::next | from: a b / / k=1 | a b / / k=1 /
     Dereference::clone | text | \"text\"
     - Dereference::clone | unknown | unknown(\"u\")
+    slice | from: a b, b c, d / / k=1; a | a b / c / / , b c / / / ,
+    slice | from: a b, b c, d / / k=1; x d d | d / / k=1 / ,
 ";
 
 // Whether looking a uid up gave this.
@@ -286,6 +289,23 @@ fn looked_up(alloc: Global, number: usize, row: Row<'_>) -> Tried {
             judged(alloc, store.entity(alloc, uid), row.want, |found| {
                 is_found(alloc, found, row.want)
             })
+        },
+    )
+}
+
+fn sliced(alloc: Global, number: usize, row: Row<'_>) -> Tried {
+    let (calls, names) = row.given.rsplit_once(';').unwrap_or((row.given, ""));
+    on(
+        alloc,
+        number,
+        both(store_of(alloc, calls), uids(alloc, names)),
+        |(store, uids)| {
+            judged(
+                alloc,
+                slice(alloc, store, uids.as_slice()),
+                row.want,
+                |part| { is_store(alloc, part, row.want) },
+            )
         },
     )
 }
@@ -346,6 +366,7 @@ impl Calls for OnReading {
                 None => unmade(),
             },
             "Dereference::clone" => residual_copied(alloc, number, row),
+            "slice" => sliced(alloc, number, row),
             _ => unmade(),
         }
     }

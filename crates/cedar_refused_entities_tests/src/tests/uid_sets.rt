@@ -12,6 +12,7 @@ struct OnSharedUids;
 
 const SHARED_UIDS: &str = "
     SharedUid::new | A::\"a\" | A::\"a\"
+    SharedUid::copy_of | A::\"a\" | A::\"a\"
     - SharedUid::into_uid | a | A::\"a\"
     SharedUid::into_uid | shared a | A::\"a\"
     - SharedUid::clone | a
@@ -39,6 +40,11 @@ impl Calls for OnSharedUids {
             "SharedUid::new" => {
                 with(alloc, number, uid(alloc, row.given), |uid| {
                     made(alloc, SharedUid::new(alloc, uid), row.want)
+                })
+            }
+            "SharedUid::copy_of" => {
+                on(alloc, number, uid(alloc, row.given), |uid| {
+                    made(alloc, SharedUid::copy_of(alloc, uid), row.want)
                 })
             }
             "SharedUid::into_uid" if row.given.starts_with("shared ") => taken_back(
