@@ -3,8 +3,9 @@ ghost use Rattle.std.specs.Prelude.{◌≡◌, ◌++◌, ◌∷◌, [], None, fa
 ghost use Rattle.indexmap.specs.IndexMap.{get};
 ghost use Rattle.cedar_ids.specs.Texts.{same_text};
 ghost use Rattle.cedar_policy.specs.Policies.{policy_id};
-ghost use Rattle.cedar_policy_set.specs.Boards.{empty_board, CanJoinBoth, CanJoinBothBy};
+ghost use Rattle.cedar_policy_set.specs.Boards.{empty_board};
 ghost use Rattle.cedar_policy_set.specs.Maps.{lists_of, shared_of};
+ghost use Rattle.cedar_policy_set.specs.laws.Joins.{CanJoinBoth, CanJoinBothBy};
 
 use super::notation::row;
 use super::script::{policy_of, set_of, told_on};
