@@ -318,7 +318,6 @@ slice_takes m n s us (Ok S) old new h same sets ok err settles =
     )
 slice_takes m n s us (Err e) old new h same sets ok err settles = absurd (subst (λ x. Refused x old new) err settles.1)
 
-
 -- an empty line changes nothing
 pub nothing_takes : (m : Machine) (s : State) (out : List ℕ) → Holds m s → MachineGives Nothing s m out out
 nothing_takes m s out h = (s, [], (refl, refl), h, sym (append-nil out))

@@ -100,11 +100,7 @@ fn push_field(out: &mut Vec<u8>, text: &mut String, uid: &EntityUID) -> Result<(
 }
 
 // Adds the uids, each after a tab.
-fn push_fields(
-    alloc: Global,
-    out: &mut Vec<u8>,
-    uids: Union<'_>,
-) -> Result<(), AllocError>
+fn push_fields(alloc: Global, out: &mut Vec<u8>, uids: Union<'_>) -> Result<(), AllocError>
     ensures { OnOk result (AreAsciiUids uids.entry →
         out.new.items ≡ out.old.items ++ flat_map field_of uids.entry) }
 {
@@ -116,11 +112,7 @@ fn push_fields(
 }
 
 // Adds the line of an entity's ancestors.
-fn push_ancestors(
-    alloc: Global,
-    out: &mut Vec<u8>,
-    uids: Union<'_>,
-) -> Result<(), AllocError>
+fn push_ancestors(alloc: Global, out: &mut Vec<u8>, uids: Union<'_>) -> Result<(), AllocError>
     ensures { OnOk result (AreAsciiUids uids.entry → out.new.items ≡
         out.old.items ++ written_line (codes "anc" ++ flat_map field_of uids.entry)) }
 {
