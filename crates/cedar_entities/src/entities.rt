@@ -2,14 +2,13 @@
 ghost use Rattle.std.specs.Prelude.{◌≡◌, Bool, true, false, cond, map, Some, None, IfOk, IfErr, OnOk, OnErr, IsTrue, ⊤, ◌&&◌, is_some, take, ℕ, ◌↔◌};
 ghost use Rattle.std.specs.Option.{option_or, option_map, IfSome};
 ghost use Rattle.std.specs.FinMap as finmap;
-ghost use Rattle.std.specs.HashMap.{get};
 ghost use Rattle.std.specs.Set.{is_member};
 ghost use Rattle.cedar_ids.specs.UidOf.{same_uid, uid_order};
 ghost use Rattle.cedar_ids.specs.declared.entity.EntityUID.{EntityUID};
 ghost use Rattle.cedar_graph.specs.Graph.{Reach};
 ghost use Rattle.cedar_entities.specs.ClosureFaults.{IsClosureFault};
 ghost use Rattle.cedar_entity.specs.View.{EntityView, IsDeepEqual, IsEquivalenceRelation};
-ghost use Rattle.cedar_entities.specs.Answers.{AreDeepEqual, HasDeepEqual, Finds, ListsHeld};
+ghost use Rattle.cedar_entities.specs.Answers.{AreDeepEqual, Finds, ListsHeld};
 ghost use Rattle.std.specs.HashSet.{contains};
 ghost use Rattle.cedar_entities.specs.Edits.{put_over, taken_out, uids_of};
 ghost use Rattle.cedar_entities.specs.laws.Edits.{last_entity};
@@ -27,6 +26,7 @@ ghost use Rattle.cedar_entities.specs.World.{World, empty_world, added, overwrit
 
 use crate::dereference::{Dereference, unknown_of};
 use crate::store_iters::{IntoIter, Iter};
+use crate::store_same::{have_deep_equals, have_keys_of};
 use crate::store_valid::check_each;
 use crate::touching::{
     absent_uids, apply_each, held_uids, note_all, plain_copy_of, read_each, touched_by_any, uids_in,
@@ -398,52 +398,6 @@ fn mend(
         }
         TCComputation::ComputeNow => repair(alloc, entities, touched, true),
     }
-}
-
-// Whether the map has a deeply equal entity at a uid.
-fn has_deep_equal_at(
-    entity: &Entity,
-    uid: &SharedUid,
-    other: &HashMap<SharedUid, SharedEntity>,
-) -> bool
-    ensures { IsTrue result ↔ HasDeepEqual (Some entity.now) (held other.now uid.now) }
-{
-    match other.get(uid) {
-        Some(node) => entity.deep_eq(&node.0),
-        None => false,
-    }
-}
-
-// Whether the one map has each entity of the other, or a deeply equal one.
-fn have_deep_equals(
-    one: &HashMap<SharedUid, SharedEntity>,
-    other: &HashMap<SharedUid, SharedEntity>,
-) -> bool
-    ensures { IsTrue result ↔ ((q : EntityUID) →
-        IfSome (held one.now q) (λ e. HasDeepEqual (Some e) (held other.now q))) }
-{
-    for (uid, node) in one {
-        if !has_deep_equal_at(&node.0, uid, other) {
-            return false;
-        }
-    }
-    true
-}
-
-// Whether the one map has each uid of the other.
-fn have_keys_of(
-    one: &HashMap<SharedUid, SharedEntity>,
-    other: &HashMap<SharedUid, SharedEntity>,
-) -> bool
-    ensures { IsTrue result ↔ ((q : EntityUID) →
-        is_some (get same_uid other.now q) ≡ true → is_some (get same_uid one.now q) ≡ true) }
-{
-    for (uid, _node) in other {
-        if !one.contains_key(uid) {
-            return false;
-        }
-    }
-    true
 }
 
 // A copy of the map, with the same entities.

@@ -8,6 +8,7 @@
 pub mod dereference;
 pub mod entities;
 pub mod store_iters;
+mod store_same;
 mod store_text;
 mod store_valid;
 mod touching;

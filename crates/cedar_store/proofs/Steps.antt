@@ -37,16 +37,13 @@ use Rattle.cedar_store.specs.Output.{State, Adds, Overwrites, AreAncestors, Show
 use Rattle.cedar_store.specs.laws.Machines.{IsAsciiUid, IsAsciiGiven, IsAsciiWorld, AreAsciiUids, Refused, Holds, MachineGives, HasAsciiUids, Settles, waits}
 use Rattle.cedar_store.specs.Command.{Command, Nothing, Ent, Build, Add, Upsert, Remove, Slice, Anc, Policy, AreTexts, IsCommand}
 use Rattle.cedar_store.specs.declared.machine.Machine.{Machine}
-use Rattle.std.specs.Borrow.{Bor}
 use mathlib.Core.List.{append-nil}
 use Rattle.std.proofs.lemmas.List.{map-append}
-use Rattle.std.proofs.lemmas.Grind.{flat_map-append}
 use Rattle.std.proofs.Common.{append_assoc}
-use Rattle.cedar_store.proofs.Lists.{all_at, all_front, all_last}
+use Rattle.cedar_store.proofs.Lists.{all_at}
 use Rattle.cedar_store.proofs.OneOutput.{or_right}
 use Rattle.cedar_entity.specs.laws.UidSets.{kept_in}
 use Rattle.cedar_entities.specs.laws.Lists.{all_push}
-use Rattle.std.proofs.lemmas.List.{map-append}
 
 -- why adding was refused, as it is written
 pub refused_adds : (base : World) (L : List Given) (e : EntitiesError) (old new : List ℕ) → AllByRecursion IsAsciiGiven L → IsAddingRefused base L e → Refused e old new
@@ -321,17 +318,6 @@ slice_takes m n s us (Ok S) old new h same sets ok err settles =
     )
 slice_takes m n s us (Err e) old new h same sets ok err settles = absurd (subst (λ x. Refused x old new) err settles.1)
 
--- one field more
-pub fields_more : (done : List (Bor EntityUID)) (x : Bor EntityUID) (start now new : List ℕ) → (AreAsciiUids (map (λ y. y.now) done) → now ≡ start ++ flat_map field_of (map (λ y. y.now) done))
-    → (IsAsciiUid x.now → new ≡ now ++ field_of x.now) → AreAsciiUids (map (λ y. y.now) (done ++ x ∷ [])) → new ≡ start ++ flat_map field_of (map (λ y. y.now) (done ++ x ∷ []))
-fields_more done x start now new so step all =
-    let parts = subst AreAsciiUids (map-append (λ (y : Bor EntityUID). y.now) done (x ∷ [])) all in
-    step (all_last IsAsciiUid (map (λ y. y.now) done) x.now parts)
-    ∙ ap (λ l. l ++ field_of x.now) (so (all_front IsAsciiUid (map (λ y. y.now) done) (x.now ∷ []) parts))
-    ∙ append_assoc start (flat_map field_of (map (λ y. y.now) done)) (field_of x.now)
-    ∙ ap (λ l. start ++ (flat_map field_of (map (λ y. y.now) done) ++ l)) (sym (append-nil (field_of x.now)))
-    ∙ ap (λ l. start ++ l) (sym (flat_map-append field_of (map (λ y. y.now) done) (x.now ∷ [])) ∙ ap (flat_map field_of) (sym (map-append (λ (y : Bor EntityUID). y.now) done (x ∷ []))))
-
 -- an empty line changes nothing
 pub nothing_takes : (m : Machine) (s : State) (out : List ℕ) → Holds m s → MachineGives Nothing s m out out
 nothing_takes m s out h = (s, [], (refl, refl), h, sym (append-nil out))
@@ -374,3 +360,9 @@ command_ascii (Remove us) fs h = tt
 command_ascii (Slice us) fs h = tt
 command_ascii (Anc u) fs h = tt
 command_ascii (Policy c) fs h = tt
+
+-- one field more is written, and the others are left
+pub fields_left : (x : EntityUID) (left all : List EntityUID) (start now new : List ℕ) → AreAsciiUids (x ∷ left) × (now ++ flat_map field_of (x ∷ left) ≡ start ++ flat_map field_of all) →
+    (IsAsciiUid x → new ≡ now ++ field_of x) → AreAsciiUids left × (new ++ flat_map field_of left ≡ start ++ flat_map field_of all)
+fields_left x left all start now new h step =
+    (h.0.1, ap (λ l. l ++ flat_map field_of left) (step h.0.0) ∙ append_assoc now (field_of x) (flat_map field_of left) ∙ h.1)

@@ -73,7 +73,7 @@ pub mod iters {
 }
 
 /// The lines on policy sets: reading them, and the two sets that they change.
-pub mod lines {
+pub mod policy_lines {
     pub use cedar_policy_lines::field::uid_field;
     pub use cedar_policy_lines::{PolicyCommand, PolicySets, read_policy_command};
 }

@@ -1,18 +1,13 @@
 //! The state of a run, and one function for each command.
-ghost use Rattle.std.specs.Prelude.{◌≡◌, ◌++◌, [], ◌∷◌, List, ℕ, IfOk, IfErr, OnOk, map, length, codes};
-ghost use Rattle.std.specs.List.{AllByRecursion, flat_map};
-ghost use Rattle.std.specs.List.Sorted.{IsStrictlySortedBy};
-ghost use Rattle.std.specs.Set.{is_member};
+ghost use Rattle.std.specs.Prelude.{◌≡◌, ◌++◌, [], ◌∷◌, List, ℕ, IfOk, IfErr, OnOk, codes};
+ghost use Rattle.std.specs.List.{flat_map};
 ghost use Rattle.std.specs.Fmt.{decimal};
-ghost use Rattle.cedar_ids.specs.UidOf.{same_uid, uid_order};
 ghost use Rattle.cedar_ids.specs.declared.entity.EntityUID.{EntityUID};
-ghost use Rattle.cedar_entities.specs.Plain.{IsPlainStore, IsBare, given_of};
-ghost use Rattle.cedar_entity.specs.View.{EntityView, has_ancestor};
-ghost use Rattle.cedar_entities.specs.World.{World, empty_world, given};
+ghost use Rattle.cedar_entities.specs.World.{given};
 ghost use Rattle.cedar_store.specs.Command.{Ent, Build, Add, Upsert, Remove, Slice, Anc};
 ghost use Rattle.cedar_store.specs.laws.CommandOf.{command_of};
 ghost use Rattle.cedar_store.specs.laws.Machines.{Holds, MachineGives, LineTakes, IsAsciiUid, AreAsciiUids, HasAsciiUids, IsTold, Refused, Settles};
-ghost use Rattle.cedar_store.specs.Output.{State, start, Gives, ShowsAncestors, count_line, written_line, uid_text, field_of, not_command};
+ghost use Rattle.cedar_store.specs.Output.{State, start, ShowsAncestors, written_line, uid_text, field_of, not_command};
 
 use crate::line::{Command, read_line};
 use crate::parent_fields::Known;
@@ -21,9 +16,8 @@ use cedar_graph::TcError;
 use cedar_ids::entity::EntityUID;
 use cedar_policy_lines::PolicySets;
 use cedar_slice::slice;
-use cedar_uid_sets::SharedUid;
+use cedar_uid_sets::{SharedUid, Union};
 use std::alloc::{AllocError, Global};
-use std::collections::BTreeSet;
 use std::mem;
 use std::rc::Rc;
 
@@ -106,13 +100,9 @@ fn push_field(out: &mut Vec<u8>, text: &mut String, uid: &EntityUID) -> Result<(
 }
 
 // Adds the uids, each after a tab.
-fn push_fields(
-    alloc: Global,
-    out: &mut Vec<u8>,
-    uids: BTreeSet<&EntityUID>,
-) -> Result<(), AllocError>
-    ensures { OnOk result (AreAsciiUids (map (λ x. x.now) uids.entry.keys) →
-        out.new.items ≡ out.old.items ++ flat_map field_of (map (λ x. x.now) uids.entry.keys)) }
+fn push_fields(alloc: Global, out: &mut Vec<u8>, uids: Union<'_>) -> Result<(), AllocError>
+    ensures { OnOk result (AreAsciiUids uids.entry →
+        out.new.items ≡ out.old.items ++ flat_map field_of uids.entry) }
 {
     let mut text = String::with_capacity(alloc, FIELD)?;
     for uid in uids {
@@ -122,28 +112,14 @@ fn push_fields(
 }
 
 // Adds the line of an entity's ancestors.
-fn push_ancestors(
-    alloc: Global,
-    out: &mut Vec<u8>,
-    uids: BTreeSet<&EntityUID>,
-) -> Result<(), AllocError>
-    ensures { OnOk result (AreAsciiUids (map (λ x. x.now) uids.entry.keys) → out.new.items ≡
-        out.old.items ++ written_line
-        (codes "anc" ++ flat_map field_of (map (λ x. x.now) uids.entry.keys))) }
+fn push_ancestors(alloc: Global, out: &mut Vec<u8>, uids: Union<'_>) -> Result<(), AllocError>
+    ensures { OnOk result (AreAsciiUids uids.entry → out.new.items ≡
+        out.old.items ++ written_line (codes "anc" ++ flat_map field_of uids.entry)) }
 {
     out.extend_from_slice(b"anc")?;
     push_fields(alloc, out, uids)?;
     out.push(b'\n')?;
     Ok(())
-}
-
-// The ancestors of an entity in their order, each once.
-fn ancestors_of(alloc: Global, entity: &Entity) -> Result<BTreeSet<&EntityUID>, AllocError>
-    ensures ascend { IfOk result (λ s. IsStrictlySortedBy uid_order (map (λ x. x.now) s.keys)) }
-    ensures members { IfOk result (λ s. (q : EntityUID) →
-        is_member same_uid (map (λ x. x.now) s.keys) q ≡ has_ancestor entity.now q) }
-{
-    entity.ancestors().collect(alloc)
 }
 
 impl Machine {
@@ -267,7 +243,7 @@ impl Machine {
     {
         match self.store.stored(uid) {
             None => push_line(out, "no entity"),
-            Some(entity) => push_ancestors(alloc, out, ancestors_of(alloc, entity)?),
+            Some(entity) => push_ancestors(alloc, out, entity.ancestors_in_order()),
         }
     }
 

@@ -2,7 +2,7 @@
 //
 // Ids and the eids of uids are letters. Slots are digits in the order in which a walk meets them, 1
 // the principal's and 2 the resource's.
-use super::notation::{Call, Said, Verb, Why, behind, joined, unlinked};
+use super::notation::{Call, Said, Verb, Why, behind, joined, letter_for, unlinked};
 
 // A body: its id, its slots, and what else marks it.
 #[derive(Clone, Copy, Drop, PartialEq, Eq)]
@@ -22,11 +22,11 @@ pub(super) struct Row {
     pub(super) resource: u8,
 }
 
-// Up to sixteen bodies and up to sixteen policies, each in their order.
+// Up to 20 bodies and up to 20 policies, each in their order.
 #[derive(Clone, Copy, Drop, PartialEq, Eq)]
 pub(super) struct Board {
-    pub(super) bodies: [Option<Body>; 16],
-    pub(super) policies: [Option<Row>; 16],
+    pub(super) bodies: [Option<Body>; 20],
+    pub(super) policies: [Option<Row>; 20],
 }
 
 // What an id is bound to.
@@ -39,8 +39,8 @@ enum Bound {
 
 pub(super) fn empty() -> Board {
     Board {
-        bodies: [None; 16],
-        policies: [None; 16],
+        bodies: [None; 20],
+        policies: [None; 20],
     }
 }
 
@@ -312,7 +312,7 @@ pub(super) fn after(board: &mut Board, call: &Call) -> Said {
     }
 }
 
-// What an id is renamed to, for up to eight ids in their order, and the letter of the next new id.
+// What an id is renamed to, for up to eight ids in their order, and the number of the next new id.
 #[derive(Clone, Copy, Drop, PartialEq, Eq)]
 pub(super) struct Renaming {
     pub(super) pairs: [Option<(u8, u8)>; 8],
@@ -322,15 +322,16 @@ pub(super) struct Renaming {
 fn no_renaming() -> Renaming {
     Renaming {
         pairs: [None; 8],
-        next: b'P',
+        next: 0,
     }
 }
 
-// The first letter from `P` on that neither board binds.
+// The letter of the first number from the next on that neither board binds.
 fn fresh(renaming: &mut Renaming, here: &Board, other: &Board) -> u8 {
-    for letter in renaming.next..b'Z' {
+    for number in renaming.next..100 {
+        let letter = letter_for(number);
         if !is_bound(here, letter) && !is_bound(other, letter) {
-            renaming.next = letter + 1;
+            renaming.next = number + 1;
             return letter;
         }
     }

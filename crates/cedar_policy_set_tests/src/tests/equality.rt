@@ -1,61 +1,27 @@
 // When sets are equal, and what a copy is.
-use super::beside;
 use super::notation::call_of;
 use super::script::{board_of, done, set_of};
+use super::yes_or_no;
 use cedar_policy_set::PolicySet;
+use cedar_test_helpers::tried::{beside, owned};
 use std::alloc::Global;
 use std::test::Fail;
 
-// Whether the sets that these calls leave are equal, seen from both sides.
-fn are_equal(alloc: Global, one: &str, other: &str) -> Result<Option<bool>, Fail> {
+// How the sets that these calls leave stand to each other, seen from both sides.
+pub(super) fn stand(alloc: Global, one: &str, other: &str) -> Result<String, Fail> {
     let (one, other) = beside(set_of(alloc, one)?, set_of(alloc, other))?;
     let equal = one == other;
     let turned = other == one;
     drop(one);
     drop(other);
-    Ok(if equal == turned { Some(equal) } else { None })
-}
-
-#[test]
-fn sets_of_equal_orders_are_equal(rt: HostRuntime) -> Result<(), Fail> {
-    let alloc = rt.alloc();
-    let table = &[
-        ("", "static a; remove_static a"),
-        ("static a", "add a"),
-        ("add l=t1+1x", "template t1; link l=t+1x"),
-        ("static b", "static a; static b; remove_static a"),
-        (
-            "template t1; static a; link l=t+1x",
-            "add l=t1+1x; unlink l; static a; link l=t+1x",
-        ),
-    ];
-    for (one, other) in table {
-        assert!(rt; are_equal(alloc, one, other)? == Some(true));
-    }
-    Ok(())
-}
-
-#[test]
-fn sets_of_other_orders_or_values_are_not(rt: HostRuntime) -> Result<(), Fail> {
-    let alloc = rt.alloc();
-    let table = &[
-        ("", "template a"),
-        ("static a", "static a; static b"),
-        ("static a; static b", "static b; static a"),
-        ("template a; template b", "template b; template a"),
-        ("add l=t; add m=t", "add m=t; add l=t"),
-        ("template t; static a", "static a; template t"),
-        ("static a", "template a"),
-        ("static a", "static a!"),
-        ("template t1", "template t2"),
-        ("add l=t1+1x", "add l=t1+1y"),
-        ("add l=t1+1x", "add m=t1+1x"),
-        ("add l=t", "template t"),
-    ];
-    for (one, other) in table {
-        assert!(rt; are_equal(alloc, one, other)? == Some(false));
-    }
-    Ok(())
+    owned(
+        alloc,
+        match (equal, turned) {
+            (true, true) => "equal",
+            (false, false) => "other",
+            _ => "neither equal nor other",
+        },
+    )
 }
 
 // Whether a copy is equal, and stays as it was when the set changes.
@@ -81,16 +47,9 @@ fn is_copied_thrice(alloc: Global, set: &mut PolicySet) -> Result<bool, Fail> {
 
 // Whether a copy of the set that some calls leave is equal, and stays as it was when the set changes, at three calls in
 // turn.
-fn copies_stand_apart(alloc: Global, calls: &str) -> Result<bool, Fail> {
+pub(super) fn copies_stand_apart(alloc: Global, calls: &str) -> Result<String, Fail> {
     let mut set = set_of(alloc, calls)?;
     let told = is_copied_thrice(alloc, &mut set);
     drop(set);
-    told
-}
-
-#[test]
-fn a_copy_is_equal_and_stands_apart(rt: HostRuntime) -> Result<(), Fail> {
-    let calls = "static a; template t1; link l=t+1x; template u";
-    assert!(rt; copies_stand_apart(rt.alloc(), calls)?);
-    Ok(())
+    yes_or_no(alloc, told)
 }

@@ -1,9 +1,10 @@
 // Many lists of calls, each on a set and on the board that it stands for.
 use super::board::{Body, Row, after, empty};
-use super::kept;
 use super::notation::{Call, Said, Verb, call_of, unlinked};
 use super::script::{board_of, done};
 use cedar_policy_set::PolicySet;
+use cedar_test_helpers::drawn::below;
+use cedar_test_helpers::tried::kept;
 use std::alloc::Global;
 use std::test::Fail;
 
@@ -163,20 +164,6 @@ fn is_all_of_calls(tally: &Tally) -> bool {
 fn each_list_of_three_calls_leaves_its_board(rt: HostRuntime) -> Result<(), Fail> {
     assert!(rt; is_all_of_calls(&all_of_calls(rt.alloc())?));
     Ok(())
-}
-
-// The next of a sequence of numbers that has no visible order.
-fn draw(seed: &mut u64) -> u64 {
-    *seed = seed
-        .wrapping_mul(6_364_136_223_846_793_005)
-        .wrapping_add(1_442_695_040_888_963_407);
-    *seed >> 33
-}
-
-// A number below this one, which is not 0.
-pub(super) fn below(seed: &mut u64, end: u8) -> u8 {
-    let [low, ..] = (draw(seed) % u64::from(end.max(1))).to_le_bytes();
-    low
 }
 
 // One of six letters.

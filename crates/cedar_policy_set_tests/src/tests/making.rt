@@ -1,9 +1,10 @@
 // Sets made of policies, and the policy that linking lends.
 use super::notation::{Said, row, told_text};
 use super::script::{board_of, id_of, policy_of, set_of};
-use super::{beside, is_told, kept, written};
+use super::yes_or_no;
 use cedar_policy::{Policy, SlotEnv};
 use cedar_policy_set::PolicySet;
+use cedar_test_helpers::tried::{beside, kept, written};
 use std::alloc::Global;
 use std::collections::HashMap;
 use std::test::Fail;
@@ -22,7 +23,7 @@ fn policies_of(alloc: Global, texts: &str) -> Result<Vec<Policy>, Fail> {
 }
 
 // The set of some policies, or why there is none.
-fn made_text(alloc: Global, texts: &str) -> Result<String, Fail> {
+pub(super) fn made_text(alloc: Global, texts: &str) -> Result<String, Fail> {
     let policies = policies_of(alloc, texts)?;
     match PolicySet::try_from_iter(alloc, policies) {
         Ok(set) => {
@@ -32,23 +33,6 @@ fn made_text(alloc: Global, texts: &str) -> Result<String, Fail> {
         }
         Err(error) => written(alloc, error),
     }
-}
-
-#[test]
-fn policies_join_one_after_another(rt: HostRuntime) -> Result<(), Fail> {
-    let alloc = rt.alloc();
-    let table = &[
-        ("", "ok | |"),
-        ("b a", "ok | b a | b a"),
-        ("l=t1+1x a m=t1+1y", "ok | t1 a | l=t1+1x a m=t1+1y"),
-        ("a b a! b", "duplicate template or policy id `a`"),
-        ("l=t b l=t c=b", "duplicate template or policy id `l`"),
-        ("a l=a", "duplicate template or policy id `a`"),
-    ];
-    for (texts, want) in table {
-        is_told(*texts, made_text(alloc, texts), want)?;
-    }
-    Ok(())
 }
 
 // The set of one policy; of a link with its template's id the empty one.
@@ -62,29 +46,13 @@ fn alone(alloc: Global, policy: Policy) -> Result<PolicySet, Fail> {
 }
 
 // Whether the set of one policy is what adding it leaves.
-fn is_added(alloc: Global, text: &str, calls: &str) -> Result<bool, Fail> {
+pub(super) fn is_added(alloc: Global, text: &str, calls: &str) -> Result<String, Fail> {
     let policy = policy_of(alloc, row(text))?;
     let (single, added) = beside(alone(alloc, policy)?, set_of(alloc, calls))?;
     let same = single == added;
     drop(single);
     drop(added);
-    Ok(same)
-}
-
-#[test]
-fn a_set_of_one_policy_is_what_adding_it_leaves(rt: HostRuntime) -> Result<(), Fail> {
-    let alloc = rt.alloc();
-    let table = &[
-        ("a", "add a", true),
-        ("a!", "static a!", true),
-        ("l=t1+1x", "add l=t1+1x", true),
-        ("l=t", "template t; link l=t", true),
-        ("l=t", "template t", false),
-    ];
-    for (text, calls, want) in table {
-        assert!(rt; is_added(alloc, text, calls)? == *want);
-    }
-    Ok(())
+    yes_or_no(alloc, Ok(same))
 }
 
 // Links a template of a set without slots, and reads what is lent.
@@ -95,15 +63,9 @@ fn is_lent(alloc: Global, set: &mut PolicySet) -> Result<bool, Fail> {
 }
 
 // Links a template without slots of the set that some calls leave, and reads what is lent.
-fn is_lent_of(alloc: Global, calls: &str) -> Result<bool, Fail> {
+pub(super) fn is_lent_of(alloc: Global, calls: &str) -> Result<String, Fail> {
     let mut set = set_of(alloc, calls)?;
     let told = is_lent(alloc, &mut set);
     drop(set);
-    told
-}
-
-#[test]
-fn linking_lends_the_policy(rt: HostRuntime) -> Result<(), Fail> {
-    assert!(rt; is_lent_of(rt.alloc(), "static a; template t; add m=t")?);
-    Ok(())
+    yes_or_no(alloc, told)
 }

@@ -1,6 +1,6 @@
 // Sets of many policies: adding, linking and taking out by the thousand, and merging with all ids renamed.
 use super::notation::put_number;
-use super::{beside, kept, uid};
+use super::uid;
 use cedar_action::ActionConstraint;
 use cedar_annotation::Annotations;
 use cedar_ids::loc::Loc;
@@ -9,6 +9,8 @@ use cedar_policy::{Effect, Policy, SlotEnv, Template};
 use cedar_policy_set::PolicySet;
 use cedar_scope::{PrincipalConstraint, ResourceConstraint};
 use cedar_terms::slot::SlotId;
+use cedar_test_helpers::rows::all_hold;
+use cedar_test_helpers::tried::{beside, kept};
 use indexmap::IndexMap;
 use std::alloc::Global;
 use std::collections::HashMap;
@@ -167,30 +169,6 @@ fn linked(alloc: Global, many: u32) -> Result<(u32, u32), Fail> {
     told
 }
 
-#[test]
-fn a_thousand_policies_are_added(rt: HostRuntime) -> Result<(), Fail> {
-    assert!(rt; added(rt.alloc(), 1_000)? == 1_000);
-    Ok(())
-}
-
-#[test]
-fn two_thousand_policies_are_added(rt: HostRuntime) -> Result<(), Fail> {
-    assert!(rt; added(rt.alloc(), 2_000)? == 2_000);
-    Ok(())
-}
-
-#[test]
-fn a_thousand_links_are_made_and_taken_out(rt: HostRuntime) -> Result<(), Fail> {
-    assert!(rt; linked(rt.alloc(), 1_000)? == (1_000, 0));
-    Ok(())
-}
-
-#[test]
-fn two_thousand_links_are_made_and_taken_out(rt: HostRuntime) -> Result<(), Fail> {
-    assert!(rt; linked(rt.alloc(), 2_000)? == (2_000, 0));
-    Ok(())
-}
-
 // The id with this number that merging would give.
 fn policy_id(alloc: Global, number: u32) -> Result<PolicyID, Fail> {
     let mut text = String::from_str(alloc, "policy")?;
@@ -294,19 +272,70 @@ fn merged(alloc: Global, here: u32, there: u32, by: u32) -> Result<(usize, bool,
     Ok((many, moved, count))
 }
 
-#[test]
-fn a_hundred_ids_are_renamed(rt: HostRuntime) -> Result<(), Fail> {
-    let alloc = rt.alloc();
-    for (there, count) in &[(100, 200), (101, 201)] {
-        assert!(rt; merged(alloc, 100, *there, *there)? == (100, true, *count));
+// The number and the effect that stand at a place after a set of so many that forbid is merged into one of a hundred that
+// permit, all of which conflict: those first, then the others in their order, each so many numbers on, or with its own
+// number where it does not conflict.
+fn wanted(place: u32, there: u32) -> (u32, Effect) {
+    match place {
+        0..100 => (place, Effect::Permit),
+        100..200 => (place.wrapping_sub(100).wrapping_add(there), Effect::Forbid),
+        _ => (place.wrapping_sub(100), Effect::Forbid),
     }
-    Ok(())
 }
 
-#[test]
-fn five_hundred_ids_are_renamed(rt: HostRuntime) -> Result<(), Fail> {
-    assert!(rt; merged(rt.alloc(), 500, 500, 500)? == (500, true, 1_000));
-    Ok(())
+// Whether an id and an effect are those.
+fn is_wanted(
+    alloc: Global,
+    id: &PolicyID,
+    effect: Effect,
+    place: u32,
+    there: u32,
+) -> Result<bool, Fail> {
+    let (number, want) = wanted(place, there);
+    Ok(effect == want && has_number(alloc, id, number)?)
+}
+
+// How many of the bodies of a set stand so, from the first on.
+fn bodies_wanted(alloc: Global, set: &PolicySet, there: u32) -> Result<u32, Fail> {
+    let mut place = 0_u32;
+    for body in set.all_templates() {
+        if !is_wanted(alloc, body.id(), body.effect(), place, there)? {
+            return Ok(place);
+        }
+        place = place.saturating_add(1);
+    }
+    Ok(place)
+}
+
+// How many of the policies of a set do.
+fn policies_wanted(alloc: Global, set: &PolicySet, there: u32) -> Result<u32, Fail> {
+    let mut place = 0_u32;
+    for policy in set.policies() {
+        if !is_wanted(alloc, policy.id(), policy.effect(), place, there)? {
+            return Ok(place);
+        }
+        place = place.saturating_add(1);
+    }
+    Ok(place)
+}
+
+// How many bodies and how many policies of that set stand as they should.
+fn boards_of(alloc: Global, set: &mut PolicySet, there: u32) -> Result<(u32, u32), Fail> {
+    let (many, moved) = renamed_of(alloc, set, there, there)?;
+    if many != 100 || !moved {
+        return Ok((0, 0));
+    }
+    let bodies = bodies_wanted(alloc, set, there)?;
+    Ok((bodies, policies_wanted(alloc, set, there)?))
+}
+
+// That as a text.
+fn boards(alloc: Global, there: u32) -> Result<String, Fail> {
+    let mut set = set_of_effect(alloc, 100, Effect::Permit)?;
+    let told = boards_of(alloc, &mut set, there);
+    drop(set);
+    let (bodies, policies) = told?;
+    Ok(format!(in alloc; "{bodies} {policies}")?)
 }
 
 // A template without slots at a place of one character.
@@ -327,93 +356,138 @@ fn placed(alloc: Global, start: usize) -> Result<Template, Fail> {
     Ok(template?)
 }
 
-fn add_at(alloc: Global, set: &mut PolicySet, start: usize) -> Result<(), Fail> {
-    let policy = Template::try_as_policy(alloc, Rc::new(alloc, placed(alloc, start)?)?)?;
-    set.add(alloc, policy)?;
+fn l(alloc: Global) -> Result<PolicyID, Fail> {
+    Ok(PolicyID::from_string(alloc, "l")?)
+}
+
+// The link `l` of a template at a place.
+fn placed_link(alloc: Global, start: usize) -> Result<Policy, Fail> {
+    let template = Rc::new(alloc, placed(alloc, start)?)?;
+    let (template, id) = beside(template, l(alloc))?;
+    Ok(Template::link(alloc, template, id, HashMap::new(alloc))?)
+}
+
+// Adds a static policy, a template or a link at a place.
+fn add_at(alloc: Global, set: &mut PolicySet, kind: &str, start: usize) -> Result<(), Fail> {
+    match kind {
+        "static" => {
+            let policy = Template::try_as_policy(alloc, Rc::new(alloc, placed(alloc, start)?)?)?;
+            set.add(alloc, policy)?;
+        }
+        "template" => set.add_template(alloc, placed(alloc, start)?)?,
+        _ => set.add(alloc, placed_link(alloc, start)?)?,
+    }
     Ok(())
 }
 
-// The set of a static policy at a place.
-fn set_at(alloc: Global, start: usize) -> Result<PolicySet, Fail> {
+// The set of that.
+fn set_at(alloc: Global, kind: &str, start: usize) -> Result<PolicySet, Fail> {
     let mut set = PolicySet::new(alloc);
-    let done = add_at(alloc, &mut set, start);
+    let done = add_at(alloc, &mut set, kind, start);
     kept(set, done)
 }
 
-type Starts = (Option<usize>, Option<usize>);
-
-// Where the body with an id begins.
-fn body_start(set: &PolicySet, id: &PolicyID) -> Option<usize> {
+// Where the body with an id begins, or 0.
+fn body_start(set: &PolicySet, id: &PolicyID) -> usize {
     match set.get_template(id) {
-        Some(template) => template.loc().map(|loc| loc.start),
-        None => None,
+        Some(template) => template.loc().map_or(0, |loc| loc.start),
+        None => 0,
     }
 }
 
-// Where the policy does.
-fn policy_start(set: &PolicySet, id: &PolicyID) -> Option<usize> {
+// Where the policy with an id does, or 0.
+fn policy_start(set: &PolicySet, id: &PolicyID) -> usize {
     match set.get(id) {
-        Some(policy) => policy.loc().map(|loc| loc.start),
-        None => None,
+        Some(policy) => policy.loc().map_or(0, |loc| loc.start),
+        None => 0,
     }
 }
 
-// Where the body and the policy `t` begin.
-fn starts(alloc: Global, set: &PolicySet) -> Result<Starts, Fail> {
-    let id = t(alloc)?;
-    let told = (body_start(set, &id), policy_start(set, &id));
-    drop(id);
-    Ok(told)
+// Where the body `t` and the policies `t` and `l` begin.
+fn starts(alloc: Global, set: &PolicySet) -> Result<String, Fail> {
+    let (t, l) = beside(t(alloc)?, l(alloc))?;
+    let told = (
+        body_start(set, &t),
+        policy_start(set, &t),
+        policy_start(set, &l),
+    );
+    drop(t);
+    drop(l);
+    Ok(format!(in alloc; "{} {} {}", told.0, told.1, told.2)?)
 }
 
-// Whether merging a set into another renames nothing.
-fn keeps_ids(alloc: Global, set: &mut PolicySet, other: &PolicySet) -> Result<bool, Fail> {
+// Merges a set into another, and says where all stands in both then, and how many ids are renamed.
+fn merged_starts(alloc: Global, set: &mut PolicySet, other: &PolicySet) -> Result<String, Fail> {
     let renaming = set.merge_policyset(alloc, other, false)?;
-    let keeps = renaming.is_empty();
+    let many = renaming.len();
     drop(renaming);
-    Ok(keeps)
+    let (here, there) = beside(starts(alloc, set)?, starts(alloc, other))?;
+    Ok(format!(in alloc; "{many} renamed, {here}, {there}")?)
 }
 
-// Whether merging a set into another renames nothing, and where what the other set holds begins then.
-fn kept_with(
-    alloc: Global,
-    set: &mut PolicySet,
-    other: &PolicySet,
-) -> Result<(bool, Starts), Fail> {
-    let keeps = keeps_ids(alloc, set, other)?;
-    Ok((keeps, starts(alloc, other)?))
+// Where all stands in a set; and then that.
+fn moves_on(alloc: Global, set: &mut PolicySet, other: &PolicySet) -> Result<String, Fail> {
+    let before = starts(alloc, set)?;
+    let (before, after) = beside(before, merged_starts(alloc, set, other))?;
+    Ok(format!(in alloc; "{before}, {after}")?)
 }
 
-// Whether merging a set at a place into another renames nothing, and where what it holds begins then.
-fn kept_of(alloc: Global, set: &mut PolicySet, start: usize) -> Result<(bool, Starts), Fail> {
-    let other = set_at(alloc, start)?;
-    let told = kept_with(alloc, set, &other);
+// That of the sets of a thing of a kind at the places 3 and 7.
+fn moves(alloc: Global, kind: &str) -> Result<String, Fail> {
+    let (mut set, other) = beside(set_at(alloc, kind, 3)?, set_at(alloc, kind, 7))?;
+    let told = moves_on(alloc, &mut set, &other);
+    drop(set);
     drop(other);
     told
 }
 
-// Whether all that a set holds begins here, and, after that at another place is merged into it with no
-// id renamed, there, as what the other holds does.
-fn moves_on(alloc: Global, set: &mut PolicySet, here: usize, there: usize) -> Result<bool, Fail> {
-    let before = starts(alloc, set)?;
-    let kept = kept_of(alloc, set, there)?;
-    let after = starts(alloc, set)?;
-    let begin = (Some(here), Some(here));
-    let end = (Some(there), Some(there));
-    Ok(before == begin && kept == (true, end) && after == end)
+fn counted_links(alloc: Global, many: u32) -> Result<String, Fail> {
+    let (before, after) = linked(alloc, many)?;
+    Ok(format!(in alloc; "{before} {after}")?)
 }
 
-// Whether all that a set at the first place holds begins there, and, after that at the second is merged into it with no id
-// renamed, at the second, as what the other holds does.
-fn moves(alloc: Global, here: usize, there: usize) -> Result<bool, Fail> {
-    let mut set = set_at(alloc, here)?;
-    let told = moves_on(alloc, &mut set, here, there);
-    drop(set);
-    told
+fn renamed_text(alloc: Global, here: u32, there: u32) -> Result<String, Fail> {
+    let (many, moved, count) = merged(alloc, here, there, there)?;
+    let word = if moved { "moved" } else { "elsewhere" };
+    Ok(format!(in alloc; "{many} {word} {count}")?)
 }
+
+// What is told of a word and a number or two.
+fn row(alloc: Global, asked: &str) -> Result<String, Fail> {
+    let (word, rest) = asked.split_once('|').unwrap_or((asked, ""));
+    if word == "moves" {
+        return moves(alloc, rest);
+    }
+    let (one, two) = rest.split_once('|').unwrap_or((rest, "0"));
+    let (one, two): (u32, u32) = (one.parse()?, two.parse()?);
+    match word {
+        "added" => Ok(added(alloc, one)?.to_string(alloc)?),
+        "linked" => counted_links(alloc, one),
+        "merged" => renamed_text(alloc, one, two),
+        _ => boards(alloc, one),
+    }
+}
+
+const ROWS: &str = "# how many policies there are after so many were added\n\
+added|1000 => 1000\n\
+added|2000 => 2000\n\
+# how many links there are after so many were made, and after they were taken out\n\
+linked|1000 => 1000 0\n\
+linked|2000 => 2000 0\n\
+# policies under the first ids that merging gives, and so many others: how many are renamed, whether each is moved by their number, and how many there are then\n\
+merged|100|100 => 100 moved 200\n\
+merged|100|101 => 100 moved 201\n\
+merged|500|500 => 500 moved 1000\n\
+# a hundred, and so many others that conflict, or one more that does not: how many bodies and policies stand in the order and with the ids and effects that they should\n\
+boards|100 => 200 200\n\
+boards|101 => 201 201\n\
+boards|102 => 202 202\n\
+# what is bound alike takes the other's value: the body and the policy of a static policy, a template, a template and its link; places of `t`, of the policy `t` and of `l` before, then in the set and in the other\n\
+moves|static => 3 3 0, 0 renamed, 7 7 0, 7 7 0\n\
+moves|template => 3 0 0, 0 renamed, 7 0 0, 7 0 0\n\
+moves|link => 3 0 3, 0 renamed, 7 0 7, 7 0 7";
 
 #[test]
-fn what_is_bound_alike_takes_the_others_place(rt: HostRuntime) -> Result<(), Fail> {
-    assert!(rt; moves(rt.alloc(), 3, 7)?);
-    Ok(())
+fn sets_of_many_are_changed_and_merged(rt: HostRuntime) -> Result<(), Fail> {
+    all_hold(rt.alloc(), ROWS, row)
 }

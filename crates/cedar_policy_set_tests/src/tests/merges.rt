@@ -1,11 +1,11 @@
 // Merging: each pair of kinds under one id, the order in which ids are renamed, and sets of two ids
 // beside the plain model.
 use super::board::{Board, Renaming, after, empty, merge};
-use super::notation::{Said, Why, call_of, put_letter, put_told, put_word};
-use super::script::{board_of, letter_of, said_by_set, set_of};
-use super::{beside, is_told, kept};
+use super::notation::{Said, Why, call_of, put_letter, put_told};
+use super::script::{board_of, letter_of, said_by_set, set_of, told_on};
 use cedar_ids::policy_id::PolicyID;
 use cedar_policy_set::{PolicySet, PolicySetError};
+use cedar_test_helpers::tried::{beside, is_told, kept, put_word};
 use indexmap::IndexMap;
 use std::alloc::Global;
 use std::test::Fail;
@@ -61,143 +61,12 @@ fn merged(
 }
 
 // What merging a set that some calls leave into another such answers, renamed ids before it, and both orders after it.
-fn told(alloc: Global, here: &str, other: &str, rename: bool) -> Result<String, Fail> {
+pub(super) fn told(alloc: Global, here: &str, other: &str, rename: bool) -> Result<String, Fail> {
     let (other, mut set) = beside(set_of(alloc, other)?, set_of(alloc, here))?;
     let told = merged(alloc, &mut set, &other, rename);
     drop(set);
     drop(other);
     told
-}
-
-// Fails with the first of these pairs of sets of which another thing is told than stands beside it.
-fn tells(alloc: Global, rename: bool, table: &[(&str, &str, &str)]) -> Result<(), Fail> {
-    for (here, other, want) in table {
-        let told = told(alloc, here, other, rename);
-        is_told(format_args!("{here} / {other}"), told, want)?;
-    }
-    Ok(())
-}
-
-#[test]
-fn ids_that_conflict_are_renamed(rt: HostRuntime) -> Result<(), Fail> {
-    let alloc = rt.alloc();
-    let table = &[
-        ("static a", "static a!", "aP ok | a P! | a P!"),
-        ("static a", "template a", "aP ok | a P | a"),
-        ("template a", "static a", "aP ok | a P | P"),
-        ("template a1", "template a2", "aP ok | a1 P2 |"),
-        ("static a", "template t; link a=t", "aP ok | a t | a P=t"),
-        ("template t; link a=t", "static a", "aP ok | t P | a=t P"),
-        (
-            "template t; link a=t",
-            "template u; link a=u",
-            "aP ok | t u | a=t P=u",
-        ),
-        (
-            "template t1; link a=t+1x",
-            "template t1; link a=t+1y",
-            "aP ok | t1 | a=t1+1x P=t1+1y",
-        ),
-        (
-            "template t1; link a=t+1x",
-            "template a",
-            "aP ok | t1 P | a=t1+1x",
-        ),
-        (
-            "template a",
-            "template t1; link a=t+1x",
-            "aP ok | a t1 | P=t1+1x",
-        ),
-        (
-            "template t1",
-            "template t2; link l=t+2x",
-            "tP ok | t1 P2 | l=P2+2x",
-        ),
-        (
-            "template t1; link x=t+1y",
-            "template x",
-            "xP ok | t1 P | x=t1+1y",
-        ),
-        (
-            "static P; static Q",
-            "static Q!; static R",
-            "QS ok | P Q S! R | P Q S! R",
-        ),
-        ("static a", "static a!; static P", "aQ ok | a Q! P | a Q! P"),
-    ];
-    tells(alloc, true, table)
-}
-
-#[test]
-fn the_first_conflict_is_refused_where_ids_keep_theirs(rt: HostRuntime) -> Result<(), Fail> {
-    let alloc = rt.alloc();
-    let table = &[
-        ("static a", "static a!", "occupied a | a | a"),
-        ("static a", "template a", "occupied a | a | a"),
-        ("template a", "static a", "occupied a | a |"),
-        ("template a1", "template a2", "occupied a | a1 |"),
-        ("static a", "template t; link a=t", "occupied a | a | a"),
-        (
-            "template t1; link a=t+1x",
-            "template t1; link a=t+1y",
-            "occupied a | t1 | a=t1+1x",
-        ),
-        (
-            "template t1; link a=t+1x",
-            "template a",
-            "occupied a | t1 | a=t1+1x",
-        ),
-        ("template a", "template t1; link a=t+1x", "occupied a | a |"),
-        (
-            "static P; static Q",
-            "static Q!; static R",
-            "occupied Q | P Q | P Q",
-        ),
-        (
-            "static b; static a",
-            "static c; static a!; static b!",
-            "occupied a | b a | b a",
-        ),
-    ];
-    tells(alloc, false, table)
-}
-
-#[test]
-fn what_is_bound_alike_stays_and_the_rest_joins(rt: HostRuntime) -> Result<(), Fail> {
-    let alloc = rt.alloc();
-    let table = &[
-        ("", "", "ok | |"),
-        (
-            "",
-            "template t1; link l=t+1x; static a",
-            "ok | t1 a | l=t1+1x a",
-        ),
-        (
-            "template t1; link l=t+1x; static a",
-            "",
-            "ok | t1 a | l=t1+1x a",
-        ),
-        ("static a", "static a; static b", "ok | a b | a b"),
-        ("static b; static a", "static a; static b", "ok | b a | b a"),
-        (
-            "template t1; link l=t+1x",
-            "template t1; link l=t+1x; link m=t+1y",
-            "ok | t1 | l=t1+1x m=t1+1y",
-        ),
-    ];
-    tells(alloc, false, table)?;
-    tells(alloc, true, table)
-}
-
-#[test]
-fn ids_are_renamed_group_after_group(rt: HostRuntime) -> Result<(), Fail> {
-    let alloc = rt.alloc();
-    let table = &[(
-        "static a; template t1; link b=t+1x; link c=t+1x",
-        "template u1; link t=u+1x; template b2; static c; static a!",
-        "aP cQ bR tS ok | a t1 u1 R2 Q P! | a b=t1+1x c=t1+1x S=u1+1x Q P!",
-    )];
-    tells(alloc, true, table)
 }
 
 // Writes what merging a set into another answers, and both orders after it, twice in turn.
@@ -220,7 +89,7 @@ fn told_twice(alloc: Global, set: &mut PolicySet, other: &PolicySet) -> Result<S
 }
 
 // What merging a set that some calls leave into another such answers twice in turn, and both orders after each.
-fn told_again(alloc: Global, here: &str, other: &str) -> Result<String, Fail> {
+pub(super) fn told_again(alloc: Global, here: &str, other: &str) -> Result<String, Fail> {
     let (other, mut set) = beside(set_of(alloc, other)?, set_of(alloc, here))?;
     let told = told_twice(alloc, &mut set, &other);
     drop(set);
@@ -228,14 +97,29 @@ fn told_again(alloc: Global, here: &str, other: &str) -> Result<String, Fail> {
     told
 }
 
-#[test]
-fn a_merged_set_is_merged_again(rt: HostRuntime) -> Result<(), Fail> {
-    let told = told_again(rt.alloc(), "static a", "static a!; static b");
-    is_told(
-        "merged twice",
-        told,
-        "aP ok | a P! b | a P! b, aQ ok | a P! b Q! | a P! b Q!",
-    )
+// Merges a set into another, and tells what the last of some calls on that answers, and both orders after it.
+fn told_then(
+    alloc: Global,
+    set: &mut PolicySet,
+    other: &PolicySet,
+    calls: &str,
+) -> Result<String, Fail> {
+    drop(set.merge_policyset(alloc, other, true)?);
+    told_on(alloc, set, calls)
+}
+
+// The same of the sets that some calls leave.
+pub(super) fn told_after(
+    alloc: Global,
+    here: &str,
+    other: &str,
+    calls: &str,
+) -> Result<String, Fail> {
+    let (other, mut set) = beside(set_of(alloc, other)?, set_of(alloc, here))?;
+    let told = told_then(alloc, &mut set, &other, calls);
+    drop(set);
+    drop(other);
+    told
 }
 
 // The call for what `a` is bound to, by a number, and what `b` is.
@@ -351,34 +235,4 @@ fn merging_is_as_the_model_says(rt: HostRuntime) -> Result<(), Fail> {
         all_agree(alloc, number, false)?;
     }
     Ok(())
-}
-
-// The original's test: what both sets have alike is no conflict.
-#[test]
-fn sets_with_one_policy_in_common_merge(rt: HostRuntime) -> Result<(), Fail> {
-    let alloc = rt.alloc();
-    let table = &[(
-        "static P; static Q!",
-        "static P; static R%",
-        "ok | P Q! R% | P Q! R%",
-    )];
-    tells(alloc, false, table)
-}
-
-// The original's test: the one id that conflicts is refused, and then renamed alone.
-#[test]
-fn the_one_conflict_is_refused_or_renamed(rt: HostRuntime) -> Result<(), Fail> {
-    let alloc = rt.alloc();
-    let keep = &[(
-        "static P; static Q!",
-        "static Q; static R%",
-        "occupied Q | P Q! | P Q!",
-    )];
-    tells(alloc, false, keep)?;
-    let rename = &[(
-        "static P; static Q!",
-        "static Q; static R%",
-        "QS ok | P Q! S R% | P Q! S R%",
-    )];
-    tells(alloc, true, rename)
 }

@@ -1,11 +1,12 @@
 // Lists of up to twelve calls with merges among them, each on a set and on the board that it stands for.
-use super::board::{Board, after, empty, merge};
-use super::kept;
-use super::lists::{below, drawn_call};
+use super::board::{Board, Renaming, after, empty, merge};
+use super::lists::drawn_call;
 use super::notation::{Said, Why};
-use super::script::{board_of, done, said_by_set};
+use super::script::{board_of, done, letter_of, said_by_set};
 use cedar_ids::policy_id::PolicyID;
 use cedar_policy_set::{PolicySet, PolicySetError};
+use cedar_test_helpers::drawn::below;
+use cedar_test_helpers::tried::kept;
 use indexmap::IndexMap;
 use std::alloc::Global;
 use std::test::Fail;
@@ -22,26 +23,42 @@ fn call(
     Ok(said == after(board, &call) && board_of(set) == *board)
 }
 
-// What merging answers, but for the ids that are renamed.
-fn said_by_merging(answer: Result<IndexMap<PolicyID, PolicyID>, PolicySetError>) -> Said {
-    match answer {
-        Ok(renaming) => {
-            drop(renaming);
-            Said::Done
+// Whether ids are renamed as a renaming says, each in its turn, and no others.
+fn are_renamed(ids: &IndexMap<PolicyID, PolicyID>, renaming: &Renaming) -> bool {
+    let mut pairs = renaming.pairs.iter().flatten();
+    for (old, new) in ids {
+        if pairs.next() != Some(&(letter_of(old), letter_of(new))) {
+            return false;
         }
-        Err(error) => said_by_set(Err(error)),
+    }
+    pairs.next().is_none()
+}
+
+// Whether merging answers what it answers in the plain model.
+fn answers(
+    answer: Result<IndexMap<PolicyID, PolicyID>, PolicySetError>,
+    want: Result<Renaming, u8>,
+) -> bool {
+    match answer {
+        Ok(ids) => {
+            let told = match want {
+                Ok(renaming) => are_renamed(&ids, &renaming),
+                Err(_) => false,
+            };
+            drop(ids);
+            told
+        }
+        Err(error) => match want {
+            Ok(_) => {
+                drop(error);
+                false
+            }
+            Err(id) => said_by_set(Err(error)) == Said::Refused(Why::Occupied, id),
+        },
     }
 }
 
-// What merging answers in the plain model, but for the ids that are renamed.
-fn merged(board: &mut Board, theirs: &Board, rename: bool) -> Said {
-    match merge(board, theirs, rename) {
-        Ok(_renaming) => Said::Done,
-        Err(id) => Said::Refused(Why::Occupied, id),
-    }
-}
-
-// Merges a set, which has this board; whether the answers and both orders are the same.
+// Merges a set, which has this board; whether the answers, with the ids that are renamed, and both orders are the same.
 fn merge_set(
     alloc: Global,
     set: &mut PolicySet,
@@ -50,8 +67,8 @@ fn merge_set(
     rename: bool,
 ) -> bool {
     let theirs = board_of(other);
-    let said = said_by_merging(set.merge_policyset(alloc, other, rename));
-    said == merged(board, &theirs, rename) && board_of(set) == *board
+    let answer = set.merge_policyset(alloc, other, rename);
+    answers(answer, merge(board, &theirs, rename)) && board_of(set) == *board
 }
 
 // Makes three drawn calls.

@@ -1,6 +1,6 @@
 // Policies, calls and answers by short texts, in which the tests of the set are written.
 //
-// Ids are letters, `P` to `Y` for `policy0` to `policy9`. A body is its id and the digits of its slots in the order in which a walk meets
+// Ids are letters, `P` to `Y` for `policy0` to `policy9`, and the bytes from 128 on for `policy10` and what follows. A body is its id and the digits of its slots in the order in which a walk meets
 // them, 1 the principal's and 2 the resource's, and a mark: `t`, `t1`, `t21`, `a!`. The mark `!` says
 // that it forbids, `@` that its action is `User::"x"`, `%` that its action is `Action::"x"`, `~` that
 // its clause is `foo()` and it has no slots, and `?` that its clause is the slot of the first digit.
@@ -10,7 +10,7 @@
 // A call is a word and a policy: `static a`, `template t1`, `add a`, `add l=t1+1x`, `link l=t+1x`,
 // `unlink l`, `remove_static a`, `remove_template t`, `links t`. Calls are parted by semicolons.
 use super::board::{Board, Body, Row};
-use super::kept;
+use cedar_test_helpers::tried::{kept, put_word};
 use std::alloc::Global;
 use std::test::Fail;
 
@@ -60,6 +60,23 @@ pub(super) enum Said {
     // The letters of the ids of policies.
     Listed(u64),
     Memory,
+}
+
+// The number that stands behind `policy` in the id that a letter is, if it does.
+pub(super) fn number_of(letter: u8) -> Option<u8> {
+    match letter {
+        b'P'..=b'Y' => Some(letter.wrapping_sub(b'P')),
+        128.. => Some(letter.wrapping_sub(118)),
+        _ => None,
+    }
+}
+
+// The letter of the id in which a number stands behind `policy`.
+pub(super) fn letter_for(number: u8) -> u8 {
+    match number {
+        0..10 => number.wrapping_add(b'P'),
+        _ => number.wrapping_add(118),
+    }
 }
 
 // The first letter of a text.
@@ -177,12 +194,6 @@ pub(super) fn put_number(alloc: Global, text: &mut String, number: u32) -> Resul
 // Writes a letter.
 pub(super) fn put_letter(text: &mut String, letter: u8) -> Result<(), Fail> {
     text.push(char::from(letter))?;
-    Ok(())
-}
-
-// Writes a word.
-pub(super) fn put_word(text: &mut String, word: &str) -> Result<(), Fail> {
-    text.push_str(word)?;
     Ok(())
 }
 

@@ -3,15 +3,17 @@ ghost use Rattle.std.specs.Prelude.{◌≡◌, ◌++◌, ◌∷◌, [], None, fa
 ghost use Rattle.indexmap.specs.IndexMap.{get};
 ghost use Rattle.cedar_ids.specs.Texts.{same_text};
 ghost use Rattle.cedar_policy.specs.Policies.{policy_id};
-ghost use Rattle.cedar_policy_set.specs.Boards.{empty_board, CanJoinBoth, CanJoinBothBy};
+ghost use Rattle.cedar_policy_set.specs.Boards.{empty_board};
 ghost use Rattle.cedar_policy_set.specs.Maps.{lists_of, shared_of};
+ghost use Rattle.cedar_policy_set.specs.laws.Joins.{CanJoinBoth, CanJoinBothBy};
 
 use super::notation::row;
 use super::script::{policy_of, set_of, told_on};
-use super::{beside, is_told};
+use super::yes_or_no;
 use cedar_ids::policy_id::PolicyID;
 use cedar_policy::{Policy, Template};
 use cedar_policy_set::PolicySet;
+use cedar_test_helpers::tried::beside;
 use indexmap::{IndexMap, IndexSet};
 use std::alloc::Global;
 use std::rc::Rc;
@@ -197,69 +199,33 @@ fn is_made(alloc: Global, set: &PolicySet, calls: &str) -> Result<bool, Fail> {
 }
 
 // Whether the set that is kept in maps of a text is the one that some calls make.
-fn is_raw(alloc: Global, text: &str, calls: &str) -> Result<bool, Fail> {
+pub(super) fn is_raw(alloc: Global, text: &str, calls: &str) -> Result<String, Fail> {
     let set = raw(alloc, text)?;
     let same = is_made(alloc, &set, calls);
     drop(set);
-    same
+    yes_or_no(alloc, same)
 }
 
 // What the last of some calls answers on that set, and both orders after it.
-fn told_raw(alloc: Global, text: &str, calls: &str) -> Result<String, Fail> {
+pub(super) fn told_raw(alloc: Global, text: &str, calls: &str) -> Result<String, Fail> {
     let mut set = raw(alloc, text)?;
     let told = told_on(alloc, &mut set, calls);
     drop(set);
     told
 }
 
-#[test]
-fn maps_of_a_template_and_its_link_are_the_set_that_calls_make(
-    rt: HostRuntime,
-) -> Result<(), Fail> {
-    let alloc = rt.alloc();
-    for (text, calls) in &[("l=t1+1x", "template t1; link l=t+1x"), ("a!", "static a!")] {
-        assert!(rt; is_raw(alloc, text, calls)?);
-    }
-    for (calls, want) in &[
-        ("links t", "l | t1 | l=t1+1x"),
-        ("links t; unlink l", "l=t1+1x | t1 |"),
-        ("links t; unlink l; links t", " | t1 |"),
-        ("links t; unlink l; links t; remove_template t", "t1 | |"),
-    ] {
-        is_told(*calls, told_raw(alloc, "l=t1+1x", calls), want)?;
-    }
-    Ok(())
-}
-
 // Whether the set of `a` and `b!`, its policies turned, is the one that some calls make.
-fn is_crossed(alloc: Global, calls: &str) -> Result<bool, Fail> {
+pub(super) fn is_crossed(alloc: Global, calls: &str) -> Result<String, Fail> {
     let set = crossed(alloc, "a", "b!")?;
     let same = is_made(alloc, &set, calls);
     drop(set);
-    same
+    yes_or_no(alloc, same)
 }
 
 // What the last of some calls answers on that set, and both orders after it.
-fn told_crossed(alloc: Global, calls: &str) -> Result<String, Fail> {
+pub(super) fn told_crossed(alloc: Global, calls: &str) -> Result<String, Fail> {
     let mut set = crossed(alloc, "a", "b!")?;
     let told = told_on(alloc, &mut set, calls);
     drop(set);
     told
-}
-
-#[test]
-fn maps_keep_the_orders_that_they_have(rt: HostRuntime) -> Result<(), Fail> {
-    let alloc = rt.alloc();
-    assert!(rt; !is_crossed(alloc, "static a; static b!")?);
-    for (calls, want) in &[
-        ("links b", "b | a b! | b! a"),
-        ("template t; link l=t; remove_static a", "a | b! t | b! l=t"),
-        (
-            "template t; link l=t; remove_static a; static a; links a",
-            "a | b! t a | b! l=t a",
-        ),
-    ] {
-        is_told(*calls, told_crossed(alloc, calls), want)?;
-    }
-    Ok(())
 }

@@ -1,7 +1,9 @@
 // Calls on a policy set, by the short texts of `notation`.
 use super::board::{Board, Body, Row, empty, put_body, put_row};
-use super::notation::{Call, Said, Verb, Why, behind, call_of, joined, told_text};
-use super::{beside, is_told, kept, uid};
+use super::notation::{
+    Call, Said, Verb, Why, behind, call_of, joined, letter_for, number_of, told_text,
+};
+use super::uid;
 use cedar_action::ActionConstraint;
 use cedar_annotation::Annotations;
 use cedar_ids::entity::EntityUID;
@@ -15,21 +17,25 @@ use cedar_policy_set::{
 use cedar_scope::{PrincipalConstraint, ResourceConstraint};
 use cedar_terms::expr::Expr;
 use cedar_terms::slot::SlotId;
+use cedar_test_helpers::tried::{beside, kept};
 use std::alloc::Global;
 use std::collections::HashMap;
 use std::rc::Rc;
 use std::test::Fail;
 
-// The id that is a letter; `P` to `Y` stand for `policy0` to `policy9`.
+// The id that is a letter, or that a number stands for.
 pub(super) fn id_of(alloc: Global, letter: u8) -> Result<PolicyID, Fail> {
-    let mut text = String::new(alloc);
-    if letter.is_ascii_uppercase() {
-        text.push_str("policy")?;
-        text.push(char::from(letter.wrapping_sub(b'P').wrapping_add(b'0')))?;
-        return Ok(PolicyID::from_smolstr(text));
+    if let Some(number) = number_of(letter) {
+        return Ok(PolicyID::from_smolstr(format!(in alloc; "policy{number}")?));
     }
+    let mut text = String::new(alloc);
     text.push(char::from(letter))?;
     Ok(PolicyID::from_smolstr(text))
+}
+
+// The id with a text.
+pub(super) fn id_of_text(alloc: Global, text: &str) -> Result<PolicyID, Fail> {
+    Ok(PolicyID::from_string(alloc, text)?)
 }
 
 // The uid of type `A` with a letter.
@@ -170,7 +176,7 @@ pub(super) fn policy_of(alloc: Global, row: Row) -> Result<Policy, Fail> {
 }
 
 // The letter that a text is, or a question mark.
-fn letter(text: &str) -> u8 {
+pub(super) fn letter(text: &str) -> u8 {
     match text.as_bytes() {
         [letter] => *letter,
         _ => b'?',
@@ -180,7 +186,10 @@ fn letter(text: &str) -> u8 {
 // The letter of an id.
 pub(super) fn letter_of(id: &PolicyID) -> u8 {
     match id.as_ref().strip_prefix("policy") {
-        Some(number) => letter(number).wrapping_sub(b'0').wrapping_add(b'P'),
+        Some(number) => match number.parse::<u8>() {
+            Ok(number) => letter_for(number),
+            Err(_) => b'?',
+        },
         None => letter(id.as_ref()),
     }
 }
@@ -496,17 +505,9 @@ pub(super) fn told_on(alloc: Global, set: &mut PolicySet, calls: &str) -> Result
 }
 
 // What the last of some calls answers on the empty set, and both orders after it.
-fn told(alloc: Global, calls: &str) -> Result<String, Fail> {
+pub(super) fn told(alloc: Global, calls: &str) -> Result<String, Fail> {
     let mut set = PolicySet::new(alloc);
     let told = told_on(alloc, &mut set, calls);
     drop(set);
     told
-}
-
-// Fails with the first of these lists of calls of which another thing is told than stands beside it.
-pub(super) fn tells(alloc: Global, table: &[(&str, &str)]) -> Result<(), Fail> {
-    for (calls, want) in table {
-        is_told(*calls, told(alloc, calls), want)?;
-    }
-    Ok(())
 }

@@ -1,133 +1,91 @@
 // How sets and refusals are written.
-use super::script::set_of;
-use super::{beside, is_told, written};
-use cedar_ids::policy_id::PolicyID;
+use super::script::{id_of_text, set_of};
 use cedar_policy::TemplateValidationError;
 use cedar_policy_set::{
     PolicySetError, PolicySetGetLinksError, PolicySetPolicyRemovalError,
     PolicySetTemplateRemovalError, PolicySetUnlinkError, PolicySetValidationError,
 };
+use cedar_test_helpers::tried::{beside, owned, written};
 use std::alloc::Global;
-use std::fmt::Display;
 use std::test::Fail;
 
-// Fails where a thing is not written so.
-fn shows<T: Display + Drop>(alloc: Global, thing: T, want: &str) -> Result<(), Fail> {
-    is_told("written", written(alloc, thing), want)
+// The text of the set that some calls leave.
+pub(super) fn text_of(alloc: Global, calls: &str) -> Result<String, Fail> {
+    written(alloc, set_of(alloc, calls)?)
 }
 
-const EMPTY: &str = "<empty policyset>";
-
-const ONE: &str =
-    "Templates:\npermit(\n  principal,\n  action,\n  resource\n);, Template Linked Policies:\npermit(\n  principal,\n  action,\n  resource\n);";
-
-const TEMPLATE: &str =
-    "Templates:\npermit(\n  principal == ?principal,\n  action,\n  resource\n);, Template Linked Policies:\n";
-
-const LINKS: &str =
-    "Templates:\npermit(\n  principal == ?principal,\n  action,\n  resource\n);, Template Linked Policies:\nTemplate Instance of t, slots: [?principal -> A::\"x\"]\nTemplate Instance of t, slots: [?principal -> A::\"y\"]";
-
-const BOTH: &str =
-    "Templates:\nforbid(\n  principal,\n  action,\n  resource\n);\npermit(\n  principal,\n  action,\n  resource in ?resource\n);, Template Linked Policies:\nforbid(\n  principal,\n  action,\n  resource\n);\nTemplate Instance of t, slots: [?resource -> A::\"y\"]";
-
-#[test]
-fn a_set_is_written_by_its_two_orders(rt: HostRuntime) -> Result<(), Fail> {
-    let alloc = rt.alloc();
-    let table = &[
-        ("", EMPTY),
-        ("static a", ONE),
-        ("template t1", TEMPLATE),
-        ("template t1; link m=t+1x; link l=t+1y", LINKS),
-        ("static a!; add l=t2+2y", BOTH),
-    ];
-    for (calls, want) in table {
-        shows(alloc, set_of(alloc, calls)?, want)?;
+// The text of a refusal of adding or of listing, with an id.
+pub(super) fn of_joining(alloc: Global, word: &str, id: &str) -> Result<String, Fail> {
+    let id = id_of_text(alloc, id)?;
+    match word {
+        "occupied" => written(alloc, PolicySetError::Occupied { id }),
+        "missing" => written(alloc, PolicySetGetLinksError::MissingTemplate(id)),
+        "unlinking" => written(alloc, PolicySetUnlinkError::UnlinkingError(id)),
+        "no link" => written(alloc, PolicySetUnlinkError::NotLinkError(id)),
+        _ => {
+            drop(id);
+            owned(alloc, "what is this word?")
+        }
     }
-    Ok(())
 }
 
-fn i(alloc: Global) -> Result<PolicyID, Fail> {
-    Ok(PolicyID::from_string(alloc, "i\"j")?)
+// The text of a refusal of a removal, with an id.
+pub(super) fn of_removal(alloc: Global, word: &str, id: &str) -> Result<String, Fail> {
+    let id = id_of_text(alloc, id)?;
+    match word {
+        "no template" => written(
+            alloc,
+            PolicySetTemplateRemovalError::RemovePolicyNoTemplateError(id),
+        ),
+        "with links" => written(
+            alloc,
+            PolicySetTemplateRemovalError::RemoveTemplateWithLinksError(id),
+        ),
+        "not a template" => written(alloc, PolicySetTemplateRemovalError::NotTemplateError(id)),
+        "no static" => written(
+            alloc,
+            PolicySetPolicyRemovalError::RemovePolicyNoLinkError(id),
+        ),
+        "not static" => written(
+            alloc,
+            PolicySetPolicyRemovalError::RemovePolicyNoTemplateError(id),
+        ),
+        _ => {
+            drop(id);
+            owned(alloc, "what is this word?")
+        }
+    }
 }
 
-#[test]
-fn refusals_of_joining_and_listing_have_their_texts(rt: HostRuntime) -> Result<(), Fail> {
-    let alloc = rt.alloc();
-    let occupied = PolicySetError::Occupied { id: i(alloc)? };
-    shows(alloc, occupied, "duplicate template or policy id `i\\\"j`")?;
-    shows(alloc, PolicySetError::Memory, "out of memory")?;
-    let missing = PolicySetGetLinksError::MissingTemplate(i(alloc)?);
-    shows(alloc, missing, "No template `i\\\"j`")?;
-    shows(alloc, PolicySetGetLinksError::Memory, "out of memory")
-}
-
-#[test]
-fn refusals_of_unlinking_have_their_texts(rt: HostRuntime) -> Result<(), Fail> {
-    let alloc = rt.alloc();
-    let unbound = PolicySetUnlinkError::UnlinkingError(i(alloc)?);
-    let want = "unable to unlink policy id `i\\\"j` because it does not exist";
-    shows(alloc, unbound, want)?;
-    let other = PolicySetUnlinkError::NotLinkError(i(alloc)?);
-    let want = "unable to remove link with policy id `i\\\"j` because it is a static policy";
-    shows(alloc, other, want)?;
-    shows(alloc, PolicySetUnlinkError::Memory, "out of memory")
-}
-
-#[test]
-fn refusals_of_a_templates_removal_have_their_texts(rt: HostRuntime) -> Result<(), Fail> {
-    let alloc = rt.alloc();
-    let unbound = PolicySetTemplateRemovalError::RemovePolicyNoTemplateError(i(alloc)?);
-    let want = "unable to remove template id `i\\\"j` from template list because it does not exist";
-    shows(alloc, unbound, want)?;
-    let linked = PolicySetTemplateRemovalError::RemoveTemplateWithLinksError(i(alloc)?);
-    let want =
-        "unable to remove template id `i\\\"j` from template list because it still has active links";
-    shows(alloc, linked, want)?;
-    let other = PolicySetTemplateRemovalError::NotTemplateError(i(alloc)?);
-    let want = "unable to remove template with policy id `i\\\"j` because it is a static policy";
-    shows(alloc, other, want)?;
-    shows(
+// The text of a refusal of validation, with an id and another.
+pub(super) fn of_validation(alloc: Global, link: &str, template: &str) -> Result<String, Fail> {
+    if link.is_empty() {
+        return written(
+            alloc,
+            PolicySetValidationError::InvalidTemplate {
+                id: id_of_text(alloc, template)?,
+                error: TemplateValidationError::SlotCacheMismatch,
+            },
+        );
+    }
+    let (link_id, template_id) = beside(id_of_text(alloc, link)?, id_of_text(alloc, template))?;
+    written(
         alloc,
-        PolicySetTemplateRemovalError::Memory,
-        "out of memory",
+        PolicySetValidationError::LinkToSlotlessTemplate {
+            link_id,
+            template_id,
+        },
     )
 }
 
-#[test]
-fn refusals_of_a_policys_removal_have_their_texts(rt: HostRuntime) -> Result<(), Fail> {
-    let alloc = rt.alloc();
-    let unbound = PolicySetPolicyRemovalError::RemovePolicyNoLinkError(i(alloc)?);
-    let want =
-        "unable to remove static policy id `i\\\"j` from link list because it does not exist";
-    shows(alloc, unbound, want)?;
-    let link = PolicySetPolicyRemovalError::RemovePolicyNoTemplateError(i(alloc)?);
-    let want =
-        "unable to remove static policy id `i\\\"j` from template list because it does not exist";
-    shows(alloc, link, want)?;
-    shows(alloc, PolicySetPolicyRemovalError::Memory, "out of memory")
-}
-
-// The refusal of a link of a template without slots.
-fn slotless(alloc: Global) -> Result<PolicySetValidationError, Fail> {
-    let link_id = PolicyID::from_string(alloc, "l")?;
-    let (link_id, template_id) = beside(link_id, i(alloc))?;
-    Ok(PolicySetValidationError::LinkToSlotlessTemplate {
-        link_id,
-        template_id,
-    })
-}
-
-#[test]
-fn refusals_of_validation_have_their_texts(rt: HostRuntime) -> Result<(), Fail> {
-    let alloc = rt.alloc();
-    let want = "link `l` references template `i\\\"j` which has no slots";
-    shows(alloc, slotless(alloc)?, want)?;
-    let cache = PolicySetValidationError::InvalidTemplate {
-        id: i(alloc)?,
-        error: TemplateValidationError::SlotCacheMismatch,
-    };
-    let want =
-        "invalid template `i\\\"j`: template slot cache is inconsistent with condition expression";
-    shows(alloc, cache, want)?;
-    shows(alloc, PolicySetValidationError::Memory, "out of memory")
+// The text of a refusal for memory.
+pub(super) fn of_memory(alloc: Global, word: &str) -> Result<String, Fail> {
+    match word {
+        "joining" => written(alloc, PolicySetError::Memory),
+        "listing" => written(alloc, PolicySetGetLinksError::Memory),
+        "unlinking" => written(alloc, PolicySetUnlinkError::Memory),
+        "template" => written(alloc, PolicySetTemplateRemovalError::Memory),
+        "policy" => written(alloc, PolicySetPolicyRemovalError::Memory),
+        _ => written(alloc, PolicySetValidationError::Memory),
+    }
 }

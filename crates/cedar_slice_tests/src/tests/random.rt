@@ -169,6 +169,6 @@ fn slices_of_random_plain_stores_are_as_a_search_gives(rt: HostRuntime) -> Resul
 
 #[test]
 fn slices_of_stores_that_were_taken_as_they_are_have_one_step(rt: HostRuntime) -> Result<(), Fail> {
-    assert_eq!(rt; right(rt.alloc(), 5000, false)?, 5000);
+    assert_eq!(rt; right(rt.alloc(), 2000, false)?, 2000);
     Ok(())
 }

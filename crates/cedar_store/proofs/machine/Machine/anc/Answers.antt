@@ -1,4 +1,4 @@
-use Rattle.std.specs.Prelude.{codes, map, ◌++◌}
+use Rattle.std.specs.Prelude.{codes, ◌++◌}
 use Rattle.std.specs.List.{flat_map}
 use Rattle.std.proofs.lemmas.Result.{on_ok_weaker}
 use Rattle.cedar_store.specs.Output.{written_line, field_of}
@@ -10,13 +10,13 @@ returns-in-None c = on_ok_weaker c.push_line.result
     (λ text s h. (written_line (codes "no entity"), shows_none s.world _ c.args.uid.now h.plain c.in-None.ensures.value, text))
     c.push_line.ensures
 
-pub returns-in_ok-ancestors_of : goal.returns-in_ok-ancestors_of
-returns-in_ok-ancestors_of c =
+pub returns-in-Some : goal.returns-in-Some
+returns-in-Some c =
     let e = c.in-Some.entity.now in
-    let us = map (λ x. x.now) c.in_ok-ancestors_of.field-0.keys in
+    let us = c.ancestors_in_order.result in
     let at = c.in-Some.ensures.value in
-    let ascend = c.in_ok-ancestors_of.ensures.ascend in
-    let members = c.in_ok-ancestors_of.ensures.members in
+    let ascend = c.ancestors_in_order.ensures.ascending in
+    let members = c.ancestors_in_order.ensures.members in
     on_ok_weaker c.push_ancestors.result
     (λ text s h.
     let found = found_reach s.world _ c.args.uid.now e h.plain at in (

@@ -2,7 +2,7 @@ use Rattle.std.proofs.Common.{Some}
 use Rattle.std.specs.List.{All}
 use Rattle.cedar_entities.specs.Answers.{HasDeepEqual}
 use Rattle.cedar_entities.specs.laws.Held.{held, shared}
-use Rattle.cedar_entities.proofs.entities.have_deep_equals.Given as goal
+use Rattle.cedar_entities.proofs.store_same.have_deep_equals.Given as goal
 
 abbrev pub invariant-loop-uid : goal.invariant-loop-uid
 invariant-loop-uid l = All (λ p. HasDeepEqual (Some (shared p.1.now)) (held l.other p.0.now)) l.yielded

@@ -9,7 +9,7 @@ use Rattle.cedar_ids.specs.laws.UidOfLaws.{same_uid_equiv}
 use Rattle.cedar_ids.specs.declared.entity.EntityUID.{EntityUID}
 use Rattle.cedar_entity.specs.declared.node.SharedEntity.{SharedEntity}
 use Rattle.cedar_entities.proofs.Alike.{found_key}
-use Rattle.cedar_entities.proofs.entities.have_keys_of.Goals as goal
+use Rattle.cedar_entities.proofs.store_same.have_keys_of.Goals as goal
 
 pub returns-then-not-contains_key : goal.returns-then-not-contains_key
 returns-then-not-contains_key c =

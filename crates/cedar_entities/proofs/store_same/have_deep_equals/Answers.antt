@@ -10,7 +10,7 @@ use Rattle.cedar_entity.specs.declared.node.SharedEntity.{SharedEntity}
 use Rattle.cedar_entities.specs.Answers.{HasDeepEqual}
 use Rattle.cedar_entities.specs.laws.Held.{held, shared}
 use Rattle.cedar_entities.proofs.Alike.{found_alike}
-use Rattle.cedar_entities.proofs.entities.have_deep_equals.Goals as goal
+use Rattle.cedar_entities.proofs.store_same.have_deep_equals.Goals as goal
 
 pub returns-then-not-has_deep_equal_at : goal.returns-then-not-has_deep_equal_at
 returns-then-not-has_deep_equal_at c =

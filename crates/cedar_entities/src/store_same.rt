@@ -1,0 +1,59 @@
+//! What two stores have in common: deeply equal entities, and uids.
+ghost use Rattle.std.specs.Prelude.{◌≡◌, true, Some, IsTrue, is_some, ◌↔◌};
+ghost use Rattle.std.specs.HashMap.{get};
+ghost use Rattle.std.specs.Option.{IfSome};
+ghost use Rattle.cedar_ids.specs.UidOf.{same_uid};
+ghost use Rattle.cedar_ids.specs.declared.entity.EntityUID.{EntityUID};
+ghost use Rattle.cedar_entities.specs.Answers.{HasDeepEqual};
+ghost use Rattle.cedar_entities.specs.laws.Held.{held};
+
+use cedar_entity::entity::Entity;
+use cedar_entity::node::SharedEntity;
+use cedar_uid_sets::SharedUid;
+use std::collections::HashMap;
+
+// Whether the map has a deeply equal entity at a uid.
+fn has_deep_equal_at(
+    entity: &Entity,
+    uid: &SharedUid,
+    other: &HashMap<SharedUid, SharedEntity>,
+) -> bool
+    ensures { IsTrue result ↔ HasDeepEqual (Some entity.now) (held other.now uid.now) }
+{
+    match other.get(uid) {
+        Some(node) => entity.deep_eq(&node.0),
+        None => false,
+    }
+}
+
+// Whether the one map has each entity of the other, or a deeply equal one.
+pub(crate) fn have_deep_equals(
+    one: &HashMap<SharedUid, SharedEntity>,
+    other: &HashMap<SharedUid, SharedEntity>,
+) -> bool
+    ensures { IsTrue result ↔ ((q : EntityUID) →
+        IfSome (held one.now q) (λ e. HasDeepEqual (Some e) (held other.now q))) }
+{
+    for (uid, node) in one {
+        if !has_deep_equal_at(&node.0, uid, other) {
+            return false;
+        }
+    }
+    true
+}
+
+// Whether the one map has each uid of the other.
+pub(crate) fn have_keys_of(
+    one: &HashMap<SharedUid, SharedEntity>,
+    other: &HashMap<SharedUid, SharedEntity>,
+) -> bool
+    ensures { IsTrue result ↔ ((q : EntityUID) →
+        is_some (get same_uid other.now q) ≡ true → is_some (get same_uid one.now q) ≡ true) }
+{
+    for (uid, _node) in other {
+        if !one.contains_key(uid) {
+            return false;
+        }
+    }
+    true
+}

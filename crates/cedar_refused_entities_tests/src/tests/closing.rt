@@ -1,0 +1,285 @@
+// The closure calls over entities at their uids. A graph is a text: each key and the keys that it has edges to, with commas
+// between the nodes.
+ghost use Rattle.std.specs.Prelude.{◌≡◌, IfSome};
+ghost use Rattle.cedar_graph.specs.Graph.{KeysMatch};
+ghost use Rattle.cedar_ids.specs.UidOf.{same_uid};
+
+use super::entities::counted;
+use super::nodes::is_among;
+use super::{eids, hashed, uid_of};
+use cedar_entity::node::SharedEntity;
+use cedar_graph::{
+    TCNode, compute_tc, compute_tc_counted, enforce_tc_and_dag, repair_tc, repair_tc_counted,
+};
+use cedar_ids::entity::EntityUID;
+use cedar_refusals::{
+    Answer, Calls, Row, Tried, is_worded, judged, refuse, relent, tried_rows, unmade, with_word,
+};
+use std::alloc::{AllocError, Global};
+use std::collections::HashMap;
+use std::fmt::Display;
+
+type Store = HashMap<EntityUID, SharedEntity>;
+
+// Puts a node at its uid; whether it could.
+fn put(alloc: Global, nodes: &mut Store, node: SharedEntity) -> bool
+    requires { KeysMatch same_uid (λ n. n.0.value.uid) nodes.old }
+    ensures { KeysMatch same_uid (λ n. n.0.value.uid) nodes.new }
+{
+    let key: Result<EntityUID, AllocError> = node.get_key(alloc);
+    match key {
+        Ok(key) => match nodes.insert(key, node) {
+            Ok(former) => {
+                drop(former);
+                true
+            }
+            Err(_) => false,
+        },
+        Err(_) => {
+            drop(node);
+            false
+        }
+    }
+}
+
+// Puts the node with a text at its uid; whether it could.
+fn put_row(alloc: Global, nodes: &mut Store, text: &str) -> bool
+    requires { KeysMatch same_uid (λ n. n.0.value.uid) nodes.old }
+    ensures { KeysMatch same_uid (λ n. n.0.value.uid) nodes.new }
+{
+    match counted(alloc, text) {
+        Some(node) => put(alloc, nodes, node),
+        None => false,
+    }
+}
+
+// The graph with a text.
+fn store(alloc: Global, text: &str) -> Option<Store>
+    ensures { IfSome result (λ s. KeysMatch same_uid (λ n. n.0.value.uid) s) }
+{
+    let mut nodes = HashMap::new(alloc);
+    for row in text.split(',') {
+        if !put_row(alloc, &mut nodes, row.trim()) {
+            drop(nodes);
+            return None;
+        }
+    }
+    Some(nodes)
+}
+
+// The eids of a node's ancestors, with blanks between them.
+fn edges_of(alloc: Global, node: Option<&SharedEntity>) -> Option<String> {
+    match node {
+        Some(node) => match eids(alloc, node.0.parents()) {
+            Some(parents) => {
+                let indirect = eids(alloc, node.0.indirect_ancestors());
+                match indirect {
+                    Some(indirect) => {
+                        let text = with_word(Some(parents), indirect.as_str());
+                        drop(indirect);
+                        text
+                    }
+                    None => {
+                        drop(parents);
+                        None
+                    }
+                }
+            }
+            None => None,
+        },
+        None => None,
+    }
+}
+
+// The edges of the node with this name.
+fn edges_at(alloc: Global, nodes: &Store, name: &str) -> Option<String> {
+    match uid_of(alloc, name) {
+        Some(key) => {
+            let text = edges_of(alloc, nodes.get(&key));
+            drop(key);
+            text
+        }
+        None => None,
+    }
+}
+
+// The name of the node that a text is.
+fn name_in(text: &str) -> &str {
+    text.split_once(' ').unwrap_or((text, "")).0
+}
+
+// The names of the keys that it has edges to.
+fn keys_in(text: &str) -> &str {
+    text.split_once(' ').unwrap_or((text, "")).1
+}
+
+// Whether a node has each of its former edges and, of others, only due ones; where it is to be closed, all of these.
+fn is_node_between(alloc: Global, nodes: &Store, former: &str, due: &str, closed: bool) -> bool {
+    let due = keys_in(due);
+    let former_keys = keys_in(former);
+    match edges_at(alloc, nodes, name_in(former)) {
+        Some(edges) => {
+            let told = is_among(former_keys, edges.as_str())
+                && is_among(edges.as_str(), due)
+                && (!closed || is_among(due, edges.as_str()));
+            drop(edges);
+            told
+        }
+        None => false,
+    }
+}
+
+// Whether a graph has its former keys and edges and, of further ones, only due ones; where it is to be closed, all of these.
+fn is_between(alloc: Global, nodes: &Store, former: &str, due: &str, closed: bool) -> bool {
+    let mut count = 0_usize;
+    let mut all = due.split(',');
+    for row in former.split(',') {
+        count = count.saturating_add(1);
+        let due = all.next().unwrap_or("").trim();
+        if !is_node_between(alloc, nodes, row.trim(), due, closed) {
+            return false;
+        }
+    }
+    nodes.len() == count
+}
+
+// What came of a closure call on a graph that was this: with ample memory it is as it is wanted to be, closed or refused.
+fn told<T: Drop, E: Display + Drop>(
+    alloc: Global,
+    answer: Result<T, E>,
+    nodes: &Store,
+    former: &str,
+    want: &str,
+) -> Tried {
+    let (due, fault) = want.split_once(" ! ").unwrap_or((want, ""));
+    let fault = fault.trim();
+    let refused = relent(alloc);
+    let tried = match answer {
+        Ok(done) => {
+            drop(done);
+            Answer::Ample
+        }
+        Err(error) => {
+            let told = if is_worded(alloc, &error, "out of memory") {
+                Answer::Memory
+            } else if !fault.is_empty() && is_worded(alloc, &error, fault) {
+                Answer::Ample
+            } else {
+                Answer::Wrong
+            };
+            drop(error);
+            told
+        }
+    };
+    let closed = matches!(tried, Answer::Ample);
+    let answer = if is_between(alloc, nodes, former, due, closed) {
+        tried
+    } else {
+        Answer::Wrong
+    };
+    Tried { answer, refused }
+}
+
+// What comes of closing a graph, which may have to have no cycle.
+fn computed(alloc: Global, number: usize, row: Row<'_>) -> Tried {
+    let (dag, text) = dag_of(row.given);
+    match store(alloc, text) {
+        Some(nodes) => {
+            let mut nodes = nodes;
+            refuse(alloc, number);
+            let tried = if row.call == "compute_tc" {
+                let answer = compute_tc(alloc, &mut nodes, dag);
+                told(alloc, answer, &nodes, text, row.want)
+            } else {
+                let answer = compute_tc_counted(alloc, &mut nodes, dag);
+                told(alloc, answer, &nodes, text, row.want)
+            };
+            drop(nodes);
+            tried
+        }
+        None => unmade(),
+    }
+}
+
+// Whether a graph has to have no cycle, and its text.
+fn dag_of(text: &str) -> (bool, &str) {
+    match text.strip_prefix("dag ") {
+        Some(rest) => (true, rest),
+        None => (false, text),
+    }
+}
+
+// What comes of repairing a graph at the keys before a colon.
+fn repaired(alloc: Global, number: usize, row: Row<'_>) -> Tried {
+    let (dag, given) = dag_of(row.given);
+    let (keys, text) = given.split_once(": ").unwrap_or(("", given));
+    match (hashed(alloc, keys), store(alloc, text)) {
+        (Some(keys), Some(nodes)) => {
+            let mut nodes = nodes;
+            refuse(alloc, number);
+            let tried = if row.call == "repair_tc" {
+                let answer = repair_tc(alloc, &keys, &mut nodes, dag);
+                told(alloc, answer, &nodes, text, row.want)
+            } else {
+                let answer = repair_tc_counted(alloc, &keys, &mut nodes, dag);
+                told(alloc, answer, &nodes, text, row.want)
+            };
+            drop(keys);
+            drop(nodes);
+            tried
+        }
+        (keys, nodes) => {
+            drop(keys);
+            drop(nodes);
+            unmade()
+        }
+    }
+}
+
+// What comes of checking a graph.
+fn checked(alloc: Global, number: usize, row: Row<'_>) -> Tried {
+    match store(alloc, row.given) {
+        Some(nodes) => {
+            refuse(alloc, number);
+            let answer = enforce_tc_and_dag(alloc, &nodes);
+            let tried = judged(alloc, answer, row.want, |_| row.want == "ok");
+            drop(nodes);
+            tried
+        }
+        None => unmade(),
+    }
+}
+
+struct OnGraphs;
+
+const GRAPHS: &str = "
+    compute_tc | a b, b c, c a, d a | a a b c, b a b c, c a b c, d a b c
+    compute_tc | a b, b c x, c | a b c x, b c x, c
+    compute_tc | dag a b, b c, c | a b c, b c, c
+    compute_tc | dag a a, b a | a a, b a ! input graph has a cycle containing vertex `A::\"a\"`
+    compute_tc_counted | a b, b c, c | a b c, b c, c
+    compute_tc_counted | dag a a, b a | a a, b a ! input graph has a cycle containing vertex `A::\"a\"`
+    repair_tc | a b: a b, b c, c d, d | a b c d, b c d, c d, d
+    repair_tc | dag a: a b, b a | a b a, b a ! input graph has a cycle containing vertex `A::\"a\"`
+    repair_tc_counted | a b: a b, b c, c d, d | a b c d, b c d, c d, d
+    repair_tc_counted | dag a: a a | a a ! input graph has a cycle containing vertex `A::\"a\"`
+    enforce_tc_and_dag | a b c, b c, c | ok
+    enforce_tc_and_dag | a b, b c | ! expected all transitive edges to exist, but `A::\"a\"` -> `A::\"b\"` and `A::\"b\"` -> `A::\"c\"` exists, while `A::\"a\"` -> `A::\"c\"` does not
+    enforce_tc_and_dag | a a | ! input graph has a cycle containing vertex `A::\"a\"`
+";
+
+impl Calls for OnGraphs {
+    fn tried(&self, alloc: Global, number: usize, row: Row<'_>) -> Tried {
+        match row.call {
+            "compute_tc" | "compute_tc_counted" => computed(alloc, number, row),
+            "repair_tc" | "repair_tc_counted" => repaired(alloc, number, row),
+            "enforce_tc_and_dag" => checked(alloc, number, row),
+            _ => unmade(),
+        }
+    }
+}
+
+#[test]
+fn each_closure_call(rt: HostRuntime) {
+    assert!(rt; tried_rows(rt, &OnGraphs, GRAPHS));
+}

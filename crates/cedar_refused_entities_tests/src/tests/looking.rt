@@ -1,0 +1,126 @@
+// The calls that take no memory succeed while every request is refused.
+use super::parts::entity;
+use super::stores::store_of;
+use super::uid_of;
+use cedar_entities::dereference::Dereference;
+use cedar_entities::entities::Entities;
+use cedar_entity::entity::Entity;
+use cedar_graph::TCNode;
+use cedar_ids::entity::EntityUID;
+use cedar_refusals::{both, refuse, relent};
+use std::alloc::Global;
+
+// Whether the entity with a uid is found in a store.
+fn is_found(alloc: Global, store: &Entities, uid: &EntityUID) -> bool {
+    match store.entity(alloc, uid) {
+        Ok(found) => {
+            let told = matches!(found, Dereference::Data(_));
+            drop(found);
+            told
+        }
+        Err(_) => false,
+    }
+}
+
+// Whether a store of two entities is read.
+fn is_read(alloc: Global, store: &Entities, uid: &EntityUID) -> bool {
+    let mut count = 0_usize;
+    for _ in store.iter() {
+        count = count.saturating_add(1);
+    }
+    let told = count == 2 && store.len() == 2 && !store.is_empty() && !store.is_partial();
+    told && store.deep_eq(store) && is_found(alloc, store, uid)
+}
+
+// Whether a store without entities is made and made partial.
+fn is_made(alloc: Global) -> bool {
+    let store = Entities::new(alloc).partial();
+    let told = store.is_empty() && store.is_partial();
+    drop(store);
+    told
+}
+
+fn reads_a_store(alloc: Global) -> bool {
+    match both(store_of(alloc, "from: a b, b c"), uid_of(alloc, "a")) {
+        Some((store, uid)) => {
+            refuse(alloc, 0);
+            let read = is_read(alloc, &store, &uid);
+            let made = is_made(alloc);
+            let refused = relent(alloc);
+            drop(store);
+            drop(uid);
+            read && made && !refused
+        }
+        None => false,
+    }
+}
+
+#[test]
+fn to_read_a_store_takes_no_memory(rt: HostRuntime) {
+    assert!(rt; reads_a_store(rt.alloc()));
+}
+
+// How many attributes, tags, keys of both, parents, indirect ancestors and ancestors an entity has, when they are walked over.
+fn walked(entity: &Entity) -> usize {
+    let fields = entity.attrs().count().saturating_add(entity.tags().count());
+    let keys = entity
+        .keys()
+        .count()
+        .saturating_add(entity.tag_keys().count());
+    let near = entity
+        .parents()
+        .count()
+        .saturating_add(entity.indirect_ancestors().count());
+    fields
+        .saturating_add(keys)
+        .saturating_add(near)
+        .saturating_add(entity.ancestors().count())
+}
+
+fn has_node_edge(entity: &Entity, uid: &EntityUID) -> bool {
+    <Entity as TCNode<EntityUID>>::has_edge_to(entity, uid)
+}
+
+// Whether an entity with an attribute, a tag, a parent and an indirect ancestor is read.
+fn is_entity_read(entity: &Entity, parent: &EntityUID) -> bool {
+    let fields = entity.get("k").is_some() && entity.get_tag("t").is_some();
+    let counts = entity.attrs_len() == 1 && entity.tags_len() == 1 && walked(entity) == 8;
+    let edges = entity.is_child_of(parent)
+        && entity.is_descendant_of(parent)
+        && !entity.is_indirect_descendant_of(parent)
+        && has_node_edge(entity, parent);
+    fields && counts && edges && entity.deep_eq(entity) && entity.is_valid()
+}
+
+// Takes edges out of an entity and it apart.
+fn takes_apart(mut entity: Entity, parent: &EntityUID) -> bool {
+    entity.remove_indirect_ancestor(parent);
+    entity.remove_parent(parent);
+    entity.remove_all_indirect_ancestors();
+    let told = !entity.is_descendant_of(parent);
+    drop(entity.into_inner());
+    told
+}
+
+fn reads_an_entity(alloc: Global) -> bool {
+    let made = both(entity(alloc, "a b / c / k=1 / t=1"), uid_of(alloc, "d"));
+    match both(made, uid_of(alloc, "b")) {
+        Some(((entity, other), parent)) => {
+            refuse(alloc, 0);
+            let read = is_entity_read(&entity, &parent);
+            let apart = takes_apart(entity, &parent);
+            let plain = Entity::with_uid(alloc, other);
+            let alone = walked(&plain) == 0;
+            drop(plain);
+            let refused = relent(alloc);
+            drop(parent);
+            read && apart && alone && !refused
+        }
+        None => false,
+    }
+}
+
+#[test]
+fn to_read_an_entity_takes_no_memory(rt: HostRuntime) {
+    assert!(rt; reads_an_entity(rt.alloc()));
+}

@@ -1,0 +1,406 @@
+// Entities as nodes, whose keys are uids or shared uids.
+ghost use Rattle.std.specs.Prelude.{nat_eq};
+ghost use Rattle.std.specs.HashSet.{contains};
+
+use super::entities::{counted, counted_text};
+use super::parts::{entity, text_of};
+use super::{pointers, uid_of};
+use cedar_entity::entity::Entity;
+use cedar_entity::node::SharedEntity;
+use cedar_graph::TCNode;
+use cedar_ids::entity::EntityUID;
+use cedar_refusals::{
+    Calls, Row, Tried, ample_if, both, changed, has_words, is_worded, joined, judged, made,
+    memory_if, on, refuse, relent, tried_rows, unmade, with_last,
+};
+use cedar_uid_sets::SharedUid;
+use std::alloc::{AllocError, Global};
+use std::collections::HashSet;
+use std::fmt::Display;
+
+// A node by a text of all that calls may change.
+trait Told {
+    fn told(alloc: Global, node: &Self) -> Option<String>;
+}
+
+impl Told for Entity {
+    fn told(alloc: Global, node: &Entity) -> Option<String> {
+        text_of(alloc, node)
+    }
+}
+
+impl Told for SharedEntity {
+    fn told(alloc: Global, node: &SharedEntity) -> Option<String> {
+        counted_text(alloc, node)
+    }
+}
+
+// A node that takes the default of `direct_edges`.
+#[derive(Drop)]
+struct Plain {
+    targets: HashSet<u64>,
+}
+
+impl TCNode<u64> for Plain {
+    ghost use Rattle.std.specs.Cmp.{nat_eq_equiv};
+    ghost use Rattle.cedar_graph.specs.laws.Nodes.{contains_both_or_none};
+
+    ghost Rest = { Unit {0} };
+
+    ghost Kept = { Unit {0} };
+
+    ghost key = { λ n. 0 };
+
+    ghost edges = { λ n. contains nat_eq n.targets };
+
+    ghost direct = { λ n. contains nat_eq n.targets };
+
+    ghost rest = { λ n. tt };
+
+    ghost kept = { λ n. tt };
+
+    fn get_key(&self, _alloc: Global) -> Result<u64, AllocError> {
+        Ok(0)
+    }
+
+    fn add_edge_to(&mut self, _alloc: Global, k: u64) -> Result<(), AllocError> {
+        self.targets.insert(k)?;
+        Ok(())
+    }
+
+    fn out_edges(&self, alloc: Global) -> Result<Vec<&u64>, AllocError> {
+        self.targets.iter().collect(alloc)
+    }
+
+    fn has_edge_to(&self, k: &u64) -> bool {
+        self.targets.contains(k)
+    }
+
+    fn reset_edges(&mut self, _alloc: Global) -> Result<(), AllocError> {
+        Ok(())
+    }
+
+    ghost respects_eq = { λ n x y h. contains_both_or_none nat_eq_equiv x y h n.targets };
+
+    ghost direct_are_edges = { λ n q h. h };
+}
+
+impl Told for Plain {
+    fn told(alloc: Global, node: &Plain) -> Option<String> {
+        node.targets.len().to_string(alloc).ok()
+    }
+}
+
+// A plain node with an edge to this key.
+fn node_to(alloc: Global, key: u64) -> Option<Plain> {
+    match joined(Some(HashSet::new(alloc)), Some(key)) {
+        Some(targets) => Some(Plain { targets }),
+        None => None,
+    }
+}
+
+// Whether keys are written so, in their order.
+fn are_written<K: Display>(alloc: Global, keys: &Vec<&K>, want: &str) -> bool {
+    let mut due = want.split_whitespace();
+    for key in keys {
+        match due.next() {
+            Some(word) if is_worded(alloc, *key, word) => {}
+            _ => return false,
+        }
+    }
+    due.next().is_none()
+}
+
+// Whether each word of a text is one of another.
+pub(super) fn is_among(text: &str, others: &str) -> bool {
+    text.split_whitespace().all(|word| others.split_whitespace().any(|other| other == word))
+}
+
+// What comes of adding edges to keys; where that is refused, the former edges stay, and each further one leads to a key.
+fn grown<K: Eq + Drop, N: TCNode<K> + Told + Drop>(
+    alloc: Global,
+    number: usize,
+    mut node: N,
+    mut keys: Vec<K>,
+    want: &str,
+) -> Tried {
+    let before = N::told(alloc, &node).unwrap_or(String::new(alloc));
+    refuse(alloc, number);
+    let answer = node.add_edges_to(alloc, &mut keys);
+    let refused = relent(alloc);
+    let after = N::told(alloc, &node).unwrap_or(String::new(alloc));
+    drop(node);
+    drop(keys);
+    let answer = match answer {
+        Ok(()) => ample_if(has_words(after.as_str(), want)),
+        Err(_) => memory_if(
+            is_among(before.as_str(), after.as_str()) && is_among(after.as_str(), want),
+        ),
+    };
+    drop(before);
+    drop(after);
+    Tried { answer, refused }
+}
+
+// What comes of adding an edge to the last of some keys.
+fn led<K: Eq + Drop, N: TCNode<K> + Told + Drop>(
+    alloc: Global,
+    number: usize,
+    node: N,
+    keys: Vec<K>,
+    want: &str,
+) -> Tried {
+    let mut keys = keys;
+    let key = keys.pop();
+    drop(keys);
+    match key {
+        Some(key) => changed(
+            alloc,
+            number,
+            Some(node),
+            want,
+            |alloc, node: &N| N::told(alloc, node),
+            |node: &mut N| node.add_edge_to(alloc, key),
+        ),
+        None => {
+            drop(node);
+            unmade()
+        }
+    }
+}
+
+// What comes of the call that lists some edges.
+fn listed<K: Eq + Display + Drop, N: TCNode<K> + Told + Drop>(
+    alloc: Global,
+    number: usize,
+    verb: &str,
+    node: N,
+    want: &str,
+) -> Tried {
+    if verb == "out_edges" {
+        return on(alloc, number, Some(node), |node: &N| {
+            judged(alloc, node.out_edges(alloc), want, |keys| {
+                are_written(alloc, keys, want)
+            })
+        });
+    }
+    on(alloc, number, Some(node), |node: &N| {
+        judged(alloc, node.direct_edges(alloc), want, |keys| {
+            are_written(alloc, keys, want)
+        })
+    })
+}
+
+// What comes of the order that a node type has for keys.
+fn ordered<K: Eq + Drop, N: TCNode<K>>(
+    alloc: Global,
+    number: usize,
+    keys: Vec<K>,
+    want: &str,
+) -> Tried {
+    refuse(alloc, number);
+    let answer = N::order(alloc, keys.as_slice());
+    let tried = judged(
+        alloc,
+        answer,
+        want,
+        |places| is_worded(alloc, &places.len(), want),
+    );
+    drop(keys);
+    tried
+}
+
+// What comes of a call on a node.
+fn asked<K: Eq + Display + Drop, N: TCNode<K> + Told + Drop>(
+    alloc: Global,
+    number: usize,
+    verb: &str,
+    node: N,
+    keys: Vec<K>,
+    want: &str,
+) -> Tried {
+    match verb {
+        "get_key" => {
+            drop(keys);
+            on(
+                alloc,
+                number,
+                Some(node),
+                |node: &N| made(alloc, node.get_key(alloc), want),
+            )
+        }
+        "reset_edges" => {
+            drop(keys);
+            changed(
+                alloc,
+                number,
+                Some(node),
+                want,
+                |alloc, node: &N| N::told(alloc, node),
+                |node: &mut N| node.reset_edges(alloc),
+            )
+        }
+        "reserve_edges" => {
+            drop(keys);
+            changed(
+                alloc,
+                number,
+                Some(node),
+                want,
+                |alloc, node: &N| N::told(alloc, node),
+                |node: &mut N| node.reserve_edges(alloc, 1),
+            )
+        }
+        "add_edge_to" => led(alloc, number, node, keys, want),
+        "add_edges_to" => grown(alloc, number, node, keys, want),
+        "order" => {
+            drop(node);
+            ordered::<K, N>(alloc, number, keys, want)
+        }
+        _ => {
+            drop(keys);
+            listed(alloc, number, verb, node, want)
+        }
+    }
+}
+
+// The call's own name, behind that of the kind of nodes.
+fn verb_of<'a>(row: Row<'a>) -> &'a str {
+    row.call.split_once("::").unwrap_or(("", row.call)).1
+}
+
+// The text of the node, before that of the keys.
+fn node_of<'a>(row: Row<'a>) -> &'a str {
+    row.given.split_once(", ").unwrap_or((row.given, "")).0
+}
+
+// Uids as a list.
+fn uids(alloc: Global, names: &str) -> Option<Vec<EntityUID>> {
+    let mut all = Some(Vec::new(alloc));
+    for name in names.split_whitespace() {
+        all = with_last(all, uid_of(alloc, name));
+    }
+    all
+}
+
+fn on_uids<N: TCNode<EntityUID> + Told + Drop>(
+    alloc: Global,
+    number: usize,
+    node: Option<N>,
+    row: Row<'_>,
+) -> Tried {
+    let (_, names) = row.given.split_once(", ").unwrap_or((row.given, ""));
+    match both(node, uids(alloc, names)) {
+        Some((node, keys)) => asked(alloc, number, verb_of(row), node, keys, row.want),
+        None => unmade(),
+    }
+}
+
+fn on_shared<N: TCNode<SharedUid> + Told + Drop>(
+    alloc: Global,
+    number: usize,
+    node: Option<N>,
+    row: Row<'_>,
+) -> Tried {
+    let (_, names) = row.given.split_once(", ").unwrap_or((row.given, ""));
+    match both(node, pointers(alloc, names)) {
+        Some((node, keys)) => asked(alloc, number, verb_of(row), node, keys, row.want),
+        None => unmade(),
+    }
+}
+
+struct OnEntities;
+
+const ENTITIES: &str = "
+    TCNode<EntityUID> for Entity::get_key | a b / c | A::\"a\"
+    TCNode<EntityUID> for Entity::add_edge_to | a b / c / k=1, d | a b / c d / k=1 /
+    TCNode<EntityUID> for Entity::add_edge_to | a b / c, b | a b / c / /
+    TCNode<EntityUID> for Entity::out_edges | a b / c d | A::\"b\" A::\"c\" A::\"d\"
+    - TCNode<EntityUID> for Entity::reset_edges | a b / c d | a b / / /
+    TCNode<EntityUID> for Entity::direct_edges | a b / c d | A::\"b\"
+    TCNode::direct_edges | 7 | 7
+    TCNode::order | a, c b | 2
+    TCNode::add_edges_to | a b / c e, f d b | a b / c d e f / /
+    - TCNode::reserve_edges | a b / c, d | a b / c / /
+    TCNode<SharedUid> for Entity::get_key | a b / c | A::\"a\"
+    TCNode<SharedUid> for Entity::add_edge_to | a b / c / k=1, d | a b / c d / k=1 /
+    - TCNode<SharedUid> for Entity::add_edge_to | a b / c, b | a b / c / /
+    TCNode<SharedUid> for Entity::out_edges | a b / c d | A::\"b\" A::\"c\" A::\"d\"
+    - TCNode<SharedUid> for Entity::reset_edges | a b / c d | a b / / /
+    TCNode<SharedUid> for Entity::direct_edges | a b / c d | A::\"b\"
+    TCNode<SharedUid> for Entity::order | a, c b | 2
+    TCNode<SharedUid> for Entity::add_edges_to | a b / c e, f d b | a b / c d e f / /
+    TCNode<SharedUid> for Entity::add_edges_to | a b / c e, d f | a b / c d e f / /
+";
+
+impl Calls for OnEntities {
+    fn tried(&self, alloc: Global, number: usize, row: Row<'_>) -> Tried {
+        if row.call == "TCNode::direct_edges" {
+            return match node_to(alloc, 7) {
+                Some(node) => listed::<u64, Plain>(alloc, number, "direct_edges", node, row.want),
+                None => unmade(),
+            };
+        }
+        let made = entity(alloc, node_of(row));
+        if row.call.starts_with("TCNode<SharedUid>") {
+            return on_shared(alloc, number, made, row);
+        }
+        on_uids(alloc, number, made, row)
+    }
+}
+
+#[test]
+fn each_call_on_an_entity_as_a_node(rt: HostRuntime) {
+    assert!(rt; tried_rows(rt, &OnEntities, ENTITIES));
+}
+
+struct OnCounted;
+
+const COUNTED: &str = "
+    TCNode<EntityUID> for SharedEntity::get_key | a b / c | A::\"a\"
+    TCNode<EntityUID> for SharedEntity::add_edge_to | a b / c / k=1, d | a b / c d / k=1 /
+    TCNode<EntityUID> for SharedEntity::out_edges | a b / c d | A::\"b\" A::\"c\" A::\"d\"
+    TCNode<EntityUID> for SharedEntity::reset_edges | a b / c d | a b / / /
+    TCNode<EntityUID> for SharedEntity::direct_edges | a b / c d | A::\"b\"
+    TCNode<SharedUid> for SharedEntity::get_key | a b / c | A::\"a\"
+    TCNode<SharedUid> for SharedEntity::add_edge_to | a b / c / k=1, d | a b / c d / k=1 /
+    TCNode<SharedUid> for SharedEntity::out_edges | a b / c d | A::\"b\" A::\"c\" A::\"d\"
+    TCNode<SharedUid> for SharedEntity::reset_edges | a b / c d | a b / / /
+    TCNode<SharedUid> for SharedEntity::direct_edges | a b / c d | A::\"b\"
+    TCNode<SharedUid> for SharedEntity::order | a, c b | 2
+    TCNode<SharedUid> for SharedEntity::add_edges_to | a b / c e, f d b | a b / c d e f / /
+";
+
+// What comes of a call on an entity that another node shares, which stays as it was.
+fn beside_another(alloc: Global, number: usize, other: &SharedEntity, row: Row<'_>) -> Tried {
+    let node: Result<SharedEntity, AllocError> = other.clone();
+    let before = counted_text(alloc, other).unwrap_or(String::new(alloc));
+    let tried = if row.call.starts_with("TCNode<SharedUid>") {
+        on_shared(alloc, number, node.ok(), row)
+    } else {
+        on_uids(alloc, number, node.ok(), row)
+    };
+    let after = counted_text(alloc, other).unwrap_or(String::new(alloc));
+    let stays = before.as_str() == after.as_str();
+    drop(before);
+    drop(after);
+    if stays { tried } else { unmade() }
+}
+
+impl Calls for OnCounted {
+    fn tried(&self, alloc: Global, number: usize, row: Row<'_>) -> Tried {
+        match counted(alloc, node_of(row)) {
+            Some(other) => {
+                let tried = beside_another(alloc, number, &other, row);
+                drop(other);
+                tried
+            }
+            None => unmade(),
+        }
+    }
+}
+
+#[test]
+fn each_call_on_a_shared_entity_as_a_node(rt: HostRuntime) {
+    assert!(rt; tried_rows(rt, &OnCounted, COUNTED));
+}

@@ -1,0 +1,201 @@
+#!/usr/bin/env python3
+"""The public calls that take memory, and whether each has a row that was refused memory.
+
+With no argument it prints the calls, as the sources of the crates say: each crate and, below it, its calls. That is to be the text
+of calls-that-take-memory.txt but for the marks: `- ` before a call whose rows ask for no memory, so that nothing can be refused,
+and `? ` before one that has no row yet.
+With `--rows FILE` it compares the list with the sources and with the rows that tests told in FILE.
+
+A public call takes memory where it answers a `Result` and takes an `alloc: Global`, or where it can answer want of memory: an
+`AllocError`, or an error with a variant `Memory`. Copies count, of every public type that is not copied by assignment.
+Run at the top of the repository.
+"""
+import glob
+import os
+import re
+import sys
+
+LIST = 'calls-that-take-memory.txt'
+
+
+def crates():
+    for line in open('crates.txt', encoding='utf-8'):
+        name = line.split('#')[0].split(':')[0].strip()
+        if name and not name.endswith('_tests') and name not in ('cedar_test_helpers', 'cedar_refusals'):
+            yield name.split()[0]
+
+
+def plain(name):
+    """The name of a type, without what it is made over."""
+    return re.sub(r'<.*', '', name).strip()
+
+
+def shown(crate, texts):
+    """Whether an item of a file is seen from outside."""
+    root = texts.get('lib.rt', '') + texts.get('main.rt', '')
+    modules = set(re.findall(r'^pub mod (\w+);', root, re.M))
+    names = set()
+    for module, listed in re.findall(r'^pub use (\w+)::(?:\{([^}]*)\}|(?=\w))', root, re.M):
+        names |= {(module, name.strip()) for name in listed.split(',') if name.strip()}
+    names |= set(re.findall(r'^pub use (\w+)::(\w+);', root, re.M))
+
+    def is_shown(file, name):
+        module = os.path.basename(file)[:-3]
+        return module in ('lib', 'main') or module in modules or (module, name) in names
+    return is_shown
+
+
+def functions(text):
+    """Each function: the block that it stands in, whether it is public, its name, its signature, whether it has a body."""
+    block = ''
+    lines = text.split('\n')
+    for at, line in enumerate(lines):
+        if re.match(r'(pub )?(impl|trait)\b', line):
+            block = line.rstrip('{ ')
+        if line.startswith('}'):
+            block = ''
+        found = re.match(r'\s*(pub )?fn (\w+)', line)
+        if not found:
+            continue
+        signature, last = line, at
+        while signature.count('(') != signature.count(')'):
+            last += 1
+            signature += ' ' + lines[last].strip()
+        if '->' not in signature and lines[last + 1].strip().startswith('->'):
+            signature += ' ' + lines[last + 1].strip()
+        indent = re.match(r' *', line).group()
+        body = line.endswith('{')
+        for further in lines[at + 1:]:
+            if body or further.rstrip().endswith(';') and not further.startswith(indent + '     '):
+                break
+            body = further in (indent + '{', indent + '{}') or further.startswith(indent + ')') and further.endswith('{')
+        yield block, bool(found.group(1)), found.group(2), re.sub(r'\s+', ' ', signature), body
+
+
+def wanting(texts):
+    """The errors that have a variant `Memory`."""
+    for text in texts.values():
+        for name, body in re.findall(r'^pub enum (\w+)[^{]*\{(.*?)^\}', text, re.M | re.S):
+            if re.search(r'^    Memory,', body, re.M):
+                yield name
+
+
+def takes(signature, errors):
+    """Whether a function can answer want of memory."""
+    answer = signature.partition('->')[2]
+    if 'Result<' not in answer:
+        return False
+    if 'AllocError' in answer or re.search(r'\balloc: Global', signature):
+        return True
+    return any(re.search(rf'\b{error}\b', answer) for error in errors)
+
+
+def called(block, public, name, signature, body, errors, is_type):
+    """What rows call this function, if it takes memory and is seen."""
+    over = re.match(r'impl(?:<[^>]*>)? (.+?) for (.+?)(?: where.*)?$', block)
+    if over:
+        trait, of = over.group(1), plain(over.group(2))
+        if not is_type(of):
+            return None
+        if trait == 'Clone':
+            return f'{of}::clone'
+        if trait.startswith('From<'):
+            made = of in errors and not re.match(r'From<Alloc', trait)
+            return f'{trait} for {of}::{name}' if made else None
+        if not takes(signature, errors):
+            return None
+        return f'{trait} for {of}::{name}' if trait.startswith('TCNode') else f'{of}::{name}'
+    if block.startswith('pub trait'):
+        trait = plain(re.match(r'pub trait (\w+)', block).group(1))
+        return f'{trait}::{name}' if body and takes(signature, errors) else None
+    if not public or not takes(signature, errors):
+        return None
+    if block:
+        of = plain(re.match(r'impl(?:<[^>]*>)? (.+)', block).group(1))
+        return f'{of}::{name}' if is_type(of) else None
+    return name if is_type(name) else None
+
+
+def calls():
+    texts = {crate: {os.path.basename(file): open(file, encoding='utf-8').read()
+                     for file in sorted(glob.glob(f'crates/{crate}/src/*.rt'))} for crate in crates()}
+    errors = {error for files in texts.values() for error in wanting(files)}
+    seen = set()
+    for crate, files in texts.items():
+        is_shown = shown(crate, files)
+        for file, text in files.items():
+            for name in re.findall(r'^pub (?:struct|enum|trait|fn) (\w+)', text, re.M):
+                if is_shown(file, name):
+                    seen.add(name)
+    for crate, files in texts.items():
+        listed = set()
+        for file, text in files.items():
+            for derived, name in re.findall(r'^#\[derive\(([^)]*)\)\]\n(?:#.*\n)*pub (?:struct|enum) (\w+)', text, re.M):
+                words = derived.replace(' ', '').split(',')
+                if 'Clone' in words and 'Copy' not in words and name in seen:
+                    listed.add(f'{name}::clone')
+            for function in functions(text):
+                call = called(*function, errors, lambda name: name in seen)
+                if call:
+                    listed.add(call)
+        for call in sorted(listed):
+            yield crate, call
+
+
+def listed():
+    """The calls of the list, with their marks."""
+    crate = None
+    for line in open(LIST, encoding='utf-8'):
+        line = line.rstrip()
+        if line and not line.startswith(('#', ' ')):
+            crate = line
+        elif line.startswith(' '):
+            call = line.strip()
+            yield (crate, re.sub(r'^[-?] ', '', call)), call[0] if call[1] == ' ' else ''
+
+
+def rows(file):
+    """For each call that has rows, how many there are and how many requests were refused in them."""
+    told = {}
+    for line in open(file, encoding='utf-8', errors='replace'):
+        found = re.match(r'\s*refused in turn: (.*?) \| .*: Well\((\d+)\)$', line)
+        if found:
+            number, requests = told.get(found.group(1), (0, 0))
+            told[found.group(1)] = number + 1, requests + int(found.group(2))
+    return told
+
+
+def check(file):
+    """What is wrong with the list or the rows; says how many there are."""
+    own, marks, told = set(calls()), dict(listed()), rows(file)
+    names = {call for _, call in own}
+    faults = [f'{LIST} lacks `{call}` of {crate}' for crate, call in sorted(own - set(marks))]
+    faults += [f'{LIST} has `{call}` of {crate}, which the sources have not' for crate, call in sorted(set(marks) - own)]
+    for (crate, call), mark in sorted(marks.items()):
+        if (call in told) == (mark == '?'):
+            faults.append(f'`{call}` of {crate} ' + ('has rows, and is marked as if not' if mark == '?' else 'has no row'))
+        elif call in told and (mark == '-') == (told[call][1] > 0):
+            faults.append(f'`{call}` of {crate} ' + ('asked for memory, and is marked as if not' if mark else 'asked for no memory'))
+    faults += [f'rows name `{call}`, which is no public call that takes memory' for call in sorted(set(told) - names)]
+    for fault in faults:
+        print(f'refuse: {fault}')
+    with_rows = sum(call in told for _, call in own)
+    count = sum(number for number, _ in told.values())
+    requests = sum(number for _, number in told.values())
+    print(f'refuse: {with_rows} of {len(own)} calls have rows: {count} rows, {requests} requests refused in turn')
+    return not faults
+
+
+def main():
+    if sys.argv[1:2] == ['--rows']:
+        sys.exit(0 if check(sys.argv[2]) else 1)
+    last = None
+    for crate, call in calls():
+        if crate != last:
+            print(crate)
+        last = crate
+        print('    ' + call)
+
+
+if __name__ == '__main__':
+    main()
