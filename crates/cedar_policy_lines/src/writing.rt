@@ -51,13 +51,31 @@ fn uid_text(alloc: Global, uid: &EntityUID) -> Result<String, AllocError>
     Ok(String::new(alloc))
 }
 
-// Adds that linking was refused for a uid that is no action.
-fn push_not_an_action(alloc: Global, out: &mut Vec<u8>, uid: &EntityUID) -> Result<(), AllocError>
-    ensures { OnOk result (out.new.items ≡ out.old.items ++ refused_with (codes "not an action ") (uid_text (uid_parts uid.now))) }
+// Adds a text and a uid.
+fn push_uid(
+    alloc: Global,
+    out: &mut Vec<u8>,
+    before: &str,
+    uid: &EntityUID,
+) -> Result<(), AllocError>
+    ensures { OnOk result (out.new.items ≡ out.old.items ++ (before.now ++ uid_text (uid_parts uid.now))) }
 {
-    out.extend_from_slice(b"refused: not an action ")?;
+    out.extend_from_slice(before.as_bytes())?;
     let text = uid_text(alloc, uid)?;
-    out.extend_from_slice(text.as_bytes())?;
+    out.extend_from_slice(text.as_bytes())
+}
+
+// Adds that a call was refused, with a uid.
+fn push_refused_uid(
+    alloc: Global,
+    out: &mut Vec<u8>,
+    words: &str,
+    uid: &EntityUID,
+) -> Result<(), AllocError>
+    ensures { OnOk result (out.new.items ≡ out.old.items ++ refused_with words.now (uid_text (uid_parts uid.now))) }
+{
+    out.extend_from_slice(b"refused: ")?;
+    push_uid(alloc, out, words, uid)?;
     out.push(b'\n')?;
     Ok(())
 }
@@ -112,7 +130,12 @@ pub(crate) fn push_by_linking(
     match answer {
         Ok(()) => push_ok(out),
         Err(LinkingError::ArityError { .. }) => push_line(out, "refused: arity"),
-        Err(LinkingError::NotAnAction { uid }) => push_not_an_action(alloc, out, &uid),
+        Err(LinkingError::NotAnAction { uid }) => push_refused_uid(
+            alloc,
+            out,
+            "not an action ",
+            &uid,
+        ),
         Err(LinkingError::NoSuchTemplate { id }) => push_refused(alloc, out, "no template ", &id),
         Err(LinkingError::PolicyIdConflict { id }) => push_refused(alloc, out, "occupied ", &id),
         Err(LinkingError::Memory) => Err(AllocError),
