@@ -1,6 +1,7 @@
 // What the tests build constraints and annotations with, and how they look at them. A thing is handed on as it
 // was made, `None` where it could not be; the helpers that ask it let it go, and answer `false` of `None`. So
 // no test holds a value over what may fail.
+mod action_slots;
 mod actions;
 mod annotations;
 mod constraints;

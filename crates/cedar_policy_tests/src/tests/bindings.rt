@@ -13,10 +13,10 @@ use std::collections::HashSet;
 use std::fmt::Write;
 use std::test::Fail;
 
-// Writes bindings, and where the uids stand that the principal and the resource are bound to.
+// Writes bindings, and where the uids stand that the slots are bound to.
 fn put_bindings(text: &mut String, values: &SlotEnv) -> Result<(), Fail> {
     write!(text, "{};", JoinedBindings(values))?;
-    for slot in [SlotId::Principal, SlotId::Resource] {
+    for slot in [SlotId::Principal, SlotId::Action, SlotId::Resource] {
         match bound_to(values, slot) {
             Some(uid) => {
                 text.push_str(" at")?;

@@ -38,6 +38,20 @@ fn place_within(constraint: &PrincipalOrResourceConstraint) -> Option<&Loc> {
     }
 }
 
+// Where the slot of an action's constraint stands, or its uid, the first of a list.
+fn place_of_action(constraint: &ActionConstraint) -> Option<&Loc> {
+    match constraint {
+        ActionConstraint::Any => None,
+        ActionConstraint::In(uids) => match uids.first() {
+            Some(uid) => uid.loc(),
+            None => None,
+        },
+        ActionConstraint::Eq(uid) => uid.loc(),
+        ActionConstraint::InSlot(loc) => loc.as_ref(),
+        ActionConstraint::EqSlot(loc) => loc.as_ref(),
+    }
+}
+
 // Writes the constraints of a scope, each with the place of what stands in it.
 fn put_scope(
     text: &mut String,
@@ -48,9 +62,7 @@ fn put_scope(
     write!(text, "; {principal}")?;
     put_place(text, place_within(principal.as_inner()))?;
     write!(text, "; {action}")?;
-    if let ActionConstraint::Eq(uid) = action {
-        put_place(text, uid.loc())?;
-    }
+    put_place(text, place_of_action(action))?;
     write!(text, "; {resource}")?;
     put_place(text, place_within(resource.as_inner()))
 }
@@ -196,18 +208,25 @@ fn put_bound(text: &mut String, values: &SlotEnv, slot: SlotId) -> Result<(), Fa
     Ok(())
 }
 
+fn filled_principal(alloc: Global, one: &Policy) -> Result<PrincipalConstraint, Fail> {
+    Ok(one.principal_constraint(alloc)?)
+}
+
+fn filled_action(alloc: Global, one: &Policy) -> Result<ActionConstraint, Fail> {
+    Ok(one.action_constraint(alloc)?)
+}
+
+fn filled_resource(alloc: Global, one: &Policy) -> Result<ResourceConstraint, Fail> {
+    Ok(one.resource_constraint(alloc)?)
+}
+
 // Writes the filled constraints of a policy.
 fn put_filled(alloc: Global, text: &mut String, one: &Policy) -> Result<(), Fail> {
-    let principal = one.principal_constraint(alloc)?;
-    let resource = match one.resource_constraint(alloc) {
-        Ok(resource) => resource,
-        Err(error) => {
-            drop(principal);
-            return Err(error.into());
-        }
-    };
-    let done = put_scope(text, &principal, one.action_constraint(), &resource);
+    let two = beside(filled_principal(alloc, one)?, filled_action(alloc, one));
+    let ((principal, action), resource) = beside(two?, filled_resource(alloc, one))?;
+    let done = put_scope(text, &principal, &action, &resource);
     drop(principal);
+    drop(action);
     drop(resource);
     done
 }
@@ -228,6 +247,7 @@ fn put_policy(alloc: Global, text: &mut String, one: &Policy) -> Result<(), Fail
     })?;
     text.push_str(one.template().id().as_ref())?;
     put_bound(text, one.env(), SlotId::Principal)?;
+    put_bound(text, one.env(), SlotId::Action)?;
     put_bound(text, one.env(), SlotId::Resource)
 }
 

@@ -2,7 +2,7 @@
 // refusals, of which a copy has to be written alike.
 use super::gives::{policy_gives, put_place};
 use super::kinds::{new_template, tried_link, tried_static};
-use super::spec::{bindings, cut, id, uid};
+use super::spec::{bindings, cut, id, slot_of, uid};
 use cedar_action::ActionTypesError;
 use cedar_binding::check_bindings;
 use cedar_ids::entity::EntityUID;
@@ -15,7 +15,7 @@ use cedar_terms::err::ExprValidationError;
 use cedar_terms::slot::{Slot, SlotId};
 use cedar_test_helpers::tried::{beside, kept, owned, pushed, twice, written};
 use std::alloc::Global;
-use std::fmt::Display;
+use std::fmt::{Display, Write};
 use std::rc::Rc;
 use std::test::Fail;
 
@@ -117,14 +117,6 @@ fn not_empty(alloc: Global, texts: &str) -> Result<NonEmpty<Rc<EntityUID>>, Fail
     Ok(NonEmpty { head, tail })
 }
 
-fn slot_of(text: &str) -> SlotId {
-    if text == "p" {
-        SlotId::Principal
-    } else {
-        SlotId::Resource
-    }
-}
-
 fn nowhere(text: &str) -> Slot {
     Slot {
         id: slot_of(text),
@@ -214,6 +206,9 @@ fn arity(alloc: Global, texts: &str) -> Result<LinkingError, Fail> {
 fn linking_error(alloc: Global, word: &str, text: &str) -> Result<LinkingError, Fail> {
     match word {
         "arity" => arity(alloc, text),
+        "action" => Ok(LinkingError::NotAnAction {
+            uid: uid(alloc, text)?,
+        }),
         "missing" => Ok(LinkingError::NoSuchTemplate {
             id: id(alloc, text)?,
         }),
@@ -241,7 +236,7 @@ pub(super) fn errors_stand(alloc: Global, text: &str, other: &str) -> Result<Str
     owned(alloc, if same { "equal" } else { "other" })
 }
 
-// The lists of a refusal of linking, which is let go.
+// What is left over by a refusal of linking, or the uid that is no action; it is let go.
 fn left_over(alloc: Global, error: LinkingError) -> Result<String, Fail> {
     match error {
         LinkingError::ArityError {
@@ -254,13 +249,29 @@ fn left_over(alloc: Global, error: LinkingError) -> Result<String, Fail> {
             drop(extra_values);
             kept(text, done)
         }
+        LinkingError::NotAnAction { uid } => {
+            let mut text = String::new(alloc);
+            let done = put_no_action(&mut text, &uid);
+            drop(uid);
+            kept(text, done)
+        }
         error => written(alloc, error),
     }
 }
 
+// Writes a uid that is no action, and where it stands.
+fn put_no_action(text: &mut String, uid: &EntityUID) -> Result<(), Fail> {
+    write!(text, "no action {uid}")?;
+    put_place(text, uid.loc())
+}
+
 fn put_ids(text: &mut String, ids: &[SlotId]) -> Result<(), Fail> {
     for id in ids {
-        text.push_str(if *id == SlotId::Principal { " p" } else { " r" })?;
+        text.push_str(match id {
+            SlotId::Principal => " p",
+            SlotId::Action => " a",
+            SlotId::Resource => " r",
+        })?;
     }
     Ok(())
 }

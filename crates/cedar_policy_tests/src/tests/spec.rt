@@ -3,10 +3,11 @@
 // which are empty where there is none; and the clause.
 //
 // A constraint of a principal or a resource is `== R`, `in R` or `is T`, where `R` is `?` for the slot, or a uid. A uid is its
-// type, a point and its eid. A constraint of an action is `== U`, or `in U, U`, which may be `in` alone. A clause is a term
+// type, a point and its eid. A constraint of an action is `== R`, `in ?`, or `in U, U`, which may be `in` alone. A clause is a term
 // `X`, or a term `X == X`, with `!` before it where it is denied; `T <- U` is the conjunction of `U` and `T`. An `X` is a
-// number, `true`, `?p`, `?r`, a text behind a quote, `f()`, or the set of the unknowns behind a `{`, parted by commas, each a name
-// and, where it has one, `~` and its type. `@7` behind an id, an annotation, a slot, a uid or an `X` is its place, of one character.
+// number, `true`, `?p`, `?a`, `?r`, a text behind a quote, `f()`, or the set of the unknowns behind a `{`, parted by commas, each a
+// name and, where it has one, `~` and its type. `@7` behind an id, an annotation, a slot, a uid or an `X` is its place, of one
+// character.
 use cedar_action::ActionConstraint;
 use cedar_annotation::{Annotation, Annotations};
 use cedar_ids::entity::{Eid, EntityType, EntityUID};
@@ -108,10 +109,24 @@ fn uids(alloc: Global, texts: &str) -> Result<Vec<EntityUID>, Fail> {
     Ok(all)
 }
 
+fn equal_action(alloc: Global, text: &str) -> Result<ActionConstraint, Fail> {
+    match cut(text, "@") {
+        ("?", start) => Ok(ActionConstraint::EqSlot(place(alloc, start)?)),
+        _ => Ok(ActionConstraint::is_eq(alloc, uid(alloc, text)?)?),
+    }
+}
+
+fn action_within(alloc: Global, text: &str) -> Result<ActionConstraint, Fail> {
+    match cut(text, "@") {
+        ("?", start) => Ok(ActionConstraint::InSlot(place(alloc, start)?)),
+        _ => Ok(ActionConstraint::is_in(alloc, uids(alloc, text)?)?),
+    }
+}
+
 fn action(alloc: Global, text: &str) -> Result<ActionConstraint, Fail> {
     match cut(text, " ") {
-        ("==", rest) => Ok(ActionConstraint::is_eq(alloc, uid(alloc, rest)?)?),
-        ("in", rest) => Ok(ActionConstraint::is_in(alloc, uids(alloc, rest)?)?),
+        ("==", rest) => equal_action(alloc, rest),
+        ("in", rest) => action_within(alloc, rest),
         _ => Ok(ActionConstraint::any()),
     }
 }
@@ -156,6 +171,7 @@ fn unplaced(alloc: Global, text: &str) -> Result<Expr, Fail> {
     }
     match text {
         "?p" => Ok(Expr::slot(alloc, SlotId::Principal)?),
+        "?a" => Ok(Expr::slot(alloc, SlotId::Action)?),
         "?r" => Ok(Expr::slot(alloc, SlotId::Resource)?),
         _ => match text.split_once("()") {
             Some((name, _)) => called(alloc, name),
@@ -260,15 +276,19 @@ pub(super) fn parts_of(alloc: Global, text: &str) -> Result<Parts, Fail> {
     })
 }
 
+// The slot of a letter: `p`, `a` or `r`.
+pub(super) fn slot_of(letter: &str) -> SlotId {
+    match letter {
+        "p" => SlotId::principal(),
+        "a" => SlotId::action(),
+        _ => SlotId::resource(),
+    }
+}
+
 fn bind(alloc: Global, values: &mut SlotEnv, text: &str) -> Result<(), Fail> {
     let (slot, text) = cut(text, "=");
-    let slot = if slot == "p" {
-        SlotId::Principal
-    } else {
-        SlotId::Resource
-    };
     let value = uid(alloc, text)?;
-    drop(values.insert(slot, value)?);
+    drop(values.insert(slot_of(slot), value)?);
     Ok(())
 }
 
@@ -281,7 +301,7 @@ fn bind_all(alloc: Global, values: &mut SlotEnv, texts: &str) -> Result<(), Fail
     Ok(())
 }
 
-// Bindings, each a slot, `p` or `r`, an equality sign and a uid.
+// Bindings, each the letter of a slot, an equality sign and a uid.
 pub(super) fn bindings(alloc: Global, texts: &str) -> Result<SlotEnv, Fail> {
     let mut values = HashMap::new(alloc);
     let done = bind_all(alloc, &mut values, texts);

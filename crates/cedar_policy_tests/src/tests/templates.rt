@@ -1,9 +1,13 @@
-// The two hundred templates: principal and resource each free, equal to or in a uid or a slot; the action free,
-// equal to a uid, or in one or two of them; both effects.
-use super::kinds::{copied, new_template, policy, tried_link};
+// The three hundred templates: principal and resource each free, equal to or in a uid or a slot; the action free, equal to a
+// uid or the slot, in one or two uids, or in the slot; both effects. Each is linked with each of its slots bound or not, and with
+// an action's slot that is bound to no action.
+use super::gives::gives;
+use super::kinds::{new_template, policy};
+use super::refusals::linked;
+use super::spec::cut;
 use cedar_action::ActionConstraint;
 use cedar_annotation::Annotations;
-use cedar_policy::{Effect, Policy, StaticPolicy, Template, UnexpectedSlotError};
+use cedar_policy::{StaticPolicy, Template, UnexpectedSlotError};
 use cedar_scope::{PrincipalConstraint, ResourceConstraint};
 use cedar_terms::expr::Expr;
 use cedar_test_helpers::tried::beside;
@@ -11,56 +15,146 @@ use std::alloc::Global;
 use std::test::Fail;
 
 // How many there are, and how many of them have no slots.
-const TEMPLATES: usize = 200;
+const TEMPLATES: usize = 300;
 
 const STATICS: usize = 72;
 
-// The five constraints of a principal or a resource.
-fn on(n: usize) -> &'static str {
+// The five constraints of a principal or a resource, those with a slot as they stand or filled.
+fn on(n: usize, is_filled: bool) -> &'static str {
     match n % 5 {
         0 => "",
         1 => "== A.test",
+        2 if is_filled => "== A.eid",
         2 => "== ?",
         3 => "in A.test",
+        _ if is_filled => "in A.eid",
         _ => "in ?",
     }
 }
 
-// The text of the template at a place.
-fn text_at(alloc: Global, n: usize) -> Result<String, Fail> {
-    let head = if n < 100 {
-        "permit permit"
-    } else {
-        "forbid forbid"
-    };
-    let action = match n / 25 % 4 {
+// The six constraints of an action.
+fn on_action(n: usize, is_filled: bool) -> &'static str {
+    match n % 6 {
         0 => "",
         1 => "== Action.test",
         2 => "in Action.test",
-        _ => "in Action.test, Action.test",
-    };
-    Ok(format!(in alloc; "{head}; {}; {action}; {}", on(n), on(n / 5))?)
-}
-
-// A link's id, and what binds a uid to each slot of the template at a place.
-fn binds_at(n: usize) -> &'static str {
-    match (
-        n.is_multiple_of(5) || n % 5 % 2 == 1,
-        n / 5 % 5 == 2 || n / 5 % 5 == 4,
-    ) {
-        (false, true) => "id p=A.eid r=A.eid",
-        (false, false) => "id p=A.eid",
-        (true, true) => "id r=A.eid",
-        (true, false) => "id",
+        3 => "in Action.test, Action.test",
+        4 if is_filled => "== Action.eid",
+        4 => "== ?",
+        _ if is_filled => "in Action.eid",
+        _ => "in ?",
     }
 }
 
-// Whether a template of a text links with these bindings.
-fn links(alloc: Global, binds: &str, text: &str) -> Result<bool, Fail> {
-    let link = tried_link(alloc, binds, text)??;
-    let told = !link.is_static();
-    drop(link);
-    Ok(told)
+// The text of the template at a place; or filled, under the id `id`.
+fn text_at(alloc: Global, n: usize, is_filled: bool) -> Result<String, Fail> {
+    let effect = if n < 150 { "permit" } else { "forbid" };
+    let id = if is_filled { "id" } else { effect };
+    Ok(format!(in alloc;
+        "{id} {effect}; {}; {}; {}",
+        on(n, is_filled),
+        on_action(n / 25, is_filled),
+        on(n / 5, is_filled)
+    )?)
+}
+
+// Whether the constraint of a principal or a resource has a slot.
+fn has_slot(n: usize) -> bool {
+    n % 5 == 2 || n % 5 == 4
+}
+
+// The slots of the template at a place, in the order in which a template has them.
+fn slots_at(n: usize) -> &'static str {
+    match (has_slot(n / 5), n / 25 % 6 > 3, has_slot(n)) {
+        (false, false, false) => "",
+        (false, false, true) => "p",
+        (false, true, false) => "a",
+        (false, true, true) => "a p",
+        (true, false, false) => "r",
+        (true, false, true) => "r p",
+        (true, true, false) => "r a",
+        (true, true, true) => "r a p",
+    }
+}
+
+// Bindings of all slots and of each fewer, in the order of slots; and those of the action once more, to what is none.
+const BINDS: [&str; 12] = [
+    "",
+    "p=A.eid",
+    "a=Action.eid",
+    "r=A.eid",
+    "p=A.eid a=Action.eid",
+    "p=A.eid r=A.eid",
+    "a=Action.eid r=A.eid",
+    "p=A.eid a=Action.eid r=A.eid",
+    "a=A.eid",
+    "p=A.eid a=A.eid",
+    "a=A.eid r=A.eid",
+    "p=A.eid a=A.eid r=A.eid",
+];
+
+// Whether slots or bindings have that of a letter.
+fn have(those: &str, letter: &str) -> bool {
+    those.split(' ').any(|one| cut(one, "=").0 == letter)
+}
+
+// Writes the letters of slots or bindings that others have not.
+fn put_others(text: &mut String, these: &str, those: &str) -> Result<(), Fail> {
+    for one in these.split(' ') {
+        let letter = cut(one, "=").0;
+        if !have(those, letter) && !letter.is_empty() {
+            text.push_str(" ")?;
+            text.push_str(letter)?;
+        }
+    }
+    Ok(())
+}
+
+// What is left over of slots and bindings.
+fn left_over(alloc: Global, slots: &str, binds: &str) -> Result<String, Fail> {
+    let mut text = String::from_str(alloc, "unbound")?;
+    put_others(&mut text, slots, binds)?;
+    text.push_str(" extra")?;
+    put_others(&mut text, binds, slots)?;
+    Ok(text)
+}
+
+// Whether this is told of the template at a place that is linked with bindings of its slots and of no others: that the action is
+// none, or what the filled template gives as a static policy.
+fn fit(alloc: Global, n: usize, binds: &str, told: &str) -> Result<bool, Fail> {
+    if binds.split(' ').any(|bind| bind == "a=A.eid") {
+        return Ok(told == "no action A::\"eid\"");
+    }
+    let text = text_at(alloc, n, true)?;
+    let want = gives(alloc, "policy", text.as_str())?;
+    Ok(cut(told, "; link of ").0 == cut(want.as_str(), "; static of ").0)
+}
+
+// Fails where the template at a place, linked with bindings, does not tell what it has to.
+fn links(alloc: Global, n: usize, binds: &str) -> Result<(), Fail> {
+    let text = text_at(alloc, n, false)?;
+    let named = format!(in alloc; "id {binds}")?;
+    let told = linked(alloc, named.as_str(), text.as_str())?;
+    let left = left_over(alloc, slots_at(n), binds)?;
+    let is_right = if left.as_str() == "unbound extra" {
+        fit(alloc, n, binds, told.as_str())?
+    } else {
+        told.as_str() == left.as_str()
+    };
+    if is_right {
+        return Ok(());
+    }
+    Err(Fail::new(format_args!("{text} with {binds}: {told}")))
+}
+
+#[test]
+fn each_template_links_with_its_slots_bound_alone(rt: HostRuntime) -> Result<(), Fail> {
+    for n in 0..TEMPLATES {
+        for binds in &BINDS {
+            links(rt.alloc(), n, binds)?;
+        }
+    }
+    Ok(())
 }
 
 // Copies of constraints.
@@ -216,17 +310,14 @@ fn statics_of(alloc: Global, text: &str) -> Result<usize, Fail> {
     Err(Fail::new("the static policy is another one"))
 }
 
-// How many static policies the template at a place makes, which links with its slots bound.
+// How many static policies the template at a place makes.
 fn statics_at(alloc: Global, n: usize) -> Result<usize, Fail> {
-    let text = text_at(alloc, n)?;
-    if !links(alloc, binds_at(n), text.as_str())? {
-        return Err(Fail::new("the link is static"));
-    }
+    let text = text_at(alloc, n, false)?;
     statics_of(alloc, text.as_str())
 }
 
 #[test]
-fn each_template_links_and_is_static_without_slots(rt: HostRuntime) -> Result<(), Fail> {
+fn each_template_is_built_anew_and_is_static_without_slots(rt: HostRuntime) -> Result<(), Fail> {
     let mut count: usize = 0;
     for n in 0..TEMPLATES {
         count = count.saturating_add(statics_at(rt.alloc(), n)?);

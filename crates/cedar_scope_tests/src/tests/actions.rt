@@ -8,7 +8,7 @@ use std::alloc::Global;
 use std::rc::Rc;
 
 // The list of some uids, each told by its type and its eid.
-fn listed(alloc: Global, uids: &[(&str, &str)]) -> Option<ActionConstraint> {
+pub(super) fn listed(alloc: Global, uids: &[(&str, &str)]) -> Option<ActionConstraint> {
     let mut euids = Some(Vec::new(alloc));
     for (ty, eid) in uids {
         euids = with_last(euids, uid(alloc, ty, eid));
@@ -19,7 +19,7 @@ fn listed(alloc: Global, uids: &[(&str, &str)]) -> Option<ActionConstraint> {
     }
 }
 
-fn equal_to(alloc: Global, ty: &str, eid: &str) -> Option<ActionConstraint> {
+pub(super) fn equal_to(alloc: Global, ty: &str, eid: &str) -> Option<ActionConstraint> {
     match uid(alloc, ty, eid) {
         Some(euid) => ActionConstraint::is_eq(alloc, euid).ok(),
         None => None,
@@ -30,6 +30,10 @@ fn equal_to(alloc: Global, ty: &str, eid: &str) -> Option<ActionConstraint> {
 fn constraints_of_actions_are_written(rt: HostRuntime) {
     let alloc = rt.alloc();
     assert!(rt; shows(alloc, Some(ActionConstraint::any()), "action"));
+    let slot = Some(ActionConstraint::is_in_slot());
+    assert!(rt; shows(alloc, slot, "action in ?action"));
+    let slot = Some(ActionConstraint::is_eq_slot());
+    assert!(rt; shows(alloc, slot, "action == ?action"));
     let one = equal_to(alloc, "Action", "v");
     assert!(rt; shows(alloc, one, "action == Action::\"v\""));
     assert!(rt; shows(alloc, listed(alloc, &[]), "action in []"));
@@ -52,7 +56,7 @@ fn an_eid_past_ascii_stays_in_a_list(rt: HostRuntime) {
 }
 
 // The expression of a constraint that could be made.
-fn expr_of(alloc: Global, made: Option<ActionConstraint>) -> Option<Expr> {
+pub(super) fn expr_of(alloc: Global, made: Option<ActionConstraint>) -> Option<Expr> {
     match made {
         Some(made) => {
             let expr = made.as_expr(alloc);
@@ -74,6 +78,10 @@ fn constraints_of_actions_stand_for_expressions(rt: HostRuntime) {
     assert!(rt; shows(alloc, expr, "action in [Action::\"a\", Action::\"b\"]"));
     let expr = expr_of(alloc, listed(alloc, &[]));
     assert!(rt; shows(alloc, expr, "action in []"));
+    let expr = expr_of(alloc, Some(ActionConstraint::is_in_slot()));
+    assert!(rt; shows(alloc, expr, "action in ?action"));
+    let expr = expr_of(alloc, Some(ActionConstraint::is_eq_slot()));
+    assert!(rt; shows(alloc, expr, "action == ?action"));
 }
 
 // Whether a refusal names these uids, in this order.
@@ -146,6 +154,15 @@ fn actions_in_any_namespace_pass(rt: HostRuntime) {
     assert!(rt; refuses(alloc, both, &[]));
 }
 
+#[test]
+fn the_slot_of_an_action_passes(rt: HostRuntime) {
+    let alloc = rt.alloc();
+    assert!(rt; refuses(alloc, nth(alloc, 7), &[]));
+    assert!(rt; refuses(alloc, nth(alloc, 8), &[]));
+    assert!(rt; same(passed(alloc, nth(alloc, 7)), nth(alloc, 7)));
+    assert!(rt; same(passed(alloc, nth(alloc, 8)), nth(alloc, 8)));
+}
+
 // A constraint that could be made, if its check lets it through.
 fn passed(alloc: Global, made: Option<ActionConstraint>) -> Option<ActionConstraint> {
     match made {
@@ -206,8 +223,11 @@ fn refusals_tell_what_they_refuse(rt: HostRuntime) {
     assert!(rt; shows(alloc, Some(ActionTypesError::Memory), "out of memory"));
 }
 
+// How many constraints `nth` has.
+pub(super) const ACTIONS: usize = 9;
+
 // Constraints of actions in their order, no two of them equal.
-fn nth(alloc: Global, place: usize) -> Option<ActionConstraint> {
+pub(super) fn nth(alloc: Global, place: usize) -> Option<ActionConstraint> {
     match place {
         0 => Some(ActionConstraint::any()),
         1 => listed(alloc, &[]),
@@ -215,7 +235,9 @@ fn nth(alloc: Global, place: usize) -> Option<ActionConstraint> {
         3 => listed(alloc, &[("Action", "a"), ("Action", "a")]),
         4 => listed(alloc, &[("Action", "b")]),
         5 => equal_to(alloc, "Action", "a"),
-        _ => equal_to(alloc, "Action", "b"),
+        6 => equal_to(alloc, "Action", "b"),
+        7 => Some(ActionConstraint::is_in_slot()),
+        _ => Some(ActionConstraint::is_eq_slot()),
     }
 }
 
@@ -230,8 +252,8 @@ fn equal_to_shared(alloc: Global, ty: &str, eid: &str) -> Option<ActionConstrain
 #[test]
 fn constraints_of_actions_ascend_by_kind_and_then_item_by_item(rt: HostRuntime) {
     let alloc = rt.alloc();
-    for i in 0..7usize {
-        for j in 0..7usize {
+    for i in 0..ACTIONS {
+        for j in 0..ACTIONS {
             assert!(rt; ordered(nth(alloc, i), nth(alloc, j), i, j));
         }
         assert!(rt; copies(nth(alloc, i)));

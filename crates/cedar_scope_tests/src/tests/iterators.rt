@@ -145,6 +145,8 @@ fn the_uids_of_an_action_come_from_the_back(rt: HostRuntime) {
     assert!(rt; gives_uids(alloc, two, &["Action::\"b\"", "Action::\"a\""]));
     let none = ActionConstraint::In(Vec::new(alloc));
     assert!(rt; gives_uids(alloc, Some(none), &[]));
+    assert!(rt; gives_uids(alloc, Some(ActionConstraint::is_in_slot()), &[]));
+    assert!(rt; gives_uids(alloc, Some(ActionConstraint::is_eq_slot()), &[]));
 }
 
 fn lends_types(alloc: Global, made: &ActionConstraint, want: &[&str]) -> bool {
@@ -178,6 +180,8 @@ fn the_types_of_an_action_come_with_its_uids_and_repeat(rt: HostRuntime) {
     assert!(rt; gives_types(alloc, two, &["B", "A"]));
     let same = in_two(alloc, uid(alloc, "A", "a"), uid(alloc, "A", "b"));
     assert!(rt; gives_types(alloc, same, &["A", "A"]));
+    assert!(rt; gives_types(alloc, Some(ActionConstraint::is_in_slot()), &[]));
+    assert!(rt; gives_types(alloc, Some(ActionConstraint::is_eq_slot()), &[]));
 }
 
 // The types that each constraint names.

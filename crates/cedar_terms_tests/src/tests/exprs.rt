@@ -90,7 +90,7 @@ fn two_is_not_one(alloc: Global) -> Option<Expr> {
 }
 
 // How many expressions `nth` has.
-const EXPRS: usize = 20;
+const EXPRS: usize = 21;
 
 // Expressions of each kind, no two of them equal.
 fn nth(alloc: Global, place: usize) -> Option<Expr> {
@@ -114,6 +114,7 @@ fn nth(alloc: Global, place: usize) -> Option<Expr> {
         16 => and(alloc, truth(alloc), call(alloc, "f")),
         17 => two_is_one(alloc),
         18 => action_in_none(alloc),
+        19 => slot(alloc, SlotId::action()),
         _ => is_type(alloc, var(alloc, Var::Resource), "N::T"),
     }
 }
@@ -137,7 +138,7 @@ fn action_in_none(alloc: Global) -> Option<Expr> {
 }
 
 // How the expressions of `nth` are written.
-const TEXTS: [&str; 20] = [
+const TEXTS: [&str; 21] = [
     "true",
     "false",
     "-7",
@@ -157,6 +158,7 @@ const TEXTS: [&str; 20] = [
     "true && f()",
     "2 == 1",
     "action in []",
+    "?action",
     "resource is N::T",
 ];
 
@@ -254,28 +256,50 @@ fn the_condition_of_a_policy_is_written(rt: HostRuntime) {
     assert!(rt; shows(alloc, condition(alloc), want));
 }
 
-// `[?resource, ?principal]`
-fn two_slots(alloc: Global) -> Option<Expr> {
-    set(
+// `(action in ?action) && (action == ?action)`
+fn on_the_actions_slot(alloc: Global) -> Option<Expr> {
+    let within = is_in(
         alloc,
-        pair(
-            alloc,
-            slot(alloc, SlotId::resource()),
-            slot(alloc, SlotId::principal()),
-        ),
-    )
+        var(alloc, Var::Action),
+        slot(alloc, SlotId::action()),
+    );
+    let equal = is_eq(
+        alloc,
+        var(alloc, Var::Action),
+        slot(alloc, SlotId::action()),
+    );
+    and(alloc, within, equal)
 }
 
-// `f([?resource, ?principal], ?resource)`
+#[test]
+fn the_action_stands_beside_its_slot(rt: HostRuntime) {
+    let alloc = rt.alloc();
+    let want = "(action in ?action) && (action == ?action)";
+    assert!(rt; shows(alloc, on_the_actions_slot(alloc), want));
+    let a = SlotId::action();
+    assert!(rt; has_slots(alloc, on_the_actions_slot(alloc), &[a, a]));
+}
+
+// `[?resource, ?action, ?principal]`
+fn three_slots(alloc: Global) -> Option<Expr> {
+    let two = pair(
+        alloc,
+        slot(alloc, SlotId::resource()),
+        slot(alloc, SlotId::action()),
+    );
+    set(alloc, with_last(two, slot(alloc, SlotId::principal())))
+}
+
+// `f([?resource, ?action, ?principal], ?resource)`
 fn call_of_slots(alloc: Global) -> Option<Expr> {
     call_of(
         alloc,
         "f",
-        pair(alloc, two_slots(alloc), slot(alloc, SlotId::resource())),
+        pair(alloc, three_slots(alloc), slot(alloc, SlotId::resource())),
     )
 }
 
-// `(?principal in f([?resource, ?principal], ?resource)) && (!(1 is A))`
+// `(?principal in f([?resource, ?action, ?principal], ?resource)) && (!(1 is A))`
 fn with_slots(alloc: Global) -> Option<Expr> {
     let left = is_in(
         alloc,
@@ -290,16 +314,17 @@ fn with_slots(alloc: Global) -> Option<Expr> {
 }
 
 // What the walk through it meets.
-const NODES: [&str; 11] = [
-    "(?principal in f([?resource, ?principal], ?resource)) && (!(1 is A))",
+const NODES: [&str; 12] = [
+    "(?principal in f([?resource, ?action, ?principal], ?resource)) && (!(1 is A))",
     "!(1 is A)",
     "1 is A",
     "1",
-    "?principal in f([?resource, ?principal], ?resource)",
-    "f([?resource, ?principal], ?resource)",
+    "?principal in f([?resource, ?action, ?principal], ?resource)",
+    "f([?resource, ?action, ?principal], ?resource)",
     "?resource",
-    "[?resource, ?principal]",
+    "[?resource, ?action, ?principal]",
     "?principal",
+    "?action",
     "?resource",
     "?principal",
 ];
@@ -337,8 +362,8 @@ fn the_walk_goes_from_the_last_child_to_the_first(rt: HostRuntime) {
 #[test]
 fn slots_come_as_the_walk_meets_them(rt: HostRuntime) {
     let alloc = rt.alloc();
-    let (p, r) = (SlotId::principal(), SlotId::resource());
-    assert!(rt; has_slots(alloc, with_slots(alloc), &[r, p, r, p]));
+    let (p, a, r) = (SlotId::principal(), SlotId::action(), SlotId::resource());
+    assert!(rt; has_slots(alloc, with_slots(alloc), &[r, p, a, r, p]));
     assert!(rt; has_slots(alloc, two_is_one(alloc), &[]));
 }
 

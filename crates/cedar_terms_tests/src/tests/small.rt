@@ -27,14 +27,36 @@ fn variables_are_told_apart(rt: HostRuntime) {
     assert!(rt; hash_of(&Var::Action) == hash_of(&Var::Action));
 }
 
+// The id at a place of their order.
+fn nth_slot(place: usize) -> SlotId {
+    match place {
+        0 => SlotId::principal(),
+        1 => SlotId::action(),
+        _ => SlotId::resource(),
+    }
+}
+
+// How each is written.
+const SLOT_TEXTS: [&str; 3] = ["?principal", "?action", "?resource"];
+
+// Whether two ids stand as these places do, and are equal and hash alike where the places are.
+fn slots_stand(x: SlotId, y: SlotId, i: usize, j: usize) -> bool {
+    let alike = (x == y) == (i == j) && (hash_of(&x) == hash_of(&y)) == (i == j);
+    alike && x.cmp(&y) == i.cmp(&j)
+}
+
 #[test]
-fn the_principal_slot_is_the_smaller(rt: HostRuntime) {
+fn slots_ascend_from_the_principals_to_the_resources(rt: HostRuntime) {
     let alloc = rt.alloc();
-    assert!(rt; shows(alloc, Some(SlotId::principal()), "?principal"));
-    assert!(rt; shows(alloc, Some(SlotId::resource()), "?resource"));
-    assert!(rt; SlotId::principal() < SlotId::resource());
-    assert!(rt; SlotId::principal() != SlotId::resource());
-    assert!(rt; hash_of(&SlotId::resource()) == hash_of(&SlotId::Resource));
+    for i in 0..3usize {
+        assert!(rt; shows(alloc, Some(nth_slot(i)), SLOT_TEXTS[i]));
+        for j in 0..3usize {
+            assert!(rt;
+                slots_stand(nth_slot(i), SlotId::ALL[j], i, j),
+                "{i} and {j}"
+            );
+        }
+    }
 }
 
 // A slot at a place.
@@ -62,14 +84,26 @@ fn slot_stands_at(made: Option<Slot>, start: usize) -> bool {
     }
 }
 
+// Whether a slot that stands there is the one that stands nowhere, as is its copy, which stands there too.
+fn slot_is_its_id(alloc: Global, id: SlotId, start: usize) -> bool {
+    agree(slot_at(alloc, id, start), bare_slot(id))
+        && copies(slot_at(alloc, id, start))
+        && slot_stands_at(copy_of(slot_at(alloc, id, start)), start)
+}
+
 #[test]
 fn a_slot_is_its_id_wherever_it_stands(rt: HostRuntime) {
     let alloc = rt.alloc();
-    let (p, r) = (SlotId::principal(), SlotId::resource());
-    assert!(rt; agree(slot_at(alloc, p, 3), bare_slot(p)));
-    assert!(rt; differ(slot_at(alloc, p, 3), bare_slot(r)));
-    assert!(rt; copies(slot_at(alloc, r, 3)));
-    assert!(rt; slot_stands_at(copy_of(slot_at(alloc, p, 3)), 3));
+    for i in 0..3usize {
+        assert!(rt; slot_is_its_id(alloc, nth_slot(i), 3), "{i}");
+        for j in 0..i {
+            let other = bare_slot(nth_slot(j));
+            assert!(rt;
+                differ(slot_at(alloc, nth_slot(i), 3), other),
+                "{i} and {j}"
+            );
+        }
+    }
 }
 
 fn static_type(alloc: Global, ty: &str) -> Option<StaticType> {
