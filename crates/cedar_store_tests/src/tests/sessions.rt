@@ -358,8 +358,9 @@ fn drawn_slots(seed: &mut u64) -> Slots {
 // The slots that are bound: four times out of five those that are held under the template's id, if it is bound.
 fn drawn_bound(model: &Model, template: u8, seed: &mut u64) -> Slots {
     let slots = drawn_slots(seed);
+    let fits = below(seed, 5) != 0;
     match find(model, template) {
-        Some(held) if below(seed, 5) != 0 => held.slots,
+        Some(held) if fits => held.slots,
         _ => slots,
     }
 }
