@@ -45,6 +45,29 @@ fn equal_bindings_merge_into_one(rt: HostRuntime) -> Result<(), Fail> {
 }
 
 #[test]
+fn the_actions_slot_is_bound_to_an_action(rt: HostRuntime) -> Result<(), Fail> {
+    let alloc = rt.alloc();
+    let table = &[
+        (
+            "",
+            "action t; static l; act t l A::\"x\"; act t l Action::\"v\"; link t m x; act t m Action::B::\"v\"; act t m N::Action::\"v\"; act u n A::\"x\"; act t t A::\"x\"",
+            "ok; ok; the action slot is bound to `A::\"x\"`, which is not an action; template-linked policy id `l` conflicts with an existing policy id; the following slots were not provided as arguments: ?action. The following slots were provided as arguments, but did not exist in the template: ?principal; the action slot is bound to `Action::B::\"v\"`, which is not an action; ok; failed to find a template with id `u`; the action slot is bound to `A::\"x\"`, which is not an action | t l | l m",
+        ),
+        (
+            "action t; act t l Action::\"w\"",
+            "action t; act t l Action::\"v\"; keep",
+            "ok; ok; duplicate template or policy id `l` | t | l",
+        ),
+        (
+            "action t; act t l Action::\"w\"",
+            "action t; act t l Action::\"v\"; rename; act t m A::\"x\"; unlink policy0",
+            "ok; ok; l to policy0; the action slot is bound to `A::\"x\"`, which is not an action; policy0 | t | l",
+        ),
+    ];
+    tells(alloc, table)
+}
+
+#[test]
 fn each_call_answers_in_its_turn(rt: HostRuntime) -> Result<(), Fail> {
     let alloc = rt.alloc();
     let table = &[

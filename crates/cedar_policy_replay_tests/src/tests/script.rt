@@ -1,6 +1,7 @@
-// Lists of calls by short texts, parted by semicolons: `static a`, `forbid a`, `template t`, `add a`, `link t l x`,
-// `unlink l`, `remove_static a`, `remove_template t`, and `keep` or `rename` to merge the other set in. A static policy
-// has no constraint and no clause, a template is one on the principal's slot, and a link binds that to a uid of type `A`.
+// Lists of calls by short texts, parted by semicolons: `static a`, `forbid a`, `template t`, `action t`, `add a`,
+// `link t l x`, `act t l UID`, `unlink l`, `remove_static a`, `remove_template t`, and `keep` or `rename` to merge the other
+// set in. A static policy has no constraint and no clause; `template` is one on the principal's slot, which `link` binds to a
+// uid of type `A`, and `action` is one on the action's, which `act` binds to a uid.
 //
 // No function holds a set, a policy, a call or an answer over a step that may fail, and none leaves one to the end of its
 // body: what is at hand goes to `beside` or `kept`, or is let go by a written `drop`.
@@ -57,8 +58,9 @@ fn template_of(
     text: &str,
     effect: Effect,
     principal: PrincipalConstraint,
+    action: ActionConstraint,
 ) -> Result<Template, Fail> {
-    let (principal, id) = beside(principal, id_of(alloc, text))?;
+    let ((principal, action), id) = beside((principal, action), id_of(alloc, text))?;
     let template = Template::new(
         alloc,
         id,
@@ -66,7 +68,7 @@ fn template_of(
         Annotations::new(alloc),
         effect,
         principal,
-        ActionConstraint::any(),
+        action,
         ResourceConstraint::any(),
         None,
     );
@@ -74,20 +76,29 @@ fn template_of(
 }
 
 fn static_of(alloc: Global, text: &str, effect: Effect) -> Result<StaticPolicy, Fail> {
-    let template = template_of(alloc, text, effect, PrincipalConstraint::any())?;
+    let principal = PrincipalConstraint::any();
+    let template = template_of(alloc, text, effect, principal, ActionConstraint::any())?;
     Ok(StaticPolicy::try_from(template)?)
 }
 
-// Binds the principal's slot.
-fn bind(alloc: Global, values: &mut SlotEnv, eid: &str) -> Result<(), Fail> {
-    let value = EntityUID::with_eid_and_type(alloc, "A", eid)?;
-    drop(values.insert(SlotId::Principal, value)?);
+// The uid with this text that a slot is bound to: for the principal's it is an eid.
+fn value_of(alloc: Global, slot: SlotId, text: &str) -> Result<EntityUID, Fail> {
+    match slot {
+        SlotId::Action => Ok(EntityUID::from_normalized_str(alloc, text)?),
+        _ => Ok(EntityUID::with_eid_and_type(alloc, "A", text)?),
+    }
+}
+
+// Binds a slot.
+fn bind(alloc: Global, values: &mut SlotEnv, slot: SlotId, text: &str) -> Result<(), Fail> {
+    let value = value_of(alloc, slot, text)?;
+    drop(values.insert(slot, value)?);
     Ok(())
 }
 
-fn values_of(alloc: Global, eid: &str) -> Result<SlotEnv, Fail> {
+fn values_of(alloc: Global, slot: SlotId, text: &str) -> Result<SlotEnv, Fail> {
     let mut values = HashMap::new(alloc);
-    let done = bind(alloc, &mut values, eid);
+    let done = bind(alloc, &mut values, slot, text);
     kept(values, done)
 }
 
@@ -95,11 +106,11 @@ fn static_call(alloc: Global, text: &str, effect: Effect) -> Result<PolicyCall, 
     Ok(PolicyCall::AddStatic(static_of(alloc, text, effect)?))
 }
 
-fn link_call(alloc: Global, text: &str) -> Result<PolicyCall, Fail> {
+fn link_call(alloc: Global, slot: SlotId, text: &str) -> Result<PolicyCall, Fail> {
     let (template, rest) = text.split_once(' ').unwrap_or((text, ""));
-    let (id, eid) = rest.split_once(' ').unwrap_or((rest, ""));
+    let (id, value) = rest.split_once(' ').unwrap_or((rest, ""));
     let named = beside(id_of(alloc, template)?, id_of(alloc, id))?;
-    let ((template, id), values) = beside(named, values_of(alloc, eid))?;
+    let ((template, id), values) = beside(named, values_of(alloc, slot, value))?;
     Ok(PolicyCall::Link(template, id, values))
 }
 
@@ -108,9 +119,15 @@ fn add_call(alloc: Global, text: &str) -> Result<PolicyCall, Fail> {
     Ok(PolicyCall::Add(Policy::from_static(alloc, policy)?))
 }
 
-fn template_call(alloc: Global, text: &str) -> Result<PolicyCall, Fail> {
-    let slot = PrincipalConstraint::is_eq_slot();
-    Ok(PolicyCall::AddTemplate(template_of(alloc, text, Effect::Permit, slot)?))
+// The adding of a template on the action's slot, or on the principal's.
+fn template_call(alloc: Global, text: &str, on_action: bool) -> Result<PolicyCall, Fail> {
+    let (principal, action) = if on_action {
+        (PrincipalConstraint::any(), ActionConstraint::is_eq_slot())
+    } else {
+        (PrincipalConstraint::is_eq_slot(), ActionConstraint::any())
+    };
+    let template = template_of(alloc, text, Effect::Permit, principal, action)?;
+    Ok(PolicyCall::AddTemplate(template))
 }
 
 // The merge of the other set, for which an empty one is left.
@@ -124,9 +141,11 @@ fn call_of(alloc: Global, text: &str, other: &mut PolicySet) -> Result<PolicyCal
     match word {
         "static" => static_call(alloc, rest, Effect::Permit),
         "forbid" => static_call(alloc, rest, Effect::Forbid),
-        "template" => template_call(alloc, rest),
+        "template" => template_call(alloc, rest, false),
+        "action" => template_call(alloc, rest, true),
         "add" => add_call(alloc, rest),
-        "link" => link_call(alloc, rest),
+        "link" => link_call(alloc, SlotId::Principal, rest),
+        "act" => link_call(alloc, SlotId::Action, rest),
         "unlink" => Ok(PolicyCall::Unlink(id_of(alloc, rest)?)),
         "remove_static" => Ok(PolicyCall::RemoveStatic(id_of(alloc, rest)?)),
         "remove_template" => Ok(PolicyCall::RemoveTemplate(id_of(alloc, rest)?)),

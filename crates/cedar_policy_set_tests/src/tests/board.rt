@@ -1,8 +1,8 @@
 // What calls on a policy set mean, over two short lists: bodies and policies, each in its order.
 //
-// Ids and the eids of uids are letters. Slots are digits in the order in which a walk meets them, 1
-// the principal's and 2 the resource's.
-use super::notation::{Call, Said, Verb, Why, behind, joined, letter_for, unlinked};
+// Ids and the eids of uids are letters. Slots are digits in the order in which a walk meets them, 1 the principal's, 2 the
+// resource's and 3 the action's, which a capital letter binds to a uid that is no action.
+use super::notation::{Call, Said, Verb, Why, behind, has_digit, joined, letter_for, unlinked};
 
 // A body: its id, its slots, and what else marks it.
 #[derive(Clone, Copy, Drop, PartialEq, Eq)]
@@ -19,6 +19,7 @@ pub(super) struct Row {
     pub(super) body: Body,
     pub(super) link: bool,
     pub(super) principal: u8,
+    pub(super) action: u8,
     pub(super) resource: u8,
 }
 
@@ -187,14 +188,15 @@ fn add(board: &mut Board, row: Row) -> Said {
 fn binds(row: &Row, slot: u32) -> bool {
     match slot {
         1 => row.principal != 0,
-        _ => row.resource != 0,
+        2 => row.resource != 0,
+        _ => row.action != 0,
     }
 }
 
 // The slots that are not bound.
 fn unbound(slots: u32, row: &Row) -> u32 {
     let mut left = 0;
-    for slot in [slots / 10, slots % 10] {
+    for slot in [slots / 1000, slots / 100 % 10, slots / 10 % 10, slots % 10] {
         if slot != 0 && !binds(row, slot) {
             left = behind(left, slot);
         }
@@ -202,11 +204,11 @@ fn unbound(slots: u32, row: &Row) -> u32 {
     left
 }
 
-// The bound ones that are no slots.
+// The bound ones that are no slots, the action's between the others.
 fn extra(slots: u32, row: &Row) -> u32 {
     let mut left = 0;
-    for slot in [1, 2] {
-        if binds(row, slot) && slots / 10 != slot && slots % 10 != slot {
+    for slot in [1, 3, 2] {
+        if binds(row, slot) && !has_digit(slots, slot) {
             left = behind(left, slot);
         }
     }
@@ -220,6 +222,9 @@ fn link_of(board: &mut Board, body: Body, row: Row) -> Said {
     if unbound != 0 || extra != 0 {
         return Said::Arity(unbound, extra);
     }
+    if row.action.is_ascii_uppercase() {
+        return Said::NotAction(row.action);
+    }
     if is_bound(board, row.id) {
         return Said::Refused(Why::IdConflict, row.id);
     }
@@ -228,6 +233,7 @@ fn link_of(board: &mut Board, body: Body, row: Row) -> Said {
         body,
         link: true,
         principal: row.principal,
+        action: row.action,
         resource: row.resource,
     };
     put_row(board, made);
@@ -428,6 +434,7 @@ fn join_rows(left: &mut Board, here: &Board, other: &Board, renaming: &Renaming)
             body: renamed_body(renaming, row.body),
             link: row.link,
             principal: row.principal,
+            action: row.action,
             resource: row.resource,
         };
         if !is_bound(here, row.id) {

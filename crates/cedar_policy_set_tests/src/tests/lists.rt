@@ -1,6 +1,6 @@
 // Many lists of calls, each on a set and on the board that it stands for.
 use super::board::{Body, Row, after, empty};
-use super::notation::{Call, Said, Verb, call_of, unlinked};
+use super::notation::{Call, Said, Verb, call_of, has_digit, unlinked};
 use super::script::{board_of, done};
 use cedar_policy_set::PolicySet;
 use cedar_test_helpers::drawn::below;
@@ -32,7 +32,10 @@ fn more(count: &mut u32) {
 }
 
 fn is_refusal(said: Said) -> bool {
-    matches!(said, Said::Refused(_, _) | Said::Arity(_, _) | Said::Memory)
+    matches!(
+        said,
+        Said::Refused(_, _) | Said::NotAction(_) | Said::Arity(_, _) | Said::Memory
+    )
 }
 
 // Tells of a call: what the set answered, and whether all was as it should be.
@@ -72,45 +75,28 @@ fn compare(alloc: Global, tally: &mut Tally, calls: &[Call]) -> Result<(), Fail>
 }
 
 // Calls over two ids of each kind, one of which, `a`, all kinds share.
-const CALLS: [&str; 25] = [
-    "static a",
-    "static s",
-    "template a1",
-    "template t",
-    "template t1",
-    "add a",
-    "add a=t",
-    "add a=t1+1x",
-    "add l=t1+1x",
-    "add l=a1+1x",
-    "add a=a1+1x",
-    "add l=s",
-    "link a=t+1x",
-    "link l=t+1x",
-    "link l=a+1x",
-    "link l=t",
-    "unlink a",
-    "unlink l",
-    "remove_static a",
-    "remove_static s",
-    "remove_static l",
-    "remove_template a",
-    "remove_template t",
-    "links a",
-    "links t",
-];
+const CALLS: &str = "static a; static s; template a1; template t; template t1; \
+add a; add a=t; add a=t1+1x; add l=t1+1x; add l=a1+1x; add a=a1+1x; add l=s; \
+link a=t+1x; link l=t+1x; link l=a+1x; link l=t; \
+unlink a; unlink l; remove_static a; remove_static s; remove_static l; remove_template a; remove_template t; \
+links a; links t";
 
-fn put_calls(calls: &mut Vec<Call>) -> Result<(), Fail> {
-    for text in CALLS {
+// Calls over templates with the action's slot, on which links are bound to actions and to what is none.
+const ACTIONS: &str = "static l; template t3; template t3_; template t231; template a1; \
+add l=t3+3v; add l=t3_+3v; add m=t3+3w; \
+link l=t+3v; link l=t+3X; link m=t+3v+2y+1x; link m=t+1x+3X+2y; link l=t+3X+1x; link l=a+3X; unlink l; remove_template t";
+
+fn put_calls(calls: &mut Vec<Call>, texts: &str) -> Result<(), Fail> {
+    for text in texts.split(';') {
         calls.push(call_of(text))?;
     }
     Ok(())
 }
 
-// Those calls.
-fn calls(alloc: Global) -> Result<Vec<Call>, Fail> {
+// The calls with these texts.
+fn calls(alloc: Global, texts: &str) -> Result<Vec<Call>, Fail> {
     let mut calls = Vec::new(alloc);
-    let done = put_calls(&mut calls);
+    let done = put_calls(&mut calls, texts);
     kept(calls, done)
 }
 
@@ -144,14 +130,15 @@ fn all_of_three(alloc: Global, all: &[Call]) -> Result<Tally, Fail> {
     Ok(tally)
 }
 
-fn all_of_calls(alloc: Global) -> Result<Tally, Fail> {
-    let all = calls(alloc)?;
+// Each list of three of the calls with these texts.
+fn all_of_calls(alloc: Global, texts: &str) -> Result<Tally, Fail> {
+    let all = calls(alloc, texts)?;
     let tally = all_of_three(alloc, &all);
     drop(all);
     tally
 }
 
-// Whether the tally of that is as it should be.
+// Whether the tally of the 25 calls is as it should be.
 fn is_all_of_calls(tally: &Tally) -> bool {
     tally.differs == 0
         && tally.lists == 15_625
@@ -162,7 +149,22 @@ fn is_all_of_calls(tally: &Tally) -> bool {
 
 #[test]
 fn each_list_of_three_calls_leaves_its_board(rt: HostRuntime) -> Result<(), Fail> {
-    assert!(rt; is_all_of_calls(&all_of_calls(rt.alloc())?));
+    assert!(rt; is_all_of_calls(&all_of_calls(rt.alloc(), CALLS)?));
+    Ok(())
+}
+
+// Whether the tally of the 16 calls on the action's slot is as it should be.
+fn is_all_of_actions(tally: &Tally) -> bool {
+    tally.differs == 0
+        && tally.lists == 4_096
+        && tally.calls == 12_288
+        && tally.refused > 5_000
+        && tally.refused < 11_000
+}
+
+#[test]
+fn each_list_of_three_calls_on_actions_leaves_its_board(rt: HostRuntime) -> Result<(), Fail> {
+    assert!(rt; is_all_of_actions(&all_of_calls(rt.alloc(), ACTIONS)?));
     Ok(())
 }
 
@@ -171,12 +173,14 @@ fn drawn_letter(seed: &mut u64) -> u8 {
     b'a'.wrapping_add(below(seed, 6))
 }
 
-// No slot, the principal's, or both, and now and then one that forbids.
+// No slot, one, two, or all three, and now and then one that forbids.
 fn drawn_body(seed: &mut u64) -> Body {
-    let slots = match below(seed, 4) {
-        0 | 1 => 0,
-        2 => 1,
-        _ => 21,
+    let slots = match below(seed, 8) {
+        0..4 => 0,
+        4 => 1,
+        5 => 3,
+        6 => 21,
+        _ => 231,
     };
     Body {
         id: drawn_letter(seed),
@@ -205,15 +209,26 @@ fn drawn_value(seed: &mut u64, bound: bool) -> u8 {
 fn drawn_link(seed: &mut u64) -> Row {
     let body = drawn_body(seed);
     let id = drawn_letter(seed);
-    let principal = drawn_value(seed, body.slots % 10 == 1);
-    let resource = drawn_value(seed, body.slots / 10 == 2);
+    let principal = drawn_value(seed, has_digit(body.slots, 1));
+    let action = drawn_value(seed, has_digit(body.slots, 3));
+    let resource = drawn_value(seed, has_digit(body.slots, 2));
     Row {
         id,
         body,
         link: true,
         principal,
+        action,
         resource,
     }
+}
+
+// Such a link, and now and then one whose action's slot is bound to what is no action.
+fn drawn_linking(seed: &mut u64) -> Row {
+    let mut row = drawn_link(seed);
+    if below(seed, 4) == 0 {
+        row.action = row.action.to_ascii_uppercase();
+    }
+    row
 }
 
 fn drawn_row(seed: &mut u64) -> Row {
@@ -232,7 +247,7 @@ pub(super) fn drawn_call(seed: &mut u64) -> Call {
         0 | 1 => (Verb::Static, drawn_static(seed)),
         2 | 3 | 4 => (Verb::Template, drawn_template(seed)),
         5 | 6 | 7 => (Verb::Add, drawn_row(seed)),
-        8 | 9 | 10 => (Verb::Link, drawn_link(seed)),
+        8 | 9 | 10 => (Verb::Link, drawn_linking(seed)),
         11 | 12 => (Verb::Unlink, drawn_link(seed)),
         13 => (Verb::RemoveStatic, drawn_static(seed)),
         14 => (Verb::RemoveTemplate, drawn_template(seed)),

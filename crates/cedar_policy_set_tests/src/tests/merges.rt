@@ -122,47 +122,51 @@ pub(super) fn told_after(
     told
 }
 
-// The call for what `a` is bound to, by a number, and what `b` is.
-fn call_for(number: usize, second: bool) -> &'static str {
-    let table = if second {
-        [
-            "",
-            "static b",
-            "static b!",
-            "template b",
-            "template b1",
-            "link b=t+1x",
-            "link b=t+1y",
-        ]
-    } else {
-        [
-            "",
-            "static a",
-            "static a!",
-            "template a",
-            "template a1",
-            "link a=t+1x",
-            "link a=t+1y",
-        ]
-    };
-    match table.get(number) {
-        Some(call) => call,
-        None => "",
+// What an id, for which a dollar sign stands, is bound to in the sets of two ids: of the template `t1`, and of `t3`.
+const KINDS: &str = ",static $,static $!,template $,template $1,link $=t+1x,link $=t+1y";
+
+const ACTIONS: &str = ",static $,template $3,template $3_,link $=t+3v,link $=t+3w,add $=u3+3v";
+
+// The call of a number among these.
+fn kind(kinds: &str, number: usize) -> &str {
+    let mut left = number;
+    for text in kinds.split(',') {
+        if left == 0 {
+            return text;
+        }
+        left = left.wrapping_sub(1);
     }
+    ""
+}
+
+// Writes a call on an id.
+fn put_kind(text: &mut String, call: &str, id: char) -> Result<(), Fail> {
+    for sign in call.chars() {
+        text.push(if sign == '$' { id } else { sign })?;
+    }
+    Ok(())
 }
 
 // Writes the calls for a set of a template and of two ids, by a number below 49.
-fn put_calls(text: &mut String, number: usize) -> Result<(), Fail> {
-    put_word(text, "template t1; ")?;
-    put_word(text, call_for(number / 7, false))?;
+fn put_calls(text: &mut String, actions: bool, number: usize) -> Result<(), Fail> {
+    let kinds = if actions { ACTIONS } else { KINDS };
+    put_word(
+        text,
+        if actions {
+            "template t3; "
+        } else {
+            "template t1; "
+        },
+    )?;
+    put_kind(text, kind(kinds, number / 7), 'a')?;
     put_word(text, "; ")?;
-    put_word(text, call_for(number % 7, true))
+    put_kind(text, kind(kinds, number % 7), 'b')
 }
 
 // That as a text.
-fn calls_of(alloc: Global, number: usize) -> Result<String, Fail> {
+fn calls_of(alloc: Global, actions: bool, number: usize) -> Result<String, Fail> {
     let mut text = String::new(alloc);
-    let done = put_calls(&mut text, number);
+    let done = put_calls(&mut text, actions, number);
     kept(text, done)
 }
 
@@ -218,21 +222,30 @@ fn agrees(alloc: Global, here: &str, other: &str, rename: bool) -> Result<(), Fa
 }
 
 // Fails with the first pair of sets with a number for the first of which merging is not as the model says.
-fn all_agree(alloc: Global, number: usize, rename: bool) -> Result<(), Fail> {
-    let here = calls_of(alloc, number)?;
+fn all_agree(alloc: Global, actions: bool, number: usize, rename: bool) -> Result<(), Fail> {
+    let here = calls_of(alloc, actions, number)?;
     for second in 0..49 {
-        let other = calls_of(alloc, second)?;
+        let other = calls_of(alloc, actions, second)?;
         agrees(alloc, here.as_str(), other.as_str(), rename)?;
+    }
+    Ok(())
+}
+
+// Fails with the first pair of sets of which merging is not as the model says, with renaming or without.
+fn each_agrees(alloc: Global, actions: bool) -> Result<(), Fail> {
+    for number in 0..49 {
+        all_agree(alloc, actions, number, true)?;
+        all_agree(alloc, actions, number, false)?;
     }
     Ok(())
 }
 
 #[test]
 fn merging_is_as_the_model_says(rt: HostRuntime) -> Result<(), Fail> {
-    let alloc = rt.alloc();
-    for number in 0..49 {
-        all_agree(alloc, number, true)?;
-        all_agree(alloc, number, false)?;
-    }
-    Ok(())
+    each_agrees(rt.alloc(), false)
+}
+
+#[test]
+fn merging_of_links_on_actions_is_as_the_model_says(rt: HostRuntime) -> Result<(), Fail> {
+    each_agrees(rt.alloc(), true)
 }

@@ -1,11 +1,14 @@
 // Policies, calls and answers by short texts, in which the tests of the set are written.
 //
-// Ids are letters, `P` to `Y` for `policy0` to `policy9`, and the bytes from 128 on for `policy10` and what follows. A body is its id and the digits of its slots in the order in which a walk meets
-// them, 1 the principal's and 2 the resource's, and a mark: `t`, `t1`, `t21`, `a!`. The mark `!` says
-// that it forbids, `@` that its action is `User::"x"`, `%` that its action is `Action::"x"`, `~` that
-// its clause is `foo()` and it has no slots, and `?` that its clause is the slot of the first digit.
-// A static policy is its body. A link is its id, an equality sign and its template, and for each
-// bound slot a plus sign, the digit and the letter of a uid of type `A`: `l=t21+1x+2y`.
+// Ids are letters, `P` to `Y` for `policy0` to `policy9`, and the bytes from 128 on for `policy10` and what follows. A body is
+// its id and the digits of its slots in the order in which a walk meets them, 1 the principal's, 2 the resource's and 3 the
+// action's, and a mark: `t`, `t1`, `t231`, `a!`. The mark `!` says that it forbids, `@` that its action is `User::"x"`, `%`
+// that its action is `Action::"x"`, `_` that its action is in its slot, and is not that, `~` that its clause is `foo()` and it
+// has no slots, and `?` that its clause is the slot of the first digit. A static policy is its body.
+//
+// A link is its id, an equality sign and its template, and for each bound slot a plus sign, the digit and a letter, which
+// stands for a uid of type `A`, but behind 3 for one of type `Action` unless it is a capital: `l=t231+1x+3v+2y`. So `+3X`
+// binds the action's slot to `A::"X"`, which is no action.
 //
 // A call is a word and a policy: `static a`, `template t1`, `add a`, `add l=t1+1x`, `link l=t+1x`,
 // `unlink l`, `remove_static a`, `remove_template t`, `links t`. Calls are parted by semicolons.
@@ -55,6 +58,8 @@ pub(super) enum Said {
     Policy(Row),
     Template(Body),
     Refused(Why, u8),
+    // The letter of a uid that is no action.
+    NotAction(u8),
     // The digits of the unbound slots and of the extra ones.
     Arity(u32, u32),
     // The letters of the ids of policies.
@@ -90,6 +95,21 @@ fn first(text: &str) -> u8 {
 // A digit behind others.
 pub(super) fn behind(digits: u32, digit: u32) -> u32 {
     digits.wrapping_mul(10).wrapping_add(digit)
+}
+
+// Whether some digits, up to four, have this one among them.
+pub(super) fn has_digit(digits: u32, digit: u32) -> bool {
+    for found in [
+        digits / 1000,
+        digits / 100 % 10,
+        digits / 10 % 10,
+        digits % 10,
+    ] {
+        if found == digit {
+            return true;
+        }
+    }
+    false
 }
 
 // The digits of a text as a number.
@@ -138,6 +158,7 @@ fn linked(id: &str, text: &str) -> Row {
         body: body(template),
         link: true,
         principal: bound(values, '1'),
+        action: bound(values, '3'),
         resource: bound(values, '2'),
     }
 }
@@ -149,6 +170,7 @@ pub(super) fn unlinked(body: Body) -> Row {
         body,
         link: false,
         principal: 0,
+        action: 0,
         resource: 0,
     }
 }
@@ -227,6 +249,7 @@ fn put_row(alloc: Global, text: &mut String, row: Row) -> Result<(), Fail> {
     put_letter(text, b'=')?;
     put_body(alloc, text, row.body)?;
     put_bound(text, "+1", row.principal)?;
+    put_bound(text, "+3", row.action)?;
     put_bound(text, "+2", row.resource)
 }
 
@@ -269,6 +292,12 @@ fn put_refusal(text: &mut String, why: Why, id: u8) -> Result<(), Fail> {
     put_letter(text, id)
 }
 
+// Writes that a uid is no action.
+fn put_no_action(text: &mut String, letter: u8) -> Result<(), Fail> {
+    put_word(text, "no action ")?;
+    put_letter(text, letter)
+}
+
 // Writes the slots that are left over.
 fn put_arity(alloc: Global, text: &mut String, unbound: u32, extra: u32) -> Result<(), Fail> {
     put_word(text, "unbound ")?;
@@ -284,6 +313,7 @@ fn put_said(alloc: Global, text: &mut String, said: Said) -> Result<(), Fail> {
         Said::Policy(row) => put_row(alloc, text, row),
         Said::Template(body) => put_body(alloc, text, body),
         Said::Refused(why, id) => put_refusal(text, why, id),
+        Said::NotAction(letter) => put_no_action(text, letter),
         Said::Arity(unbound, extra) => put_arity(alloc, text, unbound, extra),
         Said::Listed(letters) => put_letters(text, letters),
         Said::Memory => put_word(text, "out of memory"),

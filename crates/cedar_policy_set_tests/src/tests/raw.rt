@@ -97,6 +97,7 @@ fn raw_one(alloc: Global, policy: Policy) -> Result<PolicySet, Fail>
 }
 
 // The set that is kept in maps of the policy of a text and its template; of a link with its template's id the empty set.
+#[tactic(auto, using(cedar_policy_set::specs::laws::BoardLaws::alone))]
 fn raw(alloc: Global, text: &str) -> Result<PolicySet, Fail> {
     let policy = policy_of(alloc, row(text))?;
     if !policy.is_static() && policy.id() == policy.template().id() {

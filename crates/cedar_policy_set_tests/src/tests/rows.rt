@@ -5,7 +5,7 @@ use super::merges::{told as merged, told_after, told_again};
 use super::raw::{is_crossed, is_raw, told_crossed, told_raw};
 use super::reads::{apart_text, counted, filtered_text, found_text, is_empty};
 use super::script::told;
-use super::texts::{of_joining, of_memory, of_removal, of_validation, text_of};
+use super::texts::{action_of, of_joining, of_memory, of_removal, of_validation, text_of};
 use super::validity::valid;
 use cedar_test_helpers::rows::all_hold;
 use cedar_test_helpers::tried::owned;
@@ -129,6 +129,51 @@ template t; link l=t+1x+2y => unbound 0 extra 12 | t |\n\
 template t11?; link l=t => unbound 11 extra 0 | t11? |\n\
 template t21; link l=t+1p+2a => l=t21+1p+2a | t21 | l=t21+1p+2a\n\
 template t; link l=t => l=t | t | l=t\n\
+# the action's slot is bound as the others are, and what is told of slots has it in its place\n\
+template t3 => ok | t3 |\n\
+template t3; link l=t+3v => l=t3+3v | t3 | l=t3+3v\n\
+template t3_; link l=t+3v => l=t3_+3v | t3_ | l=t3_+3v\n\
+template t3!; link l=t+3v => l=t3!+3v | t3! | l=t3!+3v\n\
+template t31; link l=t+3v+1x => l=t31+1x+3v | t31 | l=t31+1x+3v\n\
+template t23; link l=t+3v+2y => l=t23+3v+2y | t23 | l=t23+3v+2y\n\
+template t231; link l=t+2y+3v+1x => l=t231+1x+3v+2y | t231 | l=t231+1x+3v+2y\n\
+template t231; link l=t => unbound 231 extra 0 | t231 |\n\
+template t231; link l=t+3v => unbound 21 extra 0 | t231 |\n\
+template t231; link l=t+1x+2y => unbound 3 extra 0 | t231 |\n\
+template t33?; link l=t => unbound 33 extra 0 | t33? |\n\
+template t3231?; link l=t+1x => unbound 323 extra 0 | t3231? |\n\
+template t; link l=t+3v => unbound 0 extra 3 | t |\n\
+template t; link l=t+1x+2y+3v => unbound 0 extra 132 | t |\n\
+template t21; link l=t+3v+2y => unbound 1 extra 3 | t21 |\n\
+template t3; link l=t+1x => unbound 3 extra 1 | t3 |\n\
+# the action's slot is bound to an action: that is looked at after the lists\n\
+template t3; link l=t+3X => no action X | t3 |\n\
+template t3_; link l=t+3X => no action X | t3_ |\n\
+template t231; link l=t+1x+3X+2y => no action X | t231 |\n\
+template t3?; link l=t+3X => no action X | t3? |\n\
+template t231; link l=t+3X => unbound 21 extra 0 | t231 |\n\
+template t231; link l=t+3X+1x => unbound 2 extra 0 | t231 |\n\
+template t3; link l=t+3X+2y => unbound 0 extra 2 | t3 |\n\
+template t1; link l=t+1x+3X => unbound 0 extra 3 | t1 |\n\
+template t; link l=t+3X => unbound 0 extra 3 | t |\n\
+# the template before it, and the new id after it\n\
+link l=t+3X => no such template t | |\n\
+static t; link l=t+3X => no such template t | t | t\n\
+static l; template t3; link l=t+3X => no action X | l t3 | l\n\
+static l; template t3; link l=t+3v => conflict l | l t3 | l\n\
+template t3; link t=t+3X => no action X | t3 |\n\
+template t3; link t=t+3v => conflict t | t3 |\n\
+template t3; link l=t+3v; link l=t+3X => no action X | t3 | l=t3+3v\n\
+template t3; link l=t+3v; link l=t+3w => conflict l | t3 | l=t3+3v\n\
+static l; template t231; link l=t+3v => unbound 21 extra 0 | l t231 | l\n\
+# a link of such a template is added, listed and taken out as others are\n\
+add l=t3+3v => ok | t3 | l=t3+3v\n\
+add l=t231+1x+3v+2y; add m=t231+1x+3w+2y; links t => lm | t231 | l=t231+1x+3v+2y m=t231+1x+3w+2y\n\
+template t3; add l=t3_+3v => occupied t | t3 |\n\
+template t3; add l=t1+1x => occupied t | t3 |\n\
+template t3; link l=t+3v; unlink l => l=t3+3v | t3 |\n\
+template t3; link l=t+3v; remove_template t => with links t | t3 | l=t3+3v\n\
+template t3_; remove_template t => t3_ | |\n\
 # policies on a body are listed in their order\n\
 static a; links a => a | a | a\n\
 static a; links b => no body b | a | a\n\
@@ -199,6 +244,7 @@ fn of_readers(alloc: Global, word: &str, one: &str, two: &str) -> Result<String,
         "empty" => is_empty(alloc, one),
         "counted" => counted(alloc, one),
         "text" => text_of(alloc, one),
+        "action" => action_of(alloc, one, two),
         "joining" => of_joining(alloc, one, two),
         "removal" => of_removal(alloc, one, two),
         "validation" => of_validation(alloc, one, two),
@@ -254,6 +300,16 @@ keep|static P; static Q!|static P; static R% => ok | P Q! R% | P Q! R%\n\
 # the one id that conflicts is refused, and then renamed alone\n\
 keep|static P; static Q!|static Q; static R% => occupied Q | P Q! | P Q!\n\
 merge|static P; static Q!|static Q; static R% => QS ok | P Q! S R% | P Q! S R%\n\
+# templates on the action's slot, and links that bind it, conflict as others do\n\
+merge|template t3|template t1 => tP ok | t3 P1 |\n\
+merge|template t3|template t3_ => tP ok | t3 P3_ |\n\
+merge|template t3; link l=t+3v|template t3; link l=t+3w => lP ok | t3 | l=t3+3v P=t3+3w\n\
+merge|template t3; link l=t+3v|template t3_; link l=t+3v => tP lQ ok | t3 P3_ | l=t3+3v Q=P3_+3v\n\
+merge|template t3; link l=t+3v|template t3; link l=t+3v; link m=t+3w => ok | t3 | l=t3+3v m=t3+3w\n\
+merge|static a|template t231; link a=t+1x+2y+3v => aP ok | a t231 | a P=t231+1x+3v+2y\n\
+keep|template t3|template t3_ => occupied t | t3 |\n\
+keep|template t3; link l=t+3v|template t3; link l=t+3w => occupied l | t3 | l=t3+3v\n\
+keep|template t3; link l=t+3v|template t3; link l=t+3v => ok | t3 | l=t3+3v\n\
 # a merged set is merged again\n\
 again|static a|static a!; static b => aP ok | a P! b | a P! b, aQ ok | a P! b Q! | a P! b Q!\n\
 # sets of equal orders are equal\n\
@@ -274,6 +330,10 @@ equal|static a|static a! => other\n\
 equal|template t1|template t2 => other\n\
 equal|add l=t1+1x|add l=t1+1y => other\n\
 equal|add l=t1+1x|add m=t1+1x => other\n\
+equal|template t3|template t3_ => other\n\
+equal|template t3|template t1 => other\n\
+equal|add l=t3+3v|add l=t3+3w => other\n\
+equal|template t3_; link l=t+3v|add l=t3_+3v => equal\n\
 equal|add l=t|template t => other\n\
 # a copy is equal and stands apart\n\
 copied|static a; template t1; link l=t+1x; template u => yes\n\
@@ -287,6 +347,7 @@ made|a l=a => duplicate template or policy id `a`\n\
 # a set of one policy is what adding it leaves\n\
 single|a|add a => yes\n\
 single|a!|static a! => yes\n\
+single|l=t3+3v|template t3; link l=t+3v => yes\n\
 single|l=t1+1x|add l=t1+1x => yes\n\
 single|l=t|template t; link l=t => yes\n\
 single|l=t|template t => no\n\
@@ -295,6 +356,8 @@ lent|static a; template t; add m=t => yes\n\
 # sets that are made of their maps as they stand\n\
 raw|l=t1+1x|template t1; link l=t+1x => yes\n\
 raw|a!|static a! => yes\n\
+raw|l=t231+1x+3v+2y|template t231; link l=t+1x+2y+3v => yes\n\
+on raw|l=t3+3v|links t; link m=t+3X => no action X | t3 | l=t3+3v\n\
 on raw|l=t1+1x|links t => l | t1 | l=t1+1x\n\
 on raw|l=t1+1x|links t; unlink l => l=t1+1x | t1 |\n\
 on raw|l=t1+1x|links t; unlink l; links t =>  | t1 |\n\
@@ -310,10 +373,12 @@ filtered|template t1; static s => ok | t1 | s\n\
 filtered|template t1; static s; link l=t+1x => ok | t1 | s\n\
 filtered|static b; template t; static a; template u2; add l=v21+1x+2y => ok | u2 v21 | b a\n\
 filtered|template t1? => ok | t1? |\n\
+filtered|template t3; template u3_; static s%; link l=t+3v => ok | t3 u3_ | s%\n\
 # a set falls apart into its policies\n\
 apart|template t => ok | |\n\
 apart|add d; add b; add c; add a => ok | | d b c a\n\
 apart|add m=t1+1x; static a; link l=t+1y => ok | | m=t1+1x a l=t1+1y\n\
+apart|add m=t3_+3v; static a => ok | | m=t3_+3v a\n\
 # an id finds its policy and its body\n\
 found|a|static b; template t; static a!; add l=u1+1x; link m=u+1y => ok | a! | a!\n\
 found|b|static b; template t; static a!; add l=u1+1x; link m=u+1y => ok | b | b\n\
@@ -331,6 +396,7 @@ empty|add l=t; unlink l => no\n\
 # how many bodies, bodies with slots, static policies and policies there are\n\
 counted| => 0 0 0 0\n\
 counted|template t1; static s => 2 1 1 1\n\
+counted|template t3; template u3_; static s%; link l=t+3v => 3 2 1 2\n\
 counted|template t1; static s; link i=t+1e => 2 1 1 2\n\
 counted|static i; template t; static j!; template u1; link l=u+1e => 4 1 2 3\n\
 # a set is written by its two orders\n\
@@ -339,6 +405,16 @@ text|static a => Templates:¶permit(¶  principal,¶  action,¶  resource¶);, T
 text|template t1 => Templates:¶permit(¶  principal == ?principal,¶  action,¶  resource¶);, Template Linked Policies:¶\n\
 text|template t1; link m=t+1x; link l=t+1y => Templates:¶permit(¶  principal == ?principal,¶  action,¶  resource¶);, Template Linked Policies:¶Template Instance of t, slots: [?principal -> A::\"x\"]¶Template Instance of t, slots: [?principal -> A::\"y\"]\n\
 text|static a!; add l=t2+2y => Templates:¶forbid(¶  principal,¶  action,¶  resource¶);¶permit(¶  principal,¶  action,¶  resource in ?resource¶);, Template Linked Policies:¶forbid(¶  principal,¶  action,¶  resource¶);¶Template Instance of t, slots: [?resource -> A::\"y\"]\n\
+text|template t3_; link l=t+3v => Templates:¶permit(¶  principal,¶  action in ?action,¶  resource¶);, Template Linked Policies:¶Template Instance of t, slots: [?action -> Action::\"v\"]\n\
+text|add l=t231+2y+3v+1x => Templates:¶permit(¶  principal == ?principal,¶  action == ?action,¶  resource in ?resource¶);, Template Linked Policies:¶Template Instance of t, slots: [?principal -> A::\"x\",?action -> Action::\"v\",?resource -> A::\"y\"]\n\
+# the action of a link is what its slot is bound to\n\
+action|l|template t3_; link l=t+3v => action in [Action::\"v\"]\n\
+action|l|template t3; link l=t+3v => action == Action::\"v\"\n\
+action|l|add l=t231+1x+3v+2y => action == Action::\"v\"\n\
+action|l|template t1; link l=t+1x => action\n\
+action|l|template t%; link l=t => action == Action::\"x\"\n\
+action|a|static a% => action == Action::\"x\"\n\
+action|t|template t3 => no policy\n\
 # refusals have their texts\n\
 joining|occupied|i\"j => duplicate template or policy id `i\\\"j`\n\
 joining|missing|i\"j => No template `i\\\"j`\n\
@@ -369,7 +445,10 @@ valid|static a~; add l=t => link `l` references template `t` which has no slots\
 valid|template u; template t; add l=t; add k=u => link `l` references template `t` which has no slots\n\
 valid|add k=u1+1x; static a; add l=t => link `l` references template `t` which has no slots\n\
 valid|template t@; link l=t => link `l` references template `t` which has no slots\n\
+valid|template t3; template u3_; link l=t+3v => ok | t3 u3_ | l=t3+3v\n\
 # the first body that is not valid is named\n\
+valid|template t3? => invalid template `t`: found slot `?action` in a condition clause\n\
+valid|template t31? => invalid template `t`: found slot `?action` in a condition clause\n\
 valid|template t1? => invalid template `t`: found slot `?principal` in a condition clause\n\
 valid|template t11? => invalid template `t`: found slot `?principal` in a condition clause\n\
 valid|template t2? => invalid template `t`: found slot `?resource` in a condition clause\n\
@@ -387,6 +466,8 @@ after|template t1; link l=t+1x|template t2; link m=t+2x; link n=t+2y|links t => 
 after|template t1; link l=t+1x|template t1; link l=t+1y|links t => lP | t1 | l=t1+1x P=t1+1y\n\
 after|static a; template t1; link l=t+1x; unlink l|template t1; static b; link m=t+1y|links t => m | a t1 b | a b m=t1+1y\n\
 after|static a|static a; static b|links b => b | a b | a b\n\
+after|template t3; link l=t+3v|template t3; link l=t+3w|links t => lP | t3 | l=t3+3v P=t3+3w\n\
+after|template t3; link l=t+3v|template t3_; link m=t+3v|link n=P+3X => no action X | t3 P3_ | l=t3+3v m=P3_+3v\n\
 after|template t1|template t1; link l=t+1x|unlink l; links t =>  | t1 |\n\
 after|template t1; link l=t+1x|template t1; link l=t+1x; link m=t+1y|unlink l; remove_template t => with links t | t1 | m=t1+1y";
 

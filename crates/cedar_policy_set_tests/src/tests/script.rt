@@ -1,7 +1,7 @@
 // Calls on a policy set, by the short texts of `notation`.
 use super::board::{Board, Body, Row, empty, put_body, put_row};
 use super::notation::{
-    Call, Said, Verb, Why, behind, call_of, joined, letter_for, number_of, told_text,
+    Call, Said, Verb, Why, behind, call_of, has_digit, joined, letter_for, number_of, told_text,
 };
 use super::uid;
 use cedar_action::ActionConstraint;
@@ -45,28 +45,53 @@ fn uid_of(alloc: Global, letter: u8) -> Result<EntityUID, Fail> {
     uid(alloc, text.as_str())
 }
 
-// The digits of the slots in the scope: all but the first, if that stands in the clause.
-fn in_scope(body: Body) -> u32 {
-    if body.mark != b'?' {
-        return body.slots;
+// The action with a letter, or the uid of type `A` with a capital.
+fn action_uid(alloc: Global, letter: u8) -> Result<EntityUID, Fail> {
+    if letter.is_ascii_uppercase() {
+        return uid_of(alloc, letter);
     }
-    match body.slots {
-        0..10 => 0,
-        10..100 => body.slots % 10,
-        _ => body.slots % 100,
+    let mut text = String::new(alloc);
+    text.push(char::from(letter))?;
+    Ok(EntityUID::with_eid_and_type(alloc, "Action", text.as_str())?)
+}
+
+// The first of some digits.
+fn first_digit(digits: u32) -> u32 {
+    match digits {
+        0..10 => digits,
+        10..100 => digits / 10,
+        100..1000 => digits / 100,
+        _ => digits / 1000,
     }
 }
 
+// The others.
+fn later_digits(digits: u32) -> u32 {
+    match digits {
+        0..10 => 0,
+        10..100 => digits % 10,
+        100..1000 => digits % 100,
+        _ => digits % 1000,
+    }
+}
+
+// The digits of the slots in the scope: all but the first, if that stands in the clause.
+fn in_scope(body: Body) -> u32 {
+    if body.mark == b'?' {
+        return later_digits(body.slots);
+    }
+    body.slots
+}
+
 fn principal_of(body: Body) -> PrincipalConstraint {
-    if in_scope(body) % 10 == 1 {
+    if has_digit(in_scope(body), 1) {
         return PrincipalConstraint::is_eq_slot();
     }
     PrincipalConstraint::any()
 }
 
 fn resource_of(body: Body) -> ResourceConstraint {
-    let slots = in_scope(body);
-    if slots / 10 == 2 || slots == 2 {
+    if has_digit(in_scope(body), 2) {
         return ResourceConstraint::is_in_slot();
     }
     ResourceConstraint::any()
@@ -79,11 +104,22 @@ fn effect_of(body: Body) -> Effect {
     Effect::Permit
 }
 
+// The constraint of the action that has its slot, or has none.
+fn slotted_action(body: Body) -> ActionConstraint {
+    if !has_digit(in_scope(body), 3) {
+        return ActionConstraint::any();
+    }
+    if body.mark == b'_' {
+        return ActionConstraint::is_in_slot();
+    }
+    ActionConstraint::is_eq_slot()
+}
+
 fn action_of(alloc: Global, body: Body) -> Result<ActionConstraint, Fail> {
     let ty = match body.mark {
         b'@' => "User",
         b'%' => "Action",
-        _ => return Ok(ActionConstraint::any()),
+        _ => return Ok(slotted_action(body)),
     };
     let x = EntityUID::with_eid_and_type(alloc, ty, "x")?;
     Ok(ActionConstraint::is_eq(alloc, x)?)
@@ -91,8 +127,9 @@ fn action_of(alloc: Global, body: Body) -> Result<ActionConstraint, Fail> {
 
 // The slot that is the clause.
 fn slot_of(body: Body) -> SlotId {
-    match body.slots {
-        2 | 20..30 | 200..300 => SlotId::Resource,
+    match first_digit(body.slots) {
+        2 => SlotId::Resource,
+        3 => SlotId::Action,
         _ => SlotId::Principal,
     }
 }
@@ -135,26 +172,35 @@ pub(super) fn static_of(alloc: Global, body: Body) -> Result<StaticPolicy, Fail>
     Ok(StaticPolicy::try_from(template)?)
 }
 
+// The uid that a letter stands for behind a slot.
+fn value_of(alloc: Global, slot: SlotId, letter: u8) -> Result<EntityUID, Fail> {
+    match slot {
+        SlotId::Action => action_uid(alloc, letter),
+        _ => uid_of(alloc, letter),
+    }
+}
+
 // Binds a slot, where there is a letter for it.
 fn bind(alloc: Global, values: &mut SlotEnv, slot: SlotId, letter: u8) -> Result<(), Fail> {
     if letter == 0 {
         return Ok(());
     }
-    let value = uid_of(alloc, letter)?;
+    let value = value_of(alloc, slot, letter)?;
     drop(values.insert(slot, value)?);
     Ok(())
 }
 
 // Binds the slots of a link.
-fn bind_both(alloc: Global, values: &mut SlotEnv, row: Row) -> Result<(), Fail> {
+fn bind_all(alloc: Global, values: &mut SlotEnv, row: Row) -> Result<(), Fail> {
     bind(alloc, values, SlotId::Principal, row.principal)?;
+    bind(alloc, values, SlotId::Action, row.action)?;
     bind(alloc, values, SlotId::Resource, row.resource)
 }
 
 // The bindings of a link.
 fn values_of(alloc: Global, row: Row) -> Result<SlotEnv, Fail> {
     let mut values = HashMap::new(alloc);
-    let done = bind_both(alloc, &mut values, row);
+    let done = bind_all(alloc, &mut values, row);
     kept(values, done)
 }
 
@@ -199,6 +245,7 @@ fn digit(slot: SlotId) -> u32 {
     match slot {
         SlotId::Principal => 1,
         SlotId::Resource => 2,
+        SlotId::Action => 3,
     }
 }
 
@@ -220,13 +267,24 @@ fn digits_of(slots: &[SlotId]) -> u32 {
     digits
 }
 
+// The mark of a constraint of the action, or 0.
+fn action_mark(constraint: &ActionConstraint) -> u8 {
+    match constraint {
+        ActionConstraint::Eq(uid) if uid.is_action() => b'%',
+        ActionConstraint::Eq(_) => b'@',
+        ActionConstraint::InSlot(_) => b'_',
+        _ => 0,
+    }
+}
+
 // The mark of a template, or 0. One with a clause has a slot there, if it has slots.
 fn mark_of(template: &Template) -> u8 {
     if matches!(template.effect(), Effect::Forbid) {
         return b'!';
     }
-    if let ActionConstraint::Eq(uid) = template.action_constraint() {
-        return if uid.is_action() { b'%' } else { b'@' };
+    let mark = action_mark(template.action_constraint());
+    if mark != 0 {
+        return mark;
     }
     match template.non_scope_constraints() {
         Some(_) if slots_of(template) == 0 => b'~',
@@ -244,9 +302,19 @@ pub(super) fn body_of(template: &Template) -> Body {
     }
 }
 
+// The letter of a uid that the action's slot is bound to: a capital of one that is no action.
+fn action_letter(uid: &EntityUID) -> u8 {
+    let letter = letter(uid.eid().as_ref());
+    if uid.is_action() == letter.is_ascii_uppercase() {
+        return b'?';
+    }
+    letter
+}
+
 // The letter that a slot is bound to, or 0.
 fn bound_in(values: &SlotEnv, slot: SlotId) -> u8 {
     match values.get(&slot) {
+        Some(uid) if slot == SlotId::Action => action_letter(uid),
         Some(uid) => letter(uid.eid().as_ref()),
         None => 0,
     }
@@ -259,6 +327,7 @@ pub(super) fn row_of(policy: &Policy) -> Row {
         body: body_of(policy.template()),
         link: !policy.is_static(),
         principal: bound_in(policy.env(), SlotId::Principal),
+        action: bound_in(policy.env(), SlotId::Action),
         resource: bound_in(policy.env(), SlotId::Resource),
     }
 }
@@ -323,12 +392,20 @@ fn left_over(unbound: Vec<SlotId>, extra: Vec<SlotId>) -> Said {
     said
 }
 
+// A uid that is no action, which is let go.
+fn no_action(uid: EntityUID) -> Said {
+    let said = Said::NotAction(action_letter(&uid));
+    drop(uid);
+    said
+}
+
 fn said_by_linking(error: LinkingError) -> Said {
     match error {
         LinkingError::ArityError {
             unbound_values,
             extra_values,
         } => left_over(unbound_values, extra_values),
+        LinkingError::NotAnAction { uid } => no_action(uid),
         LinkingError::NoSuchTemplate { id } => refused(Why::NoSuchTemplate, id),
         LinkingError::PolicyIdConflict { id } => refused(Why::IdConflict, id),
         LinkingError::Memory => Said::Memory,

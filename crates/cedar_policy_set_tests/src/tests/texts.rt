@@ -1,8 +1,9 @@
 // How sets and refusals are written.
-use super::script::{id_of_text, set_of};
+use super::script::{id_of, id_of_text, letter, set_of};
+use cedar_ids::policy_id::PolicyID;
 use cedar_policy::TemplateValidationError;
 use cedar_policy_set::{
-    PolicySetError, PolicySetGetLinksError, PolicySetPolicyRemovalError,
+    PolicySet, PolicySetError, PolicySetGetLinksError, PolicySetPolicyRemovalError,
     PolicySetTemplateRemovalError, PolicySetUnlinkError, PolicySetValidationError,
 };
 use cedar_test_helpers::tried::{beside, owned, written};
@@ -12,6 +13,23 @@ use std::test::Fail;
 // The text of the set that some calls leave.
 pub(super) fn text_of(alloc: Global, calls: &str) -> Result<String, Fail> {
     written(alloc, set_of(alloc, calls)?)
+}
+
+// The text of the action's constraint of the policy with an id.
+fn action_in(alloc: Global, set: &PolicySet, id: &PolicyID) -> Result<String, Fail> {
+    match set.get(id) {
+        Some(policy) => written(alloc, policy.action_constraint(alloc)?),
+        None => owned(alloc, "no policy"),
+    }
+}
+
+// That of the policy with a letter in the set that some calls leave.
+pub(super) fn action_of(alloc: Global, text: &str, calls: &str) -> Result<String, Fail> {
+    let (id, set) = beside(id_of(alloc, letter(text))?, set_of(alloc, calls))?;
+    let told = action_in(alloc, &set, &id);
+    drop(set);
+    drop(id);
+    told
 }
 
 // The text of a refusal of adding or of listing, with an id.

@@ -7,7 +7,7 @@ use std::fmt::Write;
 use std::test::Fail;
 
 // The status, or 9 where there is none.
-fn status_of(ran: Result<u8, RunError>) -> u8 {
+pub(super) fn status_of(ran: Result<u8, RunError>) -> u8 {
     match ran {
         Ok(status) => status,
         Err(error) => {
