@@ -108,7 +108,7 @@ fn malformed_lines_on_policy_sets_are_no_commands(rt: HostRuntime) -> Result<(),
             (b"merge\tkept\n", fault, 2),
             (b"merge\tkeep\trename\n", fault, 2),
             (b"ids\t\n", fault, 2),
-            (b"slice\tA::\"a\"\n", fault, 2),
+            (b"slices\tA::\"a\"\n", fault, 2),
             (
                 b"ent\tA::\"a\"\tA::\"b\"\nstatic\ta\tpermit\nbuild\nids\nstatics\ta\tpermit\n",
                 b"ok\nok 1\nbodies\ta\npolicies\ta\nline 5: not a command\n",
