@@ -20,6 +20,6 @@ returns-then-occupied c =
     let same : c.own_id_of.result ≡ c.args.new_id = ap (λ o. option_map_or (λ x. x) o []) (c.own_id_of.ensures ∙ ap (λ (q : PolicyParts). q.link) c.in_ok-policy.ensures.1) in (
       refl,
       fit_goes_on (body_slots c.args.template.value) (env_of c.args.values) _ c.in_ok-policy.ensures.0
-      ∙ ap (λ b. if b then Err (id_conflict c.args.new_id) else Ok kept) (sym c.if-occupied.ensures)
-      ∙ ap (λ i. Err (id_conflict i)) (sym same),
+          ∙ ap (λ b. if b then Err (id_conflict c.args.new_id) else Ok kept) (sym c.if-occupied.ensures)
+          ∙ ap (λ i. Err (id_conflict i)) (sym same),
     )
