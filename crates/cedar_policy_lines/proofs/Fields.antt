@@ -17,8 +17,9 @@ use Rattle.cedar_ids.specs.laws.UidTexts.{uid_found}
 use Rattle.cedar_ids.specs.declared.err.ParseErrors.{ParseErrors}
 use Rattle.cedar_ids.specs.declared.entity.EntityUID.{EntityUID}
 use Rattle.cedar_ids.specs.declared.entity.EntityUID.TheVariants as uids
-use Rattle.cedar_policy_lines.specs.PolicyCommand.{PolicyCommand, IsPolicyCommand}
-use Rattle.cedar_binding.specs.Bindings.{EnvParts}
+use Rattle.cedar_policy_lines.specs.PolicyCommand.{PolicyCommand, IsPolicyCommand, bound_more}
+use Rattle.cedar_binding.specs.Bindings.{EnvParts, binds}
+use Rattle.cedar_terms.specs.declared.slot.SlotId.{SlotId}
 use Rattle.cedar_policy_lines.specs.Reads.{ReadsAs}
 use Rattle.cedar_policy_lines.specs.laws.PolicyReading.{behind, uid_read, read_uid, binding_of, with_binding, bindings_from, policy_command}
 use Rattle.cedar_policy_lines.specs.laws.ReadCommands.{command_is_read, read_is_command, none_goes_on}
@@ -48,21 +49,16 @@ pub no_uid : (t : List ℕ) → ((u : EntityUID) → IsPrinted (uid_parts u) t �
 no_uid t none = none_by t (uid_reading t) refl none
 
 -- the fields from one on are that one and those behind it
-pub field_first : (fs : List (Bor (List ℕ))) (k : ℕ) (f : Bor (List ℕ)) → k < length fs → f ≡ get_or fs k f → map (λ x. x.now) (drop k fs) ≡ f.now ∷ map (λ x. x.now) (drop (k + 1) fs)
-field_first fs k f l e =
-    ap (map (λ x. x.now)) (drop-cons fs k f l ∙ ap (λ x. x ∷ drop (suc k) fs) (sym e)) ∙ ap (λ n. f.now ∷ map (λ x. x.now) (drop n fs)) {x = suc k} {y = k + 1} (omega arith)
+pub field_first : (fs : List (Bor (List ℕ))) (k : ℕ) (z : Bor (List ℕ)) → k < length fs → map (λ x. x.now) (drop k fs) ≡ (get_or fs k z).now ∷ map (λ x. x.now) (drop (k + 1) fs)
+field_first fs k z l = ap (map (λ x. x.now)) (drop-cons fs k z l) ∙ ap (λ n. (get_or fs k z).now ∷ map (λ x. x.now) (drop n fs)) {x = suc k} {y = k + 1} (omega arith)
 
 -- a field that is no further binding ends the reading with none
 pub none_behind : (d : EnvParts) (f : List ℕ) (fs : List (List ℕ)) (o : Option EnvParts) → bindings_from (Some d) (f ∷ fs) ≡ o → with_binding d (binding_of f) ≡ None → None ≡ o
 none_behind d f fs o h n = sym (none_goes_on fs) ∙ ap (λ x. bindings_from x fs) (sym n) ∙ h
 
-pub bound_twice : (b : Bool) (x : EnvParts) → b ≡ true → (if b then None else Some x) ≡ None
+bound_twice : (b : Bool) (x : EnvParts) → b ≡ true → (if b then None else Some x) ≡ None
 bound_twice true x e = refl
 bound_twice false x e = absurd (cc)
-
-pub bound_once : (b : Bool) (x : EnvParts) → b ≡ false → (if b then None else Some x) ≡ Some x
-bound_once true x e = absurd (cc)
-bound_once false x e = refl
 
 none_some : (c : PolicyCommand) → None ≡ Some c → ⊥
 none_some c e = cc
@@ -76,3 +72,16 @@ no_command (f ∷ fs) e c h = absurd (omega arith)
 pub reads_as : {A : Type 0} (value : A → PolicyCommand) (fs : List (List ℕ)) (o : Option A) → option_map value o ≡ policy_command fs → ReadsAs (λ c. IsPolicyCommand c fs) value o
 reads_as value fs None e = λ c h. none_some c (e ∙ command_is_read c fs h)
 reads_as value fs (Some a) e = read_is_command fs (value a) (sym e)
+
+-- where the binding of the field at a place ends the reading, there are no bindings
+pub none_read : (fs : List (Bor (List ℕ))) (k : ℕ) (z : Bor (List ℕ)) (d : EnvParts) (o : Option EnvParts) → k < length fs → bindings_from (Some d) (map (λ x. x.now) (drop k fs)) ≡ o → with_binding d (binding_of (get_or fs k z).now) ≡ None → None ≡ o
+none_read fs k z d o l h n = none_behind d (get_or fs k z).now (map (λ x. x.now) (drop (k + 1) fs)) o (ap (bindings_from (Some d)) (sym (field_first fs k z l)) ∙ h) n
+
+-- a field that was read as nothing is no binding
+pub unread : {A : Type 0} {B : Type 0} (g : A → B) (o : Option A) (p : Option B) → option_map g o ≡ p → o ≡ None → p ≡ None
+unread g None p e n = sym e
+unread g (Some x) p e n = absurd (cc)
+
+-- a slot that is bound is not bound once more
+pub bound_again : (d : EnvParts) (b : SlotId × UidParts) (o : Option (SlotId × UidParts)) → o ≡ Some b → binds d b.0 ≡ true → with_binding d o ≡ None
+bound_again d b o e h = ap (with_binding d) e ∙ bound_twice (binds d b.0) (bound_more d b.0 b.1) h
