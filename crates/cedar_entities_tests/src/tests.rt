@@ -1,5 +1,11 @@
 mod store_beside;
+mod store_edits;
+mod store_faults;
 mod store_in_modes;
 mod store_kept;
 mod store_lists;
+mod store_modes;
+mod store_reads;
+mod store_shapes;
+mod store_touch;
 mod store_world;

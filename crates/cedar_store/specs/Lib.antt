@@ -1,5 +1,3 @@
-pub mod Calls
-pub mod CallsOf
 pub mod Command
 pub mod Faults
 pub mod Output

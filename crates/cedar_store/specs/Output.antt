@@ -15,8 +15,8 @@ use Rattle.cedar_policy_lines.specs.Boards.{Boards, no_boards}
 pub use Rattle.cedar_policy_lines.specs.PolicyOutput.{written_line}
 use Rattle.cedar_policy_lines.specs.PolicyOutput.{PolicyGives}
 use Rattle.cedar_slice.specs.Slices.{IsSliceOf}
-use Rattle.cedar_store.specs.Calls.{made, Passes}
-use Rattle.cedar_store.specs.Calls as calls
+use Rattle.cedar_replay.specs.Calls.{made, Passes}
+use Rattle.cedar_replay.specs.Calls as calls
 use Rattle.cedar_store.specs.Command.{Command, Nothing, Ent, Build, Add, Upsert, Remove, Slice, Anc, Policy, IsLine}
 
 -- what waits for a call on the store, the world that the store holds, and the two boards

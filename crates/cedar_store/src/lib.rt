@@ -12,7 +12,6 @@ mod line;
 mod machine;
 mod parent_fields;
 mod program;
-mod replay;
 mod uid_text;
 
 pub use cedar_action::{ActionConstraint, ActionTypesError, EntityIterator};
@@ -33,12 +32,12 @@ pub use cedar_policy::{
     Effect, LinkingError, Policy, SlotEnv, Slots, StaticPolicy, Template, TemplateBody,
     TemplateBodyImpl, TemplateValidationError, UnexpectedSlotError,
 };
-pub use cedar_policy_replay::{Answer, PolicyCall, replay_policies};
 pub use cedar_policy_set::{
     AllTemplates, IntoPolicies, Linked, LinkedIds, Policies, PolicySet, PolicySetError,
     PolicySetGetLinksError, PolicySetPolicyRemovalError, PolicySetTemplateRemovalError,
     PolicySetUnlinkError, PolicySetValidationError, StaticPolicies, Templates,
 };
+pub use cedar_replay::{Answer, EntityCall, PolicyCall, replay_entities, replay_policies};
 pub use cedar_scope::{
     EntityReference, PrincipalConstraint, PrincipalOrResource, PrincipalOrResourceConstraint,
     ResourceConstraint,
@@ -50,7 +49,6 @@ pub use cedar_terms::{
 };
 pub use cedar_uid_sets::Union;
 pub use program::{RunError, run, run_and_leave};
-pub use replay::{EntityCall, replay_entities};
 
 /// What is done with bindings, and the texts of refusals.
 pub mod bindings {

@@ -1,17 +1,9 @@
 mod edits;
 mod known_lines;
 mod policies;
-mod replays;
 mod sessions;
 mod slices;
 mod slots;
-mod store_edits;
-mod store_faults;
-mod store_modes;
-mod store_reads;
-mod store_script;
-mod store_shapes;
-mod store_touch;
 mod streams;
 
 use cedar_store::{RunError, run};

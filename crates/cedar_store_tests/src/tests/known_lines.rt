@@ -1,7 +1,7 @@
 // Lines of which some tell what others told: types and parents that the program knows from lines before, and fields that stand
 // where those of other lines stood.
-use super::store_script::{beside, ended};
 use cedar_store::{RunError, run, run_and_leave};
+use cedar_test_helpers::tried::{beside, kept};
 use std::alloc::Global;
 use std::fmt::Write;
 use std::test::Fail;
@@ -92,10 +92,10 @@ fn push_due(text: &mut String, n: usize) -> Result<(), Fail> {
 fn users_are_answered(alloc: Global, n: usize) -> Result<bool, Fail> {
     let mut input = String::new(alloc);
     let added = push_input(&mut input, n);
-    let input = ended(input, added)?;
+    let input = kept(input, added)?;
     let mut want = String::new(alloc);
     let added = push_due(&mut want, n);
-    let (input, want) = beside(input, ended(want, added))?;
+    let (input, want) = beside(input, kept(want, added))?;
     let told = writes(alloc, &input, &want);
     drop(input);
     drop(want);

@@ -1,6 +1,6 @@
 // Readers and writers of several buffers, and a writer that sends out at the flush alone.
-use super::store_script::{beside, ended};
 use cedar_store::run;
+use cedar_test_helpers::tried::{beside, kept};
 use std::alloc::Global;
 use std::io;
 use std::io::{Read, Write};
@@ -50,10 +50,10 @@ fn push_due(text: &mut String, n: usize) -> Result<(), Fail> {
 fn many(alloc: Global, n: usize) -> Result<(String, String), Fail> {
     let mut input = String::new(alloc);
     let added = push_many(&mut input, n);
-    let input = ended(input, added)?;
+    let input = kept(input, added)?;
     let mut output = String::new(alloc);
     let added = push_due(&mut output, n);
-    beside(input, ended(output, added))
+    beside(input, kept(output, added))
 }
 
 // A reader that gives at most `most` bytes at a read.

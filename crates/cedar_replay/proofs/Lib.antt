@@ -1,0 +1,2 @@
+pub mod EntityReplays
+pub mod PolicyReplays

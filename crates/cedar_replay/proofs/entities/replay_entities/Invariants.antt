@@ -1,0 +1,15 @@
+use Rattle.std.specs.Prelude.{◌≡◌, ◌++◌, length, map}
+use Rattle.std.specs.Vec.Iter.{into_iter_items}
+use Rattle.cedar_entities.specs.Plain.{IsPlainStore}
+use Rattle.cedar_entities.specs.World.{empty_world}
+use Rattle.cedar_replay.specs.Calls.{all_made, AllPass}
+use Rattle.cedar_replay.specs.CallsOf.{call_of}
+use Rattle.cedar_replay.proofs.entities.replay_entities.Given as goal
+
+abbrev pub invariant-loop-call : goal.invariant-loop-call
+invariant-loop-call l = record {
+  plain : IsPlainStore (all_made empty_world (map call_of l.yielded)) l.store;
+  passed : AllPass empty_world (map call_of l.yielded);
+  count : length l.yielded ≡ l.done;
+  place : l.fn.calls.items ≡ l.yielded ++ into_iter_items l.call-iterator;
+}

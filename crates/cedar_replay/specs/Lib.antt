@@ -1,0 +1,3 @@
+pub mod Calls
+pub mod CallsOf
+pub mod Replays

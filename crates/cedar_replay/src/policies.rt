@@ -1,0 +1,84 @@
+//! Making the calls of a list.
+ghost use Rattle.std.specs.Prelude.{◌≡◌, ◌++◌, [], ◌∷◌, ◌<◌, ◌≤◌, ◌+◌, length, IfOk, OnErr};
+ghost use Rattle.std.specs.Vec.{vec_len, vec_capacity};
+ghost use Rattle.cedar_binding.specs.Views.{env_of};
+ghost use Rattle.cedar_policy_set.specs.Refusals.{Steps, told_by_linking};
+ghost use Rattle.cedar_policy_set.specs.Steps.{link_step};
+ghost use Rattle.cedar_replay.specs.Replays.{IsStep, AreSteps};
+
+use crate::call::{Answer, PolicyCall};
+use cedar_ids::policy_id::PolicyID;
+use cedar_policy::{LinkingError, SlotEnv};
+use cedar_policy_set::PolicySet;
+use std::alloc::{AllocError, Global};
+
+// Links a template, and keeps the link in the set alone.
+fn link(
+    alloc: Global,
+    set: &mut PolicySet,
+    template_id: PolicyID,
+    new_id: PolicyID,
+    values: SlotEnv,
+) -> Result<(), LinkingError>
+    ensures { Steps told_by_linking result set.old set.new (link_step set.old template_id new_id (env_of values)) }
+{
+    let _link = set.link(alloc, template_id, new_id, values)?;
+    Ok(())
+}
+
+// Makes one call.
+fn replay_one(alloc: Global, set: &mut PolicySet, call: PolicyCall) -> Answer
+    ensures { IsStep call result set.old set.new }
+{
+    match call {
+        PolicyCall::AddStatic(policy) => Answer::AddStatic(set.add_static(alloc, policy)),
+        PolicyCall::AddTemplate(template) => Answer::AddTemplate(set.add_template(alloc, template)),
+        PolicyCall::Add(policy) => Answer::Add(set.add(alloc, policy)),
+        PolicyCall::Link(template, id, values) => Answer::Link(link(
+            alloc, set, template, id, values,
+        )),
+        PolicyCall::Unlink(id) => Answer::Unlink(set.unlink(&id)),
+        PolicyCall::RemoveStatic(id) => Answer::RemoveStatic(set.remove_static(&id)),
+        PolicyCall::RemoveTemplate(id) => Answer::RemoveTemplate(set.remove_template(&id)),
+        PolicyCall::Merge(other, rename) => Answer::Merge(set.merge_policyset(
+            alloc, &other, rename,
+        )),
+    }
+}
+
+// Puts an answer last, where there is room for it.
+fn append(answers: &mut Vec<Answer>, answer: Answer)
+    requires { vec_len answers.old < vec_capacity answers.old }
+    ensures items { answers.new.items ≡ answers.old.items ++ answer ∷ [] }
+    ensures len { vec_len answers.new ≡ vec_len answers.old + 1 }
+    ensures room { vec_capacity answers.old ≤ vec_capacity answers.new }
+{
+    answers.push(answer).unwrap();
+}
+
+/// Makes the calls one after another on the set, and gives what each answers, in their order.
+///
+/// A call that is refused leaves the set as it was, for memory too, and the next call follows. `Err` comes only where the
+/// room for the list of answers was refused, which is asked for before the first call, and leaves the set as it was. Takes
+/// that memory beside what the calls take; its cost is that of the calls. It is this project's own.
+pub fn replay_policies(
+    alloc: Global,
+    set: &mut PolicySet,
+    calls: Vec<PolicyCall>,
+) -> Result<Vec<Answer>, AllocError>
+    // There is an answer for each call, in the variant of the call.
+    ensures count { IfOk result (λ answers. length answers.items ≡ length calls.items) }
+
+    // The answers and the set afterwards are those of the steps in turn, each from the set that the one before it left.
+    ensures steps { IfOk result (λ answers. AreSteps calls.items answers.items set.old set.new) }
+
+    // No call was made where there is no room for the answers.
+    ensures err { OnErr result (set.new ≡ set.old) }
+{
+    let mut answers = Vec::with_capacity(alloc, calls.len())?;
+    for call in calls {
+        let answer = replay_one(alloc, set, call);
+        append(&mut answers, answer);
+    }
+    Ok(answers)
+}
