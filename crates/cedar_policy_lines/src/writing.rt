@@ -130,12 +130,9 @@ pub(crate) fn push_by_linking(
     match answer {
         Ok(()) => push_ok(out),
         Err(LinkingError::ArityError { .. }) => push_line(out, "refused: arity"),
-        Err(LinkingError::NotAnAction { uid }) => push_refused_uid(
-            alloc,
-            out,
-            "not an action ",
-            &uid,
-        ),
+        Err(LinkingError::NotAnAction { uid }) => {
+            push_refused_uid(alloc, out, "not an action ", &uid)
+        }
         Err(LinkingError::NoSuchTemplate { id }) => push_refused(alloc, out, "no template ", &id),
         Err(LinkingError::PolicyIdConflict { id }) => push_refused(alloc, out, "occupied ", &id),
         Err(LinkingError::Memory) => Err(AllocError),
