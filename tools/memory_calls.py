@@ -2,8 +2,7 @@
 """The public calls that take memory, and whether each has a row that was refused memory.
 
 With no argument it prints the calls, as the sources of the crates say: each crate and, below it, its calls. That is to be the text
-of calls-that-take-memory.txt but for the marks: `- ` before a call whose rows ask for no memory, so that nothing can be refused,
-and `? ` before one that has no row yet.
+of calls-that-take-memory.txt but for the mark `- ` before a call whose rows ask for no memory, so that nothing can be refused.
 With `--rows FILE` it compares the list with the sources and with the rows that tests told in FILE.
 
 A public call takes memory where it answers a `Result` and takes an `alloc: Global`, or where it can answer want of memory: an
@@ -21,7 +20,7 @@ LIST = 'calls-that-take-memory.txt'
 def crates():
     for line in open('crates.txt', encoding='utf-8'):
         name = line.split('#')[0].split(':')[0].strip()
-        if name and not name.endswith('_tests') and name not in ('cedar_test_helpers', 'cedar_refusals'):
+        if name and not name.endswith('_tests') and name not in ('cedar_test_helpers', 'cedar_store_texts', 'cedar_refusals'):
             yield name.split()[0]
 
 
@@ -143,7 +142,7 @@ def calls():
 
 
 def listed():
-    """The calls of the list, with their marks."""
+    """The calls of the list, and whether each is marked as one whose rows ask for no memory."""
     crate = None
     for line in open(LIST, encoding='utf-8'):
         line = line.rstrip()
@@ -151,7 +150,7 @@ def listed():
             crate = line
         elif line.startswith(' '):
             call = line.strip()
-            yield (crate, re.sub(r'^[-?] ', '', call)), call[0] if call[1] == ' ' else ''
+            yield (crate, re.sub(r'^- ', '', call)), call.startswith('- ')
 
 
 def rows(file):
@@ -172,9 +171,9 @@ def check(file):
     faults = [f'{LIST} lacks `{call}` of {crate}' for crate, call in sorted(own - set(marks))]
     faults += [f'{LIST} has `{call}` of {crate}, which the sources have not' for crate, call in sorted(set(marks) - own)]
     for (crate, call), mark in sorted(marks.items()):
-        if (call in told) == (mark == '?'):
-            faults.append(f'`{call}` of {crate} ' + ('has rows, and is marked as if not' if mark == '?' else 'has no row'))
-        elif call in told and (mark == '-') == (told[call][1] > 0):
+        if call not in told:
+            faults.append(f'`{call}` of {crate} has no row')
+        elif mark == (told[call][1] > 0):
             faults.append(f'`{call}` of {crate} ' + ('asked for memory, and is marked as if not' if mark else 'asked for no memory'))
     faults += [f'rows name `{call}`, which is no public call that takes memory' for call in sorted(set(told) - names)]
     for fault in faults:

@@ -1,0 +1,38 @@
+// What the rows are made with. A thing is handed on as it was made, `None` where it could not be; what asks it lets it go.
+mod actions;
+mod annotations;
+mod bindings;
+mod bodies;
+mod constraints;
+mod looking;
+mod parts;
+mod policies;
+mod replays;
+mod sets;
+mod statics;
+mod templates;
+mod whole_sets;
+
+use cedar_ids::entity::{EntityType, EntityUID};
+use cedar_ids::policy_id::PolicyID;
+use cedar_refusals::counted;
+use std::alloc::Global;
+use std::rc::Rc;
+
+fn id(alloc: Global, text: &str) -> Option<PolicyID> {
+    PolicyID::from_string(alloc, text).ok()
+}
+
+// The uid of type `A` with this eid, or another type's, which stands before a dot.
+fn uid(alloc: Global, name: &str) -> Option<EntityUID> {
+    let (ty, eid) = name.split_once('.').unwrap_or(("A", name));
+    EntityUID::with_eid_and_type(alloc, ty, eid).ok()
+}
+
+fn shared(alloc: Global, name: &str) -> Option<Rc<EntityUID>> {
+    counted(alloc, uid(alloc, name))
+}
+
+fn shared_type(alloc: Global, text: &str) -> Option<Rc<EntityType>> {
+    counted(alloc, EntityType::from_normalized_str(alloc, text).ok())
+}

@@ -1,0 +1,4 @@
+// The program's calls and lists of calls on stores.
+mod lines;
+mod replays;
+mod runs;

@@ -1,0 +1,159 @@
+// The calls by which lines on policy sets are read and answered. Fields stand apart by blanks.
+use cedar_policy_lines::field::uid_field;
+use cedar_policy_lines::{PolicyCommand, PolicySets, read_policy_command};
+use cedar_refusals::{
+    Answer, Calls, Row, Tried, ample_if, is_worded, judged, refuse, relent, tried_rows, unmade,
+};
+use std::alloc::Global;
+
+struct OnLines;
+
+const LINES: &str = "
+    uid_field | A::\"a\" | A::\"a\"
+    - uid_field | A::b | none
+    uid_field | A::\"'\" | none
+    read_policy_command | static a permit | some
+    read_policy_command | template t both | some
+    read_policy_command | template t action | some
+    - read_policy_command | template t some | none
+    read_policy_command | link t l principal=A::\"x\" resource=A::\"y\" | some
+    read_policy_command | link t l action=A::\"x\" principal=A::\"y\" resource=A::\"z\" | some
+    read_policy_command | link t l action=A::\"x\" action=A::\"x\" | none
+    read_policy_command | unlink l | some
+    - read_policy_command | other | some
+    - read_policy_command | merge rename | some
+    - read_policy_command | ids | some
+    - read_policy_command | frob | none
+    - read_policy_command | link t l principal=A::x | none
+    PolicySets::take | static a permit | ok
+    PolicySets::take | static a permit; static a forbid | refused: occupied a
+    PolicySets::take | template t principal; link t l principal=A::\"x\" | ok
+    PolicySets::take | template t principal; link t l | refused: arity
+    PolicySets::take | template t none; link t l; unlink l | ok
+    PolicySets::take | template t action; link t l action=Action::\"x\" | ok
+    PolicySets::take | template t action; link t l action=A::\"x\" | refused: not an action A::\"x\"
+    PolicySets::take | static t permit; link t l | refused: no template t
+    PolicySets::take | template t none; static l permit; link t l | refused: occupied l
+    PolicySets::take | template t none; template t all | refused: occupied t
+    PolicySets::take | unlink l | refused: no link l
+    PolicySets::take | static l permit; unlink l | refused: not a link l
+    PolicySets::take | static a permit; other; static a forbid; merge keep | refused: occupied a
+    PolicySets::take | static a permit; other; static a forbid; merge rename | ok a policy0
+    PolicySets::take | static a permit; template t none; ids | bodies a t policies a
+    PolicySets::take | static a permit; other | ok
+";
+
+fn read(alloc: Global, number: usize, row: Row<'_>) -> Tried {
+    let fields: Result<Vec<&str>, std::alloc::AllocError> = row.given.split(' ').collect(alloc);
+    match fields {
+        Ok(fields) => {
+            refuse(alloc, number);
+            let tried = judged(
+                alloc,
+                read_policy_command(alloc, fields.as_slice()),
+                row.want,
+                |command| command.is_some() == (row.want == "some"),
+            );
+            drop(fields);
+            tried
+        }
+        Err(_) => unmade(),
+    }
+}
+
+// The command with a text.
+fn command(alloc: Global, text: &str) -> Option<PolicyCommand> {
+    let fields: Result<Vec<&str>, std::alloc::AllocError> = text.split(' ').collect(alloc);
+    match fields {
+        Ok(fields) => {
+            let command = read_policy_command(alloc, fields.as_slice());
+            drop(fields);
+            match command {
+                Ok(command) => command,
+                Err(_) => None,
+            }
+        }
+        Err(_) => None,
+    }
+}
+
+// The sets after commands; whether all could be taken.
+fn prepared(alloc: Global, sets: &mut PolicySets, texts: &str) -> bool {
+    for text in texts.split(';') {
+        if !text.trim().is_empty() {
+            match command(alloc, text.trim()) {
+                Some(command) => {
+                    let mut out = Vec::new(alloc);
+                    let taken = sets.take(alloc, command, &mut out).is_ok();
+                    drop(out);
+                    if !taken {
+                        return false;
+                    }
+                }
+                None => return false,
+            }
+        }
+    }
+    true
+}
+
+// Whether bytes have these words, with blanks for tabs and ends of lines.
+fn are_words(bytes: &[u8], want: &str) -> bool {
+    match str::from_utf8(bytes) {
+        Ok(text) => cedar_refusals::has_words(text, want),
+        Err(_) => false,
+    }
+}
+
+fn taken(alloc: Global, number: usize, row: Row<'_>) -> Tried {
+    let (before, text) = row.given.rsplit_once(';').unwrap_or(("", row.given));
+    let mut sets = PolicySets::new(alloc);
+    let well = prepared(alloc, &mut sets, before);
+    let tried = match command(alloc, text.trim()) {
+        Some(command) if well => {
+            let mut out = Vec::new(alloc);
+            refuse(alloc, number);
+            let answer = sets.take(alloc, command, &mut out);
+            let refused = relent(alloc);
+            let answer = match answer {
+                Ok(()) => ample_if(are_words(out.as_slice(), row.want)),
+                Err(_) => Answer::Memory,
+            };
+            drop(out);
+            Tried { answer, refused }
+        }
+        command => {
+            drop(command);
+            unmade()
+        }
+    };
+    drop(sets);
+    tried
+}
+
+impl Calls for OnLines {
+    fn tried(&self, alloc: Global, number: usize, row: Row<'_>) -> Tried {
+        match row.call {
+            "uid_field" => {
+                refuse(alloc, number);
+                judged(
+                    alloc,
+                    uid_field(alloc, row.given),
+                    row.want,
+                    |uid| match uid {
+                        Some(uid) => is_worded(alloc, uid, row.want),
+                        None => row.want == "none",
+                    },
+                )
+            }
+            "read_policy_command" => read(alloc, number, row),
+            "PolicySets::take" => taken(alloc, number, row),
+            _ => unmade(),
+        }
+    }
+}
+
+#[test]
+fn each_call_on_lines(rt: HostRuntime) {
+    assert!(rt; tried_rows(rt, &OnLines, LINES));
+}
