@@ -259,10 +259,11 @@ fn escaped_eids_are_read_and_written_alike(rt: HostRuntime) -> Result<(), Fail> 
     )
 }
 
-// A reader that gives a few bytes at a time, and fails at one of its reads.
+// A reader that gives at most so many bytes at a time, and fails at one of its reads.
 #[derive(Drop)]
 struct Failing<'a> {
     left: &'a [u8],
+    most: usize,
     good: usize,
 }
 
@@ -272,40 +273,58 @@ impl Read for Failing<'_> {
             return Err(io::Error::from(ErrorKind::Other));
         }
         self.good -= 1;
-        let count = self.left.len().min(buf.len()).min(5);
+        let count = self.left.len().min(buf.len()).min(self.most);
         buf[..count].copy_from_slice(&self.left[..count]);
         self.left = &self.left[count..];
         Ok(count)
     }
 }
 
-// Whether a run whose reader fails after so many good reads writes nothing and is refused for it, and one that
-// needs no more writes all.
-fn is_read_whole(alloc: Global, good: usize) -> bool {
+// How many bytes the input has that is read in parts.
+const READ: usize = 28;
+
+// Whether a run whose reader gives at most so many bytes at a time, and fails after so many good reads, writes nothing and is
+// refused for it, and one that needs no more writes all.
+fn is_read_whole(alloc: Global, most: usize, good: usize) -> bool {
     let left = b"ent\tA::\"a\"\nbuild\nanc\tA::\"a\"\n".as_slice();
     let mut out = Vec::new(alloc);
-    let answer = run(alloc, &mut Failing { left, good }, &mut out);
-    // The input takes six reads, and one more tells that it is at its end.
+    let answer = run(alloc, &mut Failing { left, most, good }, &mut out);
+    // The last read tells that the input is at its end.
+    let is_enough = good.saturating_sub(1).saturating_mul(most) >= READ;
     let told = match answer {
-        Ok(status) => status == 0 && out.as_slice() == b"ok 1\nanc\n".as_slice() && good >= 7,
-        Err(RunError::Read) => out.is_empty() && good < 7,
+        Ok(status) => status == 0 && out.as_slice() == b"ok 1\nanc\n".as_slice() && is_enough,
+        Err(RunError::Read) => out.is_empty() && !is_enough,
         Err(_) => false,
     };
     drop(out);
     told
 }
 
+// Whether that is so after any number of good reads.
+fn is_refused_for_reads(alloc: Global, most: usize) -> bool {
+    for good in 0..32 {
+        if !is_read_whole(alloc, most, good) {
+            return false;
+        }
+    }
+    true
+}
+
 #[test]
 fn a_failed_read_writes_nothing(rt: HostRuntime) {
-    for good in 0..20 {
-        assert!(rt; is_read_whole(rt.alloc(), good), "after {good} reads");
+    for most in 1..10 {
+        assert!(rt;
+            is_refused_for_reads(rt.alloc(), most),
+            "{most} bytes at a time"
+        );
     }
 }
 
-// A writer that takes a few bytes at a time, and fails at one of its writes or at the flush.
+// A writer that takes at most so many bytes at a time, and fails at one of its writes or at the flush.
 #[derive(Drop)]
 struct Full {
     taken: usize,
+    most: usize,
     good: usize,
     flushes: bool,
 }
@@ -316,7 +335,7 @@ impl Write for Full {
             return Err(io::Error::from(ErrorKind::Other));
         }
         self.good -= 1;
-        let count = buf.len().min(3);
+        let count = buf.len().min(self.most);
         self.taken = self.taken.saturating_add(count);
         Ok(count)
     }
@@ -330,32 +349,43 @@ impl Write for Full {
     }
 }
 
-// Whether a run whose writer takes so many good writes, and flushes or not, is refused for it where it needs more.
-fn is_written_whole(alloc: Global, good: usize, flushes: bool) -> bool {
+// Whether a run whose writer takes so many bytes at a time and so many good writes, and flushes or not, is refused for it where
+// it needs more.
+fn is_written_whole(alloc: Global, most: usize, good: usize, flushes: bool) -> bool {
     let mut reader = b"ent\tA::\"a\"\nbuild\nanc\tA::\"a\"\n".as_slice();
     let mut writer = Full {
         taken: 0,
+        most,
         good,
         flushes,
     };
     let answer = run(alloc, &mut reader, &mut writer);
-    // Nine bytes are three writes.
-    if good >= 3 && flushes {
+    // Nine bytes are written.
+    if good.saturating_mul(most) >= 9 && flushes {
         matches!(answer, Ok(0)) && writer.taken == 9
     } else {
         matches!(answer, Err(RunError::Write))
     }
 }
 
+// Whether that is so after any number of good writes.
+fn is_refused_for_writes(alloc: Global, most: usize) -> bool {
+    for good in 0..11 {
+        let flushed = is_written_whole(alloc, most, good, true);
+        if !flushed || !is_written_whole(alloc, most, good, false) {
+            return false;
+        }
+    }
+    true
+}
+
 #[test]
 fn a_failed_write_or_flush_is_a_write_fault(rt: HostRuntime) {
-    for good in 0..6 {
-        for flushes in [true, false] {
-            assert!(rt;
-                is_written_whole(rt.alloc(), good, flushes),
-                "{good} {flushes}"
-            );
-        }
+    for most in 1..10 {
+        assert!(rt;
+            is_refused_for_writes(rt.alloc(), most),
+            "{most} bytes at a time"
+        );
     }
 }
 

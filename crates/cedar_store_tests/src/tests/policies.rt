@@ -25,6 +25,12 @@ fn sets_are_merged_with_renaming_and_without(rt: HostRuntime) -> Result<(), Fail
                 b"ok\nok\nok\nok\nok\nok\tt\tpolicy0\nok\nbodies\tt\tpolicy0\npolicies\tl\tm\n",
                 0,
             ),
+            // One id of each pair of kinds that always conflict, in the order in which they are renamed.
+            (
+                b"static\ta\tpermit\ntemplate\tt\tprincipal\nlink\tt\tb\tprincipal=A::\"x\"\nlink\tt\tc\tprincipal=A::\"x\"\nother\ntemplate\tu\tprincipal\nlink\tu\tt\tprincipal=A::\"x\"\ntemplate\tb\tresource\nstatic\tc\tpermit\nstatic\ta\tforbid\nother\nmerge\tkeep\nmerge\trename\nids\n",
+                b"ok\nok\nok\nok\nok\nok\nok\nok\nok\nok\nok\nrefused: occupied a\nok\ta\tpolicy0\tc\tpolicy1\tb\tpolicy2\tt\tpolicy3\nbodies\ta\tt\tu\tpolicy2\tpolicy1\tpolicy0\npolicies\ta\tb\tc\tpolicy3\tpolicy1\tpolicy0\n",
+                0,
+            ),
             // A static policy against an equal template without slots.
             (
                 b"other\ntemplate\tx\tnone\nother\nstatic\tx\tpermit\nmerge\tkeep\nmerge\trename\nids\n",

@@ -22,23 +22,23 @@ fn push_users(text: &mut String, n: usize) -> Result<(), Fail> {
     Ok(())
 }
 
-// Adds a user with 60 parents and `n` entities without, built, and the ancestors of the user `n` times.
-fn push_many(text: &mut String, n: usize) -> Result<(), Fail> {
+// Adds a user with 60 parents and `n` entities without, built, and the ancestors of the user so often.
+fn push_many(text: &mut String, n: usize, often: usize) -> Result<(), Fail> {
     text.push_str("ent\tUser::\"u\"")?;
     push_groups(text)?;
     push_users(text, n)?;
     text.push_str("\nbuild\n")?;
-    for _ in 0..n {
+    for _ in 0..often {
         text.push_str("anc\tUser::\"u\"\n")?;
     }
     Ok(())
 }
 
 // Adds what is due for these.
-fn push_due(text: &mut String, n: usize) -> Result<(), Fail> {
+fn push_due(text: &mut String, n: usize, often: usize) -> Result<(), Fail> {
     let count = n.saturating_add(1);
     write!(text, "ok {count}\n")?;
-    for _ in 0..n {
+    for _ in 0..often {
         text.push_str("anc")?;
         push_groups(text)?;
         text.push_str("\n")?;
@@ -46,13 +46,13 @@ fn push_due(text: &mut String, n: usize) -> Result<(), Fail> {
     Ok(())
 }
 
-// A user with 60 parents and `n` entities without, and what is due for them.
-fn many(alloc: Global, n: usize) -> Result<(String, String), Fail> {
+// A user with 60 parents and `n` entities without, whose ancestors are asked so often, and what is due for them.
+fn many(alloc: Global, n: usize, often: usize) -> Result<(String, String), Fail> {
     let mut input = String::new(alloc);
-    let added = push_many(&mut input, n);
+    let added = push_many(&mut input, n, often);
     let input = kept(input, added)?;
     let mut output = String::new(alloc);
-    let added = push_due(&mut output, n);
+    let added = push_due(&mut output, n, often);
     beside(input, kept(output, added))
 }
 
@@ -72,7 +72,7 @@ impl Read for Slow<'_> {
     }
 }
 
-// Whether more than an input's and an output's buffer are read and written whole, so many bytes at a read.
+// Whether more than an input's buffer is read, and all written, so many bytes at a read.
 fn is_whole(alloc: Global, input: &str, want: &str, most: usize) -> bool {
     let mut reader = Slow {
         left: input.as_bytes(),
@@ -82,13 +82,13 @@ fn is_whole(alloc: Global, input: &str, want: &str, most: usize) -> bool {
     let status = run(alloc, &mut reader, &mut out);
     let told = matches!(status, Ok(0)) && out.as_slice() == want.as_bytes();
     drop(out);
-    told && input.len() > 32768 && want.len() > 65536
+    told && input.len() > 32_769
 }
 
-// Whether 800 entities, more than an input's and an output's buffer, are read and written whole, so many bytes at a read.
-fn many_are_whole(alloc: Global, most: usize) -> Result<bool, Fail> {
-    let (input, want) = many(alloc, 800)?;
-    let told = is_whole(alloc, &input, &want, most);
+// Whether 1,200 entities are read and written whole, so many bytes at a read, and the ancestors of one so often.
+fn many_are_whole(alloc: Global, most: usize, often: usize) -> Result<bool, Fail> {
+    let (input, want) = many(alloc, 1200, often)?;
+    let told = is_whole(alloc, &input, &want, most) && want.len() > often.saturating_mul(700);
     drop(input);
     drop(want);
     Ok(told)
@@ -98,7 +98,24 @@ fn many_are_whole(alloc: Global, most: usize) -> Result<bool, Fail> {
 fn inputs_and_outputs_of_several_buffers_are_whole(rt: HostRuntime) -> Result<(), Fail> {
     // Three bytes, one byte, and as much as the buffer takes.
     for most in [3, 1, usize::MAX] {
-        assert!(rt; many_are_whole(rt.alloc(), most)?, "by {most} bytes a read");
+        assert!(rt;
+            many_are_whole(rt.alloc(), most, 100)?,
+            "by {most} bytes a read"
+        );
+    }
+    Ok(())
+}
+
+#[test]
+fn parts_of_an_input_are_of_any_size(rt: HostRuntime) -> Result<(), Fail> {
+    // A few bytes, about as many as a page has, and as 32 KiB.
+    for most in [
+        2, 4, 5, 6, 7, 8, 9, 4095, 4096, 4097, 32_767, 32_768, 32_769,
+    ] {
+        assert!(rt;
+            many_are_whole(rt.alloc(), most, 1)?,
+            "by {most} bytes a read"
+        );
     }
     Ok(())
 }
@@ -143,7 +160,7 @@ fn is_sent(alloc: Global, input: &str, want: &str) -> bool {
 
 // Whether all of three entities is sent at the flush, and nothing is kept then.
 fn three_are_sent(alloc: Global) -> Result<bool, Fail> {
-    let (input, want) = many(alloc, 3)?;
+    let (input, want) = many(alloc, 3, 3)?;
     let told = is_sent(alloc, &input, &want);
     drop(input);
     drop(want);
