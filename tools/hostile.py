@@ -1,0 +1,176 @@
+"""Inputs of hostile sizes and sessions with changed bytes, with what the program has to write: for `./bench`, which runs them."""
+import collections
+import concurrent.futures
+import functools
+import os
+import random
+import resource
+import subprocess
+
+import session
+
+STACK = 1 << 20
+LENGTH = 200
+PARENTS = 200
+BATCH = 1000
+
+
+def node(name):
+    return b'Node::"%s"' % name
+
+
+def ent(name, parents):
+    return b"\t".join([b"ent", node(name)] + [node(parent) for parent in parents])
+
+
+def anc(uids):
+    return b"\t".join([b"anc"] + sorted(uids)) + b"\n"
+
+
+def chains(size):
+    """Chains given from their start, from their end, and in whatever order."""
+    names = [b"n%d" % i for i in range(size)]
+    rows = [ent(name, names[at:at + 1]) for at, name in enumerate(names, 1)]
+    mixed = rows[:]
+    random.Random(size).shuffle(mixed)
+    asked = (0, size // 2, size - 1)
+    due = b"ok %d\n" % size + b"".join(anc(map(node, names[at + 1:])) for at in asked)
+    for order in rows, rows[::-1], mixed:
+        yield order + [b"build"] + [b"anc\t" + node(names[at]) for at in asked], due, 0
+
+
+def star(size):
+    rows = [ent(b"n%d" % i, [b"hub"]) for i in range(size)] + [ent(b"hub", [b"top"])]
+    last = [b"build", b"anc\t" + node(b"n0"), b"anc\t" + node(b"n%d" % (size - 1)), b"remove\t" + node(b"hub"), b"anc\t" + node(b"n0")]
+    both = anc([node(b"hub"), node(b"top")])
+    yield rows + last, b"ok %d\n%s%sok %d\nanc\n" % (size + 1, both, both, size), 0
+
+
+def dense(size):
+    """Each with the next ones as parents, of which the last are absent."""
+    name = b"n%06d"
+    rows = [ent(name % i, [name % up for up in range(i + 1, i + PARENTS + 1)]) for i in range(size)]
+    due = b"ok %d\n" % size + b"".join(anc(node(name % up) for up in range(i + 1, size + PARENTS)) for i in range(size))
+    yield rows + [b"build"] + [b"anc\t" + node(name % i) for i in range(size)], due, 0
+
+
+def wide(size):
+    names = [b"n%d" % i for i in range(size)]
+    random.Random(size).shuffle(names)
+    yield [ent(b"u", names), b"build", b"anc\t" + node(b"u")], b"ok 1\n" + anc(map(node, names)), 0
+
+
+def at_uid(uid):
+    yield [b"ent\t" + uid + b"\t" + node(b"a"), b"ent\t" + node(b"b") + b"\t" + uid, b"build", b"anc\t" + uid, b"anc\t" + node(b"b")], \
+        b"ok 2\n" + anc([node(b"a")]) + b"\t".join([b"anc"] + sorted([node(b"a"), uid], key=session.uid)) + b"\n", 0
+
+
+def long(size):
+    return at_uid(b"::".join(b"c%d" % i for i in range(size)) + b'::"a"')
+
+
+def eid(size):
+    return at_uid(b'T::"' + (b"a\\'b\\\"\\\\ \\n\\u{1}" * (size // 8)) + b'"')
+
+
+def empty(size):
+    yield [b""] * size + [b"build"], b"ok 0\n", 0
+    yield [b""] * size + [b"frob"], b"line %d: not a command\n" % (size + 1), 2
+
+
+INPUTS = {"chains": chains, "star": star, "dense": dense, "wide": wide, "long": long, "eid": eid, "empty": empty}
+SIZES = [("chains", 8000), ("star", 100000), ("dense", 200), ("wide", 200000), ("long", 200000), ("eid", 1000000),
+         ("empty", 1000000), ("sessions", 100000)]
+
+
+def on_a_small_stack():
+    """From here on what is started has a stack of 1 MiB."""
+    resource.setrlimit(resource.RLIMIT_STACK, (STACK, resource.getrlimit(resource.RLIMIT_STACK)[1]))
+
+
+def ran(program, given):
+    """What the program writes, and its status."""
+    done = subprocess.run([program], input=given, stdout=subprocess.PIPE, stderr=subprocess.DEVNULL, close_fds=False)
+    return done.stdout, done.returncode
+
+
+# ---- sessions
+
+ENTITIES = [b"ent"] * 6 + [b"build", b"add", b"upsert", b"anc", b"anc"] * 2 + [b"remove", b"slice", b""]
+POLICIES = [b"static", b"template", b"link", b"other", b"merge", b"ids"] * 2 + [b"link", b"unlink"]
+
+
+def drawn_uid(pick):
+    return pick.choice([b'A::"%s"'] * 4 + [b'B::A::"%s"', b'Action::"%s"']) % pick.choice([b"a", b"b", b"c", b"d", b"\\'", b"\\u{1}"])
+
+
+def drawn_line(pick, kinds):
+    own = pick.choice([b"p", b"q", b"policy0", b"policy1", b""])
+    word = pick.choice(kinds)
+    if word in (b"ent", b"remove", b"slice"):
+        return [word] + [drawn_uid(pick) for _ in range(pick.choice([1, 2, 2, 3]))]
+    if word == b"anc":
+        return [word, drawn_uid(pick)]
+    if word == b"static":
+        return [word, own, pick.choice([b"permit", b"forbid"])]
+    if word == b"template":
+        return [word, own, pick.choice([b"none"] + list(session.SLOTS))]
+    if word == b"link":
+        slots = session.SLOTS[pick.choice(list(session.SLOTS))]
+        return [word, own, pick.choice([b"l", b"m", b"q"])] + [session.MARKS[slot] + drawn_uid(pick) for slot in slots]
+    if word == b"unlink":
+        return [word, pick.choice([b"l", b"m", own])]
+    if word == b"merge":
+        return [word, pick.choice([b"rename", b"rename", b"keep"])]
+    return [word]
+
+
+def drawn_session(number):
+    """A good session of up to 200 bytes, and the same with one to five bytes changed, put in or left out."""
+    pick, lines, size = random.Random(number), [], 0
+    kinds = pick.choice([ENTITIES, ENTITIES, POLICIES, POLICIES, ENTITIES + POLICIES])
+    while True:
+        line = b"\t".join(drawn_line(pick, kinds))
+        size += len(line) + 1
+        if size > LENGTH:
+            break
+        lines.append(line)
+    good = b"\n".join(lines) + b"\n" * pick.randrange(2)
+    changed = bytearray(good)
+    for _ in range(pick.choice([1, 1, 2, 3, 5])):
+        at = pick.randrange(len(changed) + 1)
+        signs = pick.choice([b"abcdpqlmAB", b"abcdpqlmAB", b"\t\n\r \"'\\:_=01\x00\x7f\x80\xff", bytes(range(256)), bytes(changed) or b"a"])
+        kind = pick.randrange(4)
+        changed[at:at + (kind != 1)] = bytes([pick.choice(signs)] if kind else [])
+    return good, bytes(changed[:LENGTH])
+
+
+def answers(written):
+    """What was answered, by its first word, or two of a refusal."""
+    for line in written.splitlines():
+        words = line.split(b"\t")[0].split(b" ")
+        yield b" ".join(words[:1 + (words[0] == b"refused:")]).decode()
+
+
+def one(program, number):
+    """What is wrong with a session and what was told by it; every fiftieth number runs the good one too."""
+    told, given = collections.Counter(), drawn_session(number)
+    for kind, given in list(zip(("good", "changed"), given))[number % 50 != 0:]:
+        out, status, commands = session.output(given)
+        got = ran(program, given)
+        if got != (out, status):
+            return f"session {number}: {given!r}\nhas to write {out!r}, status {status}\nand writes {got[0]!r}, status {got[1]}", told
+        told.update([kind, f"status {status}"] + ["one command or more"] * (commands > 0) + list(answers(out)))
+    return None, told
+
+
+def sessions(program, size):
+    """Runs so many sessions and compares; what was told in all, or the first that differs."""
+    all_told = collections.Counter()
+    with concurrent.futures.ThreadPoolExecutor(os.cpu_count()) as pool:
+        for first in range(0, size, BATCH):
+            for wrong, told in pool.map(functools.partial(one, program), range(first, min(first + BATCH, size))):
+                if wrong:
+                    raise SystemExit(wrong)
+                all_told += told
+    return ", ".join(f"{word} {count:,}" for word, count in sorted(all_told.items()))

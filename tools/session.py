@@ -1,0 +1,225 @@
+"""What the program writes for an input, by a plain model: the lines that `cedar_store/specs/Command.antt` and
+`cedar_policy_lines/specs/PolicyCommand.antt` say, and what the two files `Output.antt` and `PolicyOutput.antt` make of them.
+
+A world is a dictionary from the text of a uid to the set of its parents; a board is a dictionary of bodies and one of policies,
+each in their order. `./bench` compares the program with it.
+"""
+import re
+
+RESERVED = {b"true", b"false", b"if", b"then", b"else", b"in", b"like", b"has", b"is", b"__cedar"}
+NAME = re.compile(rb"[A-Za-z_][A-Za-z0-9_]*(?:::[A-Za-z_][A-Za-z0-9_]*)*")
+CHARACTER = re.compile(rb"""[ !#-&(-\[\]-~]|\\[0tnr'"\\]|\\u\{(?:[1-8bcef]|1[0-9a-f]|7f)\}""")
+SIGNS = {b"0": b"\0", b"t": b"\t", b"n": b"\n", b"r": b"\r"}
+SLOTS = {b"none": (), b"principal": (0,), b"action": (1,), b"resource": (2,), b"both": (0, 2), b"all": (0, 1, 2)}
+MARKS = [b"principal=", b"action=", b"resource="]
+
+
+def uid(text):
+    """The place of a uid among others, if this is the text of one: its basename, its path and its eid."""
+    name, mark, rest = text.partition(b'::"')
+    if not mark or not rest.endswith(b'"') or not NAME.fullmatch(name):
+        return None
+    parts = name.split(b"::")
+    if RESERVED & set(parts):
+        return None
+    eid, at, last = b"", 0, len(rest) - 1
+    while at < last:
+        found = CHARACTER.match(rest, at, last)
+        if not found:
+            return None
+        sign, at = found.group(), found.end()
+        if sign[:2] == b"\\u":
+            sign = bytes([int(sign[3:-1], 16)])
+        elif sign[:1] == b"\\":
+            sign = SIGNS.get(sign[1:], sign[1:])
+        eid += sign
+    return parts[-1], parts[:-1], eid
+
+
+def is_action(text):
+    return uid(text)[0] == b"Action"
+
+
+def escaped(text):
+    return re.sub(rb"""['"\\]""", rb"\\\g<0>", text)
+
+
+def above(world, start):
+    """What is reached from some uids over parents."""
+    reached, left = set(), [parent for own in start for parent in world.get(own, ())]
+    while left:
+        one = left.pop()
+        if one not in reached:
+            reached.add(one)
+            left += world.get(one, ())
+    return reached
+
+
+def is_cyclic(world):
+    below, free, seen = {}, [], 0
+    for own, parents in world.items():
+        for parent in parents:
+            if parent in world:
+                below.setdefault(parent, []).append(own)
+        if not any(parent in world for parent in parents):
+            free.append(own)
+    count = {own: sum(parent in world for parent in parents) for own, parents in world.items()}
+    while free:
+        seen += 1
+        for child in below.get(free.pop(), ()):
+            count[child] -= 1
+            if not count[child]:
+                free.append(child)
+    return seen < len(world)
+
+
+class Session:
+    def __init__(self):
+        self.waiting, self.world, self.board, self.aside = [], {}, ({}, {}), ({}, {})
+
+    def counted(self):
+        return b"ok %d\n" % len(self.world)
+
+    def closed(self, world):
+        if is_cyclic(world):
+            self.world = {}
+            return b"refused: cycle\n"
+        self.world = world
+        return self.counted()
+
+    def added(self, base):
+        waiting, self.waiting = self.waiting, []
+        world = dict(base)
+        for own, parents in waiting:
+            known = above(base, [own]) if own in base else world.setdefault(own, parents)
+            if known != parents:
+                self.world = {}
+                return b"refused: duplicate %s\n" % own
+        return self.closed(world)
+
+    def entities(self, word, uids):
+        """What a line on entities writes, if it is one."""
+        if not all(uid(text) for text in uids):
+            return None
+        if word == b"ent" and uids:
+            self.waiting.append((uids[0], frozenset(uids[1:])))
+            return b""
+        if word == b"anc" and len(uids) == 1:
+            if uids[0] not in self.world:
+                return b"no entity\n"
+            return b"\t".join([b"anc"] + sorted(above(self.world, uids), key=uid)) + b"\n"
+        if word in (b"remove", b"slice") and uids:
+            gone = set(uids) & set(self.world)
+            if word == b"slice":
+                gone = set(self.world) - set(uids) - above(self.world, uids)
+            self.world = {own: parents - gone if word == b"remove" else parents for own, parents in self.world.items() if own not in gone}
+            return self.counted()
+        if uids:
+            return None
+        if word == b"build":
+            return self.added({})
+        if word == b"add":
+            return self.added(self.world)
+        if word == b"upsert":
+            waiting, self.waiting = self.waiting, []
+            return self.closed({**self.world, **dict(waiting)})
+        return None
+
+    def joins(self, own, body, policy):
+        bodies, policies = self.board
+        if own in bodies or own in policies:
+            return b"refused: occupied %s\n" % escaped(own)
+        if body is not None:
+            bodies[own] = body
+        if policy is not None:
+            policies[own] = policy
+        return b"ok\n"
+
+    def links(self, template, own, fields):
+        """What a line that links writes, if it is one."""
+        bound = {}
+        for field in fields:
+            slot = next((slot for slot in range(3) if field.startswith(MARKS[slot]) and uid(field[len(MARKS[slot]):])), None)
+            if slot is None or slot in bound:
+                return None
+            bound[slot] = field[len(MARKS[slot]):]
+        bodies, policies = self.board
+        if template not in bodies or template in policies:
+            return b"refused: no template %s\n" % escaped(template)
+        if set(bodies[template][1]) != set(bound):
+            return b"refused: arity\n"
+        if 1 in bound and not is_action(bound[1]):
+            return b"refused: not an action %s\n" % bound[1]
+        return self.joins(own, None, (template, bodies[template], bound))
+
+    def unlinks(self, own):
+        bodies, policies = self.board
+        if own in policies and policies[own][0] is not None:
+            del policies[own]
+            return b"ok\n"
+        kind = b"not a link" if own in bodies else b"no link"
+        return b"refused: %s %s\n" % (kind, escaped(own))
+
+    def merges(self, rename):
+        (bodies, policies), (others, further) = self.board, self.aside
+        differ = [own for here, there in ((bodies, others), (policies, further), (policies, others), (bodies, further))
+                  for own in there if own in here and (policies.get(own), bodies.get(own)) != (further.get(own), others.get(own))]
+        differ = list(dict.fromkeys(differ))
+        if differ and not rename:
+            return b"refused: occupied %s\n" % escaped(differ[0])
+        new, number = {}, 0
+        for own in differ:
+            while any(b"policy%d" % number in held for held in (bodies, policies, others, further)):
+                number += 1
+            new[own], number = b"policy%d" % number, number + 1
+        bound = set(bodies) | set(policies)
+        for own, body in others.items():
+            if new.get(own, own) not in bound:
+                bodies[new.get(own, own)] = body
+        for own, (template, body, values) in further.items():
+            if new.get(own, own) not in bound:
+                policies[new.get(own, own)] = new.get(template, template), body, values
+        return b"\t".join([b"ok"] + [escaped(text) for pair in new.items() for text in pair]) + b"\n"
+
+    def policies(self, fields):
+        """What a line on policy sets writes, if it is one."""
+        word, rest = fields[0], fields[1:]
+        if word == b"static" and len(rest) == 2 and rest[1] in (b"permit", b"forbid"):
+            body = rest[1], ()
+            return self.joins(rest[0], body, (None, body, {}))
+        if word == b"template" and len(rest) == 2 and rest[1] in SLOTS:
+            return self.joins(rest[0], (b"permit", SLOTS[rest[1]]), None)
+        if word == b"link" and len(rest) >= 2:
+            return self.links(rest[0], rest[1], rest[2:])
+        if word == b"unlink" and len(rest) == 1:
+            return self.unlinks(rest[0])
+        if word == b"other" and not rest:
+            self.board, self.aside = self.aside, self.board
+            return b"ok\n"
+        if word == b"merge" and len(rest) == 1 and rest[0] in (b"rename", b"keep"):
+            return self.merges(rest[0] == b"rename")
+        if word == b"ids" and not rest:
+            lines = ([b"bodies", *self.board[0]], [b"policies", *self.board[1]])
+            return b"".join(b"\t".join([line[0]] + [escaped(own) for own in line[1:]]) + b"\n" for line in lines)
+        return None
+
+    def line(self, line):
+        """What a line writes, or None where it is no command."""
+        if not line:
+            return b""
+        if re.search(rb"[^\t -~]", line):
+            return None
+        fields = line.split(b"\t")
+        written = self.entities(fields[0], fields[1:])
+        return self.policies(fields) if written is None else written
+
+
+def output(given):
+    """What is written for an input, the status, and how many lines were taken as commands."""
+    session, out = Session(), []
+    for number, line in enumerate(given.split(b"\n"), 1):
+        written = session.line(line)
+        if written is None:
+            return b"".join(out) + b"line %d: not a command\n" % number, 2, number - 1
+        out.append(written)
+    return b"".join(out), 0, number
