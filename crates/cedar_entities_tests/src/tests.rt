@@ -2,4 +2,5 @@ mod store_beside;
 mod store_in_modes;
 mod store_kept;
 mod store_lists;
+mod store_many;
 mod store_world;
