@@ -19,7 +19,7 @@ fn is_written(alloc: Global) -> bool {
             drop(reached);
             match text {
                 Ok(text) => {
-                    let told = text
+                    let told = text.as_str()
                         == "Reached { component: [2, 2, 1], start: [0, 0, 0, 3], lists: [0, 1, 2] }";
                     drop(text);
                     told
