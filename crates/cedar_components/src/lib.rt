@@ -31,7 +31,7 @@ use crate::search::finish_order;
 use std::alloc::{AllocError, Global};
 
 /// What each number of a graph reaches, one list for each strong component.
-#[derive(Drop)]
+#[derive(Debug, Drop)]
 pub struct Reached {
     /// For each number the place of its component. Numbers that reach one another share it.
     pub component: Vec<usize>,
@@ -53,7 +53,7 @@ pub struct Reached {
 /// refused only where that is. Looks at each arc a few times, copies the list of a component once
 /// for each arc that leads to it from another, and visits each entry of the lists a few times to
 /// bring them into the order. Compares numbers for that only in lists of up to 16, and recurses
-/// nowhere.
+/// nowhere but where one of these is sorted, in the logarithm of its length.
 pub fn reach(
     alloc: Global,
     from: &[usize],

@@ -25,11 +25,12 @@ ghost use Rattle.cedar_entities.specs.Touching.{IsAcyclicAt, IsMended, IsMendRef
 ghost use Rattle.cedar_entities.specs.World.{World, empty_world, added, overwritten, deleted, graph, AllAgree, FirstDiffers};
 
 use crate::dereference::{Dereference, unknown_of};
+use crate::incoming::{Incoming, uids_in, with_uids};
 use crate::store_iters::{IntoIter, Iter};
 use crate::store_same::{have_deep_equals, have_keys_of};
 use crate::store_valid::check_each;
 use crate::touching::{
-    absent_uids, apply_each, held_uids, note_all, plain_copy_of, read_each, touched_by_any, uids_in,
+    absent_uids, apply_each, held_uids, note_all, plain_copy_of, read_each, touched_by_any,
 };
 use cedar_entity::entity::Entity;
 use cedar_entity::err::EntitiesError;
@@ -80,82 +81,78 @@ impl Model for Entities {
 
 // Puts in an entity whose uid is absent; one that is present has to be deeply equal.
 fn put_new(
-    alloc: Global,
     entities: &mut HashMap<SharedUid, SharedEntity>,
-    entity: Rc<Entity>,
+    coming: Incoming,
 ) -> Result<(), EntitiesError>
     requires { UidsMatch entities.old }
     ensures keys { UidsMatch entities.new }
     ensures agrees { OnOk result
-        (IfSome (held entities.old entity.value.uid) (λ h. IsDeepEqual h entity.value)) }
+        (IfSome (held entities.old coming.uid) (λ h. IsDeepEqual h coming)) }
     ensures ok { OnOk result ((q : EntityUID) → held entities.new q ≡ option_or
-        (held entities.old q) (cond (same_uid entity.value.uid q) (Some entity.value) None)) }
-    ensures err { IfErr result (λ e. MatchRefusal e (λ u. (u ≡ entity.value.uid) × (h : EntityView)
-        × (held entities.old entity.value.uid ≡ Some h) × (IsDeepEqual h entity.value → ⊥))
+        (held entities.old q) (cond (same_uid coming.uid q) (Some coming) None)) }
+    ensures err { IfErr result (λ e. MatchRefusal e (λ u. (u ≡ coming.uid) × (h : EntityView)
+        × (held entities.old coming.uid ≡ Some h) × (IsDeepEqual h coming → ⊥))
         (λ _. ⊥)) }
 {
-    if let Some(present) = entities.get(entity.uid()) {
+    let Incoming { uid, entity } = coming;
+    if let Some(present) = entities.get(&uid) {
         if !present.0.deep_eq(&entity) {
-            return Err(EntitiesError::Duplicate(plain_copy_of(entity.uid())?));
+            return Err(EntitiesError::Duplicate(plain_copy_of(uid.uid())?));
         }
         return Ok(());
     }
-    let uid = SharedUid::copy_of(alloc, entity.uid())?;
     entities.insert(uid, SharedEntity(entity))?;
     Ok(())
 }
 
 // Puts in the entities in turn.
 fn put_all(
-    alloc: Global,
     entities: &mut HashMap<SharedUid, SharedEntity>,
-    list: Vec<Rc<Entity>>,
+    list: Vec<Incoming>,
 ) -> Result<(), EntitiesError>
     requires { UidsMatch entities.old }
     ensures keys { UidsMatch entities.new }
-    ensures agree { OnOk result (AllMatch (held entities.old) (entities_in list.items)) }
+    ensures agree { OnOk result (AllMatch (held entities.old) list.items) }
     ensures ok { OnOk result ((q : EntityUID) → held entities.new q ≡ option_or
-        (held entities.old q) (first_entity (entities_in list.items) q)) }
+        (held entities.old q) (first_entity list.items q)) }
     ensures err { IfErr result (λ e. MatchRefusal e
-        (FirstMismatch (held entities.old) (entities_in list.items)) (λ _. ⊥)) }
+        (FirstMismatch (held entities.old) list.items) (λ _. ⊥)) }
 {
     for entity in list {
-        put_new(alloc, entities, entity)?;
+        put_new(entities, entity)?;
     }
     Ok(())
 }
 
 // Puts in an entity, over one with its uid.
 fn put_over(
-    alloc: Global,
     entities: &mut HashMap<SharedUid, SharedEntity>,
-    entity: Rc<Entity>,
+    coming: Incoming,
 ) -> Result<(), EntitiesError>
     requires { UidsMatch entities.old }
     ensures keys { OnOk result (UidsMatch entities.new) }
     ensures ok { OnOk result ((q : EntityUID) → held entities.new q ≡ option_or
-        (cond (same_uid entity.value.uid q) (Some entity.value) None) (held entities.old q)) }
+        (cond (same_uid coming.uid q) (Some coming) None) (held entities.old q)) }
     ensures err { IfErr result (λ e. e ≡ Memory) }
 {
-    let key = SharedUid::copy_of(alloc, entity.uid())?;
+    let Incoming { uid: key, entity } = coming;
     entities.insert(key, SharedEntity(entity))?;
     Ok(())
 }
 
 // Puts in the entities in turn, each over one with its uid.
 fn overwrite_all(
-    alloc: Global,
     entities: &mut HashMap<SharedUid, SharedEntity>,
-    list: Vec<Rc<Entity>>,
+    list: Vec<Incoming>,
 ) -> Result<(), EntitiesError>
     requires { UidsMatch entities.old }
     ensures keys { OnOk result (UidsMatch entities.new) }
     ensures ok { OnOk result ((q : EntityUID) → held entities.new q ≡ option_or
-        (last_entity (entities_in list.items) q) (held entities.old q)) }
+        (last_entity list.items q) (held entities.old q)) }
     ensures err { IfErr result (λ e. e ≡ Memory) }
 {
     for entity in list {
-        put_over(alloc, entities, entity)?;
+        put_over(entities, entity)?;
     }
     Ok(())
 }
@@ -295,25 +292,25 @@ fn settle_whole(
 fn fill(
     alloc: Global,
     entities: &mut HashMap<SharedUid, SharedEntity>,
-    list: Vec<Rc<Entity>>,
+    list: Vec<Incoming>,
     tc_computation: TCComputation,
 ) -> Result<(), EntitiesError>
     requires keys { UidsMatch entities.old }
     requires empty { (q : EntityUID) → held entities.old q ≡ None }
     ensures keys { UidsMatch entities.new }
-    ensures agree { OnOk result (AllMatch (held entities.old) (entities_in list.items)) }
+    ensures agree { OnOk result (AllMatch (held entities.old) list.items) }
     ensures ok { OnOk result (IsSettled tc_computation
-        (is_touched (held_map entities.old) (inserted_in (held_map entities.old) (entities_in list.items)))
-        (with_first (held_map entities.old) (entities_in list.items)) (held_map entities.new)) }
+        (is_touched (held_map entities.old) (inserted_in (held_map entities.old) list.items))
+        (with_first (held_map entities.old) list.items) (held_map entities.new)) }
     ensures err { IfErr result (λ e. MatchRefusal e
-        (FirstMismatch (held entities.old) (entities_in list.items))
-        (λ t. AllMatch (held entities.old) (entities_in list.items)
+        (FirstMismatch (held entities.old) list.items)
+        (λ t. AllMatch (held entities.old) list.items
         × IsClosureRefused tc_computation
-        (with_first (held_map entities.old) (entities_in list.items)) t)) }
+        (with_first (held_map entities.old) list.items) t)) }
     ensures named { IfErr result (λ e. WhereComputed tc_computation (NamesOneOf
-        (is_touched (held_map entities.old) (inserted_in (held_map entities.old) (entities_in list.items))) e)) }
+        (is_touched (held_map entities.old) (inserted_in (held_map entities.old) list.items)) e)) }
 {
-    put_all(alloc, entities, list)?;
+    put_all(entities, list)?;
     settle_whole(alloc, entities, tc_computation)
 }
 
@@ -321,28 +318,28 @@ fn fill(
 fn add_to(
     alloc: Global,
     entities: &mut HashMap<SharedUid, SharedEntity>,
-    list: Vec<Rc<Entity>>,
+    list: Vec<Incoming>,
     tc_computation: TCComputation,
 ) -> Result<(), EntitiesError>
     requires keys { UidsMatch entities.old }
     ensures keys { UidsMatch entities.new }
-    ensures agree { OnOk result (AllMatch (held entities.old) (entities_in list.items)) }
+    ensures agree { OnOk result (AllMatch (held entities.old) list.items) }
     ensures ok { OnOk result (IsSettled tc_computation
-        (is_touched (held_map entities.old) (inserted_in (held_map entities.old) (entities_in list.items)))
-        (with_first (held_map entities.old) (entities_in list.items)) (held_map entities.new)) }
+        (is_touched (held_map entities.old) (inserted_in (held_map entities.old) list.items))
+        (with_first (held_map entities.old) list.items) (held_map entities.new)) }
     ensures err { IfErr result (λ e. MatchRefusal e
-        (FirstMismatch (held entities.old) (entities_in list.items))
-        (λ t. AllMatch (held entities.old) (entities_in list.items)
+        (FirstMismatch (held entities.old) list.items)
+        (λ t. AllMatch (held entities.old) list.items
         × IsClosureRefused tc_computation
-        (with_first (held_map entities.old) (entities_in list.items)) t)) }
+        (with_first (held_map entities.old) list.items) t)) }
     ensures named { IfErr result (λ e. WhereComputed tc_computation (NamesOneOf
-        (is_touched (held_map entities.old) (inserted_in (held_map entities.old) (entities_in list.items))) e)) }
+        (is_touched (held_map entities.old) (inserted_in (held_map entities.old) list.items)) e)) }
 {
     let uids = uids_in(alloc, &list)?;
     let fresh = absent_uids(alloc, entities, uids)?;
     let mut touched = HashSet::new(alloc);
     note_all(&mut touched, fresh)?;
-    put_all(alloc, entities, list)?;
+    put_all(entities, list)?;
     let by = touched_by_any(alloc, entities, &touched)?;
     note_all(&mut touched, by)?;
     settle(alloc, entities, &touched, tc_computation)
@@ -352,22 +349,22 @@ fn add_to(
 fn add_all(
     alloc: Global,
     entities: &mut HashMap<SharedUid, SharedEntity>,
-    list: Vec<Rc<Entity>>,
+    list: Vec<Incoming>,
     tc_computation: TCComputation,
 ) -> Result<(), EntitiesError>
     requires keys { UidsMatch entities.old }
     ensures keys { UidsMatch entities.new }
-    ensures agree { OnOk result (AllMatch (held entities.old) (entities_in list.items)) }
+    ensures agree { OnOk result (AllMatch (held entities.old) list.items) }
     ensures ok { OnOk result (IsSettled tc_computation
-        (is_touched (held_map entities.old) (inserted_in (held_map entities.old) (entities_in list.items)))
-        (with_first (held_map entities.old) (entities_in list.items)) (held_map entities.new)) }
+        (is_touched (held_map entities.old) (inserted_in (held_map entities.old) list.items))
+        (with_first (held_map entities.old) list.items) (held_map entities.new)) }
     ensures err { IfErr result (λ e. MatchRefusal e
-        (FirstMismatch (held entities.old) (entities_in list.items))
-        (λ t. AllMatch (held entities.old) (entities_in list.items)
+        (FirstMismatch (held entities.old) list.items)
+        (λ t. AllMatch (held entities.old) list.items
         × IsClosureRefused tc_computation
-        (with_first (held_map entities.old) (entities_in list.items)) t)) }
+        (with_first (held_map entities.old) list.items) t)) }
     ensures named { IfErr result (λ e. WhereComputed tc_computation (NamesOneOf
-        (is_touched (held_map entities.old) (inserted_in (held_map entities.old) (entities_in list.items))) e)) }
+        (is_touched (held_map entities.old) (inserted_in (held_map entities.old) list.items)) e)) }
 {
     if entities.is_empty() {
         return fill(alloc, entities, list, tc_computation);
@@ -517,7 +514,8 @@ impl Entities {
             (IsAddingRefused W (map given_of (entities_in list.items)) e)) }
     {
         let mut entities = self.entities;
-        add_all(alloc, &mut entities, list, tc_computation)?;
+        let coming = with_uids(alloc, list)?;
+        add_all(alloc, &mut entities, coming, tc_computation)?;
         Ok(Entities {
             entities,
             partial: self.partial,
@@ -563,12 +561,13 @@ impl Entities {
             AreBare (entities_in list.items) → WhereComputed tc_computation
             (IsOverwritingRefused W (map given_of (entities_in list.items)) e)) }
     {
-        let uids = uids_in(alloc, &list)?;
+        let coming = with_uids(alloc, list)?;
+        let uids = uids_in(alloc, &coming)?;
         let read = read_each(alloc, &self.entities, &uids)?;
         let mut entities = self.entities;
         let mut touched = HashSet::new(alloc);
         apply_each(&mut entities, read, &[], &mut touched)?;
-        overwrite_all(alloc, &mut entities, list)?;
+        overwrite_all(&mut entities, coming)?;
         settle(alloc, &mut entities, &touched, tc_computation)?;
         Ok(Entities {
             entities,

@@ -7,6 +7,7 @@
 
 pub mod dereference;
 pub mod entities;
+mod incoming;
 pub mod store_iters;
 mod store_same;
 mod store_text;

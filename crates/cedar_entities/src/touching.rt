@@ -256,17 +256,6 @@ pub(crate) fn apply_each(
     Ok(())
 }
 
-// Copies of the uids of entities.
-pub(crate) fn uids_in(alloc: Global, list: &[Rc<Entity>]) -> Result<Vec<SharedUid>, AllocError>
-    ensures { IfOk result (λ v. v.items ≡ uids_of (entities_in list.now)) }
-{
-    let mut uids = Vec::new(alloc);
-    for entity in list {
-        uids.push(SharedUid::copy_of(alloc, entity.uid())?)?;
-    }
-    Ok(uids)
-}
-
 // The uids of a list that the map holds, in their order, to be shared.
 pub(crate) fn held_uids(
     alloc: Global,

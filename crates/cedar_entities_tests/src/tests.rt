@@ -4,6 +4,7 @@ mod store_faults;
 mod store_in_modes;
 mod store_kept;
 mod store_lists;
+mod store_many;
 mod store_modes;
 mod store_reads;
 mod store_shapes;

@@ -10,11 +10,11 @@ mod valid;
 use cedar_entity::entity::Entity;
 use cedar_ids::entity::EntityUID;
 use cedar_terms::{Literal, PartialValue, Value, ValueKind};
+use cedar_test_helpers::tried::{beside, joined, owned, pushed, twice};
 use cedar_uid_sets::SharedUid;
 use std::alloc::Global;
 use std::collections::HashSet;
 use std::fmt::Display;
-use std::hash::Hash;
 use std::test::Fail;
 
 // What is asked of a value that is made for it.
@@ -50,42 +50,6 @@ fn tried<T: Drop, F: FnOnce(Global, &mut T) -> Result<bool, Fail>>(
     }
 }
 
-// A value and a further one.
-fn beside<A: Drop, B>(one: A, other: Result<B, Fail>) -> Result<(A, B), Fail> {
-    match other {
-        Ok(other) => Ok((one, other)),
-        Err(fail) => {
-            drop(one);
-            Err(fail)
-        }
-    }
-}
-
-// A value and a copy of it.
-fn twice<T: Clone + Drop>(value: T) -> Result<(T, T), Fail> {
-    match value.clone() {
-        Ok(copy) => Ok((value, copy)),
-        Err(error) => {
-            drop(value);
-            Err(Fail::from(error))
-        }
-    }
-}
-
-// A list with a further item.
-fn pushed<T: Drop>(list: Vec<T>, item: Result<T, Fail>) -> Result<Vec<T>, Fail> {
-    let mut list = list;
-    list.push(item?)?;
-    Ok(list)
-}
-
-// A set with a further item.
-fn joined<T: Eq + Hash + Drop>(set: HashSet<T>, item: Result<T, Fail>) -> Result<HashSet<T>, Fail> {
-    let mut set = set;
-    set.insert(item?)?;
-    Ok(set)
-}
-
 // A value at a key.
 fn keyed<V: Drop>(alloc: Global, key: &str, value: V) -> Result<(String, V), Fail> {
     match owned(alloc, key) {
@@ -100,10 +64,6 @@ fn keyed<V: Drop>(alloc: Global, key: &str, value: V) -> Result<(String, V), Fai
 // Whether this is the text.
 fn says<T: Display + Drop>(alloc: Global, told: T, want: &str) -> Result<bool, Fail> {
     Ok(told.to_string(alloc)?.as_str() == want)
-}
-
-fn owned(alloc: Global, text: &str) -> Result<String, Fail> {
-    Ok(String::from_str(alloc, text)?)
 }
 
 // The uid with this text.

@@ -205,7 +205,8 @@ pub struct Work {
 /// of what each strong component of the graph reaches. Lists each node's edges once, and then costs
 /// what the keys, the edges read and the edges added cost, and nothing for a pair of keys without
 /// an edge. Asks [`TCNode::order`] once, and hands each node what it lacks in one call of
-/// [`TCNode::add_edges_to`]. It does not recurse, whatever the graph is.
+/// [`TCNode::add_edges_to`]. It does not recurse, whatever the graph is, but where lists are sorted,
+/// as a node type's [`TCNode::order`] may do with all keys: in the logarithm of a list's length.
 ///
 /// Unlike the original it takes the allocator and may answer `TcError::Memory`.
 pub fn compute_tc<K: Clone + Eq + Hash + Debug + Display, V: TCNode<K>>(
@@ -296,8 +297,8 @@ pub fn compute_tc_counted<K: Clone + Eq + Hash + Debug + Display, V: TCNode<K>>(
 /// the nodes that are not to be fixed always stay.
 ///
 /// Takes memory as [`compute_tc`] does, for the keys to fix and those that they have an edge to.
-/// Lists the edges of the nodes at these keys once, and looks at no other node. It does not
-/// recurse.
+/// Lists the edges of the nodes at these keys once, and looks at no other node. It recurses as
+/// [`compute_tc`] does, in sorting alone.
 ///
 /// Unlike the original it takes the allocator and may answer `TcError::Memory`.
 pub fn repair_tc<K: Clone + Eq + Hash + Debug + Display, V: TCNode<K>>(

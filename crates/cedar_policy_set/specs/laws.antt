@@ -14,5 +14,6 @@ pub mod MergeLaws
 pub mod MergeSteps
 pub mod Numerals
 pub mod OnceLaws
+pub mod RawMaps
 pub mod RenamingLaws
 pub mod SharedBoards

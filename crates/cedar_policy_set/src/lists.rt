@@ -1,7 +1,8 @@
 //! Small readers of policies and templates.
-ghost use Rattle.std.specs.Prelude.{◌≡◌, ◌||◌, is_some, IfOk};
+ghost use Rattle.std.specs.Prelude.{◌≡◌, ◌||◌, is_some, All, IfOk};
 ghost use Rattle.cedar_body.specs.Bodies.{body_slots};
 ghost use Rattle.cedar_policy_set.specs.Validity.{is_slotless};
+ghost use Rattle.cedar_policy_set.specs.laws.RawMaps.{IsWhole};
 
 use cedar_ids::policy_id::PolicyID;
 use cedar_policy::{Policy, Template};
@@ -36,4 +37,21 @@ pub(crate) fn either(one: bool, other: bool) -> bool
     ensures { result ≡ (one || other) }
 {
     one || other
+}
+
+// Has the readers of a policy say what holds of it. They change nothing.
+fn read_policy(policy: &Policy)
+    ensures { IsWhole policy.now }
+{
+    let _whole = policy.is_static();
+    let _total = policy.env();
+}
+
+// Has the readers of each policy say what holds of it.
+pub(crate) fn read_policies(policies: &[Policy])
+    ensures { All IsWhole policies.now }
+{
+    for policy in policies {
+        read_policy(policy);
+    }
 }

@@ -4,12 +4,13 @@ ghost use Rattle.std.specs.List.{find};
 ghost use Rattle.std.specs.Option.{option_copied, option_map};
 ghost use Rattle.cedar_policy_set.specs.Boards.{empty_board, is_body_at, is_policy_at, IsBoard};
 ghost use Rattle.cedar_policy_set.specs.Lists.{slotted_in, statics_in};
-ghost use Rattle.cedar_policy_set.specs.Maps.{board_in, maps_of, DoAgree};
+ghost use Rattle.cedar_policy_set.specs.Maps.{board_in, maps_of, CanMakeSet};
 ghost use Rattle.cedar_policy_set.specs.Refusals.{Answers, told_by_listing};
 ghost use Rattle.cedar_policy_set.specs.Steps.{get_linked_step};
 
 use crate::err::PolicySetGetLinksError;
 use crate::iters::{AllTemplates, IntoPolicies, LinkedIds, Policies, StaticPolicies, Templates};
+use crate::lists::read_policies;
 use cedar_ids::policy_id::PolicyID;
 use cedar_policy::{Policy, Template};
 use indexmap::{IndexMap, IndexSet};
@@ -57,19 +58,24 @@ impl PolicySet {
     }
 
     /// The set that is kept in these three maps: bodies, static policies' too, policies, and under each body's id the ids of
-    /// the policies on it. It takes no memory, and looks at nothing.
+    /// the policies on it. It takes no memory, and passes over the policies once, for its proof alone.
     ///
-    /// The maps have to agree: they state what holds of every set, bodies and policies stand under their own ids, and the
-    /// third map has the ids of all bodies, in their order, each with the ids of the policies on it, in theirs. The original
-    /// leaves to its caller that they do, and open in which order the third is.
+    /// The maps have to agree: bodies and policies stand under their own ids; each policy's template stands among the bodies;
+    /// a link has an id that no body has, and its template is no static policy's; and the third map has the ids of all
+    /// bodies, in their order, each with the ids of the policies on it, in theirs. The original leaves to its caller that
+    /// they do, and open in which order the third is.
     pub fn from_raw_components(
         templates: IndexMap<PolicyID, Rc<Template>>,
         links: IndexMap<PolicyID, Policy>,
         template_to_links_map: IndexMap<PolicyID, IndexSet<PolicyID>>,
     ) -> PolicySet
-        requires { DoAgree (maps_of templates.entries links.entries template_to_links_map.entries) }
+        requires { CanMakeSet (maps_of templates.entries links.entries template_to_links_map.entries) }
         ensures { result ≡ board_in (maps_of templates.entries links.entries template_to_links_map.entries) }
     {
+        // These say what holds of every map, that no two keys are equal, and of every policy.
+        let _bodies = templates.len();
+        let _policies = links.len();
+        read_policies(links.values().as_slice());
         PolicySet {
             templates,
             links,

@@ -8,29 +8,25 @@ use Rattle.cedar_ids.specs.Texts.{same_text}
 use Rattle.cedar_ids.specs.laws.TextLaws.{same_text_equiv}
 use Rattle.cedar_body.specs.Bodies.{BodyParts, body_slots}
 use Rattle.cedar_policy.specs.Policies.{PolicyParts, policy_id, static_policy}
-use Rattle.cedar_policy_set.specs.Maps.{Maps, DoAgree}
+use Rattle.cedar_policy_set.specs.Maps.{Maps, CanMakeSet}
 
 pub turned : (i j : List ℕ) → same_text i j ≡ false → same_text j i ≡ false
 turned i j h = same_text_equiv.symm j i ∙ h
 
-bodies_agree : (t u : BodyParts) → body_slots t ≡ [] → body_slots u ≡ [] → same_text t.id u.id ≡ false →
-    DoAgree (record {
+bodies_make : (t u : BodyParts) → same_text t.id u.id ≡ false →
+    CanMakeSet (record {
       bodies = (t.id, t) ∷ (u.id, u) ∷ [];
       policies = (u.id, static_policy u) ∷ (t.id, static_policy t) ∷ [];
       listed = (t.id, t.id ∷ []) ∷ (u.id, u.id ∷ []) ∷ [];
     })
-bodies_agree t u s r a =
+bodies_make t u a =
     let b = turned t.id u.id a in
     let m = same_text_equiv.refl t.id in
     let n = same_text_equiv.refl u.id in
     let p = static_policy t in
     let q = static_policy u in
     record {
-      board = record {
-        bodies_once = (ap (λ v. v || false) a, (refl, tt));
-        policies_once = (ap (λ v. v || false) b, (refl, tt));
-        held = ((refl, r, λ j. cond (b j) (Some t) (cond (n j) (Some u) None)), ((refl, s, ap (λ v. cond v (Some t) (cond (same_text t.id u.id) (Some u) None)) m), tt));
-      };
+      placed = (λ j. cond (b j) (Some t) (cond (n j) (Some u) None), (ap (λ v. cond v (Some t) (cond (same_text t.id u.id) (Some u) None)) m, tt));
       bodies_by_id = refl;
       policies_by_id = refl;
       all_listed =
@@ -44,7 +40,7 @@ pub ids_turned : (p q : PolicyParts) → p ≡ static_policy p.template → q �
 ids_turned p q g h a = (λ j. same_text (policy_id (g j)) (policy_id (h j))) ∙ a
 
 pub crossed : (p q : PolicyParts) → (p ≡ static_policy p.template) × (body_slots p.template ≡ []) → (q ≡ static_policy q.template) × (body_slots q.template ≡ []) → same_text p.template.id q.template.id ≡ false →
-    DoAgree (record {
+    CanMakeSet (record {
       bodies = (p.template.id, p.template) ∷ (q.template.id, q.template) ∷ [];
       policies = (policy_id q, q) ∷ (policy_id p, p) ∷ [];
       listed = (p.template.id, policy_id p ∷ []) ∷ (q.template.id, policy_id q ∷ []) ∷ [];
@@ -55,7 +51,7 @@ crossed p q g h a =
       policies = (policy_id y, y) ∷ (policy_id x, x) ∷ [];
       listed = (p.template.id, policy_id x ∷ []) ∷ (q.template.id, policy_id y ∷ []) ∷ [];
     } in
-    subst (λ x. DoAgree (f x q)) (sym g.0) (subst (λ y. DoAgree (f (static_policy p.template) y)) (sym h.0) (bodies_agree p.template q.template g.1 h.1 a))
+    subst (λ x. CanMakeSet (f x q)) (sym g.0) (subst (λ y. CanMakeSet (f (static_policy p.template) y)) (sym h.0) (bodies_make p.template q.template a))
 
 none_read : {V W : Type 0} (f : V → W) (o : Option V) → option_map f o ≡ None → o ≡ None
 none_read f None h = refl

@@ -1,1 +1,2 @@
 mod Crossed
+mod Single

@@ -6,79 +6,18 @@ mod places;
 mod small;
 mod values;
 
-use cedar_ids::entity::{Eid, EntityType, EntityUID};
+use cedar_ids::entity::EntityUID;
 use cedar_ids::loc::Loc;
-use cedar_ids::name::Name;
 use cedar_terms::expr::Expr;
 use cedar_terms::literal::Literal;
 use cedar_terms::slot::{Slot, SlotId};
 use cedar_terms::value::{ExtensionValue, Value, ValueKind};
-use std::alloc::{AllocError, Global};
-use std::fmt::Display;
-use std::hash::{DefaultHasher, Hash, Hasher};
-use std::rc::{Rc, RcStr};
-
-// Two things, where both could be made.
-fn both<A: Drop, B: Drop>(first: Option<A>, second: Option<B>) -> Option<(A, B)> {
-    match first {
-        Some(a) => match second {
-            Some(b) => Some((a, b)),
-            None => {
-                drop(a);
-                None
-            }
-        },
-        None => {
-            drop(second);
-            None
-        }
-    }
-}
-
-// A list and a further thing last.
-fn with_last<T: Drop>(all: Option<Vec<T>>, x: Option<T>) -> Option<Vec<T>> {
-    match both(all, x) {
-        Some((mut all, x)) => match all.push(x) {
-            Ok(()) => Some(all),
-            Err(error) => {
-                drop(error);
-                drop(all);
-                None
-            }
-        },
-        None => None,
-    }
-}
-
-// A thing behind a count.
-fn counted<T: Drop>(alloc: Global, made: Option<T>) -> Option<Rc<T>> {
-    match made {
-        Some(x) => Rc::new(alloc, x).ok(),
-        None => None,
-    }
-}
-
-fn owned(alloc: Global, text: &str) -> Option<String> {
-    String::from_str(alloc, text).ok()
-}
-
-fn named(alloc: Global, text: &str) -> Option<Name> {
-    Name::from_normalized_str(alloc, text).ok()
-}
-
-fn typed(alloc: Global, text: &str) -> Option<EntityType> {
-    match named(alloc, text) {
-        Some(name) => Some(EntityType::EntityType(name)),
-        None => None,
-    }
-}
-
-fn uid(alloc: Global, ty: &str, eid: &str) -> Option<EntityUID> {
-    match both(owned(alloc, eid), typed(alloc, ty)) {
-        Some((eid, ty)) => Some(EntityUID::from_components(ty, Eid::new(eid), None)),
-        None => None,
-    }
-}
+use cedar_test_helpers::made::{
+    agree, both, copies, copy_of, counted, differ, hash_of, is_written, named, owned, shows,
+    start_of, typed, uid, with_last,
+};
+use std::alloc::Global;
+use std::rc::RcStr;
 
 // A place of one character.
 fn place(alloc: Global, start: usize) -> Option<Loc> {
@@ -86,11 +25,6 @@ fn place(alloc: Global, start: usize) -> Option<Loc> {
         Ok(src) => Some(Loc::new(start, start.saturating_add(1), src)),
         Err(_) => None,
     }
-}
-
-// Where a place begins.
-fn start_of(loc: Option<&Loc>) -> Option<usize> {
-    loc.map(|loc| loc.start)
 }
 
 fn literal_of(literal: Literal) -> Value {
@@ -189,95 +123,6 @@ fn is_eq(alloc: Global, left: Option<Expr>, right: Option<Expr>) -> Option<Expr>
     match both(left, right) {
         Some((left, right)) => Expr::is_eq(alloc, left, right).ok(),
         None => None,
-    }
-}
-
-fn hash_of<T: Hash>(x: &T) -> u64 {
-    let mut state = DefaultHasher::new();
-    x.hash(&mut state);
-    state.finish()
-}
-
-// Whether a thing that could be made is written so.
-fn shows<T: Display + Drop>(alloc: Global, made: Option<T>, want: &str) -> bool {
-    match made {
-        Some(x) => {
-            let told = is_written(alloc, &x, want);
-            drop(x);
-            told
-        }
-        None => false,
-    }
-}
-
-// Whether a thing is written so.
-fn is_written<T: Display>(alloc: Global, x: &T, want: &str) -> bool {
-    match x.to_string(alloc) {
-        Ok(text) => text.as_str() == want,
-        Err(_) => false,
-    }
-}
-
-// A copy of a thing that could be made.
-fn copy_of<T: Clone + Drop>(made: Option<T>) -> Option<T> {
-    match made {
-        Some(x) => {
-            let copy: Result<T, AllocError> = x.clone();
-            drop(x);
-            copy.ok()
-        }
-        None => None,
-    }
-}
-
-// Whether a copy of a thing is equal to it, and hashes alike.
-fn is_copied<T: Clone + Hash + Drop>(x: &T) -> bool {
-    let copy: Result<T, AllocError> = x.clone();
-    match copy {
-        Ok(copy) => {
-            let told = copy == *x && hash_of(&copy) == hash_of(x);
-            drop(copy);
-            told
-        }
-        Err(_) => false,
-    }
-}
-
-// Whether a copy of a thing that could be made is equal to it, and hashes alike.
-fn copies<T: Clone + Hash + Drop>(made: Option<T>) -> bool {
-    match made {
-        Some(x) => {
-            let told = is_copied(&x);
-            drop(x);
-            told
-        }
-        None => false,
-    }
-}
-
-// Whether two things are equal, and hash alike.
-fn agree<T: Hash + Drop>(x: Option<T>, y: Option<T>) -> bool {
-    match both(x, y) {
-        Some((x, y)) => {
-            let told = x == y && hash_of(&x) == hash_of(&y);
-            drop(x);
-            drop(y);
-            told
-        }
-        None => false,
-    }
-}
-
-// Whether two things differ.
-fn differ<T: Eq + Drop>(x: Option<T>, y: Option<T>) -> bool {
-    match both(x, y) {
-        Some((x, y)) => {
-            let told = x != y;
-            drop(x);
-            drop(y);
-            told
-        }
-        None => false,
     }
 }
 

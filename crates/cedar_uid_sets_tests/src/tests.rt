@@ -9,39 +9,11 @@ mod sets;
 mod walks;
 
 use cedar_ids::entity::EntityUID;
+use cedar_test_helpers::tried::{beside, pushed, twice};
 use cedar_uid_sets::{SharedUid, UidSet};
 use std::alloc::Global;
 use std::fmt::Write;
 use std::test::Fail;
-
-// A value and a further one.
-fn beside<A: Drop, B>(one: A, other: Result<B, Fail>) -> Result<(A, B), Fail> {
-    match other {
-        Ok(other) => Ok((one, other)),
-        Err(fail) => {
-            drop(one);
-            Err(fail)
-        }
-    }
-}
-
-// A value and a copy of it.
-fn twice<T: Clone + Drop>(value: T) -> Result<(T, T), Fail> {
-    match value.clone() {
-        Ok(copy) => Ok((value, copy)),
-        Err(error) => {
-            drop(value);
-            Err(Fail::from(error))
-        }
-    }
-}
-
-// A list with a further item.
-fn pushed<T: Drop>(list: Vec<T>, item: Result<T, Fail>) -> Result<Vec<T>, Fail> {
-    let mut list = list;
-    list.push(item?)?;
-    Ok(list)
-}
 
 // Whether two things are equal.
 fn equal<T: PartialEq + Drop>(one: T, other: Result<T, Fail>) -> Result<bool, Fail> {

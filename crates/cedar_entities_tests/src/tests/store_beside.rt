@@ -11,9 +11,9 @@ use cedar_entity::iters::Uids;
 use cedar_graph::TcError;
 use cedar_ids::entity::EntityUID;
 use cedar_terms::{Literal, PartialValue, Value, ValueKind};
+use cedar_test_helpers::tried::{beside, joined, pushed};
 use std::alloc::Global;
 use std::collections::HashSet;
-use std::hash::Hash;
 use std::rc::Rc;
 use std::test::Fail;
 
@@ -36,31 +36,6 @@ pub(super) fn bit_of(uid: &EntityUID) -> u8 {
         "c" => 4,
         _ => 8,
     }
-}
-
-// A value and a further one.
-fn beside<A: Drop, B>(one: A, other: Result<B, Fail>) -> Result<(A, B), Fail> {
-    match other {
-        Ok(other) => Ok((one, other)),
-        Err(fail) => {
-            drop(one);
-            Err(fail)
-        }
-    }
-}
-
-// A list with a further item.
-fn pushed<T: Drop>(list: Vec<T>, item: Result<T, Fail>) -> Result<Vec<T>, Fail> {
-    let mut list = list;
-    list.push(item?)?;
-    Ok(list)
-}
-
-// A set with a further item.
-fn joined<T: Eq + Hash + Drop>(set: HashSet<T>, item: Result<T, Fail>) -> Result<HashSet<T>, Fail> {
-    let mut set = set;
-    set.insert(item?)?;
-    Ok(set)
 }
 
 fn set_of(alloc: Global, bits: u8) -> Result<HashSet<EntityUID>, Fail> {

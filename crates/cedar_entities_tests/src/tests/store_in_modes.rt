@@ -1,13 +1,14 @@
 // Calls on a store in the three modes, beside what each leaves as far as that is fixed.
 use super::store_beside::{bit_of, bits_of, done, has_attr, numbered};
 use super::store_kept::{Fault, Kept, Left, Store, kept_at, left_by, none};
-use super::store_lists::{below, call_at, drawn_call, three};
+use super::store_lists::{call_at, drawn_call, three};
 use super::store_world::{Call, Row, bit};
 use cedar_entities::dereference::Dereference;
 use cedar_entities::entities::{Entities, TCComputation};
 use cedar_entity::entity::Entity;
 use cedar_entity::err::EntitiesError;
 use cedar_graph::TcError;
+use cedar_test_helpers::drawn::below;
 use std::alloc::Global;
 use std::test::Fail;
 

@@ -1,6 +1,7 @@
 // Many lists of calls, each on a store and on the world that it stands for.
 use super::store_beside::{End, compared};
 use super::store_world::{Call, Refused, Row, Rows, bit};
+use cedar_test_helpers::drawn::below;
 use std::alloc::Global;
 use std::test::Fail;
 
@@ -149,20 +150,6 @@ fn each_call_on_each_store_of_three_leaves_the_plain_store(rt: HostRuntime) -> R
     assert_eq!(rt; tally.total(), 25 * 82 + 487);
     assert!(rt; tally.has_each(200));
     Ok(())
-}
-
-// The next of a sequence of numbers that has no visible order.
-fn draw(seed: &mut u64) -> u64 {
-    *seed = seed
-        .wrapping_mul(6_364_136_223_846_793_005)
-        .wrapping_add(1_442_695_040_888_963_407);
-    *seed >> 33
-}
-
-// A number below this one, which is not 0.
-pub(super) fn below(seed: &mut u64, end: u8) -> u8 {
-    let [low, ..] = (draw(seed) % u64::from(end.max(1))).to_le_bytes();
-    low
 }
 
 // Few uids: each with one chance in four, but for those of a cycle of one, which are rarer.

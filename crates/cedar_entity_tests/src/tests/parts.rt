@@ -9,10 +9,10 @@ use cedar_ids::entity::{Eid, EntityType, EntityUID};
 use cedar_ids::loc::Loc;
 use cedar_ids::name::Name;
 use cedar_terms::{Literal, PartialValue, StaticType, StaticallyTyped, Value, ValueKind};
+use cedar_test_helpers::made::hash_of;
 use cedar_uid_sets::SharedUid;
 use std::alloc::Global;
 use std::collections::HashSet;
-use std::hash::{DefaultHasher, Hash, Hasher};
 use std::rc::RcStr;
 use std::test::Fail;
 
@@ -396,12 +396,6 @@ fn deep_equality_looks_at_all_but_who_is_a_parent(rt: HostRuntime) -> Result<(),
         assert!(rt; asked(pair, deep_equal)? == (*want, *want));
     }
     Ok(())
-}
-
-fn hash_of<T: Hash>(x: &T) -> u64 {
-    let mut state = DefaultHasher::new();
-    x.hash(&mut state);
-    state.finish()
 }
 
 // Whether two entities are equal, and hash alike.

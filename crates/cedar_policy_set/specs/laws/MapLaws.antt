@@ -10,7 +10,7 @@ use Rattle.cedar_ids.specs.Texts.{same_text}
 use Rattle.cedar_ids.specs.laws.TextLaws.{same_text_equiv, same_text_decides}
 use Rattle.cedar_body.specs.Bodies.{BodyParts}
 use Rattle.cedar_policy.specs.Policies.{PolicyParts, policy_id}
-use Rattle.cedar_policy_set.specs.Boards.{Board, empty_board, AreOnce, is_bound, is_body_at, is_policy_at, links_to, has_links, with_template, with_policy, with_both, without_id, IsHeldBy, AreHeld, IsBoard}
+use Rattle.cedar_policy_set.specs.Boards.{Board, AreOnce, is_bound, is_body_at, is_policy_at, links_to, has_links, with_template, with_policy, with_both, without_id, IsHeldBy, AreHeld, IsBoard}
 use Rattle.cedar_policy_set.specs.Lists.{is_on, ids_in}
 use Rattle.cedar_policy_set.specs.Maps.{Maps, board_in, ids_by_body, DoAgree}
 use Rattle.cedar_policy_set.specs.laws.BoardLaws.{no_body_at, no_policy_at, ids_apart, template_joins, link_joins, free_link, both_join, taken_out, policy_has_no_links}
@@ -224,16 +224,3 @@ pub taken_kept : (m : Maps) (i : List ℕ) (o : Option PolicyParts) (bs : List (
     bs ≡ remove_entry (same_text i) m.bodies → qs ≡ remove_entry (same_text i) m.policies → ls ≡ unlisted o i (remove_entry (same_text i) m.listed) →
     Becomes (record { bodies = bs; policies = qs; listed = ls }) (without_id (board_in m) i)
 taken_kept m i o bs qs ls h n e f g k = rw (f, g, k) (taken_agrees m i o h n e)
-
--- ---- maps of one policy
-
-abbrev no_maps : Maps
-no_maps = record { bodies = []; policies = []; listed = [] }
-
-none_agree : DoAgree no_maps
-none_agree = record { board = record { bodies_once = tt; policies_once = tt; held = tt }; bodies_by_id = refl; policies_by_id = refl; all_listed = refl }
-
--- maps of a policy and its template alone
-pub one_agrees : (p : PolicyParts) → CanJoinBoth empty_board p →
-    DoAgree (record { bodies = (p.template.id, p.template) ∷ []; policies = (policy_id p, p) ∷ []; listed = (p.template.id, policy_id p ∷ []) ∷ [] })
-one_agrees p c = (both_agree no_maps p none_agree c).0

@@ -3,9 +3,9 @@ ghost use Rattle.std.specs.Prelude.{◌≡◌, ◌++◌, ◌∷◌, [], None, fa
 ghost use Rattle.indexmap.specs.IndexMap.{get};
 ghost use Rattle.cedar_ids.specs.Texts.{same_text};
 ghost use Rattle.cedar_policy.specs.Policies.{policy_id};
-ghost use Rattle.cedar_policy_set.specs.Boards.{empty_board};
+ghost use Rattle.cedar_policy_set.specs.Boards.{empty_board, HasOwnId};
 ghost use Rattle.cedar_policy_set.specs.Maps.{lists_of, shared_of};
-ghost use Rattle.cedar_policy_set.specs.laws.Joins.{CanJoinBoth, CanJoinBothBy};
+ghost use Rattle.cedar_policy_set.specs.laws.Joins.{CanJoinBothBy};
 
 use super::notation::row;
 use super::script::{policy_of, set_of, told_on};
@@ -88,7 +88,7 @@ fn link_of(alloc: Global, policy: Policy) -> Result<IndexMap<PolicyID, Policy>, 
 
 // The set that is kept in maps of one policy and its template.
 fn raw_one(alloc: Global, policy: Policy) -> Result<PolicySet, Fail>
-    requires { CanJoinBoth empty_board policy }
+    requires { HasOwnId policy }
 {
     let lists = list_of(alloc, &policy)?;
     let templates = template_of(alloc, &policy)?;
@@ -97,14 +97,12 @@ fn raw_one(alloc: Global, policy: Policy) -> Result<PolicySet, Fail>
 }
 
 // The set that is kept in maps of the policy of a text and its template; of a link with its template's id the empty set.
-#[tactic(auto, using(cedar_policy_set::specs::laws::BoardLaws::alone))]
 fn raw(alloc: Global, text: &str) -> Result<PolicySet, Fail> {
     let policy = policy_of(alloc, row(text))?;
     if !policy.is_static() && policy.id() == policy.template().id() {
         drop(policy);
         return Ok(PolicySet::new(alloc));
     }
-    let _total = policy.env();
     raw_one(alloc, policy)
 }
 

@@ -4,6 +4,7 @@ use super::{
 };
 use cedar_annotation::{Annotation, Annotations};
 use cedar_ids::id::AnyId;
+use cedar_test_helpers::made::joined;
 use std::alloc::Global;
 use std::collections::BTreeMap;
 
@@ -181,20 +182,6 @@ fn annotations_are_listed_by_key(rt: HostRuntime) {
     let all = annotated(alloc, &[("b", "1"), ("a", "2"), ("ab", "3"), ("B", "4")]);
     assert!(rt; are_listed(all, &[("B", "4"), ("a", "2"), ("ab", "3"), ("b", "1")]));
     assert!(rt; are_listed(Some(Annotations::new(alloc)), &[]));
-}
-
-// A text and a further one behind it.
-fn joined(text: Option<String>, more: &str) -> Option<String> {
-    match text {
-        Some(mut text) => match text.push_str(more) {
-            Ok(()) => Some(text),
-            Err(_) => {
-                drop(text);
-                None
-            }
-        },
-        None => None,
-    }
 }
 
 // The keys and values of annotations as they are handed over, joined.

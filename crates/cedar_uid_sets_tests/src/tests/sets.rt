@@ -3,10 +3,10 @@ use super::{
     Range, becomes, beside, eids, filled, filled_row, found, in_order, is, pointers, put_in, reads,
     row, rows_in_order, shared, stepped, take_out, twice, uid,
 };
+use cedar_test_helpers::tried::joined;
 use cedar_uid_sets::{SharedUid, UidSet};
 use std::alloc::{AllocError, Global};
 use std::collections::HashSet;
-use std::hash::Hash;
 use std::test::Fail;
 
 // Whether a set has the uids of these numbers, the same after all are put in again, and finds them.
@@ -303,13 +303,6 @@ fn ten_are_apart(alloc: Global) -> Result<bool, Fail> {
 fn a_copy_and_its_source_are_changed_apart(rt: HostRuntime) -> Result<(), Fail> {
     assert!(rt; ten_are_apart(rt.alloc())?);
     Ok(())
-}
-
-// A hash set with a further item.
-fn joined<T: Eq + Hash + Drop>(set: HashSet<T>, item: Result<T, Fail>) -> Result<HashSet<T>, Fail> {
-    let mut set = set;
-    set.insert(item?)?;
-    Ok(set)
 }
 
 // The set of the uids of these numbers, made of a hash set.

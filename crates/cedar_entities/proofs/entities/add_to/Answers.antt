@@ -1,4 +1,4 @@
-use Rattle.std.proofs.Common.{ap, refl, subst, map, not, is_some, ◌∙◌, ◌≡◌, ◌||◌}
+use Rattle.std.proofs.Common.{ap, refl, subst, not, is_some, ◌∙◌, ◌≡◌, ◌||◌}
 use Rattle.std.proofs.lemmas.Result.{err_from_is_err_and, IfErr-weaker, on_ok_weaker}
 use Rattle.cedar_entities.specs.laws.Held.{held, held_map}
 use Rattle.cedar_entities.specs.Edits.{uids_of}
@@ -20,11 +20,11 @@ use Rattle.cedar_entities.proofs.entities.add_to.Goals as goal
 pub returns-in_err-put_all-clause-err : goal.returns-in_err-put_all-clause-err
 returns-in_err-put_all-clause-err c =
     let p = err_from_is_err_and c.from_residual-in_err-put_all.result c.from_residual-in_err-put_all.ensures.1 in
-    rw (p.1, p.2) (mismatch_at (held c.args.entities.now) (held c.args.entities.now) (map (λ r. r.value) c.args.list.items) _ refl c.in_err-put_all.field-0.0 c.in_err-put_all.ensures.err)
+    rw (p.1, p.2) (mismatch_at (held c.args.entities.now) (held c.args.entities.now) c.args.list.items _ refl c.in_err-put_all.field-0.0 c.in_err-put_all.ensures.err)
 
 pub returns-clause-err : goal.returns-clause-err
 returns-clause-err c =
-    let L = map (λ r. r.value) c.args.list.items in
+    let L = c.args.list.items in
     let put = put_in c.args.entities.now c.put_all.new.entities (held_map c.args.entities.now) L refl c.in_ok-put_all.ensures.ok in
     IfErr-weaker c.settle.result _ _ (λ e h. closure_at _ (with_first (held_map c.args.entities.now) L) c.args.tc_computation _ _ put c.in_ok-put_all.ensures.agree e h) c.settle.ensures.err
 
@@ -32,11 +32,11 @@ pub returns-clause-ok : goal.returns-clause-ok
 returns-clause-ok c =
     let m = c.args.entities.now in
     let D = held_map m in
-    let L = map (λ r. r.value) c.args.list.items in
+    let L = c.args.list.items in
     let put = put_in m c.put_all.new.entities D L refl c.in_ok-put_all.ensures.ok in
     let fresh = c.in_ok-fresh.fresh.items in
     let all : fresh ≡ filter (λ u. not (is_some (held m u))) (uids_of L) =
-    c.in_ok-fresh.ensures ∙ ap (filter (λ u. not (is_some (held m u)))) (c.in_ok-uids.ensures ∙ ap (λ l. uids_of (map (λ r. r.value) l)) c.deref.ensures.value) in
+    c.in_ok-fresh.ensures ∙ ap (filter (λ u. not (is_some (held m u)))) (c.in_ok-uids.ensures ∙ ap uids_of c.deref.ensures.value) in
     let touched = added_touched m c.put_all.new.entities c.note_all.new.noted c.note_all-2.new.noted D L fresh c.in_ok-by.by.items refl put all
     (λ q. c.in_ok-note_all.ensures.ok q ∙ ap (λ ks. is_member same_uid ks q || is_member same_uid fresh q) c.new-touched.ensures.empty)
     c.in_ok-by.ensures c.in_ok-note_all-2.ensures.ok in
@@ -46,7 +46,7 @@ returns-clause-ok c =
 pub returns-in_err-put_all-clause-named : goal.returns-in_err-put_all-clause-named
 returns-in_err-put_all-clause-named c =
     let D = held_map c.args.entities.now in
-    let L = map (λ r. r.value) c.args.list.items in
+    let L = c.args.list.items in
     let p = err_from_is_err_and c.from_residual-in_err-put_all.result c.from_residual-in_err-put_all.ensures.1 in
     rw (p.1, p.2) (where_computed c.args.tc_computation _
     (none_named (FirstMismatch (held c.args.entities.now) L) (is_touched D (inserted_in D L)) c.in_err-put_all.field-0.0 c.in_err-put_all.ensures.err))
@@ -55,11 +55,11 @@ pub returns-clause-named : goal.returns-clause-named
 returns-clause-named c =
     let m = c.args.entities.now in
     let D = held_map m in
-    let L = map (λ r. r.value) c.args.list.items in
+    let L = c.args.list.items in
     let put = put_in m c.put_all.new.entities D L refl c.in_ok-put_all.ensures.ok in
     let fresh = c.in_ok-fresh.fresh.items in
     let all : fresh ≡ filter (λ u. not (is_some (held m u))) (uids_of L) =
-    c.in_ok-fresh.ensures ∙ ap (filter (λ u. not (is_some (held m u)))) (c.in_ok-uids.ensures ∙ ap (λ l. uids_of (map (λ r. r.value) l)) c.deref.ensures.value) in
+    c.in_ok-fresh.ensures ∙ ap (filter (λ u. not (is_some (held m u)))) (c.in_ok-uids.ensures ∙ ap uids_of c.deref.ensures.value) in
     let touched = added_touched m c.put_all.new.entities c.note_all.new.noted c.note_all-2.new.noted D L fresh c.in_ok-by.by.items refl put all
     (λ q. c.in_ok-note_all.ensures.ok q ∙ ap (λ ks. is_member same_uid ks q || is_member same_uid fresh q) c.new-touched.ensures.empty)
     c.in_ok-by.ensures c.in_ok-note_all-2.ensures.ok in

@@ -1,4 +1,4 @@
-use Rattle.std.proofs.Common.{refl, subst, map}
+use Rattle.std.proofs.Common.{refl, subst}
 use Rattle.std.proofs.lemmas.Result.{err_from_is_err_and, IfErr-weaker, on_ok_weaker}
 use Rattle.cedar_entities.specs.laws.Held.{held, held_map}
 use Rattle.cedar_entities.specs.Present.{with_first}
@@ -11,18 +11,18 @@ use Rattle.cedar_entities.proofs.entities.fill.Goals as goal
 pub returns-in_err-put_all-clause-err : goal.returns-in_err-put_all-clause-err
 returns-in_err-put_all-clause-err c =
     let p = err_from_is_err_and c.from_residual.result c.from_residual.ensures.1 in
-    rw (p.1, p.2) (mismatch_at (held c.args.entities.now) (held c.args.entities.now) (map (λ r. r.value) c.args.list.items) _ refl c.in_err-put_all.field-0.0 c.in_err-put_all.ensures.err)
+    rw (p.1, p.2) (mismatch_at (held c.args.entities.now) (held c.args.entities.now) c.args.list.items _ refl c.in_err-put_all.field-0.0 c.in_err-put_all.ensures.err)
 
 pub returns-clause-err : goal.returns-clause-err
 returns-clause-err c =
-    let L = map (λ r. r.value) c.args.list.items in
+    let L = c.args.list.items in
     let put = put_in c.args.entities.now c.put_all.new.entities (held_map c.args.entities.now) L refl c.in_ok-put_all.ensures.ok in
     IfErr-weaker c.settle_whole.result _ _ (λ e h. closure_at _ (with_first (held_map c.args.entities.now) L) c.args.tc_computation _ _ put c.in_ok-put_all.ensures.agree e h) c.settle_whole.ensures.err
 
 pub returns-clause-ok : goal.returns-clause-ok
 returns-clause-ok c =
     let D = held_map c.args.entities.now in
-    let L = map (λ r. r.value) c.args.list.items in
+    let L = c.args.list.items in
     let put = put_in c.args.entities.now c.put_all.new.entities D L refl c.in_ok-put_all.ensures.ok in
     on_ok_weaker c.settle_whole.result (λ h. subst (λ E. IsSettled c.args.tc_computation (is_touched D (inserted_in D L)) E (held_map c.settle_whole.new.entities)) put
     (h (is_touched D (inserted_in D L)) (all_inserted c.args.entities.now c.put_all.new.entities L c.requires.empty c.in_ok-put_all.ensures.ok))) c.settle_whole.ensures.ok
@@ -30,7 +30,7 @@ returns-clause-ok c =
 pub returns-in_err-put_all-clause-named : goal.returns-in_err-put_all-clause-named
 returns-in_err-put_all-clause-named c =
     let D = held_map c.args.entities.now in
-    let L = map (λ r. r.value) c.args.list.items in
+    let L = c.args.list.items in
     let p = err_from_is_err_and c.from_residual.result c.from_residual.ensures.1 in
     rw (p.1, p.2) (where_computed c.args.tc_computation _
     (none_named (FirstMismatch (held c.args.entities.now) L) (is_touched D (inserted_in D L)) c.in_err-put_all.field-0.0 c.in_err-put_all.ensures.err))
@@ -38,6 +38,6 @@ returns-in_err-put_all-clause-named c =
 pub returns-clause-named : goal.returns-clause-named
 returns-clause-named c =
     let D = held_map c.args.entities.now in
-    let L = map (λ r. r.value) c.args.list.items in
+    let L = c.args.list.items in
     IfErr-weaker c.settle_whole.result _ _
     (λ e h. h (is_touched D (inserted_in D L)) (all_inserted c.args.entities.now c.put_all.new.entities L c.requires.empty c.in_ok-put_all.ensures.ok)) c.settle_whole.ensures.named

@@ -1,20 +1,20 @@
-use Rattle.std.proofs.Common.{ap, sym, ◌∙◌, map}
+use Rattle.std.proofs.Common.{ap, sym, ◌∙◌}
 use Rattle.std.specs.Option.{option_or}
 use Rattle.std.proofs.lemmas.Iterator.Consumers.{YieldsList-end}
 use Rattle.std.proofs.lemmas.Iterator.Adapters.{YieldsList-from_vec}
 use Rattle.cedar_entities.specs.laws.Edits.{last_entity}
 use Rattle.cedar_entities.specs.laws.Held.{held}
-use Rattle.cedar_entities.proofs.Versions.{over_push, map_same, map_append_one}
+use Rattle.cedar_entities.proofs.Versions.{over_push, map_same}
 use Rattle.cedar_entities.proofs.entities.overwrite_all.Goals as goal
 
 pub loop-entity-preserved : goal.loop-entity-preserved
 loop-entity-preserved c = record {
   keys = c.in_ok-put_over.ensures.keys;
-  holds = λ q. rw map_append_one (over_push (held c.args.entities.now) (held c.loop-entity.entities) (held c.put_over.new.entities) (map (λ r. r.value) c.loop-entity.yielded) c.in-Some.entity.value c.loop-entity.invariant.holds c.in_ok-put_over.ensures.ok q);
+  holds = over_push (held c.args.entities.now) (held c.loop-entity.entities) (held c.put_over.new.entities) c.loop-entity.yielded c.in-Some.entity c.loop-entity.invariant.holds c.in_ok-put_over.ensures.ok;
 }
 
 pub returns-clause-ok : goal.returns-clause-ok
 returns-clause-ok c q =
     let gives = c.into_iter-entity-iterator.ensures.into_iter_gives in
     let whole = sym (map_same c.loop-entity.yielded) ∙ (YieldsList-end (YieldsList-from_vec {s = c.into_iter-entity-iterator.result} c.args.list.items gives.0 (gives.1 ∙ c.args.list.ok.0)) c.loop-entity.yielded c.loop-entity.entity-iterator c.loop-entity.yielded_by c.next.result c.next.new.self c.in-None.is c.next.ensures.steps).0 in
-    c.loop-entity.invariant.holds q ∙ ap (λ l. option_or (last_entity (map (λ r. r.value) l) q) (held c.args.entities.now q)) whole
+    c.loop-entity.invariant.holds q ∙ ap (λ l. option_or (last_entity l q) (held c.args.entities.now q)) whole

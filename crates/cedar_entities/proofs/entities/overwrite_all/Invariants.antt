@@ -1,4 +1,4 @@
-use Rattle.std.specs.Prelude.{◌≡◌, map}
+use Rattle.std.specs.Prelude.{◌≡◌}
 use Rattle.std.specs.Option.{option_or}
 use Rattle.cedar_ids.specs.declared.entity.EntityUID.{EntityUID}
 use Rattle.cedar_entities.specs.laws.Edits.{last_entity}
@@ -8,5 +8,5 @@ use Rattle.cedar_entities.proofs.entities.overwrite_all.Given as goal
 abbrev pub invariant-loop-entity : goal.invariant-loop-entity
 invariant-loop-entity l = record {
   keys : UidsMatch l.entities;
-  holds : (q : EntityUID) → held l.entities q ≡ option_or (last_entity (map (λ r. r.value) l.yielded) q) (held l.initial.entities q);
+  holds : (q : EntityUID) → held l.entities q ≡ option_or (last_entity l.yielded q) (held l.initial.entities q);
 }

@@ -1,4 +1,4 @@
-use Rattle.std.proofs.Common.{ap, sym, subst, ◌∙◌, ◌++◌, map}
+use Rattle.std.proofs.Common.{ap, sym, subst, ◌∙◌, ◌++◌}
 use Rattle.std.specs.List.{AllByRecursion}
 use Rattle.std.specs.Option.{option_or}
 use Rattle.std.proofs.lemmas.Result.{err_from_is_err_and}
@@ -6,7 +6,7 @@ use Rattle.std.proofs.lemmas.Iterator.Consumers.{YieldsList-end}
 use Rattle.std.proofs.lemmas.Iterator.Adapters.{YieldsList-from_vec}
 use Rattle.cedar_entities.specs.laws.Held.{held}
 use Rattle.cedar_entities.specs.Present.{first_entity, MatchesPresent}
-use Rattle.cedar_entities.proofs.Versions.{or_none, agrees_now, held_push, append_one, map_same, map_append_one, map_at, weaker_refusal}
+use Rattle.cedar_entities.proofs.Versions.{or_none, agrees_now, held_push, append_one, map_same, weaker_refusal}
 use Rattle.cedar_entities.proofs.entities.put_all.Goals as goal
 use Rattle.cedar_entities.specs.laws.Lists.{all_push}
 
@@ -29,12 +29,11 @@ loop-entity-preserved c =
     let done = c.loop-entity.yielded in
     let r = c.in-Some.entity in
     let place = i.place ∙ ap (λ l. done ++ l) c.in-Some.ensures.steps.0 in
-    let given_place = ap (map (λ r. r.value)) place ∙ map_at (λ r. r.value) done r _ in
     record {
       keys = c.put_new.ensures.keys;
-      agree = rw map_append_one (all_push (MatchesPresent f (map (λ r. r.value) c.args.list.items)) (map (λ r. r.value) done) r.value i.agree
-          (agrees_now f now (map (λ r. r.value) done) r.value _ (map (λ r. r.value) c.args.list.items) given_place i.holds c.in_ok-put_new.ensures.agrees));
-      holds = λ q. rw map_append_one (held_push f now (held c.put_new.new.entities) (map (λ r. r.value) done) r.value i.holds c.in_ok-put_new.ensures.ok q);
+      agree = all_push (MatchesPresent f c.args.list.items) done r i.agree
+          (agrees_now f now done r _ c.args.list.items place i.holds c.in_ok-put_new.ensures.agrees);
+      holds = held_push f now (held c.put_new.new.entities) done r i.holds c.in_ok-put_new.ensures.ok;
       place = place ∙ append_one done r _;
     }
 
@@ -45,8 +44,8 @@ returns-in_err-put_new-clause-err c =
     let r = c.in-Some.entity in
     let place = i.place ∙ ap (λ l. done ++ l) c.in-Some.ensures.steps.0 in
     let p = err_from_is_err_and c.from_residual.result c.from_residual.ensures.1 in
-    rw (p.1, p.2) (weaker_refusal (held c.args.entities.now) (held c.loop-entity.entities) (map (λ r. r.value) done) r.value _ (map (λ r. r.value) c.args.list.items)
-    (ap (map (λ r. r.value)) place ∙ map_at (λ r. r.value) done r _) i.holds i.agree c.in_err-put_new.field-0.0 c.in_err-put_new.ensures.err)
+    rw (p.1, p.2) (weaker_refusal (held c.args.entities.now) (held c.loop-entity.entities) done r _ c.args.list.items
+    place i.holds i.agree c.in_err-put_new.field-0.0 c.in_err-put_new.ensures.err)
 
 pub returns-clause-keys : goal.returns-clause-keys
 returns-clause-keys c = c.loop-entity.invariant.keys
@@ -55,10 +54,10 @@ pub returns-clause-agree : goal.returns-clause-agree
 returns-clause-agree c =
     let gives = c.into_iter-entity-iterator.ensures.into_iter_gives in
     let whole = sym (map_same c.loop-entity.yielded) ∙ (YieldsList-end (YieldsList-from_vec {s = c.into_iter-entity-iterator.result} c.args.list.items gives.0 (gives.1 ∙ c.args.list.ok.0)) c.loop-entity.yielded c.loop-entity.entity-iterator c.loop-entity.yielded_by c.next.result c.next.new.self c.in-None.is c.next.ensures.steps).0 in
-    subst (λ l. AllByRecursion (MatchesPresent (held c.args.entities.now) (map (λ r. r.value) c.args.list.items)) (map (λ r. r.value) l)) whole c.loop-entity.invariant.agree
+    subst (λ l. AllByRecursion (MatchesPresent (held c.args.entities.now) c.args.list.items) l) whole c.loop-entity.invariant.agree
 
 pub returns-clause-ok : goal.returns-clause-ok
 returns-clause-ok c q =
     let gives = c.into_iter-entity-iterator.ensures.into_iter_gives in
     let whole = sym (map_same c.loop-entity.yielded) ∙ (YieldsList-end (YieldsList-from_vec {s = c.into_iter-entity-iterator.result} c.args.list.items gives.0 (gives.1 ∙ c.args.list.ok.0)) c.loop-entity.yielded c.loop-entity.entity-iterator c.loop-entity.yielded_by c.next.result c.next.new.self c.in-None.is c.next.ensures.steps).0 in
-    c.loop-entity.invariant.holds q ∙ ap (λ l. option_or (held c.args.entities.now q) (first_entity (map (λ r. r.value) l) q)) whole
+    c.loop-entity.invariant.holds q ∙ ap (λ l. option_or (held c.args.entities.now q) (first_entity l q)) whole

@@ -1,4 +1,4 @@
-use Rattle.std.specs.Prelude.{◌≡◌, ◌++◌, map}
+use Rattle.std.specs.Prelude.{◌≡◌, ◌++◌}
 use Rattle.std.specs.List.{AllByRecursion}
 use Rattle.std.specs.Option.{option_or}
 use Rattle.std.specs.Vec.Iter.{into_iter_items}
@@ -10,7 +10,7 @@ use Rattle.cedar_entities.proofs.entities.put_all.Given as goal
 abbrev pub invariant-loop-entity : goal.invariant-loop-entity
 invariant-loop-entity l = record {
   keys : UidsMatch l.entities;
-  agree : AllByRecursion (MatchesPresent (held l.initial.entities) (map (λ r. r.value) l.fn.list.items)) (map (λ r. r.value) l.yielded);
-  holds : (q : EntityUID) → held l.entities q ≡ option_or (held l.initial.entities q) (first_entity (map (λ r. r.value) l.yielded) q);
+  agree : AllByRecursion (MatchesPresent (held l.initial.entities) l.fn.list.items) l.yielded;
+  holds : (q : EntityUID) → held l.entities q ≡ option_or (held l.initial.entities q) (first_entity l.yielded q);
   place : l.fn.list.items ≡ l.yielded ++ into_iter_items l.entity-iterator;
 }

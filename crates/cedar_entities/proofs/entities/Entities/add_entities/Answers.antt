@@ -1,7 +1,7 @@
 use Rattle.std.proofs.Common.{ap, subst, map, ◌≡◌}
 use Rattle.std.specs.FinMap as finmap
 use Rattle.std.proofs.lemmas.Result.{err_from_is_err_and}
-use Rattle.cedar_entities.specs.laws.Held.{held_map}
+use Rattle.cedar_entities.specs.laws.Held.{held, held_map}
 use Rattle.cedar_entities.specs.Modes.{IsClosureRefused, WhereComputed}
 use Rattle.cedar_entities.specs.Plain.{StoreView}
 use Rattle.cedar_entities.specs.Refusals.{MatchRefusal, NamesOneOf}
@@ -18,9 +18,10 @@ returns-in_err-add_all-clause-err c =
     let D = c.args.self.held in
     let is : held_map m ≡ D = ap (λ (s : StoreView). s.held) c.self.view_is in
     let L = map (λ r. r.value) c.args.list.items in
-    let p = err_from_is_err_and c.from_residual.result c.from_residual.ensures.1 in
+    let p = err_from_is_err_and c.from_residual-in_err-add_all.result c.from_residual-in_err-add_all.ensures.1 in
     rw (p.1, p.2) (subst (λ E. MatchRefusal c.in_err-add_all.field-0.0 (FirstMismatch (finmap.get D) L) (λ t. AllMatch (finmap.get D) L × IsClosureRefused c.args.tc_computation (with_first E L) t)) is
-    (subst (λ g. MatchRefusal c.in_err-add_all.field-0.0 (FirstMismatch g L) (λ t. AllMatch g L × IsClosureRefused c.args.tc_computation (with_first (held_map m) L) t)) (stored m D is) c.in_err-add_all.ensures.err))
+    (subst (λ g. MatchRefusal c.in_err-add_all.field-0.0 (FirstMismatch g L) (λ t. AllMatch g L × IsClosureRefused c.args.tc_computation (with_first (held_map m) L) t)) (stored m D is)
+    (subst (λ l. MatchRefusal c.in_err-add_all.field-0.0 (FirstMismatch (held m) l) (λ t. AllMatch (held m) l × IsClosureRefused c.args.tc_computation (with_first (held_map m) l) t)) c.in_ok-coming.ensures c.in_err-add_all.ensures.err)))
 
 pub returns-in_err-add_all-clause-plain_err : goal.returns-in_err-add_all-clause-plain_err
 returns-in_err-add_all-clause-plain_err c =
@@ -28,18 +29,21 @@ returns-in_err-add_all-clause-plain_err c =
     let D = c.args.self.held in
     let is : held_map m ≡ D = ap (λ (s : StoreView). s.held) c.self.view_is in
     let L = map (λ r. r.value) c.args.list.items in
-    let p = err_from_is_err_and c.from_residual.result c.from_residual.ensures.1 in
+    let p = err_from_is_err_and c.from_residual-in_err-add_all.result c.from_residual-in_err-add_all.ensures.1 in
     rw (p.1, p.2) (λ W plain bare. refused_over_plain W c.args.self L plain bare c.args.tc_computation c.in_err-add_all.field-0.0
     (subst (λ E. MatchRefusal c.in_err-add_all.field-0.0 (FirstMismatch (finmap.get D) L) (λ t. AllMatch (finmap.get D) L × IsClosureRefused c.args.tc_computation (with_first E L) t)) is
-    (subst (λ g. MatchRefusal c.in_err-add_all.field-0.0 (FirstMismatch g L) (λ t. AllMatch g L × IsClosureRefused c.args.tc_computation (with_first (held_map m) L) t)) (stored m D is) c.in_err-add_all.ensures.err)))
+    (subst (λ g. MatchRefusal c.in_err-add_all.field-0.0 (FirstMismatch g L) (λ t. AllMatch g L × IsClosureRefused c.args.tc_computation (with_first (held_map m) L) t)) (stored m D is)
+    (subst (λ l. MatchRefusal c.in_err-add_all.field-0.0 (FirstMismatch (held m) l) (λ t. AllMatch (held m) l × IsClosureRefused c.args.tc_computation (with_first (held_map m) l) t)) c.in_ok-coming.ensures c.in_err-add_all.ensures.err))))
 
 pub returns-clause-agree : goal.returns-clause-agree
-returns-clause-agree c = subst (λ f. AllMatch f (map (λ r. r.value) c.args.list.items)) (stored c.self.inside.entities c.args.self.held (ap (λ (s : StoreView). s.held) c.self.view_is)) c.in_ok-add_all.ensures.agree
+returns-clause-agree c = subst (λ f. AllMatch f (map (λ r. r.value) c.args.list.items)) (stored c.self.inside.entities c.args.self.held (ap (λ (s : StoreView). s.held) c.self.view_is))
+    (subst (AllMatch (held c.self.inside.entities)) c.in_ok-coming.ensures c.in_ok-add_all.ensures.agree)
 
 pub returns-clause-ok : goal.returns-clause-ok
 returns-clause-ok c =
     let L = map (λ r. r.value) c.args.list.items in
-    subst (λ D. IsSettled c.args.tc_computation (is_touched D (inserted_in D L)) (with_first D L) (held_map c.add_all.new.entities)) (ap (λ (s : StoreView). s.held) c.self.view_is) c.in_ok-add_all.ensures.ok
+    subst (λ D. IsSettled c.args.tc_computation (is_touched D (inserted_in D L)) (with_first D L) (held_map c.add_all.new.entities)) (ap (λ (s : StoreView). s.held) c.self.view_is)
+    (subst (λ l. IsSettled c.args.tc_computation (is_touched (held_map c.self.inside.entities) (inserted_in (held_map c.self.inside.entities) l)) (with_first (held_map c.self.inside.entities) l) (held_map c.add_all.new.entities)) c.in_ok-coming.ensures c.in_ok-add_all.ensures.ok)
 
 pub returns-clause-untouched : goal.returns-clause-untouched
 returns-clause-untouched c =
@@ -57,5 +61,6 @@ returns-clause-plain c W plain bare = settled_plain W c.args.self (map (λ r. r.
 pub returns-in_err-add_all-clause-named : goal.returns-in_err-add_all-clause-named
 returns-in_err-add_all-clause-named c =
     let L = map (λ r. r.value) c.args.list.items in
-    let p = err_from_is_err_and c.from_residual.result c.from_residual.ensures.1 in
-    rw (p.1, p.2) (subst (λ D. WhereComputed c.args.tc_computation (NamesOneOf (is_touched D (inserted_in D L)) c.in_err-add_all.field-0.0)) (ap (λ (s : StoreView). s.held) c.self.view_is) c.in_err-add_all.ensures.named)
+    let p = err_from_is_err_and c.from_residual-in_err-add_all.result c.from_residual-in_err-add_all.ensures.1 in
+    rw (p.1, p.2) (subst (λ D. WhereComputed c.args.tc_computation (NamesOneOf (is_touched D (inserted_in D L)) c.in_err-add_all.field-0.0)) (ap (λ (s : StoreView). s.held) c.self.view_is)
+    (subst (λ l. WhereComputed c.args.tc_computation (NamesOneOf (is_touched (held_map c.self.inside.entities) (inserted_in (held_map c.self.inside.entities) l)) c.in_err-add_all.field-0.0)) c.in_ok-coming.ensures c.in_err-add_all.ensures.named))

@@ -4,7 +4,9 @@ use Rattle.std.specs.HashSet.{contains}
 use Rattle.std.specs.Set.{is_member}
 use Rattle.cedar_ids.specs.UidOf.{same_uid}
 use Rattle.cedar_entities.specs.Edits.{put_over, uids_of}
-use Rattle.cedar_entities.specs.laws.Held.{held_map}
+use Rattle.std.specs.Option.{option_or}
+use Rattle.cedar_entities.specs.laws.Edits.{last_entity}
+use Rattle.cedar_entities.specs.laws.Held.{held, held_map}
 use Rattle.cedar_entities.specs.laws.Readings.{notes}
 use Rattle.cedar_entities.specs.Modes.{IsClosureRefused, WhereComputed}
 use Rattle.cedar_entities.specs.Plain.{StoreView}
@@ -18,8 +20,8 @@ pub returns-in_err-settle-clause-err : goal.returns-in_err-settle-clause-err
 returns-in_err-settle-clause-err c =
     let is = ap (λ (s : StoreView). s.held) c.self.view_is in
     let L = map (λ r. r.value) c.args.list.items in
-    let uids : map (λ a. a.uid) c.in_ok-read.read.items ≡ uids_of L = c.in_ok-read.ensures.uids ∙ c.deref-2.ensures.value ∙ c.in_ok-uids.ensures ∙ ap (λ l. uids_of (map (λ r. r.value) l)) c.deref.ensures.value in
-    let laid = laid_over c.self.inside.entities c.apply_each.new.entities c.overwrite_all.new.entities c.args.self.held L c.in_ok-read.read.items is uids c.in_ok-read.ensures.read c.in_ok-apply_each.ensures.ok c.in_ok-overwrite_all.ensures.ok in
+    let uids : map (λ a. a.uid) c.in_ok-read.read.items ≡ uids_of L = c.in_ok-read.ensures.uids ∙ c.deref-2.ensures.value ∙ c.in_ok-uids.ensures ∙ ap uids_of (c.deref.ensures.value ∙ c.in_ok-coming.ensures) in
+    let laid = laid_over c.self.inside.entities c.apply_each.new.entities c.overwrite_all.new.entities c.args.self.held L c.in_ok-read.read.items is uids c.in_ok-read.ensures.read c.in_ok-apply_each.ensures.ok (λ q. c.in_ok-overwrite_all.ensures.ok q ∙ ap (λ l. option_or (last_entity l q) (held c.apply_each.new.entities q)) c.in_ok-coming.ensures) in
     let p = err_from_is_err_and c.from_residual-in_err-settle.result c.from_residual-in_err-settle.ensures.1 in
     rw (p.1, p.2) (subst (λ D. MatchRefusal c.in_err-settle.field-0.0 (λ _. ⊥) (IsClosureRefused c.args.tc_computation D)) laid c.in_err-settle.ensures.err)
 
@@ -27,8 +29,8 @@ pub returns-in_err-settle-clause-plain_err : goal.returns-in_err-settle-clause-p
 returns-in_err-settle-clause-plain_err c =
     let is = ap (λ (s : StoreView). s.held) c.self.view_is in
     let L = map (λ r. r.value) c.args.list.items in
-    let uids : map (λ a. a.uid) c.in_ok-read.read.items ≡ uids_of L = c.in_ok-read.ensures.uids ∙ c.deref-2.ensures.value ∙ c.in_ok-uids.ensures ∙ ap (λ l. uids_of (map (λ r. r.value) l)) c.deref.ensures.value in
-    let laid = laid_over c.self.inside.entities c.apply_each.new.entities c.overwrite_all.new.entities c.args.self.held L c.in_ok-read.read.items is uids c.in_ok-read.ensures.read c.in_ok-apply_each.ensures.ok c.in_ok-overwrite_all.ensures.ok in
+    let uids : map (λ a. a.uid) c.in_ok-read.read.items ≡ uids_of L = c.in_ok-read.ensures.uids ∙ c.deref-2.ensures.value ∙ c.in_ok-uids.ensures ∙ ap uids_of (c.deref.ensures.value ∙ c.in_ok-coming.ensures) in
+    let laid = laid_over c.self.inside.entities c.apply_each.new.entities c.overwrite_all.new.entities c.args.self.held L c.in_ok-read.read.items is uids c.in_ok-read.ensures.read c.in_ok-apply_each.ensures.ok (λ q. c.in_ok-overwrite_all.ensures.ok q ∙ ap (λ l. option_or (last_entity l q) (held c.apply_each.new.entities q)) c.in_ok-coming.ensures) in
     let p = err_from_is_err_and c.from_residual-in_err-settle.result c.from_residual-in_err-settle.ensures.1 in
     rw (p.1, p.2) (λ W plain bare. over_refused W c.args.self L plain bare c.args.tc_computation c.in_err-settle.field-0.0
     (subst (λ D. MatchRefusal c.in_err-settle.field-0.0 (λ _. ⊥) (IsClosureRefused c.args.tc_computation D)) laid c.in_err-settle.ensures.err))
@@ -37,8 +39,8 @@ pub returns-clause-ok : goal.returns-clause-ok
 returns-clause-ok c =
     let is = ap (λ (s : StoreView). s.held) c.self.view_is in
     let L = map (λ r. r.value) c.args.list.items in
-    let uids : map (λ a. a.uid) c.in_ok-read.read.items ≡ uids_of L = c.in_ok-read.ensures.uids ∙ c.deref-2.ensures.value ∙ c.in_ok-uids.ensures ∙ ap (λ l. uids_of (map (λ r. r.value) l)) c.deref.ensures.value in
-    let laid = laid_over c.self.inside.entities c.apply_each.new.entities c.overwrite_all.new.entities c.args.self.held L c.in_ok-read.read.items is uids c.in_ok-read.ensures.read c.in_ok-apply_each.ensures.ok c.in_ok-overwrite_all.ensures.ok in
+    let uids : map (λ a. a.uid) c.in_ok-read.read.items ≡ uids_of L = c.in_ok-read.ensures.uids ∙ c.deref-2.ensures.value ∙ c.in_ok-uids.ensures ∙ ap uids_of (c.deref.ensures.value ∙ c.in_ok-coming.ensures) in
+    let laid = laid_over c.self.inside.entities c.apply_each.new.entities c.overwrite_all.new.entities c.args.self.held L c.in_ok-read.read.items is uids c.in_ok-read.ensures.read c.in_ok-apply_each.ensures.ok (λ q. c.in_ok-overwrite_all.ensures.ok q ∙ ap (λ l. option_or (last_entity l q) (held c.apply_each.new.entities q)) c.in_ok-coming.ensures) in
     let touched = noted_touched c.self.inside.entities c.args.self.held (uids_of L) c.in_ok-read.read.items (contains same_uid c.apply_each.new.touched) is uids c.in_ok-read.ensures.read
     (λ q. c.in_ok-apply_each.ensures.touched q ∙ ap (λ ks. is_member same_uid ks q || notes c.in_ok-read.read.items q) c.new-touched.ensures.empty) in
     subst (λ f. IsSettled c.args.tc_computation f (put_over c.args.self.held L) (held_map c.settle.new.entities)) touched
@@ -62,7 +64,7 @@ pub returns-in_err-settle-clause-named : goal.returns-in_err-settle-clause-named
 returns-in_err-settle-clause-named c =
     let is = ap (λ (s : StoreView). s.held) c.self.view_is in
     let L = map (λ r. r.value) c.args.list.items in
-    let uids : map (λ a. a.uid) c.in_ok-read.read.items ≡ uids_of L = c.in_ok-read.ensures.uids ∙ c.deref-2.ensures.value ∙ c.in_ok-uids.ensures ∙ ap (λ l. uids_of (map (λ r. r.value) l)) c.deref.ensures.value in
+    let uids : map (λ a. a.uid) c.in_ok-read.read.items ≡ uids_of L = c.in_ok-read.ensures.uids ∙ c.deref-2.ensures.value ∙ c.in_ok-uids.ensures ∙ ap uids_of (c.deref.ensures.value ∙ c.in_ok-coming.ensures) in
     let touched = noted_touched c.self.inside.entities c.args.self.held (uids_of L) c.in_ok-read.read.items (contains same_uid c.apply_each.new.touched) is uids c.in_ok-read.ensures.read
     (λ q. c.in_ok-apply_each.ensures.touched q ∙ ap (λ ks. is_member same_uid ks q || notes c.in_ok-read.read.items q) c.new-touched.ensures.empty) in
     let p = err_from_is_err_and c.from_residual-in_err-settle.result c.from_residual-in_err-settle.ensures.1 in

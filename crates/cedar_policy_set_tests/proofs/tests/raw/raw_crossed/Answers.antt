@@ -1,7 +1,7 @@
 use Rattle.std.specs.Prelude.{◌≡◌, [], ◌∷◌}
 use Rattle.std.proofs.Common.{sym, subst}
 use Rattle.cedar_policy.specs.Policies.{policy_id}
-use Rattle.cedar_policy_set.specs.Maps.{Maps, DoAgree, maps_of}
+use Rattle.cedar_policy_set.specs.Maps.{Maps, CanMakeSet, maps_of}
 use Rattle.cedar_policy_set_tests.proofs.Crossed.{turned, ids_turned, crossed}
 use Rattle.cedar_policy_set_tests.proofs.tests.raw.raw_crossed.Goals as goal
 
@@ -25,4 +25,4 @@ from_raw_components-requires c =
       listed = (p.template.id, policy_id p ∷ []) ∷ (q.template.id, policy_id q ∷ []) ∷ [];
     } in
     let same : now ≡ want = λ j. record { bodies = c.in_ok-templates.ensures j; policies = c.in_ok-links.ensures j; listed = c.in_ok-lists.ensures j } in
-    subst DoAgree (sym same) (crossed p q c.requires.first c.requires.second c.requires.apart)
+    subst CanMakeSet (sym same) (crossed p q c.requires.first c.requires.second c.requires.apart)

@@ -1,7 +1,0 @@
-use Rattle.std.proofs.Common.{◌≡◌, take}
-use Rattle.cedar_entities.specs.Edits.{uids_of}
-use Rattle.cedar_entities.specs.Plain.{entities_in}
-use Rattle.cedar_entities.proofs.touching.uids_in.Given as goal
-
-abbrev pub invariant-loop-entity : goal.invariant-loop-entity
-invariant-loop-entity l = l.uids.items ≡ uids_of (entities_in (take l.entity-index l.list))

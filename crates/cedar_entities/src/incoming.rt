@@ -1,0 +1,62 @@
+//! Entities that a call puts in, each with its uid to be shared: one copy of the uid serves the map and all notes.
+ghost use Rattle.std.specs.Prelude.{◌≡◌, IfOk};
+ghost use Rattle.cedar_entities.specs.Edits.{uids_of};
+ghost use Rattle.cedar_entities.specs.Plain.{entities_in};
+
+use crate::touching::copy_of;
+use cedar_entity::entity::Entity;
+use cedar_uid_sets::SharedUid;
+use std::alloc::{AllocError, Global};
+use std::marker::Model;
+use std::rc::Rc;
+
+// An entity that is to be put in, and its uid. Contracts see the entity.
+#[derive(Drop)]
+pub(crate) struct Incoming {
+    pub(crate) uid: SharedUid,
+    pub(crate) entity: Rc<Entity>,
+}
+
+impl Model for Incoming {
+    ghost use Rattle.std.specs.Prelude.{◌≡◌};
+    ghost use Rattle.cedar_entity.specs.View.{EntityView};
+    ghost use Rattle.cedar_entity.specs.Codes.{view_code};
+
+    ghost Value = { EntityView };
+
+    ghost coded = { view_code };
+
+    ghost view = { λ i. i.entity.value };
+
+    ghost invariant = { λ i. i.uid ≡ i.entity.value.uid };
+}
+
+// The entity with a copy of its uid.
+fn with_uid(alloc: Global, entity: Rc<Entity>) -> Result<Incoming, AllocError>
+    ensures { IfOk result (λ i. i ≡ entity.value) }
+{
+    let uid = SharedUid::copy_of(alloc, entity.uid())?;
+    Ok(Incoming { uid, entity })
+}
+
+// The entities, each with a copy of its uid.
+pub(crate) fn with_uids(alloc: Global, list: Vec<Rc<Entity>>) -> Result<Vec<Incoming>, AllocError>
+    ensures { IfOk result (λ v. v.items ≡ entities_in list.items) }
+{
+    let mut coming = Vec::new(alloc);
+    for entity in list {
+        coming.push(with_uid(alloc, entity)?)?;
+    }
+    Ok(coming)
+}
+
+// The uids of the entities, shared once more.
+pub(crate) fn uids_in(alloc: Global, list: &[Incoming]) -> Result<Vec<SharedUid>, AllocError>
+    ensures { IfOk result (λ v. v.items ≡ uids_of list.now) }
+{
+    let mut uids = Vec::new(alloc);
+    for entity in list {
+        uids.push(copy_of(&entity.uid)?)?;
+    }
+    Ok(uids)
+}
