@@ -14,7 +14,7 @@ use cedar_terms::{Literal, PartialValue, Value, ValueKind};
 use cedar_test_helpers::tried::{beside, joined, pushed};
 use std::alloc::{AllocError, Global};
 use std::collections::HashSet;
-use std::hash::{BuildHasher, Hash};
+use std::hash::BuildHasher;
 use std::rc::Rc;
 use std::test::Fail;
 
