@@ -40,6 +40,7 @@ use cedar_ids::entity::EntityUID;
 use cedar_uid_sets::SharedUid;
 use std::alloc::{AllocError, Global};
 use std::collections::{HashMap, HashSet};
+use std::hash::{BuildHasher, BuildHasherDefault, FoldHasher};
 use std::marker::Model;
 use std::rc::Rc;
 
@@ -59,13 +60,17 @@ pub enum TCComputation {
 /// known, in any other there is none.
 ///
 /// Entities are shared: copying a store copies none of them.
+///
+/// Its map hashes uids by the hashers that `S` builds, and so do the sets that its calls make. By default they have a
+/// fixed seed, so that whoever picks the uids can make them collide, and each call slow: a store of uids that strangers
+/// pick is made by [`Entities::with_hasher`] with a builder that has a random key. No contract sees the builder.
 #[derive(Debug, Drop)]
-pub struct Entities {
-    entities: HashMap<SharedUid, SharedEntity>,
+pub struct Entities<S: BuildHasher = BuildHasherDefault<FoldHasher>> {
+    entities: HashMap<SharedUid, SharedEntity, S>,
     partial: bool,
 }
 
-impl Model for Entities {
+impl<S: BuildHasher> Model for Entities<S> {
     ghost use Rattle.cedar_entities.specs.laws.Held.{held_map, UidsMatch};
     ghost use Rattle.cedar_entities.specs.Plain.{StoreView, entities_in};
     ghost use Rattle.cedar_entities.specs.Codes.{store_code};
@@ -80,8 +85,8 @@ impl Model for Entities {
 }
 
 // Puts in an entity whose uid is absent; one that is present has to be deeply equal.
-fn put_new(
-    entities: &mut HashMap<SharedUid, SharedEntity>,
+fn put_new<S: BuildHasher>(
+    entities: &mut HashMap<SharedUid, SharedEntity, S>,
     coming: Incoming,
 ) -> Result<(), EntitiesError>
     requires { UidsMatch entities.old }
@@ -106,8 +111,8 @@ fn put_new(
 }
 
 // Puts in the entities in turn.
-fn put_all(
-    entities: &mut HashMap<SharedUid, SharedEntity>,
+fn put_all<S: BuildHasher>(
+    entities: &mut HashMap<SharedUid, SharedEntity, S>,
     list: Vec<Incoming>,
 ) -> Result<(), EntitiesError>
     requires { UidsMatch entities.old }
@@ -125,8 +130,8 @@ fn put_all(
 }
 
 // Puts in an entity, over one with its uid.
-fn put_over(
-    entities: &mut HashMap<SharedUid, SharedEntity>,
+fn put_over<S: BuildHasher>(
+    entities: &mut HashMap<SharedUid, SharedEntity, S>,
     coming: Incoming,
 ) -> Result<(), EntitiesError>
     requires { UidsMatch entities.old }
@@ -141,8 +146,8 @@ fn put_over(
 }
 
 // Puts in the entities in turn, each over one with its uid.
-fn overwrite_all(
-    entities: &mut HashMap<SharedUid, SharedEntity>,
+fn overwrite_all<S: BuildHasher>(
+    entities: &mut HashMap<SharedUid, SharedEntity, S>,
     list: Vec<Incoming>,
 ) -> Result<(), EntitiesError>
     requires { UidsMatch entities.old }
@@ -158,7 +163,7 @@ fn overwrite_all(
 }
 
 // Takes out the entity with a uid, if there is one.
-fn take_at(entities: &mut HashMap<SharedUid, SharedEntity>, uid: &SharedUid)
+fn take_at<S: BuildHasher>(entities: &mut HashMap<SharedUid, SharedEntity, S>, uid: &SharedUid)
     ensures { (q : EntityUID) → held entities.new q
         ≡ cond (same_uid uid.now q) None (held entities.old q) }
 {
@@ -166,7 +171,10 @@ fn take_at(entities: &mut HashMap<SharedUid, SharedEntity>, uid: &SharedUid)
 }
 
 // Takes out the entities with these uids.
-fn take_out(entities: &mut HashMap<SharedUid, SharedEntity>, gone: Vec<SharedUid>)
+fn take_out<S: BuildHasher>(
+    entities: &mut HashMap<SharedUid, SharedEntity, S>,
+    gone: Vec<SharedUid>,
+)
     requires { UidsMatch entities.old }
     ensures keys { UidsMatch entities.new }
     ensures left { (q : EntityUID) → held entities.new q
@@ -189,7 +197,10 @@ fn shared_all(alloc: Global, list: Vec<Entity>) -> Result<Vec<Rc<Entity>>, Alloc
 }
 
 // Checks that the ancestors are closed and that no entity is its own.
-fn check(alloc: Global, entities: &HashMap<SharedUid, SharedEntity>) -> Result<(), EntitiesError>
+fn check<S: BuildHasher>(
+    alloc: Global,
+    entities: &HashMap<SharedUid, SharedEntity, S>,
+) -> Result<(), EntitiesError>
     requires { UidsMatch entities.now }
     ensures ok { OnOk result (IsSound (held_map entities.now)) }
     ensures err { IfErr result (λ e. MatchRefusal e (λ _. ⊥)
@@ -200,10 +211,10 @@ fn check(alloc: Global, entities: &HashMap<SharedUid, SharedEntity>) -> Result<(
 }
 
 // Gives the entities that are touched the ancestors that they reach.
-fn repair(
+fn repair<S: BuildHasher + Clone>(
     alloc: Global,
-    entities: &mut HashMap<SharedUid, SharedEntity>,
-    touched: &HashSet<SharedUid>,
+    entities: &mut HashMap<SharedUid, SharedEntity, S>,
+    touched: &HashSet<SharedUid, S>,
     enforce_dag: bool,
 ) -> Result<(), EntitiesError>
     requires { UidsMatch entities.old }
@@ -221,10 +232,10 @@ fn repair(
 }
 
 // Ends an adding or an overwriting, as the mode says.
-fn settle(
+fn settle<S: BuildHasher + Clone>(
     alloc: Global,
-    entities: &mut HashMap<SharedUid, SharedEntity>,
-    touched: &HashSet<SharedUid>,
+    entities: &mut HashMap<SharedUid, SharedEntity, S>,
+    touched: &HashSet<SharedUid, S>,
     tc_computation: TCComputation,
 ) -> Result<(), EntitiesError>
     requires { UidsMatch entities.old }
@@ -244,9 +255,9 @@ fn settle(
 
 // Gives all entities the ancestors that they reach, and refuses where one reaches itself. So all that a map held where it
 // was empty before is repaired, whatever passes for touched.
-fn close(
+fn close<S: BuildHasher + Clone>(
     alloc: Global,
-    entities: &mut HashMap<SharedUid, SharedEntity>,
+    entities: &mut HashMap<SharedUid, SharedEntity, S>,
 ) -> Result<(), EntitiesError>
     requires { UidsMatch entities.old }
     ensures keys { UidsMatch entities.new }
@@ -265,9 +276,9 @@ fn close(
 }
 
 // Ends an adding to an empty map, as the mode says.
-fn settle_whole(
+fn settle_whole<S: BuildHasher + Clone>(
     alloc: Global,
-    entities: &mut HashMap<SharedUid, SharedEntity>,
+    entities: &mut HashMap<SharedUid, SharedEntity, S>,
     tc_computation: TCComputation,
 ) -> Result<(), EntitiesError>
     requires { UidsMatch entities.old }
@@ -289,9 +300,9 @@ fn settle_whole(
 }
 
 // Adds entities to an empty map, in which all that is put is touched.
-fn fill(
+fn fill<S: BuildHasher + Clone>(
     alloc: Global,
-    entities: &mut HashMap<SharedUid, SharedEntity>,
+    entities: &mut HashMap<SharedUid, SharedEntity, S>,
     list: Vec<Incoming>,
     tc_computation: TCComputation,
 ) -> Result<(), EntitiesError>
@@ -315,9 +326,9 @@ fn fill(
 }
 
 // Adds entities, and closes what is inserted and what has one of that among its ancestors.
-fn add_to(
+fn add_to<S: BuildHasher + Clone>(
     alloc: Global,
-    entities: &mut HashMap<SharedUid, SharedEntity>,
+    entities: &mut HashMap<SharedUid, SharedEntity, S>,
     list: Vec<Incoming>,
     tc_computation: TCComputation,
 ) -> Result<(), EntitiesError>
@@ -337,7 +348,7 @@ fn add_to(
 {
     let uids = uids_in(alloc, &list)?;
     let fresh = absent_uids(alloc, entities, uids)?;
-    let mut touched = HashSet::new(alloc);
+    let mut touched = HashSet::with_hasher(alloc, entities.hasher().clone()?);
     note_all(&mut touched, fresh)?;
     put_all(entities, list)?;
     let by = touched_by_any(alloc, entities, &touched)?;
@@ -346,9 +357,9 @@ fn add_to(
 }
 
 // Adds entities.
-fn add_all(
+fn add_all<S: BuildHasher + Clone>(
     alloc: Global,
-    entities: &mut HashMap<SharedUid, SharedEntity>,
+    entities: &mut HashMap<SharedUid, SharedEntity, S>,
     list: Vec<Incoming>,
     tc_computation: TCComputation,
 ) -> Result<(), EntitiesError>
@@ -373,10 +384,10 @@ fn add_all(
 }
 
 // Repairs what a removal touched, and ends that as the mode says.
-fn mend(
+fn mend<S: BuildHasher + Clone>(
     alloc: Global,
-    entities: &mut HashMap<SharedUid, SharedEntity>,
-    touched: &HashSet<SharedUid>,
+    entities: &mut HashMap<SharedUid, SharedEntity, S>,
+    touched: &HashSet<SharedUid, S>,
     tc_computation: TCComputation,
 ) -> Result<(), EntitiesError>
     requires { UidsMatch entities.old }
@@ -398,9 +409,9 @@ fn mend(
 }
 
 // A copy of the map, with the same entities.
-fn copy_of_map(
-    entities: &HashMap<SharedUid, SharedEntity>,
-) -> Result<HashMap<SharedUid, SharedEntity>, AllocError>
+fn copy_of_map<S: BuildHasher + Clone>(
+    entities: &HashMap<SharedUid, SharedEntity, S>,
+) -> Result<HashMap<SharedUid, SharedEntity, S>, AllocError>
     requires { UidsMatch entities.now }
     ensures held { IfOk result (λ copy. held_map copy ≡ held_map entities.now) }
     ensures keys { IfOk result (λ copy. UidsMatch copy) }
@@ -409,20 +420,27 @@ fn copy_of_map(
     Ok(copy)
 }
 
-impl Entities {
-    /// The store without entities, not partial. It takes no memory.
-    pub fn new(alloc: Global) -> Entities
+impl<S: BuildHasher + Clone> Entities<S> {
+    /// The store without entities, not partial, which hashes uids by what `hasher` builds. It takes no memory.
+    ///
+    /// The original has one way of hashing.
+    pub fn with_hasher(alloc: Global, hasher: S) -> Entities<S>
         ensures value { result ≡ record { held = finmap.empty; partial = false } }
         ensures plain { IsPlainStore empty_world result }
     {
         Entities {
-            entities: HashMap::new(alloc),
+            entities: HashMap::with_hasher(alloc, hasher),
             partial: false,
         }
     }
 
+    /// What builds the store's hashers. It takes no memory.
+    pub fn hasher(&self) -> &S {
+        self.entities.hasher()
+    }
+
     /// The store with the same entities, now partial. It takes no memory.
-    pub fn partial(self) -> Entities
+    pub fn partial(self) -> Entities<S>
         ensures value { result ≡ record { held = self.held; partial = true } }
         ensures plain { (W : World) → IsPlainStore W self →
             IsPlainStore (record W { partial = true }) result }
@@ -440,14 +458,16 @@ impl Entities {
         self.partial
     }
 
-    /// A store of these entities, not partial: what adding them to the store without entities gives.
+    /// A store of these entities, not partial, which hashes uids by what `hasher` builds: what adding them to the store
+    /// without entities gives.
     ///
     /// Refused as [`Entities::add_entities`] is. It takes memory.
-    pub fn from_entities(
+    pub fn from_entities_with_hasher(
         alloc: Global,
+        hasher: S,
         list: Vec<Entity>,
         tc_computation: TCComputation,
-    ) -> Result<Entities, EntitiesError>
+    ) -> Result<Entities<S>, EntitiesError>
         ensures partial { IfOk result (λ s. s.partial ≡ false) }
         ensures agree { OnOk result (AllMatch (finmap.get no_entities) list.items) }
         ensures ok { IfOk result (λ s. IsSettled tc_computation
@@ -467,7 +487,7 @@ impl Entities {
             (IsAddingRefused empty_world (map given_of list.items) e)) }
     {
         let list = shared_all(alloc, list)?;
-        Entities::new(alloc).add_entities(alloc, list, tc_computation)
+        Entities::with_hasher(alloc, hasher).add_entities(alloc, list, tc_computation)
     }
 
     /// The store with these entities too, in the order of the list. Of a uid that the store lacks the first
@@ -487,7 +507,7 @@ impl Entities {
         alloc: Global,
         list: Vec<Rc<Entity>>,
         tc_computation: TCComputation,
-    ) -> Result<Entities, EntitiesError>
+    ) -> Result<Entities<S>, EntitiesError>
         ensures partial { IfOk result (λ s. s.partial ≡ self.partial) }
         ensures agree { OnOk result
             (AllMatch (finmap.get self.held) (entities_in list.items)) }
@@ -538,7 +558,7 @@ impl Entities {
         alloc: Global,
         list: Vec<Rc<Entity>>,
         tc_computation: TCComputation,
-    ) -> Result<Entities, EntitiesError>
+    ) -> Result<Entities<S>, EntitiesError>
         ensures partial { IfOk result (λ s. s.partial ≡ self.partial) }
         ensures ok { IfOk result (λ s. IsSettled tc_computation
             (is_touched self.held (uids_of (entities_in list.items)))
@@ -565,7 +585,7 @@ impl Entities {
         let uids = uids_in(alloc, &coming)?;
         let read = read_each(alloc, &self.entities, &uids)?;
         let mut entities = self.entities;
-        let mut touched = HashSet::new(alloc);
+        let mut touched = HashSet::with_hasher(alloc, entities.hasher().clone()?);
         apply_each(&mut entities, read, &[], &mut touched)?;
         overwrite_all(&mut entities, coming)?;
         settle(alloc, &mut entities, &touched, tc_computation)?;
@@ -588,7 +608,7 @@ impl Entities {
         alloc: Global,
         list: Vec<EntityUID>,
         tc_computation: TCComputation,
-    ) -> Result<Entities, EntitiesError>
+    ) -> Result<Entities<S>, EntitiesError>
         ensures partial { IfOk result (λ s. s.partial ≡ self.partial) }
         ensures ok { IfOk result (λ s. IsMended tc_computation
             (is_touched self.held (removed_from self.held list.items))
@@ -607,7 +627,7 @@ impl Entities {
         let gone = held_uids(alloc, &self.entities, list)?;
         let read = read_each(alloc, &self.entities, &gone)?;
         let mut entities = self.entities;
-        let mut touched = HashSet::new(alloc);
+        let mut touched = HashSet::with_hasher(alloc, entities.hasher().clone()?);
         apply_each(&mut entities, read, &gone, &mut touched)?;
         take_out(&mut entities, gone);
         mend(alloc, &mut entities, &touched, tc_computation)?;
@@ -678,7 +698,7 @@ impl Entities {
 
     /// Whether both are partial or neither is, and both have the same uids, under each of them entities that
     /// are equal by [`Entity::deep_eq`]. It takes no memory; it looks each uid of the one up in the other.
-    pub fn deep_eq(&self, other: &Entities) -> bool
+    pub fn deep_eq(&self, other: &Entities<S>) -> bool
         ensures equal { IsTrue result ↔ AreDeepEqual self.now other.now }
         ensures equivalence { IsEquivalenceRelation AreDeepEqual }
     {
@@ -703,7 +723,7 @@ impl Entities {
     ///
     /// It checks the closure of the whole store, then looks each entity over once, and one that it tells of
     /// twice.
-    pub fn try_validate(self, alloc: Global) -> Result<Entities, EntitiesError>
+    pub fn try_validate(self, alloc: Global) -> Result<Entities<S>, EntitiesError>
         ensures ok { IfOk result (λ s. (s ≡ self) × IsValidStore self.held) }
         ensures err { IfErr result (IsStoreFault self.held) }
     {
@@ -713,7 +733,7 @@ impl Entities {
     }
 
     // Whether both have the same uids and mode.
-    fn has_same_uids(&self, other: &Entities) -> bool
+    fn has_same_uids(&self, other: &Entities<S>) -> bool
         ensures { IsTrue result ↔ HaveSameUids self.now other.now }
     {
         if other.partial != self.partial {
@@ -726,7 +746,7 @@ impl Entities {
     }
 }
 
-impl PartialEq for Entities {
+impl<S: BuildHasher + Clone> PartialEq for Entities<S> {
     ghost use Rattle.std.specs.Cmp.{partial_equiv_from_equiv};
     ghost use Rattle.cedar_entities.specs.SameUids.{same_uids_and_mode};
     ghost use Rattle.cedar_entities.specs.laws.SameUids.{same_uids_and_mode_equiv};
@@ -737,7 +757,7 @@ impl PartialEq for Entities {
 
     /// Whether both have the same uids and both are partial or neither is. What the entities hold is not
     /// looked at. It takes no memory; it looks each uid of either up in the other.
-    fn eq(&self, other: &Entities) -> bool
+    fn eq(&self, other: &Entities<S>) -> bool
         ensures value { result ≡ same_uids_and_mode self.now other.now }
         ensures uids { IsTrue result ↔ HaveSameUids self.now other.now }
     {
@@ -745,17 +765,17 @@ impl PartialEq for Entities {
     }
 }
 
-impl Eq for Entities {
+impl<S: BuildHasher + Clone> Eq for Entities<S> {
     ghost use Rattle.cedar_entities.specs.laws.SameUids.{same_uids_and_mode_equiv};
 
     ghost laws = { same_uids_and_mode_equiv };
 }
 
-impl Clone for Entities {
+impl<S: BuildHasher + Clone> Clone for Entities<S> {
     ghost is_clone = { λ x y. y ≡ x };
 
     /// A copy of the store, which shares its entities. It is refused only where memory is.
-    fn clone(&self) -> Result<Entities, AllocError> {
+    fn clone(&self) -> Result<Entities<S>, AllocError> {
         Ok(Entities {
             entities: copy_of_map(&self.entities)?,
             partial: self.partial,
@@ -763,7 +783,7 @@ impl Clone for Entities {
     }
 }
 
-impl IntoIterator for Entities {
+impl<S: BuildHasher + Clone> IntoIterator for Entities<S> {
     type Item = Result<Entity, AllocError>;
 
     type IntoIter = IntoIter;

@@ -5,6 +5,7 @@
 //! `cedar_entity`, whose names stand here too.
 #![tactic(auto, using(cedar_ids::specs::laws::UidOfLaws::same_uid_decides))]
 
+mod default_hasher;
 pub mod dereference;
 pub mod entities;
 mod incoming;

@@ -13,6 +13,7 @@ use cedar_ids::entity::EntityUID;
 use cedar_uid_sets::SharedUid;
 use std::alloc::AllocError;
 use std::collections::{HashMap, hash_map};
+use std::hash::BuildHasher;
 use std::marker::Model;
 use std::rc::Rc;
 
@@ -38,7 +39,7 @@ impl<'a> Model for Iter<'a> {
 
 impl<'a> Iter<'a> {
     // The entities of a map.
-    pub(crate) fn of(entities: &'a HashMap<SharedUid, SharedEntity>) -> Iter<'a>
+    pub(crate) fn of<S: BuildHasher>(entities: &'a HashMap<SharedUid, SharedEntity, S>) -> Iter<'a>
         requires { UidsMatch entities.now }
         ensures { ListsHeld (held_map entities.now) result }
     {
@@ -84,7 +85,9 @@ impl Model for IntoIter {
 
 impl IntoIter {
     // The entities of a map.
-    pub(crate) fn of(entities: HashMap<SharedUid, SharedEntity>) -> IntoIter
+    pub(crate) fn of<S: BuildHasher + Drop>(
+        entities: HashMap<SharedUid, SharedEntity, S>,
+    ) -> IntoIter
         requires { UidsMatch entities }
         ensures { ListsHeld (held_map entities) result }
     {

@@ -11,12 +11,13 @@ use cedar_entity::entity::Entity;
 use cedar_entity::node::SharedEntity;
 use cedar_uid_sets::SharedUid;
 use std::collections::HashMap;
+use std::hash::BuildHasher;
 
 // Whether the map has a deeply equal entity at a uid.
-fn has_deep_equal_at(
+fn has_deep_equal_at<S: BuildHasher>(
     entity: &Entity,
     uid: &SharedUid,
-    other: &HashMap<SharedUid, SharedEntity>,
+    other: &HashMap<SharedUid, SharedEntity, S>,
 ) -> bool
     ensures { IsTrue result ↔ HasDeepEqual (Some entity.now) (held other.now uid.now) }
 {
@@ -27,9 +28,9 @@ fn has_deep_equal_at(
 }
 
 // Whether the one map has each entity of the other, or a deeply equal one.
-pub(crate) fn have_deep_equals(
-    one: &HashMap<SharedUid, SharedEntity>,
-    other: &HashMap<SharedUid, SharedEntity>,
+pub(crate) fn have_deep_equals<S: BuildHasher>(
+    one: &HashMap<SharedUid, SharedEntity, S>,
+    other: &HashMap<SharedUid, SharedEntity, S>,
 ) -> bool
     ensures { IsTrue result ↔ ((q : EntityUID) →
         IfSome (held one.now q) (λ e. HasDeepEqual (Some e) (held other.now q))) }
@@ -43,9 +44,9 @@ pub(crate) fn have_deep_equals(
 }
 
 // Whether the one map has each uid of the other.
-pub(crate) fn have_keys_of(
-    one: &HashMap<SharedUid, SharedEntity>,
-    other: &HashMap<SharedUid, SharedEntity>,
+pub(crate) fn have_keys_of<S: BuildHasher>(
+    one: &HashMap<SharedUid, SharedEntity, S>,
+    other: &HashMap<SharedUid, SharedEntity, S>,
 ) -> bool
     ensures { IsTrue result ↔ ((q : EntityUID) →
         is_some (get same_uid other.now q) ≡ true → is_some (get same_uid one.now q) ≡ true) }

@@ -12,6 +12,7 @@ use cedar_ids::entity::EntityUID;
 use cedar_uid_sets::SharedUid;
 use std::alloc::Global;
 use std::collections::HashMap;
+use std::hash::BuildHasher;
 
 // An entity that is not valid, where it is the first or stands before the one so far, and that one elsewhere.
 fn lesser_faulty<'a>(entity: &'a Entity, least: Option<&'a Entity>) -> Option<&'a Entity>
@@ -33,7 +34,9 @@ fn lesser_faulty<'a>(entity: &'a Entity, least: Option<&'a Entity>) -> Option<&'
 }
 
 // Of the entities that are not valid the one with the least uid.
-fn first_faulty<'a>(entities: &'a HashMap<SharedUid, SharedEntity>) -> Option<&'a Entity>
+fn first_faulty<'a, S: BuildHasher>(
+    entities: &'a HashMap<SharedUid, SharedEntity, S>,
+) -> Option<&'a Entity>
     requires { UidsMatch entities.now }
     ensures { MatchOption (option_copied result)
         (AreAllValid (held_map entities.now)) (IsFirstFaulty (held_map entities.now)) }
@@ -46,9 +49,9 @@ fn first_faulty<'a>(entities: &'a HashMap<SharedUid, SharedEntity>) -> Option<&'
 }
 
 // Refuses a store of which an entity is not valid.
-pub(crate) fn check_each(
+pub(crate) fn check_each<S: BuildHasher>(
     alloc: Global,
-    entities: &HashMap<SharedUid, SharedEntity>,
+    entities: &HashMap<SharedUid, SharedEntity, S>,
 ) -> Result<(), EntitiesError>
     requires { UidsMatch entities.now }
     ensures ok { OnOk result (AreAllValid (held_map entities.now)) }

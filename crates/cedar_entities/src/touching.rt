@@ -23,6 +23,7 @@ use cedar_ids::entity::EntityUID;
 use cedar_uid_sets::SharedUid;
 use std::alloc::{AllocError, Global};
 use std::collections::{HashMap, HashSet};
+use std::hash::BuildHasher;
 use std::rc::Rc;
 
 // What is read of a uid that an edit applies, before anything changes: the entities that have it among their
@@ -49,9 +50,9 @@ pub(crate) fn plain_copy_of(uid: &EntityUID) -> Result<EntityUID, AllocError>
 }
 
 // Copies of the uids of the entities that have a uid among their ancestors.
-fn touched_by(
+fn touched_by<S: BuildHasher>(
     alloc: Global,
-    entities: &HashMap<SharedUid, SharedEntity>,
+    entities: &HashMap<SharedUid, SharedEntity, S>,
     uid: &SharedUid,
 ) -> Result<Vec<SharedUid>, AllocError>
     ensures { IfOk result (λ v. (q : EntityUID) →
@@ -93,9 +94,9 @@ fn with_ancestors(
 }
 
 // The uid and its ancestors, where the map holds it, and else nothing.
-fn lost_with(
+fn lost_with<S: BuildHasher>(
     alloc: Global,
-    entities: &HashMap<SharedUid, SharedEntity>,
+    entities: &HashMap<SharedUid, SharedEntity, S>,
     uid: &SharedUid,
 ) -> Result<Vec<SharedUid>, AllocError>
     ensures { IfOk result (λ v. (q : EntityUID) → is_member same_uid v.items q
@@ -109,9 +110,9 @@ fn lost_with(
 }
 
 // What is to be known of a uid before it is applied.
-fn reading_of(
+fn reading_of<S: BuildHasher>(
     alloc: Global,
-    entities: &HashMap<SharedUid, SharedEntity>,
+    entities: &HashMap<SharedUid, SharedEntity, S>,
     uid: &SharedUid,
 ) -> Result<Applied, AllocError>
     ensures uid { IfOk result (λ a. a.uid ≡ uid.now) }
@@ -124,9 +125,9 @@ fn reading_of(
 }
 
 // What is to be known of each uid.
-pub(crate) fn read_each(
+pub(crate) fn read_each<S: BuildHasher>(
     alloc: Global,
-    entities: &HashMap<SharedUid, SharedEntity>,
+    entities: &HashMap<SharedUid, SharedEntity, S>,
     uids: &[SharedUid],
 ) -> Result<Vec<Applied>, AllocError>
     ensures uids { IfOk result (λ v. map (λ a. a.uid) v.items ≡ uids.now) }
@@ -166,8 +167,8 @@ fn strip(entity: &mut Entity, gone: &[SharedUid], lost: &[SharedUid])
 }
 
 // Takes some uids from the parents and others from the indirect ancestors of the entity at a uid.
-fn strip_at(
-    entities: &mut HashMap<SharedUid, SharedEntity>,
+fn strip_at<S: BuildHasher>(
+    entities: &mut HashMap<SharedUid, SharedEntity, S>,
     uid: &SharedUid,
     gone: &[SharedUid],
     lost: &[SharedUid],
@@ -184,8 +185,8 @@ fn strip_at(
 }
 
 // Takes some uids from the parents and others from the indirect ancestors of the entities at a list of uids.
-fn strip_by(
-    entities: &mut HashMap<SharedUid, SharedEntity>,
+fn strip_by<S: BuildHasher>(
+    entities: &mut HashMap<SharedUid, SharedEntity, S>,
     by: &[SharedUid],
     gone: &[SharedUid],
     lost: &[SharedUid],
@@ -202,8 +203,8 @@ fn strip_by(
 }
 
 // Notes some uids.
-pub(crate) fn note_all(
-    noted: &mut HashSet<SharedUid>,
+pub(crate) fn note_all<S: BuildHasher>(
+    noted: &mut HashSet<SharedUid, S>,
     uids: Vec<SharedUid>,
 ) -> Result<(), EntitiesError>
     ensures ok { OnOk result ((q : EntityUID) → contains same_uid noted.new q
@@ -217,11 +218,11 @@ pub(crate) fn note_all(
 }
 
 // Strips by one reading what it names, and notes that and the uid.
-fn apply(
-    entities: &mut HashMap<SharedUid, SharedEntity>,
+fn apply<S: BuildHasher>(
+    entities: &mut HashMap<SharedUid, SharedEntity, S>,
     read: Applied,
     gone: &[SharedUid],
-    touched: &mut HashSet<SharedUid>,
+    touched: &mut HashSet<SharedUid, S>,
 ) -> Result<(), EntitiesError>
     ensures ok { OnOk result ((q : EntityUID) → held entities.new q ≡ cond (is_member same_uid read.by.items q)
         (option_map (stripped (is_member same_uid gone.now) (is_member same_uid read.lost.items)) (held entities.old q))
@@ -237,11 +238,11 @@ fn apply(
 }
 
 // Strips by each reading what it names, and notes that and the uids.
-pub(crate) fn apply_each(
-    entities: &mut HashMap<SharedUid, SharedEntity>,
+pub(crate) fn apply_each<S: BuildHasher>(
+    entities: &mut HashMap<SharedUid, SharedEntity, S>,
     read: Vec<Applied>,
     gone: &[SharedUid],
-    touched: &mut HashSet<SharedUid>,
+    touched: &mut HashSet<SharedUid, S>,
 ) -> Result<(), EntitiesError>
     ensures ok { OnOk result ((q : EntityUID) → held entities.new q ≡ option_map
         (stripped (λ p. is_below read.items q && is_member same_uid gone.now p) (goes_from read.items q))
@@ -257,9 +258,9 @@ pub(crate) fn apply_each(
 }
 
 // The uids of a list that the map holds, in their order, to be shared.
-pub(crate) fn held_uids(
+pub(crate) fn held_uids<S: BuildHasher>(
     alloc: Global,
-    entities: &HashMap<SharedUid, SharedEntity>,
+    entities: &HashMap<SharedUid, SharedEntity, S>,
     list: Vec<EntityUID>,
 ) -> Result<Vec<SharedUid>, AllocError>
     ensures { IfOk result (λ v. v.items ≡ filter (λ u. is_some (held entities.now u)) list.items) }
@@ -274,9 +275,9 @@ pub(crate) fn held_uids(
 }
 
 // The uids of a list that the map does not hold, in their order.
-pub(crate) fn absent_uids(
+pub(crate) fn absent_uids<S: BuildHasher>(
     alloc: Global,
-    entities: &HashMap<SharedUid, SharedEntity>,
+    entities: &HashMap<SharedUid, SharedEntity, S>,
     list: Vec<SharedUid>,
 ) -> Result<Vec<SharedUid>, AllocError>
     ensures { IfOk result (λ v. v.items ≡ filter (λ u. not (is_some (held entities.now u))) list.items) }
@@ -296,7 +297,7 @@ pub(crate) fn absent_uids(
 const FEW: usize = 16;
 
 // Whether an entity has one of some uids among its ancestors, by a look for each of these.
-fn has_any_of(entity: &Entity, uids: &HashSet<SharedUid>) -> bool
+fn has_any_of<S: BuildHasher>(entity: &Entity, uids: &HashSet<SharedUid, S>) -> bool
     ensures { result ≡ list_any (has_ancestor entity.now) uids.now.keys }
 {
     for uid in uids {
@@ -308,7 +309,7 @@ fn has_any_of(entity: &Entity, uids: &HashSet<SharedUid>) -> bool
 }
 
 // Whether an entity has one of some uids among its ancestors, by a look for each ancestor.
-fn has_any_among(entity: &Entity, uids: &HashSet<SharedUid>) -> bool
+fn has_any_among<S: BuildHasher>(entity: &Entity, uids: &HashSet<SharedUid, S>) -> bool
     ensures { result ≡ list_any (has_ancestor entity.now) uids.now.keys }
 {
     for uid in entity.ancestors() {
@@ -320,7 +321,7 @@ fn has_any_among(entity: &Entity, uids: &HashSet<SharedUid>) -> bool
 }
 
 // Whether an entity has one of some uids among its ancestors.
-fn has_any(entity: &Entity, uids: &HashSet<SharedUid>) -> bool
+fn has_any<S: BuildHasher>(entity: &Entity, uids: &HashSet<SharedUid, S>) -> bool
     ensures { result ≡ list_any (has_ancestor entity.now) uids.now.keys }
 {
     if uids.len() <= FEW {
@@ -330,10 +331,10 @@ fn has_any(entity: &Entity, uids: &HashSet<SharedUid>) -> bool
 }
 
 // Copies of the uids of the entities that have one of some uids among their ancestors.
-pub(crate) fn touched_by_any(
+pub(crate) fn touched_by_any<S: BuildHasher>(
     alloc: Global,
-    entities: &HashMap<SharedUid, SharedEntity>,
-    uids: &HashSet<SharedUid>,
+    entities: &HashMap<SharedUid, SharedEntity, S>,
+    uids: &HashSet<SharedUid, S>,
 ) -> Result<Vec<SharedUid>, AllocError>
     ensures { IfOk result (λ v. (q : EntityUID) →
         is_member same_uid v.items q ≡ list_any (is_ancestor_in (held entities.now q)) uids.now.keys) }

@@ -1,8 +1,10 @@
+mod keys;
 mod store_beside;
 mod store_edits;
 mod store_faults;
 mod store_in_modes;
 mod store_kept;
+mod store_keyed;
 mod store_lists;
 mod store_many;
 mod store_modes;

@@ -14,23 +14,24 @@ use crate::transitive_closure::TCNode;
 use indexmap::IndexSet;
 use std::alloc::{AllocError, Global};
 use std::collections::{HashMap, HashSet};
-use std::hash::Hash;
+use std::hash::{BuildHasher, Hash};
 
 // Room for so many arcs is made at once where some keys are repaired.
 const ARCS: usize = 64;
 
 // Numbers for the keys of the map.
-fn number_keys<K: Clone + Eq + Hash, V>(
+fn number_keys<K: Clone + Eq + Hash, V, S: BuildHasher + Clone>(
     alloc: Global,
-    nodes: &HashMap<K, V>,
-) -> Result<IndexSet<K>, AllocError>
+    nodes: &HashMap<K, V, S>,
+) -> Result<IndexSet<K, S>, AllocError>
     requires { ClonesAreEqual K.eq K.is_clone }
     ensures unique { IfOk result (IsUnique K.eq) }
     ensures all { IfOk result (λ s. (q : K) → is_some (get K.eq nodes.now q) ≡ true → HasNumber K.eq s.keys q) }
     ensures len { IfOk result (λ s. length s.keys ≤ hash_map_len nodes.now) }
 {
     let all = keys_of(alloc, nodes)?;
-    let mut keys = IndexSet::with_capacity(alloc, all.len())?;
+    let hasher = nodes.hasher().clone()?;
+    let mut keys = IndexSet::with_capacity_and_hasher(alloc, all.len(), hasher)?;
     for key in &all {
         put_key(&mut keys, *key)?;
     }
@@ -38,15 +39,19 @@ fn number_keys<K: Clone + Eq + Hash, V>(
 }
 
 #[derive(Drop)]
-pub(crate) struct Reading<K: Eq + Hash> {
-    pub(crate) keys: IndexSet<K>,
+pub(crate) struct Reading<K: Eq + Hash, S: BuildHasher> {
+    pub(crate) keys: IndexSet<K, S>,
     pub(crate) from: Vec<usize>,
     pub(crate) to: Vec<usize>,
     pub(crate) reads: usize,
 }
 
 // One more arc.
-fn add_arc<K: Clone + Eq + Hash>(s: &mut Reading<K>, a: usize, key: &K) -> Result<usize, AllocError>
+fn add_arc<K: Clone + Eq + Hash, S: BuildHasher>(
+    s: &mut Reading<K, S>,
+    a: usize,
+    key: &K,
+) -> Result<usize, AllocError>
     requires copies { ClonesAreEqual K.eq K.is_clone }
     requires unique { IsUnique K.eq s.old.keys }
     ensures unique { OnOk result (IsUnique K.eq s.new.keys) }
@@ -63,10 +68,10 @@ fn add_arc<K: Clone + Eq + Hash>(s: &mut Reading<K>, a: usize, key: &K) -> Resul
 }
 
 // The arcs of a node.
-fn read_row<K: Clone + Eq + Hash, V: TCNode<K>>(
+fn read_row<K: Clone + Eq + Hash, V: TCNode<K>, S: BuildHasher>(
     alloc: Global,
-    nodes: &HashMap<K, V>,
-    s: &mut Reading<K>,
+    nodes: &HashMap<K, V, S>,
+    s: &mut Reading<K, S>,
     a: usize,
 ) -> Result<(), AllocError>
     requires copies { ClonesAreEqual K.eq K.is_clone }
@@ -93,17 +98,17 @@ fn read_row<K: Clone + Eq + Hash, V: TCNode<K>>(
 
 // What was read, and how many of the numbers are to be fixed, and how many were read.
 #[derive(Drop)]
-pub(crate) struct FixReading<K: Eq + Hash> {
-    pub(crate) reading: Reading<K>,
+pub(crate) struct FixReading<K: Eq + Hash, S: BuildHasher> {
+    pub(crate) reading: Reading<K, S>,
     pub(crate) fixed: usize,
     pub(crate) near: usize,
 }
 
 // The arcs of the nodes of the map: each node's edges are read once.
-pub(crate) fn read_arcs<K: Clone + Eq + Hash, V: TCNode<K>>(
+pub(crate) fn read_arcs<K: Clone + Eq + Hash, V: TCNode<K>, S: BuildHasher + Clone>(
     alloc: Global,
-    nodes: &HashMap<K, V>,
-) -> Result<FixReading<K>, AllocError>
+    nodes: &HashMap<K, V, S>,
+) -> Result<FixReading<K, S>, AllocError>
     requires copies { ClonesAreEqual K.eq K.is_clone }
     ensures arcs { IfOk result (λ s. AreArcs s.reading.from.items s.reading.to.items (length s.reading.keys.keys)) }
     ensures same { IfOk result (λ s. AreSameEdges K.eq (graph_of K.eq V.edges nodes.now) s.reading.keys.keys (HasArc s.reading.from.items s.reading.to.items)) }
@@ -131,10 +136,11 @@ pub(crate) fn read_arcs<K: Clone + Eq + Hash, V: TCNode<K>>(
 }
 
 // Numbers for the keys of a set.
-fn number_set<K: Clone + Eq + Hash>(
+fn number_set<K: Clone + Eq + Hash, S: BuildHasher + Drop, F: BuildHasher>(
     alloc: Global,
-    fix: &HashSet<K>,
-) -> Result<IndexSet<K>, AllocError>
+    hasher: S,
+    fix: &HashSet<K, F>,
+) -> Result<IndexSet<K, S>, AllocError>
     requires { ClonesAreEqual K.eq K.is_clone }
     ensures unique { IfOk result (IsUnique K.eq) }
     ensures all { IfOk result (λ s. (q : K) → contains K.eq fix.now q ≡ true → HasNumber K.eq s.keys q) }
@@ -143,7 +149,7 @@ fn number_set<K: Clone + Eq + Hash>(
     ensures least { IfOk result (λ s. hash_set_len fix.now ≤ length s.keys) }
 {
     let all = members_of(alloc, fix)?;
-    let mut keys = IndexSet::with_capacity(alloc, all.len())?;
+    let mut keys = IndexSet::with_capacity_and_hasher(alloc, all.len(), hasher)?;
     for key in &all {
         put_key(&mut keys, *key)?;
     }
@@ -151,11 +157,11 @@ fn number_set<K: Clone + Eq + Hash>(
 }
 
 // The arcs of the keys to fix, and of the keys that they have an edge to.
-pub(crate) fn read_fix<K: Clone + Eq + Hash, V: TCNode<K>>(
+pub(crate) fn read_fix<K: Clone + Eq + Hash, V: TCNode<K>, S: BuildHasher + Clone, F: BuildHasher>(
     alloc: Global,
-    fix: &HashSet<K>,
-    nodes: &HashMap<K, V>,
-) -> Result<FixReading<K>, AllocError>
+    fix: &HashSet<K, F>,
+    nodes: &HashMap<K, V, S>,
+) -> Result<FixReading<K, S>, AllocError>
     requires copies { ClonesAreEqual K.eq K.is_clone }
     ensures arcs { IfOk result (λ s. AreArcs s.reading.from.items s.reading.to.items (length s.reading.keys.keys)) }
     ensures fixed { IfOk result (λ s. s.fixed ≤ length s.reading.keys.keys) }
@@ -167,7 +173,7 @@ pub(crate) fn read_fix<K: Clone + Eq + Hash, V: TCNode<K>>(
     ensures near { IfOk result (λ s. (x u : K) → contains K.eq fix.now x ≡ true → graph_of K.eq V.edges nodes.now x u ≡ true → is_member K.eq (take s.near s.reading.keys.keys) u ≡ true) }
     ensures near_fixed { IfOk result (λ s. (x : K) → contains K.eq fix.now x ≡ true → is_member K.eq (take s.near s.reading.keys.keys) x ≡ true) }
 {
-    let keys = number_set(alloc, fix)?;
+    let keys = number_set(alloc, nodes.hasher().clone()?, fix)?;
     let fixed = keys.len();
     let mut s = Reading {
         keys,

@@ -13,7 +13,7 @@ use crate::transitive_closure::TCNode;
 use std::alloc::Global;
 use std::collections::{HashMap, HashSet};
 use std::fmt::{Debug, Display};
-use std::hash::Hash;
+use std::hash::{BuildHasher, Hash};
 
 // Whether a child has each edge of a node that it has an edge to.
 fn check_grandparents<K: Clone + Eq + Hash + Debug + Display, V: TCNode<K>>(
@@ -44,9 +44,9 @@ fn check_grandparents<K: Clone + Eq + Hash + Debug + Display, V: TCNode<K>>(
 }
 
 // Refuses a child that lacks an edge of a parent, where the map may lack the parent.
-fn check_parent<K: Clone + Eq + Hash + Debug + Display, V: TCNode<K>>(
+fn check_parent<K: Clone + Eq + Hash + Debug + Display, V: TCNode<K>, S: BuildHasher>(
     alloc: Global,
-    nodes: &HashMap<K, V>,
+    nodes: &HashMap<K, V, S>,
     child: &V,
     parent: &K,
 ) -> Result<(), K>
@@ -66,9 +66,9 @@ fn check_parent<K: Clone + Eq + Hash + Debug + Display, V: TCNode<K>>(
 }
 
 // Whether a node has each edge of each node that it has an edge to.
-fn check_node<K: Clone + Eq + Hash + Debug + Display, V: TCNode<K>>(
+fn check_node<K: Clone + Eq + Hash + Debug + Display, V: TCNode<K>, S: BuildHasher>(
     alloc: Global,
-    nodes: &HashMap<K, V>,
+    nodes: &HashMap<K, V, S>,
     child: &V,
 ) -> Result<(), K>
     requires { ClonesAreEqual K.eq K.is_clone }
@@ -90,9 +90,9 @@ fn check_node<K: Clone + Eq + Hash + Debug + Display, V: TCNode<K>>(
 }
 
 // Whether the graph is closed.
-pub(crate) fn enforce_tc<K: Clone + Eq + Hash + Debug + Display, V: TCNode<K>>(
+pub(crate) fn enforce_tc<K: Clone + Eq + Hash + Debug + Display, V: TCNode<K>, S: BuildHasher>(
     alloc: Global,
-    nodes: &HashMap<K, V>,
+    nodes: &HashMap<K, V, S>,
 ) -> Result<(), K>
     requires copies { ClonesAreEqual K.eq K.is_clone }
     requires keys { KeysMatch K.eq V.key nodes.now }
@@ -108,8 +108,8 @@ pub(crate) fn enforce_tc<K: Clone + Eq + Hash + Debug + Display, V: TCNode<K>>(
 }
 
 // Whether no node has an edge to itself.
-pub(crate) fn enforce_no_loop<K: Clone + Eq + Hash + Debug + Display, V: TCNode<K>>(
-    nodes: &HashMap<K, V>,
+pub(crate) fn enforce_no_loop<K: Clone + Eq + Hash + Debug + Display, V: TCNode<K>, S: BuildHasher>(
+    nodes: &HashMap<K, V, S>,
 ) -> Result<(), K>
     requires { ClonesAreEqual K.eq K.is_clone }
     ensures ok { OnOk result (HasNoLoop (graph_of K.eq V.edges nodes.now)) }
@@ -128,11 +128,12 @@ pub(crate) fn enforce_no_loop<K: Clone + Eq + Hash + Debug + Display, V: TCNode<
 }
 
 // Whether no node to fix has an edge to itself.
-pub(crate) fn enforce_no_loop_for<K: Clone + Eq + Hash + Debug + Display, V: TCNode<K>>(
-    alloc: Global,
-    fix: &HashSet<K>,
-    nodes: &HashMap<K, V>,
-) -> Result<(), K>
+pub(crate) fn enforce_no_loop_for<
+    K: Clone + Eq + Hash + Debug + Display,
+    V: TCNode<K>,
+    S: BuildHasher,
+    F: BuildHasher,
+>(alloc: Global, fix: &HashSet<K, F>, nodes: &HashMap<K, V, S>) -> Result<(), K>
     requires { ClonesAreEqual K.eq K.is_clone }
     ensures ok { OnOk result ((a : K) →
         contains K.eq fix.now a ≡ true → graph_of K.eq V.edges nodes.now a a ≡ false) }
@@ -148,8 +149,8 @@ pub(crate) fn enforce_no_loop_for<K: Clone + Eq + Hash + Debug + Display, V: TCN
 }
 
 // Whether the node at a key has no edge to itself.
-fn check_loop<K: Clone + Eq + Hash + Debug + Display, V: TCNode<K>>(
-    nodes: &HashMap<K, V>,
+fn check_loop<K: Clone + Eq + Hash + Debug + Display, V: TCNode<K>, S: BuildHasher>(
+    nodes: &HashMap<K, V, S>,
     key: &K,
 ) -> Result<(), K>
     requires { ClonesAreEqual K.eq K.is_clone }

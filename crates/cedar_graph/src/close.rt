@@ -36,7 +36,7 @@ use crate::transitive_closure::{TCNode, Work};
 use cedar_components::{Reached, reach};
 use std::alloc::{AllocError, Global};
 use std::collections::{HashMap, HashSet};
-use std::hash::Hash;
+use std::hash::{BuildHasher, Hash};
 
 // Adds a copy of a key to a row, unless it is known.
 fn pick_key<K: Clone + Eq + Hash>(row: &mut Vec<K>, key: &K, known: bool) -> Result<(), AllocError>
@@ -122,9 +122,9 @@ fn fill_node<K: Clone + Eq + Hash, V: TCNode<K>>(
 
 // Adds to the node at a key an edge to the key of each number from place i up to j, and says how
 // many nodes it found. It has those to numbers with this mark already, which so many arcs lead to.
-fn write_row<K: Clone + Eq + Hash, V: TCNode<K>>(
+fn write_row<K: Clone + Eq + Hash, V: TCNode<K>, S: BuildHasher>(
     alloc: Global,
-    nodes: &mut HashMap<K, V>,
+    nodes: &mut HashMap<K, V, S>,
     at: &K,
     keys: &[K],
     lists: &[usize],
@@ -166,9 +166,9 @@ fn write_row<K: Clone + Eq + Hash, V: TCNode<K>>(
 
 // Adds to the node of number x an edge to the key of each number that it reaches, and says how
 // many nodes it found. It has those to numbers with this mark already, which so many arcs lead to.
-fn write_number<K: Clone + Eq + Hash, V: TCNode<K>>(
+fn write_number<K: Clone + Eq + Hash, V: TCNode<K>, S: BuildHasher>(
     alloc: Global,
-    nodes: &mut HashMap<K, V>,
+    nodes: &mut HashMap<K, V, S>,
     keys: &[K],
     from: &[usize],
     to: &[usize],
@@ -240,9 +240,9 @@ fn mark_targets(from: &[usize], to: &[usize], marks: &mut Vec<usize>, x: usize, 
 
 // Adds to the node of each number below `fixed` an edge to the key of each number that it
 // reaches, and counts the nodes.
-fn write_rows<K: Clone + Eq + Hash, V: TCNode<K>>(
+fn write_rows<K: Clone + Eq + Hash, V: TCNode<K>, S: BuildHasher>(
     alloc: Global,
-    nodes: &mut HashMap<K, V>,
+    nodes: &mut HashMap<K, V, S>,
     keys: &[K],
     from: &[usize],
     to: &[usize],
@@ -290,10 +290,10 @@ fn write_rows<K: Clone + Eq + Hash, V: TCNode<K>>(
 }
 
 // Adds to the nodes of the numbers to fix the edges that what was read asks for.
-fn close_read<K: Clone + Eq + Hash, V: TCNode<K>>(
+fn close_read<K: Clone + Eq + Hash, V: TCNode<K>, S: BuildHasher>(
     alloc: Global,
-    nodes: &mut HashMap<K, V>,
-    read: &FixReading<K>,
+    nodes: &mut HashMap<K, V, S>,
+    read: &FixReading<K, S>,
 ) -> Result<Work, AllocError>
     requires copies { ClonesAreEqual K.eq K.is_clone }
     requires arcs { AreArcs read.now.reading.from.items read.now.reading.to.items
@@ -345,9 +345,9 @@ fn close_read<K: Clone + Eq + Hash, V: TCNode<K>>(
 }
 
 // Adds an edge to each key that is reached.
-pub(crate) fn close<K: Clone + Eq + Hash, V: TCNode<K>>(
+pub(crate) fn close<K: Clone + Eq + Hash, V: TCNode<K>, S: BuildHasher + Clone>(
     alloc: Global,
-    nodes: &mut HashMap<K, V>,
+    nodes: &mut HashMap<K, V, S>,
 ) -> Result<Work, AllocError>
     requires { ClonesAreEqual K.eq K.is_clone }
     ensures keeps { KeepsNodes K.eq V.key V.rest nodes.old nodes.new }
@@ -371,10 +371,10 @@ pub(crate) fn close<K: Clone + Eq + Hash, V: TCNode<K>>(
 }
 
 // Adds to the nodes to fix an edge to each key that is reached.
-pub(crate) fn repair<K: Clone + Eq + Hash, V: TCNode<K>>(
+pub(crate) fn repair<K: Clone + Eq + Hash, V: TCNode<K>, S: BuildHasher + Clone, F: BuildHasher>(
     alloc: Global,
-    fix: &HashSet<K>,
-    nodes: &mut HashMap<K, V>,
+    fix: &HashSet<K, F>,
+    nodes: &mut HashMap<K, V, S>,
 ) -> Result<Work, AllocError>
     requires { ClonesAreEqual K.eq K.is_clone }
     ensures keeps { KeepsNodes K.eq V.key V.rest nodes.old nodes.new }

@@ -6,12 +6,12 @@ ghost use Rattle.std.specs.HashSet.{contains, hash_set_len, IsUnique};
 
 use std::alloc::{AllocError, Global};
 use std::collections::{HashMap, HashSet};
-use std::hash::Hash;
+use std::hash::{BuildHasher, Hash};
 
 // The keys of the map.
-pub(crate) fn keys_of<K: Clone + Eq + Hash, V>(
+pub(crate) fn keys_of<K: Clone + Eq + Hash, V, S: BuildHasher>(
     alloc: Global,
-    nodes: &HashMap<K, V>,
+    nodes: &HashMap<K, V, S>,
 ) -> Result<Vec<&K>, AllocError>
     ensures members { IfOk result (λ v. (q : K) →
         is_member K.eq (map (λ x. x.now) v.items) q ≡ is_some (get K.eq nodes.now q)) }
@@ -21,9 +21,9 @@ pub(crate) fn keys_of<K: Clone + Eq + Hash, V>(
 }
 
 // The keys of a set.
-pub(crate) fn members_of<K: Clone + Eq + Hash>(
+pub(crate) fn members_of<K: Clone + Eq + Hash, S: BuildHasher>(
     alloc: Global,
-    set: &HashSet<K>,
+    set: &HashSet<K, S>,
 ) -> Result<Vec<&K>, AllocError>
     ensures members { IfOk result (λ v. (q : K) →
         is_member K.eq (map (λ x. x.now) v.items) q ≡ contains K.eq set.now q) }

@@ -5,11 +5,11 @@ ghost use Rattle.indexmap.specs.IndexSet.{IsUnique};
 
 use indexmap::IndexSet;
 use std::alloc::AllocError;
-use std::hash::Hash;
+use std::hash::{BuildHasher, Hash};
 
 // The number of a key of which a copy is put in, if there is no equal one.
-pub(crate) fn put_key<K: Clone + Eq + Hash>(
-    keys: &mut IndexSet<K>,
+pub(crate) fn put_key<K: Clone + Eq + Hash, S: BuildHasher>(
+    keys: &mut IndexSet<K, S>,
     key: &K,
 ) -> Result<usize, AllocError>
     requires { ClonesAreEqual K.eq K.is_clone }
@@ -24,8 +24,8 @@ pub(crate) fn put_key<K: Clone + Eq + Hash>(
 }
 
 // The number of a key, which is a new one if the key has none.
-pub(crate) fn number_of<K: Clone + Eq + Hash>(
-    keys: &mut IndexSet<K>,
+pub(crate) fn number_of<K: Clone + Eq + Hash, S: BuildHasher>(
+    keys: &mut IndexSet<K, S>,
     key: &K,
 ) -> Result<usize, AllocError>
     requires copies { ClonesAreEqual K.eq K.is_clone }

@@ -30,7 +30,7 @@ use crate::err::Result;
 use std::alloc::{AllocError, Global};
 use std::collections::{HashMap, HashSet};
 use std::fmt::{Debug, Display};
-use std::hash::Hash;
+use std::hash::{BuildHasher, Hash};
 use std::mem::replace;
 
 /// A node of a graph: it has a key, a set of edges to keys, and some of its edges are direct.
@@ -208,10 +208,13 @@ pub struct Work {
 /// [`TCNode::add_edges_to`]. It does not recurse, whatever the graph is, but where lists are sorted,
 /// as a node type's [`TCNode::order`] may do with all keys: in the logarithm of a list's length.
 ///
+/// The keys are numbered in a set that hashes as the map does, by a copy of its builder of hashers:
+/// so whoever picks keys makes them collide here only where they collide in the map.
+///
 /// Unlike the original it takes the allocator and may answer `TcError::Memory`.
-pub fn compute_tc<K: Clone + Eq + Hash + Debug + Display, V: TCNode<K>>(
+pub fn compute_tc<K: Clone + Eq + Hash + Debug + Display, V: TCNode<K>, S: BuildHasher + Clone>(
     alloc: Global,
-    nodes: &mut HashMap<K, V>,
+    nodes: &mut HashMap<K, V, S>,
     enforce_dag: bool,
 ) -> Result<(), K>
     requires copies { ClonesAreEqual K.eq K.is_clone }
@@ -245,11 +248,11 @@ pub fn compute_tc<K: Clone + Eq + Hash + Debug + Display, V: TCNode<K>>(
 ///
 /// The original counts nothing.
 #[tactic(auto, using(crate::specs::laws::Nodes::keys_match_kept, crate::proofs::Reaches::no_cycle_where_asked))]
-pub fn compute_tc_counted<K: Clone + Eq + Hash + Debug + Display, V: TCNode<K>>(
-    alloc: Global,
-    nodes: &mut HashMap<K, V>,
-    enforce_dag: bool,
-) -> Result<Work, K>
+pub fn compute_tc_counted<
+    K: Clone + Eq + Hash + Debug + Display,
+    V: TCNode<K>,
+    S: BuildHasher + Clone,
+>(alloc: Global, nodes: &mut HashMap<K, V, S>, enforce_dag: bool) -> Result<Work, K>
     requires copies { ClonesAreEqual K.eq K.is_clone }
     requires keys { KeysMatch K.eq V.key nodes.old }
     ensures keys { KeysMatch K.eq V.key nodes.new }
@@ -296,15 +299,20 @@ pub fn compute_tc_counted<K: Clone + Eq + Hash + Debug + Display, V: TCNode<K>>(
 /// on a cycle. The map's keys, each node's key, rest and what adding keeps, the former edges and
 /// the nodes that are not to be fixed always stay.
 ///
-/// Takes memory as [`compute_tc`] does, for the keys to fix and those that they have an edge to.
+/// Takes memory and hashes as [`compute_tc`] does, for the keys to fix and those that they have an edge to.
 /// Lists the edges of the nodes at these keys once, and looks at no other node. It recurses as
 /// [`compute_tc`] does, in sorting alone.
 ///
 /// Unlike the original it takes the allocator and may answer `TcError::Memory`.
-pub fn repair_tc<K: Clone + Eq + Hash + Debug + Display, V: TCNode<K>>(
+pub fn repair_tc<
+    K: Clone + Eq + Hash + Debug + Display,
+    V: TCNode<K>,
+    S: BuildHasher + Clone,
+    F: BuildHasher,
+>(
     alloc: Global,
-    nodes_to_fix: &HashSet<K>,
-    nodes: &mut HashMap<K, V>,
+    nodes_to_fix: &HashSet<K, F>,
+    nodes: &mut HashMap<K, V, S>,
     enforce_dag: bool,
 ) -> Result<(), K>
     requires copies { ClonesAreEqual K.eq K.is_clone }
@@ -338,10 +346,15 @@ pub fn repair_tc<K: Clone + Eq + Hash + Debug + Display, V: TCNode<K>>(
 ///
 /// The original counts nothing.
 #[tactic(auto, using(crate::specs::laws::Nodes::keys_match_kept))]
-pub fn repair_tc_counted<K: Clone + Eq + Hash + Debug + Display, V: TCNode<K>>(
+pub fn repair_tc_counted<
+    K: Clone + Eq + Hash + Debug + Display,
+    V: TCNode<K>,
+    S: BuildHasher + Clone,
+    F: BuildHasher,
+>(
     alloc: Global,
-    nodes_to_fix: &HashSet<K>,
-    nodes: &mut HashMap<K, V>,
+    nodes_to_fix: &HashSet<K, F>,
+    nodes: &mut HashMap<K, V, S>,
     enforce_dag: bool,
 ) -> Result<Work, K>
     requires copies { ClonesAreEqual K.eq K.is_clone }
@@ -390,9 +403,9 @@ pub fn repair_tc_counted<K: Clone + Eq + Hash + Debug + Display, V: TCNode<K>>(
 /// leads to it.
 ///
 /// Unlike the original it takes the allocator and may answer `TcError::Memory`.
-pub fn enforce_tc_and_dag<K: Clone + Eq + Hash + Debug + Display, V: TCNode<K>>(
+pub fn enforce_tc_and_dag<K: Clone + Eq + Hash + Debug + Display, V: TCNode<K>, S: BuildHasher>(
     alloc: Global,
-    nodes: &HashMap<K, V>,
+    nodes: &HashMap<K, V, S>,
 ) -> Result<(), K>
     requires copies { ClonesAreEqual K.eq K.is_clone }
     requires keys { KeysMatch K.eq V.key nodes.now }

@@ -3,6 +3,7 @@ mod calls;
 mod coarse;
 mod counted;
 mod counting;
+mod keys;
 mod nodes;
 mod random;
 mod reached;

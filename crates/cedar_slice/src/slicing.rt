@@ -17,6 +17,7 @@ use cedar_entities::{Entities, EntitiesError, Entity, SharedUid, SharedUids, TCC
 use cedar_ids::entity::EntityUID;
 use std::alloc::{AllocError, Global};
 use std::collections::HashSet;
+use std::hash::BuildHasher;
 
 // The uid, shared once more.
 fn copy_of(uid: &SharedUid) -> Result<SharedUid, AllocError>
@@ -33,7 +34,10 @@ fn copy_of_entity(entity: &Entity) -> Result<Entity, AllocError>
 }
 
 // Notes some uids.
-fn note_all(noted: &mut HashSet<SharedUid>, uids: SharedUids<'_>) -> Result<(), AllocError>
+fn note_all<S: BuildHasher>(
+    noted: &mut HashSet<SharedUid, S>,
+    uids: SharedUids<'_>,
+) -> Result<(), AllocError>
     ensures { OnOk result ((q : EntityUID) → contains same_uid noted.new q
         ≡ (contains same_uid noted.old q || is_member same_uid uids.entry q)) }
 {
@@ -44,9 +48,9 @@ fn note_all(noted: &mut HashSet<SharedUid>, uids: SharedUids<'_>) -> Result<(), 
 }
 
 // Notes the ancestors of the entity that the store has with a uid, if there is one.
-fn note_above(
-    store: &Entities,
-    noted: &mut HashSet<SharedUid>,
+fn note_above<S: BuildHasher + Clone>(
+    store: &Entities<S>,
+    noted: &mut HashSet<SharedUid, S>,
     uid: &EntityUID,
 ) -> Result<(), AllocError>
     ensures { OnOk result ((q : EntityUID) → contains same_uid noted.new q
@@ -59,10 +63,10 @@ fn note_above(
 }
 
 // Notes a uid that is asked for, and the ancestors of the entity that the store has with it.
-fn want(
+fn want<S: BuildHasher + Clone>(
     alloc: Global,
-    store: &Entities,
-    wanted: &mut HashSet<SharedUid>,
+    store: &Entities<S>,
+    wanted: &mut HashSet<SharedUid, S>,
     uid: &EntityUID,
 ) -> Result<(), AllocError>
     ensures { OnOk result ((q : EntityUID) → contains same_uid wanted.new q
@@ -75,15 +79,15 @@ fn want(
 }
 
 // The uids that are asked for, and the ancestors of what the store has with them.
-fn all_wanted(
+fn all_wanted<S: BuildHasher + Clone>(
     alloc: Global,
-    store: &Entities,
+    store: &Entities<S>,
     uids: &[EntityUID],
-) -> Result<HashSet<SharedUid>, AllocError>
+) -> Result<HashSet<SharedUid, S>, AllocError>
     ensures { IfOk result (λ s. (q : EntityUID) →
         contains same_uid s q ≡ is_wanted store.now.held uids.now q) }
 {
-    let mut wanted = HashSet::new(alloc);
+    let mut wanted = HashSet::with_hasher(alloc, store.hasher().clone()?);
     for uid in uids {
         want(alloc, store, &mut wanted, uid)?;
     }
@@ -91,7 +95,11 @@ fn all_wanted(
 }
 
 // Puts a copy of the entity that the store has with a uid, if there is one, at the end of a list.
-fn copy_held(store: &Entities, list: &mut Vec<Entity>, uid: &SharedUid) -> Result<(), AllocError>
+fn copy_held<S: BuildHasher + Clone>(
+    store: &Entities<S>,
+    list: &mut Vec<Entity>,
+    uid: &SharedUid,
+) -> Result<(), AllocError>
     ensures copies { OnOk result (list.new.items
         ≡ list.old.items ++ option_to_list (finmap.get store.now.held uid.now)) }
     ensures keyed { OnOk result (IsKeyed store.now.held) }
@@ -103,10 +111,10 @@ fn copy_held(store: &Entities, list: &mut Vec<Entity>, uid: &SharedUid) -> Resul
 }
 
 // Copies of the entities that the store has with some uids.
-fn copies_of(
+fn copies_of<S: BuildHasher + Clone>(
     alloc: Global,
-    store: &Entities,
-    uids: &HashSet<SharedUid>,
+    store: &Entities<S>,
+    uids: &HashSet<SharedUid, S>,
 ) -> Result<Vec<Entity>, AllocError>
     ensures copies { IfOk result (λ v. v.items ≡ filter_map (finmap.get store.now.held) uids.now.keys) }
     ensures keyed { OnOk result (AllByRecursion
@@ -121,12 +129,16 @@ fn copies_of(
 
 /// The slice of a store at some uids, not partial: copies of the entities that have one of these uids, and of those that
 /// the store holds among the ancestors of one of them, each with all that it holds. Asked uids that the store lacks, and
-/// repeats, change nothing.
+/// repeats, change nothing. The slice hashes uids as the store does, by a copy of its builder of hashers.
 ///
 /// Refused by [`EntitiesError::Memory`] alone, whatever the store. It takes memory. It looks each asked uid up, notes its
 /// ancestors, and looks each uid that was noted up once and copies what it finds: the store is never walked as a whole.
 /// Attributes and tags are copied, the uids of ancestors are shared.
-pub fn slice(alloc: Global, store: &Entities, uids: &[EntityUID]) -> Result<Entities, EntitiesError>
+pub fn slice<S: BuildHasher + Clone>(
+    alloc: Global,
+    store: &Entities<S>,
+    uids: &[EntityUID],
+) -> Result<Entities<S>, EntitiesError>
     ensures held { IfOk result (λ s. s ≡ record {
       held = sliced store.now.held uids.now;
       partial = false;
@@ -142,5 +154,6 @@ pub fn slice(alloc: Global, store: &Entities, uids: &[EntityUID]) -> Result<Enti
 {
     let wanted = all_wanted(alloc, store, uids)?;
     let list = copies_of(alloc, store, &wanted)?;
-    Entities::from_entities(alloc, list, TCComputation::AssumeAlreadyComputed)
+    let hasher = store.hasher().clone()?;
+    Entities::from_entities_with_hasher(alloc, hasher, list, TCComputation::AssumeAlreadyComputed)
 }

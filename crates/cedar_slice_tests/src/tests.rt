@@ -1,3 +1,4 @@
+mod keys;
 mod random;
 mod stores;
 mod worked;

@@ -12,8 +12,9 @@ use cedar_graph::TcError;
 use cedar_ids::entity::EntityUID;
 use cedar_terms::{Literal, PartialValue, Value, ValueKind};
 use cedar_test_helpers::tried::{beside, joined, pushed};
-use std::alloc::Global;
+use std::alloc::{AllocError, Global};
 use std::collections::HashSet;
+use std::hash::BuildHasher;
 use std::rc::Rc;
 use std::test::Fail;
 
@@ -107,45 +108,70 @@ fn uids_of(alloc: Global, list: &[u8; 2]) -> Result<Vec<EntityUID>, Fail> {
     Ok(uids)
 }
 
-type Answer = Result<Entities, EntitiesError>;
+pub(super) type Answer<S> = Result<Entities<S>, EntitiesError>;
 
-fn added(alloc: Global, store: Entities, rows: &Rows, mode: TCComputation) -> Result<Answer, Fail> {
+// The store of some entities, which hashes by what a builder builds.
+pub(super) fn built<S: BuildHasher + Clone>(
+    alloc: Global,
+    hasher: S,
+    rows: &Rows,
+    mode: TCComputation,
+) -> Result<Answer<S>, Fail> {
+    let (hasher, list) = beside(hasher, entities_of(alloc, rows))?;
+    Ok(Entities::from_entities_with_hasher(alloc, hasher, list, mode))
+}
+
+// The store of some entities in the place of another, of which it keeps the builder of hashers.
+fn rebuilt<S: BuildHasher + Clone>(
+    alloc: Global,
+    store: Entities<S>,
+    rows: &Rows,
+    mode: TCComputation,
+) -> Result<Answer<S>, Fail> {
+    let hasher: Result<S, AllocError> = store.hasher().clone();
+    drop(store);
+    built(alloc, hasher?, rows, mode)
+}
+
+fn added<S: BuildHasher + Clone>(
+    alloc: Global,
+    store: Entities<S>,
+    rows: &Rows,
+    mode: TCComputation,
+) -> Result<Answer<S>, Fail> {
     let (store, list) = beside(store, shared_of(alloc, rows))?;
     Ok(store.add_entities(alloc, list, mode))
 }
 
-fn upserted(
+fn upserted<S: BuildHasher + Clone>(
     alloc: Global,
-    store: Entities,
+    store: Entities<S>,
     rows: &Rows,
     mode: TCComputation,
-) -> Result<Answer, Fail> {
+) -> Result<Answer<S>, Fail> {
     let (store, list) = beside(store, shared_of(alloc, rows))?;
     Ok(store.upsert_entities(alloc, list, mode))
 }
 
-fn removed(
+fn removed<S: BuildHasher + Clone>(
     alloc: Global,
-    store: Entities,
+    store: Entities<S>,
     list: &[u8; 2],
     mode: TCComputation,
-) -> Result<Answer, Fail> {
+) -> Result<Answer<S>, Fail> {
     let (store, uids) = beside(store, uids_of(alloc, list))?;
     Ok(store.remove_entities(alloc, uids, mode))
 }
 
 // What a call in a mode makes of a store.
-pub(super) fn done(
+pub(super) fn done<S: BuildHasher + Clone>(
     alloc: Global,
-    store: Entities,
+    store: Entities<S>,
     call: &Call,
     mode: TCComputation,
-) -> Result<Answer, Fail> {
+) -> Result<Answer<S>, Fail> {
     match call {
-        Call::From(rows) => {
-            drop(store);
-            Ok(Entities::from_entities(alloc, entities_of(alloc, rows)?, mode))
-        }
+        Call::From(rows) => rebuilt(alloc, store, rows, mode),
         Call::Add(rows) => added(alloc, store, rows, mode),
         Call::Upsert(rows) => upserted(alloc, store, rows, mode),
         Call::Remove(list) => removed(alloc, store, list, mode),
@@ -181,7 +207,12 @@ fn is_found(found: &Dereference<'_, Entity>, world: &World, uid: u8) -> bool {
 }
 
 // Whether a store has with a uid what the world has.
-fn is_held(alloc: Global, store: &Entities, world: &World, uid: u8) -> Result<bool, Fail> {
+fn is_held<S: BuildHasher + Clone>(
+    alloc: Global,
+    store: &Entities<S>,
+    world: &World,
+    uid: u8,
+) -> Result<bool, Fail> {
     let name = numbered(alloc, uid)?;
     let found = store.entity(alloc, &name);
     drop(name);
@@ -196,7 +227,11 @@ fn is_held(alloc: Global, store: &Entities, world: &World, uid: u8) -> Result<bo
 }
 
 // Whether a store is the plain one of a world.
-fn is_plain(alloc: Global, store: &Entities, world: &World) -> Result<bool, Fail> {
+fn is_plain<S: BuildHasher + Clone>(
+    alloc: Global,
+    store: &Entities<S>,
+    world: &World,
+) -> Result<bool, Fail> {
     if store.len() != count(world) || store.is_partial() != world.partial {
         return Ok(false);
     }
@@ -241,9 +276,9 @@ fn end_of(error: &EntitiesError, then: Result<World, Refused>) -> End {
 }
 
 // The world that a store stands for, if it is this one.
-fn stood_for(
+fn stood_for<S: BuildHasher + Clone>(
     alloc: Global,
-    store: &Entities,
+    store: &Entities<S>,
     then: Result<World, Refused>,
 ) -> Result<Option<World>, Fail> {
     let Ok(world) = then else {
@@ -255,9 +290,13 @@ fn stood_for(
     Ok(Some(world))
 }
 
-// How a list of calls ends. After each call the store has to be the plain one of the world.
-pub(super) fn compared(alloc: Global, calls: &[Call]) -> Result<End, Fail> {
-    let mut store = Entities::new(alloc);
+// How a list of calls on the store without entities ends. After each call the store has to be the plain one of the world.
+pub(super) fn compared<S: BuildHasher + Clone>(
+    alloc: Global,
+    empty_store: Entities<S>,
+    calls: &[Call],
+) -> Result<End, Fail> {
+    let mut store = empty_store;
     let mut world = empty();
     for call in calls {
         let then = after(&world, call);

@@ -1,8 +1,11 @@
 // Many lists of calls, each on a store and on the world that it stands for.
+use super::keys::keyed;
 use super::store_beside::{End, compared};
 use super::store_world::{Call, Refused, Row, Rows, bit};
+use cedar_entities::entities::Entities;
 use cedar_test_helpers::drawn::below;
 use std::alloc::Global;
+use std::hash::{BuildHasher, BuildHasherDefault, FoldHasher};
 use std::test::Fail;
 
 // How many lists of calls ended in which way.
@@ -75,7 +78,10 @@ pub(super) fn call_at(number: u8) -> Call {
 // Tells of each list of two calls that begins with this one.
 fn tell_pairs(alloc: Global, tally: &mut Tally, one: u8) -> Result<(), Fail> {
     for other in 0..82_u8 {
-        tell(tally, compared(alloc, &[call_at(one), call_at(other)])?);
+        tell(
+            tally,
+            compared(alloc, Entities::new(alloc), &[call_at(one), call_at(other)])?,
+        );
     }
     Ok(())
 }
@@ -122,33 +128,51 @@ pub(super) fn three(number: u16) -> Rows {
 }
 
 // Tells of building a list of all three uids and, where that is not refused, of each further call.
-fn tell_edits(alloc: Global, tally: &mut Tally, number: u16) -> Result<(), Fail> {
+fn tell_edits<S: BuildHasher + Copy>(
+    alloc: Global,
+    hasher: S,
+    tally: &mut Tally,
+    number: u16,
+) -> Result<(), Fail> {
     let first = Call::From(three(number));
-    let end = compared(alloc, &[first])?;
+    let end = compared(alloc, Entities::with_hasher(alloc, hasher), &[first])?;
     if end != End::Held {
         tell(tally, end);
         return Ok(());
     }
     for other in 0..82_u8 {
-        tell(tally, compared(alloc, &[first, call_at(other)])?);
+        let store = Entities::with_hasher(alloc, hasher);
+        tell(tally, compared(alloc, store, &[first, call_at(other)])?);
     }
     Ok(())
 }
 
-fn all_edits(alloc: Global) -> Result<Tally, Fail> {
+fn all_edits<S: BuildHasher + Copy>(alloc: Global, hasher: S) -> Result<Tally, Fail> {
     let mut tally = nothing();
     for number in 0..512_u16 {
-        tell_edits(alloc, &mut tally, number)?;
+        tell_edits(alloc, hasher, &mut tally, number)?;
     }
     Ok(tally)
 }
 
+// Whether each call on each store of three leaves the plain store, with each way to end among them.
+fn leave_plain<S: BuildHasher + Copy>(alloc: Global, hasher: S) -> Result<bool, Fail> {
+    let tally = all_edits(alloc, hasher)?;
+    Ok(tally.differs == 0 && tally.total() == 25 * 82 + 487 && tally.has_each(200))
+}
+
 #[test]
 fn each_call_on_each_store_of_three_leaves_the_plain_store(rt: HostRuntime) -> Result<(), Fail> {
-    let tally = all_edits(rt.alloc())?;
-    assert_eq!(rt; tally.differs, 0);
-    assert_eq!(rt; tally.total(), 25 * 82 + 487);
-    assert!(rt; tally.has_each(200));
+    assert!(rt; leave_plain(rt.alloc(), BuildHasherDefault::<FoldHasher>::new())?);
+    Ok(())
+}
+
+#[test]
+fn each_call_on_each_store_of_three_leaves_the_plain_store_under_two_keys(
+    rt: HostRuntime,
+) -> Result<(), Fail> {
+    assert!(rt; leave_plain(rt.alloc(), keyed(1)?)?);
+    assert!(rt; leave_plain(rt.alloc(), keyed(200)?)?);
     Ok(())
 }
 
@@ -201,7 +225,10 @@ fn all_drawn(alloc: Global, seed: u64, count: u16) -> Result<Tally, Fail> {
     let mut tally = nothing();
     let mut seed = seed;
     for _list in 0..count {
-        tell(&mut tally, compared(alloc, &drawn_calls(&mut seed))?);
+        tell(
+            &mut tally,
+            compared(alloc, Entities::new(alloc), &drawn_calls(&mut seed))?,
+        );
     }
     Ok(tally)
 }

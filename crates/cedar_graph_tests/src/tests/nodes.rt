@@ -7,6 +7,7 @@ ghost use Rattle.cedar_graph.specs.Graph.{KeysMatch};
 use cedar_graph::TCNode;
 use std::alloc::{AllocError, Global};
 use std::collections::{HashMap, HashSet};
+use std::hash::{BuildHasher, BuildHasherDefault};
 
 /// A node with a set of edges, all of them direct: it takes the default `direct_edges`.
 #[derive(Drop)]
@@ -146,7 +147,19 @@ pub fn graph(
 ) -> Result<HashMap<u64, Plain>, AllocError>
     ensures { IfOk result (λ m. KeysMatch nat_eq (λ n. n.number) m) }
 {
-    let mut nodes = HashMap::new(alloc);
+    graph_by(alloc, BuildHasherDefault::new(), keys, edges)
+}
+
+/// As [`graph`], in a map that hashes by what `hasher` builds.
+pub fn graph_by<S: BuildHasher + Drop>(
+    alloc: Global,
+    hasher: S,
+    keys: &[u64],
+    edges: Edges<'_>,
+) -> Result<HashMap<u64, Plain, S>, AllocError>
+    ensures { IfOk result (λ m. KeysMatch nat_eq (λ n. n.number) m) }
+{
+    let mut nodes = HashMap::with_hasher(alloc, hasher);
     for key in keys {
         let number = *key;
         let targets = targets(alloc, edges, number)?;
@@ -206,9 +219,9 @@ pub fn set_of(alloc: Global, keys: &[u64]) -> Result<HashSet<u64>, AllocError> {
 }
 
 /// All edges between the keys 1 to 9, in order.
-pub fn edges_of<V: TCNode<u64>>(
+pub fn edges_of<V: TCNode<u64>, S: BuildHasher>(
     alloc: Global,
-    nodes: &HashMap<u64, V>,
+    nodes: &HashMap<u64, V, S>,
 ) -> Result<Vec<(u64, u64)>, AllocError> {
     let mut all = Vec::new(alloc);
     for from in 1..10 {

@@ -1,7 +1,10 @@
 // All graphs on three keys, against paths that are looked for one by one.
-use crate::tests::nodes::{Edges, graph};
+use crate::tests::keys::keyed;
+use crate::tests::nodes::{Edges, graph_by};
 use crate::tests::told::{Told, check, close, has_edges, repair};
 use std::alloc::{AllocError, Global};
+use std::hash::{BuildHasher, BuildHasherDefault, FoldHasher};
+use std::test::Fail;
 
 const KEYS: [u64; 3] = [1, 2, 3];
 
@@ -47,8 +50,13 @@ fn breaks(edges: Edges<'_>, a: u64, b: u64, c: u64) -> bool {
 }
 
 // Whether a graph is closed to these edges.
-fn is_closed(alloc: Global, edges: Edges<'_>, closure: Edges<'_>) -> bool {
-    match graph(alloc, &KEYS, edges) {
+fn is_closed<S: BuildHasher + Copy>(
+    alloc: Global,
+    hasher: S,
+    edges: Edges<'_>,
+    closure: Edges<'_>,
+) -> bool {
+    match graph_by(alloc, hasher, &KEYS, edges) {
         Ok(mut nodes) => {
             let answer = close(alloc, &mut nodes, false);
             let same = has_edges(alloc, &nodes, closure);
@@ -60,8 +68,13 @@ fn is_closed(alloc: Global, edges: Edges<'_>, closure: Edges<'_>) -> bool {
 }
 
 // Whether closing a graph names a key on a cycle, or passes where there is none.
-fn is_named(alloc: Global, edges: Edges<'_>, has_cycle: bool) -> bool {
-    match graph(alloc, &KEYS, edges) {
+fn is_named<S: BuildHasher + Copy>(
+    alloc: Global,
+    hasher: S,
+    edges: Edges<'_>,
+    has_cycle: bool,
+) -> bool {
+    match graph_by(alloc, hasher, &KEYS, edges) {
         Ok(mut nodes) => {
             let answer = close(alloc, &mut nodes, true);
             drop(nodes);
@@ -76,8 +89,14 @@ fn is_named(alloc: Global, edges: Edges<'_>, has_cycle: bool) -> bool {
 }
 
 // Whether repair at all keys is refused where there is a cycle, and closes to these edges.
-fn is_repaired(alloc: Global, edges: Edges<'_>, closure: Edges<'_>, has_cycle: bool) -> bool {
-    match graph(alloc, &KEYS, edges) {
+fn is_repaired<S: BuildHasher + Copy>(
+    alloc: Global,
+    hasher: S,
+    edges: Edges<'_>,
+    closure: Edges<'_>,
+    has_cycle: bool,
+) -> bool {
+    match graph_by(alloc, hasher, &KEYS, edges) {
         Ok(mut nodes) => {
             let answer = repair(alloc, &KEYS, &mut nodes, true);
             let same = has_edges(alloc, &nodes, closure);
@@ -89,13 +108,13 @@ fn is_repaired(alloc: Global, edges: Edges<'_>, closure: Edges<'_>, has_cycle: b
 }
 
 // Whether a graph is closed and repaired to what is reached, and its cycles are named.
-fn agrees(alloc: Global, edges: Edges<'_>) -> bool {
+fn agrees<S: BuildHasher + Copy>(alloc: Global, hasher: S, edges: Edges<'_>) -> bool {
     match reached(alloc, edges) {
         Ok(closure) => {
             let has_cycle = KEYS.iter().any(|key| closure.contains(&(*key, *key)));
-            let told = is_closed(alloc, edges, &closure)
-                && is_named(alloc, edges, has_cycle)
-                && is_repaired(alloc, edges, &closure, has_cycle);
+            let told = is_closed(alloc, hasher, edges, &closure)
+                && is_named(alloc, hasher, edges, has_cycle)
+                && is_repaired(alloc, hasher, edges, &closure, has_cycle);
             drop(closure);
             told
         }
@@ -104,10 +123,10 @@ fn agrees(alloc: Global, edges: Edges<'_>) -> bool {
 }
 
 // Whether the graph of a number is closed and repaired to what is reached, and its cycles are named.
-fn number_agrees(alloc: Global, number: u64) -> bool {
+fn number_agrees<S: BuildHasher + Copy>(alloc: Global, hasher: S, number: u64) -> bool {
     match numbered(alloc, number) {
         Ok(edges) => {
-            let told = agrees(alloc, &edges);
+            let told = agrees(alloc, hasher, &edges);
             drop(edges);
             told
         }
@@ -115,17 +134,39 @@ fn number_agrees(alloc: Global, number: u64) -> bool {
     }
 }
 
+// The builder of hashers of a map that is given none.
+fn fixed() -> BuildHasherDefault<FoldHasher> {
+    BuildHasherDefault::new()
+}
+
 #[test]
 fn closes_all_small_graphs(rt: HostRuntime) {
     let alloc = rt.alloc();
     for number in 0..512 {
-        assert!(rt; number_agrees(alloc, number), "graph {number}");
+        assert!(rt; number_agrees(alloc, fixed(), number), "graph {number}");
     }
 }
 
+#[test]
+fn closes_all_small_graphs_under_two_keys(rt: HostRuntime) -> Result<(), Fail> {
+    let alloc = rt.alloc();
+    let (one, other) = (keyed(1)?, keyed(200)?);
+    for number in 0..512 {
+        assert!(rt;
+            number_agrees(alloc, one, number),
+            "graph {number} under the first key"
+        );
+        assert!(rt;
+            number_agrees(alloc, other, number),
+            "graph {number} under the second key"
+        );
+    }
+    Ok(())
+}
+
 // What the check of a graph tells.
-fn checked(alloc: Global, edges: Edges<'_>) -> Told {
-    match graph(alloc, &KEYS, edges) {
+fn checked<S: BuildHasher + Copy>(alloc: Global, hasher: S, edges: Edges<'_>) -> Told {
+    match graph_by(alloc, hasher, &KEYS, edges) {
         Ok(nodes) => {
             let answer = check(alloc, &nodes);
             drop(nodes);
@@ -146,22 +187,22 @@ fn is_so(answer: Told, edges: Edges<'_>, is_closed: bool) -> bool {
 }
 
 // Whether the check of a graph tells what is so.
-fn check_agrees(alloc: Global, edges: Edges<'_>) -> bool {
+fn check_agrees<S: BuildHasher + Copy>(alloc: Global, hasher: S, edges: Edges<'_>) -> bool {
     match reached(alloc, edges) {
         Ok(closure) => {
             let is_closed = closure.as_slice() == edges;
             drop(closure);
-            is_so(checked(alloc, edges), edges, is_closed)
+            is_so(checked(alloc, hasher, edges), edges, is_closed)
         }
         Err(_) => false,
     }
 }
 
 // Whether the check of the graph of a number tells what is so.
-fn check_of_number_agrees(alloc: Global, number: u64) -> bool {
+fn check_of_number_agrees<S: BuildHasher + Copy>(alloc: Global, hasher: S, number: u64) -> bool {
     match numbered(alloc, number) {
         Ok(edges) => {
-            let told = check_agrees(alloc, &edges);
+            let told = check_agrees(alloc, hasher, &edges);
             drop(edges);
             told
         }
@@ -173,6 +214,26 @@ fn check_of_number_agrees(alloc: Global, number: u64) -> bool {
 fn checks_all_small_graphs(rt: HostRuntime) {
     let alloc = rt.alloc();
     for number in 0..512 {
-        assert!(rt; check_of_number_agrees(alloc, number), "graph {number}");
+        assert!(rt;
+            check_of_number_agrees(alloc, fixed(), number),
+            "graph {number}"
+        );
     }
+}
+
+#[test]
+fn checks_all_small_graphs_under_two_keys(rt: HostRuntime) -> Result<(), Fail> {
+    let alloc = rt.alloc();
+    let (one, other) = (keyed(1)?, keyed(200)?);
+    for number in 0..512 {
+        assert!(rt;
+            check_of_number_agrees(alloc, one, number),
+            "graph {number} under the first key"
+        );
+        assert!(rt;
+            check_of_number_agrees(alloc, other, number),
+            "graph {number} under the second key"
+        );
+    }
+    Ok(())
 }

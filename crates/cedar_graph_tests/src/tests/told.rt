@@ -10,6 +10,7 @@ use cedar_graph::{
 };
 use std::alloc::Global;
 use std::collections::HashMap;
+use std::hash::BuildHasher;
 
 /// How a call went: the key on a cycle that a refusal names, or the three keys of a missing edge.
 #[derive(Clone, Copy, PartialEq, Eq)]
@@ -40,7 +41,11 @@ pub fn told_of(answer: cedar_graph::Result<(), u64>) -> Told {
 }
 
 /// Closes a graph.
-pub fn close<V: TCNode<u64>>(alloc: Global, nodes: &mut HashMap<u64, V>, is_dag: bool) -> Told
+pub fn close<V: TCNode<u64>, S: BuildHasher + Clone>(
+    alloc: Global,
+    nodes: &mut HashMap<u64, V, S>,
+    is_dag: bool,
+) -> Told
     requires { KeysMatch nat_eq V.key nodes.old }
     ensures { KeysMatch nat_eq V.key nodes.new }
 {
@@ -60,10 +65,10 @@ pub fn close_counted<V: TCNode<u64>>(
 }
 
 /// Repairs a graph at some keys.
-pub fn repair<V: TCNode<u64>>(
+pub fn repair<V: TCNode<u64>, S: BuildHasher + Clone>(
     alloc: Global,
     to_fix: &[u64],
-    nodes: &mut HashMap<u64, V>,
+    nodes: &mut HashMap<u64, V, S>,
     is_dag: bool,
 ) -> Told
     requires { KeysMatch nat_eq V.key nodes.old }
@@ -100,7 +105,7 @@ pub fn repair_counted<V: TCNode<u64>>(
 }
 
 /// Whether a graph is closed and has no cycle.
-pub fn check<V: TCNode<u64>>(alloc: Global, nodes: &HashMap<u64, V>) -> Told
+pub fn check<V: TCNode<u64>, S: BuildHasher>(alloc: Global, nodes: &HashMap<u64, V, S>) -> Told
     requires { KeysMatch nat_eq V.key nodes.now }
 {
     told_of(enforce_tc_and_dag(alloc, nodes))
@@ -115,7 +120,11 @@ pub fn names_one(answer: Told, keys: &[u64]) -> bool {
 }
 
 /// Whether the edges between the keys 1 to 9 are these, in order.
-pub fn has_edges<V: TCNode<u64>>(alloc: Global, nodes: &HashMap<u64, V>, want: Edges<'_>) -> bool {
+pub fn has_edges<V: TCNode<u64>, S: BuildHasher>(
+    alloc: Global,
+    nodes: &HashMap<u64, V, S>,
+    want: Edges<'_>,
+) -> bool {
     match edges_of(alloc, nodes) {
         Ok(all) => {
             let told = all.as_slice() == want;

@@ -1,5 +1,6 @@
 // Stores by short texts. Entities are written as in `parts`, with commas between them. A call is a word and, after a colon, its
-// entities or uids: `from`, `add` or `upsert`, `remove`, `partial`; a second word says the mode: `from assume`, `add enforce`.
+// entities or uids: `from` or `with` (`from` with a builder of hashers), `add` or `upsert`, `remove`, `partial`; a second word
+// says the mode: `from assume`, `add enforce`.
 // Calls are parted by semicolons, and the first starts from the store without entities.
 use super::entities::is_entity;
 use super::parts::{entity, text_of};
@@ -16,6 +17,7 @@ use cedar_refusals::{
 };
 use cedar_slice::slice;
 use std::alloc::{AllocError, Global};
+use std::hash::BuildHasherDefault;
 use std::rc::Rc;
 
 type Outcome = Result<Entities, EntitiesError>;
@@ -64,11 +66,21 @@ fn parts_of(call: &str) -> (&str, TCComputation, &str) {
     (word, mode_of(mode), rest)
 }
 
-// The call that makes a store anew.
-fn from(alloc: Global, number: usize, texts: &str, mode: TCComputation) -> Option<Outcome> {
+// A call that makes a store anew, which may be given a builder of hashers.
+fn from(
+    alloc: Global,
+    number: usize,
+    texts: &str,
+    with: bool,
+    mode: TCComputation,
+) -> Option<Outcome> {
     match entities(alloc, texts) {
         Some(list) => {
+            let hasher = BuildHasherDefault::new();
             refuse(alloc, number);
+            if with {
+                return Some(Entities::from_entities_with_hasher(alloc, hasher, list, mode));
+            }
             Some(Entities::from_entities(alloc, list, mode))
         }
         None => None,
@@ -115,9 +127,9 @@ fn removed(
 fn step(alloc: Global, number: usize, store: Entities, call: &str) -> Option<Outcome> {
     let (word, mode, rest) = parts_of(call);
     match word {
-        "from" => {
+        "from" | "with" => {
             drop(store);
-            from(alloc, number, rest, mode)
+            from(alloc, number, rest, word == "with", mode)
         }
         "add" | "upsert" => joined(
             alloc,
@@ -208,6 +220,11 @@ const STORES: &str = "
     Entities::from_entities | ; from: a b, a c | ! duplicate entity `A::\"a\"`
     Entities::from_entities | ; from enforce: a b, b c | ! expected all transitive edges to exist, but `A::\"a\"` -> `A::\"b\"` and `A::\"b\"` -> `A::\"c\"` exists, while `A::\"a\"` -> `A::\"c\"` does not
     Entities::from_entities | ; from assume: a b, b c | a b / / / , b c / / / ,
+    Entities::from_entities_with_hasher | ; with: a b, b c | a b / c / / , b c / / / ,
+    Entities::from_entities_with_hasher | ; with: a b, b a | ! input graph has a cycle containing vertex `A::\"a\"`
+    Entities::from_entities_with_hasher | ; with: a b, a c | ! duplicate entity `A::\"a\"`
+    Entities::from_entities_with_hasher | ; with enforce: a b, b c | ! expected all transitive edges to exist, but `A::\"a\"` -> `A::\"b\"` and `A::\"b\"` -> `A::\"c\"` exists, while `A::\"a\"` -> `A::\"c\"` does not
+    Entities::from_entities_with_hasher | ; with assume: a b, b c | a b / / / , b c / / / ,
     Entities::add_entities | from: a b, b c; add: c d, e | a b / c d / / , b c / d / / , c d / / / , e / / / ,
     Entities::add_entities | from: a b, b c, c; add: a b c | a b / c / / , b c / / / , c / / / ,
     Entities::add_entities | from: a b, b c; add: a c | ! duplicate entity `A::\"a\"`

@@ -1,10 +1,12 @@
 // Slices of random stores beside what a search gives: of plain ones, and of stores that were taken as they are, which may have
 // cycles or lack ancestors.
-use super::stores::{beside, keys_in, listed, sliced, store_of};
+use super::keys::keyed;
+use super::stores::{beside, keys_in, listed, sliced, store_by, store_of};
 use super::worlds::{LETTERS, Row, is_least, reached, with_ancestors};
 use cedar_entities::entities::{Entities, TCComputation};
 use cedar_ids::entity::EntityUID;
 use std::alloc::{AllocError, Global};
+use std::hash::BuildHasher;
 use std::test::Fail;
 
 // The number behind one.
@@ -159,6 +161,65 @@ fn right(alloc: Global, times: u32, is_plain: bool) -> Result<u32, Fail> {
         }
     }
     Ok(times)
+}
+
+// A store and its slice, under a builder of hashers.
+fn made_by<S: BuildHasher + Copy>(
+    alloc: Global,
+    hasher: S,
+    case: &Case<'_>,
+) -> Result<(Entities<S>, Entities<S>), Fail> {
+    let whole = store_by(alloc, hasher, case.rows, case.mode())?;
+    let part = sliced(alloc, &whole, case.asked, case.times);
+    beside(whole, part)
+}
+
+// Whether the slices of a store under two keys are deeply equal.
+fn keys_agree(alloc: Global, case: &Case<'_>) -> Result<bool, Fail> {
+    let (one, other) = (keyed(1)?, keyed(200)?);
+    let ((whole, part), (again, second)) = beside(
+        made_by(alloc, one, case)?,
+        made_by(alloc, other, case),
+    )?;
+    let same = part.deep_eq(&second) && second.deep_eq(&part);
+    drop(whole);
+    drop(part);
+    drop(again);
+    drop(second);
+    Ok(same)
+}
+
+// Whether the slices of a random store under two keys are deeply equal.
+fn keys_agree_at(alloc: Global, state: u64, is_plain: bool) -> Result<bool, Fail> {
+    let rows = rows(alloc, state, is_plain)?;
+    let case = Case {
+        rows: &rows,
+        is_plain,
+        asked: letters(next(state)),
+        times: 1,
+    };
+    let agree = keys_agree(alloc, &case);
+    drop(rows);
+    agree
+}
+
+// How many of so many pairs of slices agree, up to the first that does not.
+fn agreed(alloc: Global, times: u32, is_plain: bool) -> Result<u32, Fail> {
+    let mut state = 2;
+    for done in 0..times {
+        state = next(state);
+        if !keys_agree_at(alloc, state, is_plain)? {
+            return Ok(done);
+        }
+    }
+    Ok(times)
+}
+
+#[test]
+fn slices_of_stores_under_two_keys_are_deeply_equal(rt: HostRuntime) -> Result<(), Fail> {
+    assert_eq!(rt; agreed(rt.alloc(), 500, true)?, 500);
+    assert_eq!(rt; agreed(rt.alloc(), 500, false)?, 500);
+    Ok(())
 }
 
 #[test]

@@ -11,7 +11,7 @@ use cedar_slice::slice;
 use cedar_terms::{Literal, PartialValue, Value, ValueKind};
 use std::alloc::{AllocError, Global};
 use std::collections::HashSet;
-use std::hash::Hash;
+use std::hash::{BuildHasher, Hash};
 use std::test::Fail;
 
 // A value and a further one.
@@ -117,6 +117,17 @@ fn entities_of(alloc: Global, rows: &[Row], set: u16) -> Result<Vec<Entity>, Fai
     Ok(list)
 }
 
+// As `store_of`, which hashes by what a builder builds.
+pub(super) fn store_by<S: BuildHasher + Clone>(
+    alloc: Global,
+    hasher: S,
+    rows: &[Row],
+    mode: TCComputation,
+) -> Result<Entities<S>, Fail> {
+    let (hasher, list) = beside(hasher, entities_of(alloc, rows, 8191))?;
+    Ok(Entities::from_entities_with_hasher(alloc, hasher, list, mode)?)
+}
+
 // The store of those rows whose uids are in a set.
 pub(super) fn store_of(
     alloc: Global,
@@ -128,12 +139,12 @@ pub(super) fn store_of(
 }
 
 // The slice of a store at the uids of a set, each of which is asked for so many times.
-pub(super) fn sliced(
+pub(super) fn sliced<S: BuildHasher + Clone>(
     alloc: Global,
-    store: &Entities,
+    store: &Entities<S>,
     set: u16,
     times: u32,
-) -> Result<Entities, Fail> {
+) -> Result<Entities<S>, Fail> {
     let uids = listed(alloc, set, times)?;
     let part = slice(alloc, store, &uids);
     drop(uids);

@@ -1,0 +1,12 @@
+use Rattle.std.proofs.Common.{sym, subst, false}
+use Rattle.cedar_entities.specs.Plain.{Held, IsPlainStore}
+use Rattle.cedar_entities.specs.World.{empty_world}
+use Rattle.cedar_entities.proofs.StoreMaps.{seen_empty}
+use Rattle.cedar_entities.proofs.PlainStores.{plain_empty}
+use Rattle.cedar_entities.proofs.entities.Entities.with_hasher.Goals as goal
+
+pub returns-clause-value : goal.returns-clause-value
+returns-clause-value c = λ i. record { held = seen_empty c.with_hasher.result c.with_hasher.ensures.empty i; partial = false }
+
+pub returns-clause-plain : goal.returns-clause-plain
+returns-clause-plain c = subst (λ (h : Held). IsPlainStore empty_world (record { held = h; partial = false })) (sym (seen_empty c.with_hasher.result c.with_hasher.ensures.empty)) plain_empty
