@@ -24,7 +24,7 @@ use cedar_terms::{PartialValue, StaticType, StaticallyTyped};
 use cedar_uid_sets::{SharedUid, UidSet, Uids, Union};
 use std::alloc::{AllocError, Global};
 use std::collections::{BTreeMap, HashSet};
-use std::hash::{Hash, Hasher};
+use std::hash::{BuildHasher, Hash, Hasher};
 use std::marker::Model;
 
 /// An entity: its uid, its attributes and tags, its parents, and the indirect ancestors that it has.
@@ -188,12 +188,12 @@ impl Entity {
     ///
     /// It takes memory, and is refused only where that is; it looks a key up for each pair, and sorts the
     /// uids of both sets.
-    pub fn new_with_attr_partial_value(
+    pub fn new_with_attr_partial_value<S: BuildHasher + Drop>(
         alloc: Global,
         uid: EntityUID,
         attrs: Vec<(String, PartialValue)>,
-        indirect_ancestors: HashSet<EntityUID>,
-        parents: HashSet<EntityUID>,
+        indirect_ancestors: HashSet<EntityUID, S>,
+        parents: HashSet<EntityUID, S>,
         tags: Vec<(String, PartialValue)>,
     ) -> Result<Entity, AllocError>
         ensures uid { IfOk result (λ e. e.uid ≡ uid) }

@@ -36,6 +36,7 @@ use cedar_terms::slot::SlotId;
 use std::alloc::{AllocError, Global};
 use std::collections::HashSet;
 use std::fmt;
+use std::hash::{BuildHasher, BuildHasherDefault};
 use std::marker::Model;
 use std::rc::Rc;
 
@@ -344,13 +345,28 @@ impl Policy {
     ///
     /// Takes memory for the condition, its walk and the set, and is refused only where that is. The original
     /// reads a name by its parser, which takes more than the printed form.
+    ///
+    /// The set hashes by a fixed seed, so that whoever picks the names can make it slow: where strangers do,
+    /// [`Policy::unknown_entities_with_hasher`] takes a builder of hashers that has a random key.
     pub fn unknown_entities(&self, alloc: Global) -> Result<HashSet<EntityUID>, AllocError>
+        ensures { IfOk result
+            (λ uids. AreUnknownEntities uids (unknowns_of (condition self.now.template))) }
+    {
+        self.unknown_entities_with_hasher(alloc, BuildHasherDefault::new())
+    }
+
+    /// What [`Policy::unknown_entities`] answers, in a set that hashes uids by what `hasher` builds.
+    pub fn unknown_entities_with_hasher<S: BuildHasher + Drop>(
+        &self,
+        alloc: Global,
+        hasher: S,
+    ) -> Result<HashSet<EntityUID, S>, AllocError>
         ensures { IfOk result
             (λ uids. AreUnknownEntities uids (unknowns_of (condition self.now.template))) }
     {
         let condition = self.condition(alloc)?;
         let unknowns = condition.unknowns(alloc)?;
-        entities_named(alloc, &unknowns)
+        entities_named(alloc, hasher, &unknowns)
     }
 }
 

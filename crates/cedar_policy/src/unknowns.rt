@@ -11,15 +11,17 @@ use cedar_ids::err::ParseErrors;
 use cedar_terms::unknown::Unknown;
 use std::alloc::{AllocError, Global};
 use std::collections::HashSet;
+use std::hash::BuildHasher;
 
 // The uids that some unknowns name.
-pub(crate) fn entities_named(
+pub(crate) fn entities_named<S: BuildHasher + Drop>(
     alloc: Global,
+    hasher: S,
     unknowns: &[&Unknown],
-) -> Result<HashSet<EntityUID>, AllocError>
+) -> Result<HashSet<EntityUID, S>, AllocError>
     ensures { IfOk result (λ uids. AreUnknownEntities uids (map (λ u. u.now) unknowns.now)) }
 {
-    let mut uids = HashSet::new(alloc);
+    let mut uids = HashSet::with_hasher(alloc, hasher);
     for unknown in unknowns {
         let uid = entity_named(alloc, unknown)?;
         put(&mut uids, uid)?;
@@ -28,7 +30,10 @@ pub(crate) fn entities_named(
 }
 
 // Puts a uid into a set, if there is one.
-fn put(uids: &mut HashSet<EntityUID>, uid: Option<EntityUID>) -> Result<(), AllocError>
+fn put<S: BuildHasher>(
+    uids: &mut HashSet<EntityUID, S>,
+    uid: Option<EntityUID>,
+) -> Result<(), AllocError>
     ensures { OnOk result ((u : EntityUID) →
         contains same_uid uids.new u ≡ (contains same_uid uids.old u || is_this uid u)) }
 {

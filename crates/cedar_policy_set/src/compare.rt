@@ -11,12 +11,13 @@ use crate::maps::{copy_of_bodies, copy_of_ids, copy_of_policies};
 use crate::policy_set::PolicySet;
 use cedar_policy::Template;
 use std::alloc::AllocError;
+use std::hash::BuildHasher;
 use std::rc::Rc;
 
-impl Clone for PolicySet {
+impl<S: BuildHasher + Copy> Clone for PolicySet<S> {
     ghost is_clone = { λ x y. y ≡ x };
 
-    fn clone(&self) -> Result<PolicySet, AllocError> {
+    fn clone(&self) -> Result<PolicySet<S>, AllocError> {
         let templates = copy_of_bodies(&self.templates)?;
         let links = match copy_of_policies(&self.links) {
             Ok(links) => links,
@@ -40,18 +41,18 @@ impl Clone for PolicySet {
     }
 }
 
-impl PartialEq for PolicySet {
+impl<S: BuildHasher + Copy> PartialEq for PolicySet<S> {
     ghost eq = { same_board };
 
     ghost laws = { partial_equiv_from_equiv same_board_equiv };
 
-    fn eq(&self, other: &PolicySet) -> bool {
+    fn eq(&self, other: &PolicySet<S>) -> bool {
         same_bodies(self.shared_bodies(), other.shared_bodies())
             && self.all_policies() == other.all_policies()
     }
 }
 
-impl Eq for PolicySet {
+impl<S: BuildHasher + Copy> Eq for PolicySet<S> {
     ghost laws = { same_board_equiv };
 }
 

@@ -9,6 +9,7 @@ use crate::policy_set::PolicySet;
 use cedar_ids::policy_id::PolicyID;
 use indexmap::{IndexMap, IndexSet};
 use std::alloc::{AllocError, Global};
+use std::hash::BuildHasher;
 
 // The id of a number.
 fn numbered(alloc: Global, number: u128) -> Result<PolicyID, AllocError>
@@ -21,17 +22,17 @@ fn numbered(alloc: Global, number: u128) -> Result<PolicyID, AllocError>
 }
 
 // Whether one of two sets binds an id.
-fn is_bound_in_either(here: &PolicySet, other: &PolicySet, id: &PolicyID) -> bool
+fn is_bound_in_either<S: BuildHasher + Copy>(here: &PolicySet<S>, other: &PolicySet<S>, id: &PolicyID) -> bool
     ensures { result ≡ is_bound_in_either here.now other.now id.now }
 {
     here.is_bound(id) || other.is_bound(id)
 }
 
 // The first free id from this number on, with its number.
-fn next_free(
+fn next_free<S: BuildHasher + Copy>(
     alloc: Global,
-    here: &PolicySet,
-    other: &PolicySet,
+    here: &PolicySet<S>,
+    other: &PolicySet<S>,
     start: u128,
 ) -> Result<(PolicyID, u128), AllocError>
     requires { free_below (is_bound_in_either here.now other.now) start + count here.now other.now < 2 ^ 100 }
@@ -50,7 +51,7 @@ fn next_free(
 }
 
 // How many ids two sets have, those of static policies twice.
-fn count_ids(here: &PolicySet, other: &PolicySet) -> u128
+fn count_ids<S: BuildHasher + Copy>(here: &PolicySet<S>, other: &PolicySet<S>) -> u128
     ensures count { result ≡ count here.now other.now }
     ensures small { result < 2 ^ 66 }
 {
@@ -58,7 +59,7 @@ fn count_ids(here: &PolicySet, other: &PolicySet) -> u128
 }
 
 // How many ids a set has, those of static policies twice.
-fn size(set: &PolicySet) -> u128
+fn size<S: BuildHasher + Copy>(set: &PolicySet<S>) -> u128
     ensures size { result ≡ length set.now.policies + length set.now.bodies }
     ensures small { result < 2 ^ 65 }
 {
@@ -66,19 +67,19 @@ fn size(set: &PolicySet) -> u128
 }
 
 // The free ids that some ids go to, in their order.
-pub(crate) fn fresh_ids(
+pub(crate) fn fresh_ids<S: BuildHasher + Copy>(
     alloc: Global,
-    ids: IndexSet<PolicyID>,
-    here: &PolicySet,
-    other: &PolicySet,
-) -> Result<IndexMap<PolicyID, PolicyID>, AllocError>
+    ids: IndexSet<PolicyID, S>,
+    here: &PolicySet<S>,
+    other: &PolicySet<S>,
+) -> Result<IndexMap<PolicyID, PolicyID, S>, AllocError>
     requires { AreOnce (λ (i : List ℕ). i) ids.keys }
     ensures keys { IfOk result (λ r. keys_of r.entries ≡ ids.keys) }
     ensures free { IfOk result (λ r. AreFree (is_bound_in_either here.now other.now) 0 (values_of r.entries)) }
 {
     // No effect on the answer: this count says that numbers do not run out.
     let _count = count_ids(here, other);
-    let mut renaming = IndexMap::new(alloc);
+    let mut renaming = IndexMap::with_hasher(alloc, *ids.hasher());
     let mut start: u128 = 0;
     for id in ids {
         let (fresh, number) = next_free(alloc, here, other, start)?;

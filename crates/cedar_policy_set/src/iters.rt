@@ -76,7 +76,7 @@ impl Model for IntoPolicies {
 }
 
 impl IntoPolicies {
-    pub(crate) fn of(links: IndexMap<PolicyID, Policy>) -> IntoPolicies
+    pub(crate) fn of(links: IndexMap<PolicyID, Policy, S>) -> IntoPolicies
         ensures { result ≡ values_of links.entries }
     {
         IntoPolicies {
@@ -274,7 +274,7 @@ impl<'a> Model for LinkedIds<'a> {
 }
 
 impl<'a> LinkedIds<'a> {
-    pub(crate) fn of(ids: &'a IndexSet<PolicyID>) -> LinkedIds<'a>
+    pub(crate) fn of(ids: &'a IndexSet<PolicyID, S>) -> LinkedIds<'a>
         ensures { result ≡ ids.now.keys }
     {
         LinkedIds { inner: ids.iter() }

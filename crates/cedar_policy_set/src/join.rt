@@ -3,7 +3,7 @@ ghost use Rattle.std.specs.Prelude.{◌≡◌, ◌<◌, length, IfOk, IfErr, OnO
 ghost use Rattle.cedar_body.specs.BodyEquality.{same_body};
 ghost use Rattle.cedar_body.specs.Bodies.{body_slots};
 ghost use Rattle.cedar_binding.specs.Views.{env_of};
-ghost use Rattle.cedar_policy_set.specs.Boards.{empty_board, bound_at, HasOwnId, Template as template_binding};
+ghost use Rattle.cedar_policy_set.specs.Boards.{empty_board, bound_at, Template as template_binding};
 ghost use Rattle.cedar_policy_set.specs.Refusals.{IsRefusal, Steps, Makes, told_by_set, told_by_linking};
 ghost use Rattle.cedar_policy_set.specs.Steps.{add_static_step, add_template_step, add_step, link_onto, link_step, add_then, UnlinksTo};
 ghost use Rattle.cedar_policy_set.specs.laws.Joins.{HasNoTemplate, Stands, StandsThere};
@@ -15,36 +15,20 @@ use crate::policy_set::PolicySet;
 use cedar_ids::policy_id::PolicyID;
 use cedar_policy::{LinkingError, Policy, SlotEnv, StaticPolicy, Template};
 use std::alloc::{AllocError, Global};
+use std::hash::BuildHasher;
 use std::rc::Rc;
 
-impl PolicySet {
-    /// The set with this policy alone, and with its template: what adding it to the set without a binding leaves. A link
-    /// has to have another id than its template; the original asks nothing. Takes memory for the two places, and is refused only
-    /// where that is.
-    #[tactic(auto, using(crate::specs::laws::BoardLaws::alone))]
-    pub fn singleton(alloc: Global, policy: Policy) -> Result<PolicySet, AllocError>
-        requires { HasOwnId policy }
-        ensures { IfOk result (λ s. add_step empty_board policy ≡ Ok s) }
-    {
-        // No effect at run time: these calls say that exactly the slots of its template are bound.
-        let _whole = policy.is_static();
-        let _total = policy.env();
-        let mut set = PolicySet::new(alloc);
-        match set.put_both(policy) {
-            Ok(()) => Ok(set),
-            Err(error) => {
-                drop(set);
-                Err(error)
-            }
-        }
-    }
-
-    /// The set that adding these policies leaves, one after another; the first refusal is the answer, and there is no set
-    /// then. Takes memory as `add` does.
-    pub fn try_from_iter(alloc: Global, policies: Vec<Policy>) -> Result<PolicySet, PolicySetError>
+impl<S: BuildHasher + Copy> PolicySet<S> {
+    /// The set that adding these policies leaves, one after another, which hashes ids by what `hasher` builds; the first
+    /// refusal is the answer, and there is no set then. Takes memory as `add` does.
+    pub fn try_from_iter_with_hasher(
+        alloc: Global,
+        hasher: S,
+        policies: Vec<Policy>,
+    ) -> Result<PolicySet<S>, PolicySetError>
         ensures { Makes told_by_set result (add_then (Ok empty_board) policies.items) }
     {
-        let mut set = PolicySet::new(alloc);
+        let mut set = PolicySet::with_hasher(alloc, hasher);
         match set.add_all(alloc, policies) {
             Ok(()) => Ok(set),
             Err(error) => {

@@ -20,10 +20,11 @@ use cedar_ids::policy_id::PolicyID;
 use cedar_policy::{Policy, Template};
 use indexmap::IndexSet;
 use std::alloc::{AllocError, Global};
+use std::hash::BuildHasher;
 use std::mem::replace;
 use std::rc::Rc;
 
-impl PolicySet {
+impl<S: BuildHasher + Copy> PolicySet<S> {
     // The bodies, in their order.
     pub(crate) fn shared_bodies(&self) -> &[Rc<Template>]
         ensures { bodies_of result.now ≡ self.now.bodies }
@@ -67,7 +68,7 @@ impl PolicySet {
     }
 
     // The ids of the policies on the body with this id, if there is one.
-    pub(crate) fn ids_on(&self, id: &PolicyID) -> Option<&IndexSet<PolicyID>>
+    pub(crate) fn ids_on(&self, id: &PolicyID) -> Option<&IndexSet<PolicyID, S>>
         ensures { option_map (λ s. s.now.keys) result ≡ option_map (λ t. ids_in t.id self.now.policies) (find (is_body_at id.now) self.now.bodies) }
     {
         self.template_to_links_map.get(id)
@@ -117,7 +118,8 @@ impl PolicySet {
             &template,
         ) {
             Ok((id, listed)) => {
-                let ids = IndexSet::new(*self.templates.allocator());
+                let ids =
+                    IndexSet::with_hasher(*self.templates.allocator(), *self.templates.hasher());
                 put_last(&mut self.templates, id, template);
                 put_last(&mut self.template_to_links_map, listed, ids);
                 Ok(())
@@ -206,7 +208,8 @@ impl PolicySet {
         ensures ok { OnOk result (self.new ≡ board_of bodies.items policies.items) }
         ensures err { OnErr result (self.new ≡ self.old) }
     {
-        let listed = match ids_by_body(alloc, &bodies, &policies) {
+        let hasher = *self.templates.hasher();
+        let listed = match ids_by_body(alloc, hasher, &bodies, &policies) {
             Ok(listed) => listed,
             Err(error) => {
                 drop(bodies);
@@ -214,7 +217,7 @@ impl PolicySet {
                 return Err(error);
             }
         };
-        let templates = match bodies_by_id(alloc, bodies) {
+        let templates = match bodies_by_id(alloc, hasher, bodies) {
             Ok(templates) => templates,
             Err(error) => {
                 drop(policies);
@@ -222,7 +225,7 @@ impl PolicySet {
                 return Err(error);
             }
         };
-        let links = match policies_by_id(alloc, policies) {
+        let links = match policies_by_id(alloc, hasher, policies) {
             Ok(links) => links,
             Err(error) => {
                 drop(listed);
@@ -238,7 +241,7 @@ impl PolicySet {
 }
 
 // Whether there are ids, and no policy has the id that they stand under.
-fn is_other(ids: &IndexSet<PolicyID>, is_policy: bool) -> bool
+fn is_other<S: BuildHasher + Copy>(ids: &IndexSet<PolicyID, S>, is_policy: bool) -> bool
     ensures { result ≡ has_other (Some ids.now.keys) is_policy }
 {
     !ids.is_empty() && !is_policy

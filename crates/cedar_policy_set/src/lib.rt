@@ -8,6 +8,7 @@
 #![tactic(auto)]
 
 mod compare;
+mod default_hasher;
 pub mod err;
 mod found;
 mod fresh;

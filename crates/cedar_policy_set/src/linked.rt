@@ -11,6 +11,7 @@ use crate::policy_set::PolicySet;
 use cedar_ids::policy_id::PolicyID;
 use cedar_policy::{LinkingError, Policy, SlotEnv};
 use std::alloc::Global;
+use std::hash::{BuildHasher, BuildHasherDefault, FoldHasher};
 use std::ops::Deref;
 
 /// The link that a set just took in. It lends the set for as long as it is held, and is read as the policy itself.
@@ -18,12 +19,12 @@ use std::ops::Deref;
 /// The original answers a plain reference to the policy. Beside an error that owns an id no caller could prove from that
 /// what the set became, so this stands in its place.
 #[derive(Debug)]
-pub struct Linked<'a> {
-    set: &'a mut PolicySet,
+pub struct Linked<'a, S: BuildHasher = BuildHasherDefault<FoldHasher>> {
+    set: &'a mut PolicySet<S>,
     ghost there: { 0 < length set.now.policies },
 }
 
-impl PolicySet {
+impl<S: BuildHasher + Copy> PolicySet<S> {
     /// Links the template with this id to these bindings under a new id: the link goes last in the order of policies.
     ///
     /// Refused in this order: `NoSuchTemplate` where the first id is no template's, also where it is a static policy's;
@@ -36,7 +37,7 @@ impl PolicySet {
         template_id: PolicyID,
         new_id: PolicyID,
         values: SlotEnv,
-    ) -> Result<Linked<'_>, LinkingError>
+    ) -> Result<Linked<'_, S>, LinkingError>
         ensures* refused { sem 𝓛 (RestsIfErr the_row self.entry (λ l. l.set.ghost_name) result (λ n. n ≡ self.old)) }
         ensures same_set { IfOk result (λ l. l.set.ghost_name ≡ self.entry.ghost_name) }
         ensures steps { Answers told_by_linking (λ l. l.set.now) result (link_step self.old template_id new_id (env_of values)) }
@@ -47,7 +48,7 @@ impl PolicySet {
     }
 }
 
-impl Drop for Linked<'_> {
+impl<S: BuildHasher + Copy> Drop for Linked<'_, S> {
     fn drop(self)
         ensures { self.exit.0.now ≡ self.entry.set.now }
     {
@@ -55,7 +56,7 @@ impl Drop for Linked<'_> {
     }
 }
 
-impl Deref for Linked<'_> {
+impl<S: BuildHasher + Copy> Deref for Linked<'_, S> {
     type Target = Policy;
 
     ghost deref_gives = { λ l p. Some p ≡ last_policy l.set.now };

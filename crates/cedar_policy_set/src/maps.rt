@@ -17,10 +17,11 @@ use cedar_ids::policy_id::PolicyID;
 use cedar_policy::{Policy, Template};
 use indexmap::{IndexMap, IndexSet};
 use std::alloc::{AllocError, Global};
+use std::hash::BuildHasher;
 use std::rc::Rc;
 
 // Puts a value under a new key last, where there is room for it.
-pub(crate) fn put_last<V: Drop>(map: &mut IndexMap<PolicyID, V>, key: PolicyID, value: V)
+pub(crate) fn put_last<V: Drop, S: BuildHasher + Copy>(map: &mut IndexMap<PolicyID, V, S>, key: PolicyID, value: V)
     requires room { 0 < spare map.old }
     requires absent { get same_text map.old key ≡ None }
     ensures { map.new.entries ≡ map.old.entries ++ (key, value) ∷ [] }
@@ -29,8 +30,8 @@ pub(crate) fn put_last<V: Drop>(map: &mut IndexMap<PolicyID, V>, key: PolicyID, 
 }
 
 // Puts a value under a new key last.
-fn put_new<V: Drop>(
-    map: &mut IndexMap<PolicyID, V>,
+fn put_new<V: Drop, S: BuildHasher + Copy>(
+    map: &mut IndexMap<PolicyID, V, S>,
     key: PolicyID,
     value: V,
 ) -> Result<(), AllocError>
@@ -56,14 +57,15 @@ fn with_copy<A: Drop>(value: A, id: &PolicyID) -> Result<(A, PolicyID), AllocErr
 }
 
 // A value with the set of an id; the value goes where there is none.
-fn with_set<A: Drop>(
+fn with_set<A: Drop, S: BuildHasher + Copy>(
     value: A,
     alloc: Global,
+    hasher: S,
     id: &PolicyID,
-) -> Result<(A, IndexSet<PolicyID>), AllocError>
+) -> Result<(A, IndexSet<PolicyID, S>), AllocError>
     ensures { IfOk result (λ r. (r.0 ≡ value) × (r.1.keys ≡ id.now ∷ [])) }
 {
-    match set_of(alloc, id) {
+    match set_of(alloc, hasher, id) {
         Ok(ids) => Ok((value, ids)),
         Err(error) => {
             drop(value);
@@ -86,9 +88,9 @@ fn with_share<A: Drop>(value: A, policy: &Policy) -> Result<(A, Rc<Template>), A
 }
 
 // Room for one more body and its list, and two copies of its id.
-pub(crate) fn room_for_body(
-    templates: &mut IndexMap<PolicyID, Rc<Template>>,
-    map: &mut IndexMap<PolicyID, IndexSet<PolicyID>>,
+pub(crate) fn room_for_body<S: BuildHasher + Copy>(
+    templates: &mut IndexMap<PolicyID, Rc<Template>, S>,
+    map: &mut IndexMap<PolicyID, IndexSet<PolicyID, S>, S>,
     template: &Template,
 ) -> Result<(PolicyID, PolicyID), AllocError>
     ensures bodies { templates.new.entries ≡ templates.old.entries }
@@ -103,9 +105,9 @@ pub(crate) fn room_for_body(
 }
 
 // Room for one more policy, which is listed last under its body's id; and a copy of its own id.
-pub(crate) fn list_policy(
-    links: &mut IndexMap<PolicyID, Policy>,
-    map: &mut IndexMap<PolicyID, IndexSet<PolicyID>>,
+pub(crate) fn list_policy<S: BuildHasher + Copy>(
+    links: &mut IndexMap<PolicyID, Policy, S>,
+    map: &mut IndexMap<PolicyID, IndexSet<PolicyID, S>, S>,
     policy: &Policy,
 ) -> Result<PolicyID, AllocError>
     ensures policies { links.new.entries ≡ links.old.entries }
@@ -126,17 +128,17 @@ pub(crate) fn list_policy(
 }
 
 // Room for one more policy and its body, what they go under, and a further share of the body.
-pub(crate) fn room_for_both(
-    templates: &mut IndexMap<PolicyID, Rc<Template>>,
-    links: &mut IndexMap<PolicyID, Policy>,
-    map: &mut IndexMap<PolicyID, IndexSet<PolicyID>>,
+pub(crate) fn room_for_both<S: BuildHasher + Copy>(
+    templates: &mut IndexMap<PolicyID, Rc<Template>, S>,
+    links: &mut IndexMap<PolicyID, Policy, S>,
+    map: &mut IndexMap<PolicyID, IndexSet<PolicyID, S>, S>,
     policy: &Policy,
 ) -> Result<
     (
         PolicyID,
         PolicyID,
         PolicyID,
-        IndexSet<PolicyID>,
+        IndexSet<PolicyID, S>,
         Rc<Template>,
     ),
     AllocError,
@@ -150,19 +152,20 @@ pub(crate) fn room_for_both(
     ensures share { IfOk result (λ r. r.4.value ≡ policy.now.template) }
 {
     let alloc = *map.allocator();
+    let hasher = *map.hasher();
     links.reserve(1)?;
     let ids = room_for_body(templates, map, policy.template())?;
     let ((body, under), own) = with_copy(ids, policy.id())?;
-    let ((body, under, own), ids) = with_set((body, under, own), alloc, policy.id())?;
+    let ((body, under, own), ids) = with_set((body, under, own), alloc, hasher, policy.id())?;
     let ((body, under, own, ids), template) = with_share((body, under, own, ids), policy)?;
     Ok((body, under, own, ids, template))
 }
 
 // The set of one id.
-fn set_of(alloc: Global, id: &PolicyID) -> Result<IndexSet<PolicyID>, AllocError>
+fn set_of<S: BuildHasher + Copy>(alloc: Global, hasher: S, id: &PolicyID) -> Result<IndexSet<PolicyID, S>, AllocError>
     ensures { IfOk result (λ s. s.keys ≡ id.now ∷ []) }
 {
-    let mut ids = IndexSet::new(alloc);
+    let mut ids = IndexSet::with_hasher(alloc, hasher);
     match put_copy(&mut ids, id) {
         Ok(()) => Ok(ids),
         Err(error) => {
@@ -173,14 +176,14 @@ fn set_of(alloc: Global, id: &PolicyID) -> Result<IndexSet<PolicyID>, AllocError
 }
 
 // Puts a copy of an id last, if it isn't there.
-fn put_copy(ids: &mut IndexSet<PolicyID>, id: &PolicyID) -> Result<(), AllocError>
+fn put_copy<S: BuildHasher + Copy>(ids: &mut IndexSet<PolicyID, S>, id: &PolicyID) -> Result<(), AllocError>
     ensures { OnOk result (ids.new.keys ≡ insert_key same_text ids.old.keys id.now) }
 {
     put_id(ids, id.clone()?)
 }
 
 // Puts an id last, if it isn't there.
-fn put_id(ids: &mut IndexSet<PolicyID>, id: PolicyID) -> Result<(), AllocError>
+fn put_id<S: BuildHasher + Copy>(ids: &mut IndexSet<PolicyID, S>, id: PolicyID) -> Result<(), AllocError>
     ensures ok { OnOk result (ids.new.keys ≡ insert_key same_text ids.old.keys id) }
     ensures err { OnErr result (ids.new.keys ≡ ids.old.keys) }
 {
@@ -189,15 +192,15 @@ fn put_id(ids: &mut IndexSet<PolicyID>, id: PolicyID) -> Result<(), AllocError>
 }
 
 // Takes out an id, and closes the order up.
-fn drop_id(ids: &mut IndexSet<PolicyID>, id: &PolicyID)
+fn drop_id<S: BuildHasher + Copy>(ids: &mut IndexSet<PolicyID, S>, id: &PolicyID)
     ensures { ids.new.keys ≡ remove_key (same_text id.now) ids.old.keys }
 {
     ids.shift_remove(id);
 }
 
 // Lists an id last under a body's.
-pub(crate) fn list_id(
-    map: &mut IndexMap<PolicyID, IndexSet<PolicyID>>,
+pub(crate) fn list_id<S: BuildHasher + Copy>(
+    map: &mut IndexMap<PolicyID, IndexSet<PolicyID, S>, S>,
     body: &PolicyID,
     id: PolicyID,
 ) -> Result<(), AllocError>
@@ -211,7 +214,7 @@ pub(crate) fn list_id(
 }
 
 // Takes an id out of what is listed under a body's.
-fn unlist_id(map: &mut IndexMap<PolicyID, IndexSet<PolicyID>>, body: &PolicyID, id: &PolicyID)
+fn unlist_id<S: BuildHasher + Copy>(map: &mut IndexMap<PolicyID, IndexSet<PolicyID, S>, S>, body: &PolicyID, id: &PolicyID)
     ensures { lists_of map.new.entries ≡ without_listed body.now id.now (lists_of map.old.entries) }
 {
     match map.get_mut(body) {
@@ -221,8 +224,8 @@ fn unlist_id(map: &mut IndexMap<PolicyID, IndexSet<PolicyID>>, body: &PolicyID, 
 }
 
 // Takes the id of a policy that was taken out, if there is one, out of what is listed under its template's.
-pub(crate) fn unlist(
-    map: &mut IndexMap<PolicyID, IndexSet<PolicyID>>,
+pub(crate) fn unlist<S: BuildHasher + Copy>(
+    map: &mut IndexMap<PolicyID, IndexSet<PolicyID, S>, S>,
     policy: &Option<Policy>,
     id: &PolicyID,
 )
@@ -235,15 +238,16 @@ pub(crate) fn unlist(
 }
 
 // Bodies under their ids, in their order.
-pub(crate) fn bodies_by_id(
+pub(crate) fn bodies_by_id<S: BuildHasher + Copy>(
     alloc: Global,
+    hasher: S,
     bodies: Vec<Rc<Template>>,
-) -> Result<IndexMap<PolicyID, Rc<Template>>, AllocError>
+) -> Result<IndexMap<PolicyID, Rc<Template>, S>, AllocError>
     requires { AreOnce (λ (t : BodyParts). t.id) (bodies_of bodies.items) }
     ensures keyed { IfOk result (λ m. IsKeyed (λ t. t.value.id) m.entries) }
     ensures values { IfOk result (λ m. values_of m.entries ≡ bodies.items) }
 {
-    match IndexMap::with_capacity(alloc, bodies.len()) {
+    match IndexMap::with_capacity_and_hasher(alloc, bodies.len(), hasher) {
         Ok(mut templates) => match put_bodies(&mut templates, bodies) {
             Ok(()) => Ok(templates),
             Err(error) => {
@@ -259,8 +263,8 @@ pub(crate) fn bodies_by_id(
 }
 
 // Puts bodies into an empty map, under their ids.
-fn put_bodies(
-    templates: &mut IndexMap<PolicyID, Rc<Template>>,
+fn put_bodies<S: BuildHasher + Copy>(
+    templates: &mut IndexMap<PolicyID, Rc<Template>, S>,
     bodies: Vec<Rc<Template>>,
 ) -> Result<(), AllocError>
     requires empty { templates.old.entries ≡ [] }
@@ -275,8 +279,8 @@ fn put_bodies(
 }
 
 // Puts a body with a new id last.
-fn put_body(
-    templates: &mut IndexMap<PolicyID, Rc<Template>>,
+fn put_body<S: BuildHasher + Copy>(
+    templates: &mut IndexMap<PolicyID, Rc<Template>, S>,
     template: Rc<Template>,
 ) -> Result<(), AllocError>
     requires { get same_text templates.old template.value.id ≡ None }
@@ -292,15 +296,16 @@ fn put_body(
 }
 
 // Policies under their ids, in their order.
-pub(crate) fn policies_by_id(
+pub(crate) fn policies_by_id<S: BuildHasher + Copy>(
     alloc: Global,
+    hasher: S,
     policies: Vec<Policy>,
-) -> Result<IndexMap<PolicyID, Policy>, AllocError>
+) -> Result<IndexMap<PolicyID, Policy, S>, AllocError>
     requires { AreOnce policy_id policies.items }
     ensures keyed { IfOk result (λ m. IsKeyed policy_id m.entries) }
     ensures values { IfOk result (λ m. values_of m.entries ≡ policies.items) }
 {
-    match IndexMap::with_capacity(alloc, policies.len()) {
+    match IndexMap::with_capacity_and_hasher(alloc, policies.len(), hasher) {
         Ok(mut links) => match put_policies(&mut links, policies) {
             Ok(()) => Ok(links),
             Err(error) => {
@@ -316,8 +321,8 @@ pub(crate) fn policies_by_id(
 }
 
 // Puts policies into an empty map, under their ids.
-fn put_policies(
-    links: &mut IndexMap<PolicyID, Policy>,
+fn put_policies<S: BuildHasher + Copy>(
+    links: &mut IndexMap<PolicyID, Policy, S>,
     policies: Vec<Policy>,
 ) -> Result<(), AllocError>
     requires empty { links.old.entries ≡ [] }
@@ -332,7 +337,7 @@ fn put_policies(
 }
 
 // Puts a policy with a new id last.
-fn put_policy(links: &mut IndexMap<PolicyID, Policy>, policy: Policy) -> Result<(), AllocError>
+fn put_policy<S: BuildHasher + Copy>(links: &mut IndexMap<PolicyID, Policy, S>, policy: Policy) -> Result<(), AllocError>
     requires { get same_text links.old (policy_id policy) ≡ None }
     ensures { OnOk result (links.new.entries ≡ links.old.entries ++ (policy_id policy, policy) ∷ []) }
 {
@@ -346,16 +351,17 @@ fn put_policy(links: &mut IndexMap<PolicyID, Policy>, policy: Policy) -> Result<
 }
 
 // The ids of the policies on each body, under its id, in the order of bodies.
-pub(crate) fn ids_by_body(
+pub(crate) fn ids_by_body<S: BuildHasher + Copy>(
     alloc: Global,
+    hasher: S,
     bodies: &[Rc<Template>],
     policies: &[Policy],
-) -> Result<IndexMap<PolicyID, IndexSet<PolicyID>>, AllocError>
+) -> Result<IndexMap<PolicyID, IndexSet<PolicyID, S>, S>, AllocError>
     requires bodies { AreOnce (λ (t : BodyParts). t.id) (bodies_of bodies.now) }
     requires policies { AreOnce policy_id policies.now }
     ensures { IfOk result (λ m. lists_of m.entries ≡ ids_by_body (bodies_of bodies.now) policies.now) }
 {
-    let mut map = no_ids(alloc, bodies)?;
+    let mut map = no_ids(alloc, hasher, bodies)?;
     match list_ids(&mut map, policies) {
         Ok(()) => Ok(map),
         Err(error) => {
@@ -366,23 +372,24 @@ pub(crate) fn ids_by_body(
 }
 
 // No id under each body's id.
-fn no_ids(
+fn no_ids<S: BuildHasher + Copy>(
     alloc: Global,
+    hasher: S,
     bodies: &[Rc<Template>],
-) -> Result<IndexMap<PolicyID, IndexSet<PolicyID>>, AllocError>
+) -> Result<IndexMap<PolicyID, IndexSet<PolicyID, S>, S>, AllocError>
     requires { AreOnce (λ (t : BodyParts). t.id) (bodies_of bodies.now) }
     ensures { IfOk result (λ m. lists_of m.entries ≡ ids_by_body (bodies_of bodies.now) []) }
 {
-    let mut map = IndexMap::with_capacity(alloc, bodies.len())?;
+    let mut map = IndexMap::with_capacity_and_hasher(alloc, bodies.len(), hasher)?;
     for template in bodies {
-        put_new(&mut map, template.id().clone()?, IndexSet::new(alloc))?;
+        put_new(&mut map, template.id().clone()?, IndexSet::with_hasher(alloc, hasher))?;
     }
     Ok(map)
 }
 
 // Lists policies, each last under its body's id.
-fn list_ids(
-    map: &mut IndexMap<PolicyID, IndexSet<PolicyID>>,
+fn list_ids<S: BuildHasher + Copy>(
+    map: &mut IndexMap<PolicyID, IndexSet<PolicyID, S>, S>,
     policies: &[Policy],
 ) -> Result<(), AllocError>
     ensures { OnOk result (lists_of map.new.entries ≡ all_listed (lists_of map.old.entries) policies.now) }
@@ -394,9 +401,9 @@ fn list_ids(
 }
 
 // Further shares of bodies, under their ids.
-pub(crate) fn copy_of_bodies(
-    templates: &IndexMap<PolicyID, Rc<Template>>,
-) -> Result<IndexMap<PolicyID, Rc<Template>>, AllocError>
+pub(crate) fn copy_of_bodies<S: BuildHasher + Copy>(
+    templates: &IndexMap<PolicyID, Rc<Template>, S>,
+) -> Result<IndexMap<PolicyID, Rc<Template>, S>, AllocError>
     ensures { IfOk result (λ m. shared_of m.entries ≡ shared_of templates.now.entries) }
 {
     let copies = templates.clone()?;
@@ -404,9 +411,9 @@ pub(crate) fn copy_of_bodies(
 }
 
 // A copy of policies, under their ids.
-pub(crate) fn copy_of_policies(
-    links: &IndexMap<PolicyID, Policy>,
-) -> Result<IndexMap<PolicyID, Policy>, AllocError>
+pub(crate) fn copy_of_policies<S: BuildHasher + Copy>(
+    links: &IndexMap<PolicyID, Policy, S>,
+) -> Result<IndexMap<PolicyID, Policy, S>, AllocError>
     ensures { IfOk result (λ m. m.entries ≡ links.now.entries) }
 {
     let copies = links.clone()?;
@@ -414,9 +421,9 @@ pub(crate) fn copy_of_policies(
 }
 
 // A copy of what is listed.
-pub(crate) fn copy_of_ids(
-    map: &IndexMap<PolicyID, IndexSet<PolicyID>>,
-) -> Result<IndexMap<PolicyID, IndexSet<PolicyID>>, AllocError>
+pub(crate) fn copy_of_ids<S: BuildHasher + Copy>(
+    map: &IndexMap<PolicyID, IndexSet<PolicyID, S>, S>,
+) -> Result<IndexMap<PolicyID, IndexSet<PolicyID, S>, S>, AllocError>
     ensures { IfOk result (λ m. lists_of m.entries ≡ lists_of map.now.entries) }
 {
     let copies = map.clone()?;

@@ -21,9 +21,10 @@ use cedar_ids::policy_id::PolicyID;
 use cedar_policy::{Policy, Template};
 use indexmap::{IndexMap, IndexSet};
 use std::alloc::{AllocError, Global};
+use std::hash::BuildHasher;
 use std::rc::Rc;
 
-impl PolicySet {
+impl<S: BuildHasher + Copy> PolicySet<S> {
     /// Takes in what another set binds, which stays as it is, and answers the ids that were renamed with their new ones.
     ///
     /// An id conflicts where both sets bind it to something else: another kind of thing, or bodies, templates or bindings
@@ -41,9 +42,9 @@ impl PolicySet {
     pub fn merge_policyset(
         &mut self,
         alloc: Global,
-        other: &PolicySet,
+        other: &PolicySet<S>,
         rename_duplicates: bool,
-    ) -> Result<IndexMap<PolicyID, PolicyID>, PolicySetError>
+    ) -> Result<IndexMap<PolicyID, PolicyID, S>, PolicySetError>
         ensures merges { Merges (λ r. r.entries) result self.old other.now rename_duplicates self.new }
         ensures conflicts { (i : List ℕ) → (list_any (same_text i) (conflicts self.old other.now) ≡ true) ↔ Differ (bound_at self.old i) (bound_at other.now i) }
         ensures apart { IfOk result (λ r. AreOnce (λ (i : List ℕ). i) (values_of r.entries)) }
@@ -72,8 +73,8 @@ impl PolicySet {
     fn put_merged(
         &mut self,
         alloc: Global,
-        other: &PolicySet,
-        renaming: &IndexMap<PolicyID, PolicyID>,
+        other: &PolicySet<S>,
+        renaming: &IndexMap<PolicyID, PolicyID, S>,
     ) -> Result<(), AllocError>
         requires { IsRenaming self.old other.now renaming.now.entries }
         ensures ok { OnOk result (self.new ≡ merged self.old other.now (new_id renaming.now.entries)) }
@@ -94,7 +95,7 @@ impl PolicySet {
 }
 
 // The first of some ids, where none may be renamed.
-fn refused<'a>(ids: &'a IndexSet<PolicyID>, rename: bool) -> Option<&'a PolicyID>
+fn refused<'a, S: BuildHasher + Copy>(ids: &'a IndexSet<PolicyID, S>, rename: bool) -> Option<&'a PolicyID>
     ensures { Refuses (option_copied result) ids.now.keys rename }
 {
     if rename {
@@ -119,14 +120,14 @@ pub(crate) enum Group {
 
 // The ids that conflict.
 #[tactic(auto, using(crate::specs::laws::GatherLaws::conflicts_in_groups))]
-fn conflicting_ids(
+fn conflicting_ids<S: BuildHasher + Copy>(
     alloc: Global,
-    here: &PolicySet,
-    other: &PolicySet,
-) -> Result<IndexSet<PolicyID>, AllocError>
+    here: &PolicySet<S>,
+    other: &PolicySet<S>,
+) -> Result<IndexSet<PolicyID, S>, AllocError>
     ensures { IfOk result (λ ids. ids.keys ≡ conflicts here.now other.now) }
 {
-    let mut ids = IndexSet::new(alloc);
+    let mut ids = IndexSet::with_hasher(alloc, *here.hasher());
     match gather_all(&mut ids, here, other) {
         Ok(()) => Ok(ids),
         Err(error) => {
@@ -137,10 +138,10 @@ fn conflicting_ids(
 }
 
 // Gathers the ids that conflict, group after group.
-fn gather_all(
-    ids: &mut IndexSet<PolicyID>,
-    here: &PolicySet,
-    other: &PolicySet,
+fn gather_all<S: BuildHasher + Copy>(
+    ids: &mut IndexSet<PolicyID, S>,
+    here: &PolicySet<S>,
+    other: &PolicySet<S>,
 ) -> Result<(), AllocError>
     ensures { OnOk result (ids.new.keys ≡ in_groups ids.old.keys here.now other.now) }
 {
@@ -151,10 +152,10 @@ fn gather_all(
 }
 
 // Gathers the ids of bodies there that conflict and are looked at in this group.
-fn gather_bodies(
-    ids: &mut IndexSet<PolicyID>,
-    here: &PolicySet,
-    other: &PolicySet,
+fn gather_bodies<S: BuildHasher + Copy>(
+    ids: &mut IndexSet<PolicyID, S>,
+    here: &PolicySet<S>,
+    other: &PolicySet<S>,
     group: Group,
 ) -> Result<(), AllocError>
     ensures { OnOk result (ids.new.keys ≡ gathered ids.old.keys (conflicting here.now other.now (looked_at group here.now other.now) (body_ids other.now))) }
@@ -166,10 +167,10 @@ fn gather_bodies(
 }
 
 // Gathers the ids of policies there that conflict and are looked at in this group.
-fn gather_policies(
-    ids: &mut IndexSet<PolicyID>,
-    here: &PolicySet,
-    other: &PolicySet,
+fn gather_policies<S: BuildHasher + Copy>(
+    ids: &mut IndexSet<PolicyID, S>,
+    here: &PolicySet<S>,
+    other: &PolicySet<S>,
     group: Group,
 ) -> Result<(), AllocError>
     ensures { OnOk result (ids.new.keys ≡ gathered ids.old.keys (conflicting here.now other.now (looked_at group here.now other.now) (policy_ids other.now))) }
@@ -181,10 +182,10 @@ fn gather_policies(
 }
 
 // Gathers an id, if it conflicts and is looked at in this group.
-fn gather_one(
-    ids: &mut IndexSet<PolicyID>,
-    here: &PolicySet,
-    other: &PolicySet,
+fn gather_one<S: BuildHasher + Copy>(
+    ids: &mut IndexSet<PolicyID, S>,
+    here: &PolicySet<S>,
+    other: &PolicySet<S>,
     id: &PolicyID,
     group: Group,
 ) -> Result<(), AllocError>
@@ -197,14 +198,14 @@ fn gather_one(
 }
 
 // Whether an id is looked at in this group and is not bound alike in both sets.
-fn is_conflicting(here: &PolicySet, other: &PolicySet, id: &PolicyID, group: Group) -> bool
+fn is_conflicting<S: BuildHasher + Copy>(here: &PolicySet<S>, other: &PolicySet<S>, id: &PolicyID, group: Group) -> bool
     ensures { result ≡ (looked_at group here.now other.now id.now && not (is_same_at here.now other.now id.now)) }
 {
     is_looked_at(here, other, id, group) && !is_same_at(here, other, id)
 }
 
 // Whether an id is looked at in this group.
-fn is_looked_at(here: &PolicySet, other: &PolicySet, id: &PolicyID, group: Group) -> bool
+fn is_looked_at<S: BuildHasher + Copy>(here: &PolicySet<S>, other: &PolicySet<S>, id: &PolicyID, group: Group) -> bool
     ensures { result ≡ looked_at group here.now other.now id.now }
 {
     match group {
@@ -216,14 +217,14 @@ fn is_looked_at(here: &PolicySet, other: &PolicySet, id: &PolicyID, group: Group
 }
 
 // Whether a body here and one there have an id.
-fn have_bodies(here: &PolicySet, other: &PolicySet, id: &PolicyID) -> bool
+fn have_bodies<S: BuildHasher + Copy>(here: &PolicySet<S>, other: &PolicySet<S>, id: &PolicyID) -> bool
     ensures { result ≡ (has_body here.now id.now && has_body other.now id.now) }
 {
     here.has_body(id) && other.has_body(id)
 }
 
 // Whether an id is bound alike in both sets.
-fn is_same_at(here: &PolicySet, other: &PolicySet, id: &PolicyID) -> bool
+fn is_same_at<S: BuildHasher + Copy>(here: &PolicySet<S>, other: &PolicySet<S>, id: &PolicyID) -> bool
     ensures { result ≡ is_same_at here.now other.now id.now }
 {
     here.get(id) == other.get(id) && here.get_template(id) == other.get_template(id)
@@ -240,11 +241,11 @@ fn new_or<'a>(new: Option<&'a PolicyID>, id: &'a PolicyID) -> &'a PolicyID
 }
 
 // The bodies of both sets.
-fn merged_bodies(
+fn merged_bodies<S: BuildHasher + Copy>(
     alloc: Global,
-    here: &PolicySet,
-    other: &PolicySet,
-    renaming: &IndexMap<PolicyID, PolicyID>,
+    here: &PolicySet<S>,
+    other: &PolicySet<S>,
+    renaming: &IndexMap<PolicyID, PolicyID, S>,
 ) -> Result<Vec<Rc<Template>>, AllocError>
     ensures { IfOk result (λ v. bodies_of v.items ≡ (merged here.now other.now (new_id renaming.now.entries)).bodies) }
 {
@@ -259,12 +260,12 @@ fn merged_bodies(
 }
 
 // Puts the bodies of both sets last.
-fn fill_bodies(
+fn fill_bodies<S: BuildHasher + Copy>(
     alloc: Global,
     bodies: &mut Vec<Rc<Template>>,
-    here: &PolicySet,
-    other: &PolicySet,
-    renaming: &IndexMap<PolicyID, PolicyID>,
+    here: &PolicySet<S>,
+    other: &PolicySet<S>,
+    renaming: &IndexMap<PolicyID, PolicyID, S>,
 ) -> Result<(), AllocError>
     ensures { OnOk result (bodies_of bodies.new.items ≡ (bodies_of bodies.old.items ++ here.now.bodies) ++ joined_bodies here.now (new_id renaming.now.entries) other.now.bodies) }
 {
@@ -273,11 +274,11 @@ fn fill_bodies(
 }
 
 // Puts the bodies of this set last.
-fn keep_bodies(
+fn keep_bodies<S: BuildHasher + Copy>(
     bodies: &mut Vec<Rc<Template>>,
     ours: &[Rc<Template>],
-    other: &PolicySet,
-    renaming: &IndexMap<PolicyID, PolicyID>,
+    other: &PolicySet<S>,
+    renaming: &IndexMap<PolicyID, PolicyID, S>,
 ) -> Result<(), AllocError>
     ensures { OnOk result (bodies_of bodies.new.items ≡ bodies_of bodies.old.items ++ bodies_of ours.now) }
 {
@@ -288,11 +289,11 @@ fn keep_bodies(
 }
 
 // Puts a body of this set last.
-fn keep_body(
+fn keep_body<S: BuildHasher + Copy>(
     bodies: &mut Vec<Rc<Template>>,
     template: &Rc<Template>,
-    other: &PolicySet,
-    renaming: &IndexMap<PolicyID, PolicyID>,
+    other: &PolicySet<S>,
+    renaming: &IndexMap<PolicyID, PolicyID, S>,
 ) -> Result<(), AllocError>
     ensures { OnOk result (bodies_of bodies.new.items ≡ bodies_of bodies.old.items ++ template.now.value ∷ []) }
 {
@@ -301,10 +302,10 @@ fn keep_body(
 }
 
 // A body of this set: the other's, if it is the same there.
-fn kept_body(
+fn kept_body<S: BuildHasher + Copy>(
     template: &Rc<Template>,
-    other: &PolicySet,
-    renaming: &IndexMap<PolicyID, PolicyID>,
+    other: &PolicySet<S>,
+    renaming: &IndexMap<PolicyID, PolicyID, S>,
 ) -> Result<Rc<Template>, AllocError>
     ensures { IfOk result (λ t. t.value ≡ template.now.value) }
 {
@@ -332,12 +333,12 @@ fn is_body(template: &Template, other: &Template) -> bool
 }
 
 // Puts the bodies of the other set last, but those that are bound here.
-fn join_bodies(
+fn join_bodies<S: BuildHasher + Copy>(
     alloc: Global,
     bodies: &mut Vec<Rc<Template>>,
-    here: &PolicySet,
+    here: &PolicySet<S>,
     theirs: &[Rc<Template>],
-    renaming: &IndexMap<PolicyID, PolicyID>,
+    renaming: &IndexMap<PolicyID, PolicyID, S>,
 ) -> Result<(), AllocError>
     ensures { OnOk result (bodies_of bodies.new.items ≡ bodies_of bodies.old.items ++ joined_bodies here.now (new_id renaming.now.entries) (bodies_of theirs.now)) }
 {
@@ -348,12 +349,12 @@ fn join_bodies(
 }
 
 // Puts a body of the other set last, if it is not bound here.
-fn join_body(
+fn join_body<S: BuildHasher + Copy>(
     alloc: Global,
     bodies: &mut Vec<Rc<Template>>,
-    here: &PolicySet,
+    here: &PolicySet<S>,
     template: &Rc<Template>,
-    renaming: &IndexMap<PolicyID, PolicyID>,
+    renaming: &IndexMap<PolicyID, PolicyID, S>,
 ) -> Result<(), AllocError>
     ensures { OnOk result (bodies_of bodies.new.items ≡ bodies_of bodies.old.items ++ joined_bodies here.now (new_id renaming.now.entries) (template.now.value ∷ [])) }
 {
@@ -379,11 +380,11 @@ fn renamed_body(
 }
 
 // The policies of both sets.
-fn merged_policies(
+fn merged_policies<S: BuildHasher + Copy>(
     alloc: Global,
-    here: &PolicySet,
-    other: &PolicySet,
-    renaming: &IndexMap<PolicyID, PolicyID>,
+    here: &PolicySet<S>,
+    other: &PolicySet<S>,
+    renaming: &IndexMap<PolicyID, PolicyID, S>,
 ) -> Result<Vec<Policy>, AllocError>
     ensures { IfOk result (λ v. v.items ≡ (merged here.now other.now (new_id renaming.now.entries)).policies) }
 {
@@ -398,12 +399,12 @@ fn merged_policies(
 }
 
 // Puts the policies of both sets last.
-fn fill_policies(
+fn fill_policies<S: BuildHasher + Copy>(
     alloc: Global,
     policies: &mut Vec<Policy>,
-    here: &PolicySet,
-    other: &PolicySet,
-    renaming: &IndexMap<PolicyID, PolicyID>,
+    here: &PolicySet<S>,
+    other: &PolicySet<S>,
+    renaming: &IndexMap<PolicyID, PolicyID, S>,
 ) -> Result<(), AllocError>
     ensures { OnOk result (policies.new.items ≡ (policies.old.items ++ here.now.policies) ++ joined_policies here.now (new_id renaming.now.entries) other.now.policies) }
 {
@@ -412,11 +413,11 @@ fn fill_policies(
 }
 
 // Puts the policies of this set last.
-fn keep_policies(
+fn keep_policies<S: BuildHasher + Copy>(
     policies: &mut Vec<Policy>,
     ours: &[Policy],
-    other: &PolicySet,
-    renaming: &IndexMap<PolicyID, PolicyID>,
+    other: &PolicySet<S>,
+    renaming: &IndexMap<PolicyID, PolicyID, S>,
 ) -> Result<(), AllocError>
     ensures { OnOk result (policies.new.items ≡ policies.old.items ++ ours.now) }
 {
@@ -427,11 +428,11 @@ fn keep_policies(
 }
 
 // Puts a policy of this set last.
-fn keep_policy(
+fn keep_policy<S: BuildHasher + Copy>(
     policies: &mut Vec<Policy>,
     policy: &Policy,
-    other: &PolicySet,
-    renaming: &IndexMap<PolicyID, PolicyID>,
+    other: &PolicySet<S>,
+    renaming: &IndexMap<PolicyID, PolicyID, S>,
 ) -> Result<(), AllocError>
     ensures { OnOk result (policies.new.items ≡ policies.old.items ++ policy.now ∷ []) }
 {
@@ -440,10 +441,10 @@ fn keep_policy(
 }
 
 // A policy of this set: the other's, if it is the same there.
-fn kept_policy(
+fn kept_policy<S: BuildHasher + Copy>(
     policy: &Policy,
-    other: &PolicySet,
-    renaming: &IndexMap<PolicyID, PolicyID>,
+    other: &PolicySet<S>,
+    renaming: &IndexMap<PolicyID, PolicyID, S>,
 ) -> Result<Policy, AllocError>
     ensures { IfOk result (λ p. p ≡ policy.now) }
 {
@@ -471,12 +472,12 @@ fn is_policy(policy: &Policy, other: &Policy) -> bool
 }
 
 // Puts the policies of the other set last, but those that are bound here.
-fn join_policies(
+fn join_policies<S: BuildHasher + Copy>(
     alloc: Global,
     policies: &mut Vec<Policy>,
-    here: &PolicySet,
+    here: &PolicySet<S>,
     theirs: &[Policy],
-    renaming: &IndexMap<PolicyID, PolicyID>,
+    renaming: &IndexMap<PolicyID, PolicyID, S>,
 ) -> Result<(), AllocError>
     ensures { OnOk result (policies.new.items ≡ policies.old.items ++ joined_policies here.now (new_id renaming.now.entries) theirs.now) }
 {
@@ -487,12 +488,12 @@ fn join_policies(
 }
 
 // Puts a policy of the other set last, if it is not bound here.
-fn join_policy(
+fn join_policy<S: BuildHasher + Copy>(
     alloc: Global,
     policies: &mut Vec<Policy>,
-    here: &PolicySet,
+    here: &PolicySet<S>,
     policy: &Policy,
-    renaming: &IndexMap<PolicyID, PolicyID>,
+    renaming: &IndexMap<PolicyID, PolicyID, S>,
 ) -> Result<(), AllocError>
     ensures { OnOk result (policies.new.items ≡ policies.old.items ++ joined_policies here.now (new_id renaming.now.entries) (policy.now ∷ [])) }
 {
@@ -505,11 +506,11 @@ fn join_policy(
 
 // A policy under its new id, if it gets one, a link with its template under its own.
 #[tactic(auto, using(crate::specs::laws::MergeSteps::renamed_twice))]
-fn renamed_policy(
+fn renamed_policy<S: BuildHasher + Copy>(
     alloc: Global,
     policy: &Policy,
     new: Option<&PolicyID>,
-    renaming: &IndexMap<PolicyID, PolicyID>,
+    renaming: &IndexMap<PolicyID, PolicyID, S>,
 ) -> Result<Policy, AllocError>
     requires { unwrap_or (option_copied new) (policy_id policy.now) ≡ new_id renaming.now.entries (policy_id policy.now) }
     ensures { IfOk result (λ p. p ≡ renamed_policy (new_id renaming.now.entries) policy.now) }
@@ -540,10 +541,10 @@ fn under_new_id(
 }
 
 // A link with its template under its new id, if that gets one. None of a static policy.
-fn on_renamed_template(
+fn on_renamed_template<S: BuildHasher + Copy>(
     alloc: Global,
     policy: &Policy,
-    renaming: &IndexMap<PolicyID, PolicyID>,
+    renaming: &IndexMap<PolicyID, PolicyID, S>,
 ) -> Result<Option<Policy>, AllocError>
     ensures { IfOk result (λ o. unwrap_or o policy.now ≡ with_template_renamed (new_id renaming.now.entries) policy.now) }
 {

@@ -15,6 +15,7 @@ use cedar_ids::policy_id::PolicyID;
 use cedar_policy::{Policy, Template};
 use indexmap::{IndexMap, IndexSet};
 use std::alloc::Global;
+use std::hash::{BuildHasher, BuildHasherDefault, FoldHasher};
 use std::marker::Model;
 use std::rc::Rc;
 
@@ -24,14 +25,18 @@ use std::rc::Rc;
 /// static policies and links stand, each as it joined. Equality is that of both orders and of all values, looks at no
 /// location and takes no memory. `clone` takes memory for the three maps and for what policies copy. `Display` takes
 /// none. Look-ups go by keys and walk nothing.
+///
+/// Its maps hash ids by the hashers that `S` builds, and so do those that its calls make. By default they have a fixed
+/// seed, so that whoever picks the ids can make them collide, and each call slow: a set of ids that strangers pick is made by
+/// [`PolicySet::with_hasher`] with a builder that has a random key. No contract sees the builder.
 #[derive(Debug, Drop)]
-pub struct PolicySet {
-    pub(crate) templates: IndexMap<PolicyID, Rc<Template>>,
-    pub(crate) links: IndexMap<PolicyID, Policy>,
-    pub(crate) template_to_links_map: IndexMap<PolicyID, IndexSet<PolicyID>>,
+pub struct PolicySet<S: BuildHasher = BuildHasherDefault<FoldHasher>> {
+    pub(crate) templates: IndexMap<PolicyID, Rc<Template>, S>,
+    pub(crate) links: IndexMap<PolicyID, Policy, S>,
+    pub(crate) template_to_links_map: IndexMap<PolicyID, IndexSet<PolicyID, S>, S>,
 }
 
-impl Model for PolicySet {
+impl<S: BuildHasher> Model for PolicySet<S> {
     ghost use Rattle.cedar_policy_set.specs.Boards.{Board};
     ghost use Rattle.cedar_policy_set.specs.Codes.{board_code};
     ghost use Rattle.cedar_policy_set.specs.Maps.{board_in, maps_of, DoAgree};
@@ -45,16 +50,23 @@ impl Model for PolicySet {
     ghost invariant = { λ s. DoAgree (maps_of s.templates.entries s.links.entries s.template_to_links_map.entries) };
 }
 
-impl PolicySet {
-    /// The set without a binding. It takes no memory.
-    pub fn new(alloc: Global) -> PolicySet
+impl<S: BuildHasher + Copy> PolicySet<S> {
+    /// The set without a binding, which hashes ids by what `hasher` builds. It takes no memory.
+    ///
+    /// The original has one way of hashing.
+    pub fn with_hasher(alloc: Global, hasher: S) -> PolicySet<S>
         ensures { result ≡ empty_board }
     {
         PolicySet {
-            templates: IndexMap::new(alloc),
-            links: IndexMap::new(alloc),
-            template_to_links_map: IndexMap::new(alloc),
+            templates: IndexMap::with_hasher(alloc, hasher),
+            links: IndexMap::with_hasher(alloc, hasher),
+            template_to_links_map: IndexMap::with_hasher(alloc, hasher),
         }
+    }
+
+    /// What builds the set's hashers. It takes no memory.
+    pub fn hasher(&self) -> &S {
+        self.templates.hasher()
     }
 
     /// The set that is kept in these three maps: bodies, static policies' too, policies, and under each body's id the ids of
@@ -63,12 +75,12 @@ impl PolicySet {
     /// The maps have to agree: bodies and policies stand under their own ids; each policy's template stands among the bodies;
     /// a link has an id that no body has, and its template is no static policy's; and the third map has the ids of all
     /// bodies, in their order, each with the ids of the policies on it, in theirs. The original leaves to its caller that
-    /// they do, and open in which order the third is.
+    /// they do, and open in which order the third is. New maps that the set makes are hashed as the first of these is.
     pub fn from_raw_components(
-        templates: IndexMap<PolicyID, Rc<Template>>,
-        links: IndexMap<PolicyID, Policy>,
-        template_to_links_map: IndexMap<PolicyID, IndexSet<PolicyID>>,
-    ) -> PolicySet
+        templates: IndexMap<PolicyID, Rc<Template>, S>,
+        links: IndexMap<PolicyID, Policy, S>,
+        template_to_links_map: IndexMap<PolicyID, IndexSet<PolicyID, S>, S>,
+    ) -> PolicySet<S>
         requires { CanMakeSet (maps_of templates.entries links.entries template_to_links_map.entries) }
         ensures { result ≡ board_in (maps_of templates.entries links.entries template_to_links_map.entries) }
     {

@@ -13,7 +13,7 @@ use crate::policy_set::PolicySet;
 use cedar_ids::policy_id::PolicyID;
 use cedar_policy::{Policy, Template};
 
-impl PolicySet {
+impl<S: BuildHasher + Copy> PolicySet<S> {
     /// Takes out the link with this id, and closes the order up.
     ///
     /// `UnlinkingError` comes where nothing is bound to the id, `NotLinkError` where it is a static policy's or a

@@ -7,10 +7,11 @@ ghost use Rattle.cedar_policy_set.specs.Views.{bodies_of};
 
 use crate::policy_set::{PolicySet, are_empty};
 use cedar_policy::{Policy, Template};
+use std::hash::BuildHasher;
 use std::fmt;
 use std::rc::Rc;
 
-impl fmt::Display for PolicySet {
+impl<S: BuildHasher + Copy> fmt::Display for PolicySet<S> {
     ghost output = { board_output };
 
     /// Writes all bodies and then all policies, each on lines of its own; of a set without a binding it says that. It takes

@@ -11,16 +11,17 @@ use crate::lists::{has_no_slots, is_link};
 use crate::policy_set::PolicySet;
 use cedar_policy::{Policy, Template, TemplateValidationError};
 use std::alloc::Global;
+use std::hash::BuildHasher;
 use std::rc::Rc;
 
-impl PolicySet {
+impl<S: BuildHasher + Copy> PolicySet<S> {
     /// The set itself, if its links and its bodies are valid; else the first fault.
     ///
     /// `LinkToSlotlessTemplate` names the first link, in the order of policies, of a template without slots; else
     /// `InvalidTemplate` has the first body, in the order of bodies, that `Template::try_validate` refuses, with its error.
     /// Takes memory for a copy of each body and as that call does; `Memory` comes only where that was refused. A refusal
     /// drops the set.
-    pub fn try_validate(self, alloc: Global) -> Result<PolicySet, PolicySetValidationError>
+    pub fn try_validate(self, alloc: Global) -> Result<PolicySet<S>, PolicySetValidationError>
         ensures { ValidatesSet result self }
     {
         match self.check(alloc) {

@@ -6,10 +6,11 @@ use cedar_policy_set::{
     PolicySetUnlinkError,
 };
 use indexmap::IndexMap;
+use std::hash::{BuildHasher, BuildHasherDefault, FoldHasher};
 
 /// A call on a policy set, with what it is given. It is this project's own.
 #[derive(Debug, Drop)]
-pub enum PolicyCall {
+pub enum PolicyCall<S: BuildHasher = BuildHasherDefault<FoldHasher>> {
     /// [`PolicySet::add_static`].
     AddStatic(StaticPolicy),
     /// [`PolicySet::add_template`].
@@ -25,12 +26,12 @@ pub enum PolicyCall {
     /// [`PolicySet::remove_template`].
     RemoveTemplate(PolicyID),
     /// [`PolicySet::merge_policyset`]: the other set, and whether ids that conflict are renamed.
-    Merge(PolicySet, bool),
+    Merge(PolicySet<S>, bool),
 }
 
 /// What a call on a policy set answered: its value or its error, in the variant of the call. It is this project's own.
 #[derive(Debug, Drop)]
-pub enum Answer {
+pub enum Answer<S: BuildHasher = BuildHasherDefault<FoldHasher>> {
     /// Of [`PolicyCall::AddStatic`].
     AddStatic(Result<(), PolicySetError>),
     /// Of [`PolicyCall::AddTemplate`].
@@ -46,5 +47,5 @@ pub enum Answer {
     /// Of [`PolicyCall::RemoveTemplate`]: the template that was taken out.
     RemoveTemplate(Result<Template, PolicySetTemplateRemovalError>),
     /// Of [`PolicyCall::Merge`]: the ids that were renamed with their new ones, in order.
-    Merge(Result<IndexMap<PolicyID, PolicyID>, PolicySetError>),
+    Merge(Result<IndexMap<PolicyID, PolicyID, S>, PolicySetError>),
 }

@@ -9,6 +9,7 @@ ghost use Rattle.cedar_replay.specs.CallsOf.{call_of, HasBareEntities};
 use cedar_entities::{Entities, EntitiesError, Entity, TCComputation};
 use cedar_ids::entity::EntityUID;
 use std::alloc::Global;
+use std::hash::{BuildHasher, BuildHasherDefault};
 use std::rc::Rc;
 
 /// A call on a store of entities, with what it is given.
@@ -27,7 +28,11 @@ pub enum EntityCall {
 }
 
 // The store after one call.
-fn replay_one(alloc: Global, store: Entities, call: EntityCall) -> Result<Entities, EntitiesError>
+fn replay_one<S: BuildHasher + Clone>(
+    alloc: Global,
+    store: Entities<S>,
+    call: EntityCall,
+) -> Result<Entities<S>, EntitiesError>
     requires { HasBareEntities call }
     ensures passes { OnOk result ((W : World) → IsPlainStore W store → Passes W (call_of call)) }
     ensures ok { IfOk result (λ s. (W : World) → IsPlainStore W store →
@@ -37,7 +42,8 @@ fn replay_one(alloc: Global, store: Entities, call: EntityCall) -> Result<Entiti
 {
     match call {
         EntityCall::From(list) => {
-            Entities::from_entities(alloc, list, TCComputation::ComputeNow)
+            let hasher = store.hasher().clone()?;
+            Entities::from_entities_with_hasher(alloc, hasher, list, TCComputation::ComputeNow)
         }
         EntityCall::Add(list) => store.add_entities(alloc, list, TCComputation::ComputeNow),
         EntityCall::Upsert(list) => store.upsert_entities(alloc, list, TCComputation::ComputeNow),
@@ -55,7 +61,7 @@ fn replay_one(alloc: Global, store: Entities, call: EntityCall) -> Result<Entiti
 ///
 /// The caller sees to it that no entity has indirect ancestors. Then the store holds what plain insertion,
 /// overwriting by the last version and deletion leave, and the ancestors of each entity are exactly the uids
-/// that it reaches over the parents. It takes memory; its cost is that of the calls. It is this project's own.
+/// that it reaches over the parents. The stores hash uids by a fixed seed. It takes memory; its cost is that of the calls. It is this project's own.
 pub fn replay_entities(
     alloc: Global,
     calls: Vec<EntityCall>,
@@ -70,7 +76,26 @@ pub fn replay_entities(
     // The calls before the number pass, and the next one is refused so.
     ensures err { IfErr result (λ r. StopsAt (map call_of calls.items) r.0 r.1) }
 {
-    let mut store = Entities::new(alloc);
+    replay_entities_with_hasher(alloc, BuildHasherDefault::new(), calls)
+}
+
+/// What [`replay_entities`] gives, with stores that hash uids by what `hasher` builds.
+pub fn replay_entities_with_hasher<S: BuildHasher + Clone>(
+    alloc: Global,
+    hasher: S,
+    calls: Vec<EntityCall>,
+) -> Result<Entities<S>, (usize, EntitiesError)>
+    requires { AllByRecursion HasBareEntities calls.items }
+
+    // No call is refused, and the store is the plain store of the world that the calls make.
+    ensures pass { OnOk result (AllPass empty_world (map call_of calls.items)) }
+    ensures ok { IfOk result (λ s.
+        IsPlainStore (all_made empty_world (map call_of calls.items)) s) }
+
+    // The calls before the number pass, and the next one is refused so.
+    ensures err { IfErr result (λ r. StopsAt (map call_of calls.items) r.0 r.1) }
+{
+    let mut store = Entities::with_hasher(alloc, hasher);
     let mut done = 0;
     for call in calls {
         match replay_one(alloc, store, call) {

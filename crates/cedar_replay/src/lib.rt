@@ -11,5 +11,5 @@ mod entities;
 mod policies;
 
 pub use call::{Answer, PolicyCall};
-pub use entities::{EntityCall, replay_entities};
+pub use entities::{EntityCall, replay_entities, replay_entities_with_hasher};
 pub use policies::replay_policies;

@@ -11,11 +11,12 @@ use cedar_ids::policy_id::PolicyID;
 use cedar_policy::{LinkingError, SlotEnv};
 use cedar_policy_set::PolicySet;
 use std::alloc::{AllocError, Global};
+use std::hash::BuildHasher;
 
 // Links a template, and keeps the link in the set alone.
-fn link(
+fn link<S: BuildHasher + Copy>(
     alloc: Global,
-    set: &mut PolicySet,
+    set: &mut PolicySet<S>,
     template_id: PolicyID,
     new_id: PolicyID,
     values: SlotEnv,
@@ -27,7 +28,11 @@ fn link(
 }
 
 // Makes one call.
-fn replay_one(alloc: Global, set: &mut PolicySet, call: PolicyCall) -> Answer
+fn replay_one<S: BuildHasher + Copy>(
+    alloc: Global,
+    set: &mut PolicySet<S>,
+    call: PolicyCall<S>,
+) -> Answer<S>
     ensures { IsStep call result set.old set.new }
 {
     match call {
@@ -47,7 +52,7 @@ fn replay_one(alloc: Global, set: &mut PolicySet, call: PolicyCall) -> Answer
 }
 
 // Puts an answer last, where there is room for it.
-fn append(answers: &mut Vec<Answer>, answer: Answer)
+fn append<S: BuildHasher>(answers: &mut Vec<Answer<S>>, answer: Answer<S>)
     requires { vec_len answers.old < vec_capacity answers.old }
     ensures items { answers.new.items ≡ answers.old.items ++ answer ∷ [] }
     ensures len { vec_len answers.new ≡ vec_len answers.old + 1 }
@@ -61,11 +66,11 @@ fn append(answers: &mut Vec<Answer>, answer: Answer)
 /// A call that is refused leaves the set as it was, for memory too, and the next call follows. `Err` comes only where the
 /// room for the list of answers was refused, which is asked for before the first call, and leaves the set as it was. Takes
 /// that memory beside what the calls take; its cost is that of the calls. It is this project's own.
-pub fn replay_policies(
+pub fn replay_policies<S: BuildHasher + Copy>(
     alloc: Global,
-    set: &mut PolicySet,
-    calls: Vec<PolicyCall>,
-) -> Result<Vec<Answer>, AllocError>
+    set: &mut PolicySet<S>,
+    calls: Vec<PolicyCall<S>>,
+) -> Result<Vec<Answer<S>>, AllocError>
     // There is an answer for each call, in the variant of the call.
     ensures count { IfOk result (λ answers. length answers.items ≡ length calls.items) }
 

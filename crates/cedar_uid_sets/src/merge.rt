@@ -13,9 +13,13 @@ use cedar_ids::entity::EntityUID;
 use std::alloc::{AllocError, Global};
 use std::cmp::Ordering;
 use std::collections::{HashSet, VecDeque};
+use std::hash::BuildHasher;
 
 // The uids of a set, to be shared.
-pub(crate) fn shared(alloc: Global, uids: HashSet<EntityUID>) -> Result<Vec<SharedUid>, AllocError>
+pub(crate) fn shared<S: BuildHasher + Drop>(
+    alloc: Global,
+    uids: HashSet<EntityUID, S>,
+) -> Result<Vec<SharedUid>, AllocError>
     ensures uids { IfOk result (λ v. v.items ≡ uids.keys) }
     ensures once { IsDistinct same_uid uids.keys }
 {

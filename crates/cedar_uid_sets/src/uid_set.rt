@@ -15,6 +15,7 @@ use crate::shared_uid::SharedUid;
 use cedar_ids::entity::EntityUID;
 use std::alloc::{AllocError, Global};
 use std::collections::HashSet;
+use std::hash::BuildHasher;
 use std::marker::Model;
 use std::{mem, slice};
 
@@ -65,9 +66,12 @@ impl UidSet {
         UidSet { uids }
     }
 
-    /// The uids of a hash set, now to be shared. It takes memory for a pointer and a box a uid, and is refused only
+    /// The uids of a hash set, however it hashes, now to be shared. It takes memory for a pointer and a box a uid, and is refused only
     /// where that is; it sorts them, in the logarithm of their number of comparisons a uid.
-    pub fn from_set(alloc: Global, uids: HashSet<EntityUID>) -> Result<UidSet, AllocError>
+    pub fn from_set<S: BuildHasher + Drop>(
+        alloc: Global,
+        uids: HashSet<EntityUID, S>,
+    ) -> Result<UidSet, AllocError>
         ensures { IfOk result (λ s. s ≡ set.from_list uids.keys) }
     {
         let mut ascending = shared(alloc, uids)?;

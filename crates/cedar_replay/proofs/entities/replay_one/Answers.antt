@@ -6,7 +6,7 @@ use Rattle.cedar_replay.proofs.entities.replay_one.Goals as goal
 pub returns-in-From-clause-passes : goal.returns-in-From-clause-passes
 returns-in-From-clause-passes c =
     let bare = rw c.in-From.is at c.requires in
-    rw c.in-From.is (on_ok_weaker c.from_entities.result (λ k W h. k) (from_passes c.from_entities.result c.in-From.list.items bare c.from_entities.ensures.plain_agree c.from_entities.ensures.plain))
+    rw c.in-From.is (on_ok_weaker c.from_entities_with_hasher.result (λ k W h. k) (from_passes c.from_entities_with_hasher.result c.in-From.list.items bare c.from_entities_with_hasher.ensures.plain_agree c.from_entities_with_hasher.ensures.plain))
 
 pub returns-in-Add-clause-passes : goal.returns-in-Add-clause-passes
 returns-in-Add-clause-passes c =

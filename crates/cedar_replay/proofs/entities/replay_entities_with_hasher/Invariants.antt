@@ -4,7 +4,7 @@ use Rattle.cedar_entities.specs.Plain.{IsPlainStore}
 use Rattle.cedar_entities.specs.World.{empty_world}
 use Rattle.cedar_replay.specs.Calls.{all_made, AllPass}
 use Rattle.cedar_replay.specs.CallsOf.{call_of}
-use Rattle.cedar_replay.proofs.entities.replay_entities.Given as goal
+use Rattle.cedar_replay.proofs.entities.replay_entities_with_hasher.Given as goal
 
 abbrev pub invariant-loop-call : goal.invariant-loop-call
 invariant-loop-call l = record {

@@ -4,7 +4,7 @@ use Rattle.cedar_entities.specs.World.{World, empty_world}
 use Rattle.cedar_replay.specs.Calls.{all_made, AllPass}
 use Rattle.cedar_replay.specs.CallsOf.{call_of}
 use Rattle.cedar_replay.proofs.EntityReplays.{made_push, pass_push, longer, stops}
-use Rattle.cedar_replay.proofs.entities.replay_entities.Goals as goal
+use Rattle.cedar_replay.proofs.entities.replay_entities_with_hasher.Goals as goal
 use Rattle.std.proofs.lemmas.List.{append_assoc, map-append}
 
 pub returns-in-Err-clause-err : goal.returns-in-Err-clause-err
