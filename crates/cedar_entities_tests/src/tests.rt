@@ -1,4 +1,3 @@
-mod keys;
 mod store_beside;
 mod store_edits;
 mod store_faults;

@@ -3,7 +3,6 @@ mod calls;
 mod coarse;
 mod counted;
 mod counting;
-mod keys;
 mod nodes;
 mod random;
 mod reached;

@@ -1,4 +1,3 @@
-mod keys;
 mod random;
 mod stores;
 mod worked;

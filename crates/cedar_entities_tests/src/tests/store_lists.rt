@@ -1,8 +1,8 @@
 // Many lists of calls, each on a store and on the world that it stands for.
-use super::keys::keyed;
 use super::store_beside::{End, compared};
 use super::store_world::{Call, Refused, Row, Rows, bit};
 use cedar_entities::entities::Entities;
+use cedar_keyed_hash::KeyedState;
 use cedar_test_helpers::drawn::below;
 use std::alloc::Global;
 use std::hash::{BuildHasher, BuildHasherDefault, FoldHasher};
@@ -171,8 +171,8 @@ fn each_call_on_each_store_of_three_leaves_the_plain_store(rt: HostRuntime) -> R
 fn each_call_on_each_store_of_three_leaves_the_plain_store_under_two_keys(
     rt: HostRuntime,
 ) -> Result<(), Fail> {
-    assert!(rt; leave_plain(rt.alloc(), keyed(1)?)?);
-    assert!(rt; leave_plain(rt.alloc(), keyed(200)?)?);
+    assert!(rt; leave_plain(rt.alloc(), KeyedState::with_keys(1, 2))?);
+    assert!(rt; leave_plain(rt.alloc(), KeyedState::with_keys(u64::MAX, 3))?);
     Ok(())
 }
 

@@ -1,10 +1,9 @@
 // All graphs on three keys, against paths that are looked for one by one.
-use crate::tests::keys::keyed;
 use crate::tests::nodes::{Edges, graph_by};
 use crate::tests::told::{Told, check, close, has_edges, repair};
+use cedar_keyed_hash::KeyedState;
 use std::alloc::{AllocError, Global};
 use std::hash::{BuildHasher, BuildHasherDefault, FoldHasher};
-use std::test::Fail;
 
 const KEYS: [u64; 3] = [1, 2, 3];
 
@@ -148,9 +147,9 @@ fn closes_all_small_graphs(rt: HostRuntime) {
 }
 
 #[test]
-fn closes_all_small_graphs_under_two_keys(rt: HostRuntime) -> Result<(), Fail> {
+fn closes_all_small_graphs_under_two_keys(rt: HostRuntime) {
     let alloc = rt.alloc();
-    let (one, other) = (keyed(1)?, keyed(200)?);
+    let (one, other) = (KeyedState::with_keys(1, 2), KeyedState::with_keys(u64::MAX, 3));
     for number in 0..512 {
         assert!(rt;
             number_agrees(alloc, one, number),
@@ -161,7 +160,6 @@ fn closes_all_small_graphs_under_two_keys(rt: HostRuntime) -> Result<(), Fail> {
             "graph {number} under the second key"
         );
     }
-    Ok(())
 }
 
 // What the check of a graph tells.
@@ -222,9 +220,9 @@ fn checks_all_small_graphs(rt: HostRuntime) {
 }
 
 #[test]
-fn checks_all_small_graphs_under_two_keys(rt: HostRuntime) -> Result<(), Fail> {
+fn checks_all_small_graphs_under_two_keys(rt: HostRuntime) {
     let alloc = rt.alloc();
-    let (one, other) = (keyed(1)?, keyed(200)?);
+    let (one, other) = (KeyedState::with_keys(1, 2), KeyedState::with_keys(u64::MAX, 3));
     for number in 0..512 {
         assert!(rt;
             check_of_number_agrees(alloc, one, number),
@@ -235,5 +233,4 @@ fn checks_all_small_graphs_under_two_keys(rt: HostRuntime) -> Result<(), Fail> {
             "graph {number} under the second key"
         );
     }
-    Ok(())
 }

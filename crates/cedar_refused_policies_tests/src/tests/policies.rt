@@ -16,6 +16,7 @@ use cedar_refusals::{
 use cedar_terms::expr::Expr;
 use cedar_terms::literal::Literal;
 use std::alloc::Global;
+use std::hash::{BuildHasherDefault, FoldHasher};
 use std::rc::Rc;
 
 // The link of this id of a template with these bindings.
@@ -56,6 +57,8 @@ const POLICIES: &str = "
     Policy::new_template_id | t principal, principal=x; b | b
     Policy::unknown_entities | a unknown | 1
     Policy::unknown_entities | a clause | 0
+    Policy::unknown_entities_with_hasher | a unknown | 1
+    Policy::unknown_entities_with_hasher | a clause | 0
     Policy::clone | t principal, principal=x
     - Policy::clone | a clause
 ";
@@ -205,6 +208,15 @@ impl Calls for OnPolicies {
             "Policy::unknown_entities" => {
                 on(alloc, number, policy(alloc, row.given), |policy| {
                     judged(alloc, policy.unknown_entities(alloc), row.want, |uids| {
+                        is_worded(alloc, &uids.len(), row.want)
+                    })
+                })
+            }
+            "Policy::unknown_entities_with_hasher" => {
+                on(alloc, number, policy(alloc, row.given), |policy| {
+                    let hasher: BuildHasherDefault<FoldHasher> = BuildHasherDefault::new();
+                    let uids = policy.unknown_entities_with_hasher(alloc, hasher);
+                    judged(alloc, uids, row.want, |uids| {
                         is_worded(alloc, &uids.len(), row.want)
                     })
                 })

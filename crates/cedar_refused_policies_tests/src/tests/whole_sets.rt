@@ -9,6 +9,7 @@ use cedar_refusals::{
 };
 use cedar_terms::slot::{Slot, SlotId};
 use std::alloc::Global;
+use std::hash::BuildHasherDefault;
 
 fn policies(alloc: Global, texts: &str) -> Option<Vec<Policy>> {
     let mut all = Some(Vec::new(alloc));
@@ -38,6 +39,8 @@ const WHOLE: &str = "
     PolicySet::singleton | l = t principal, principal=x | t / l
     PolicySet::try_from_iter | b; l = t principal, principal=x; a | b t a / b l a
     PolicySet::try_from_iter | a; b; a forbid | ! duplicate template or policy id `a`
+    PolicySet::try_from_iter_with_hasher | b; l = t principal, principal=x; a | b t a / b l a
+    PolicySet::try_from_iter_with_hasher | a; b; a forbid | ! duplicate template or policy id `a`
     PolicySet::try_validate | static a clause; template t principal; link t l principal=x | a t / a l
     PolicySet::try_validate | template t; link t l | ! link `l` references template `t` which has no slots
     PolicySet::try_validate | static a; template b foo | ! invalid template `b`: `foo` is not a known function
@@ -101,6 +104,17 @@ impl Calls for OnWholeSets {
                     judged(
                         alloc,
                         PolicySet::try_from_iter(alloc, policies),
+                        want,
+                        |set| { has_ids(alloc, set, want) },
+                    )
+                })
+            }
+            "PolicySet::try_from_iter_with_hasher" => {
+                with(alloc, number, policies(alloc, row.given), |policies| {
+                    let hasher = BuildHasherDefault::new();
+                    judged(
+                        alloc,
+                        PolicySet::try_from_iter_with_hasher(alloc, hasher, policies),
                         want,
                         |set| { has_ids(alloc, set, want) },
                     )

@@ -11,7 +11,7 @@ use cedar_refusals::{
     Answer, Calls, Row, Tried, ample_if, both, has_words, is_worded, joined, refuse, relent,
     tried_rows, unmade, with_last, with_word,
 };
-use cedar_replay::{EntityCall, replay_entities};
+use cedar_replay::{EntityCall, replay_entities, replay_entities_with_hasher};
 use std::alloc::Global;
 use std::collections::HashSet;
 use std::rc::Rc;
@@ -209,6 +209,8 @@ const LISTS: &str = "
     replay_entities | from: a b; add: c c | ! 1 input graph has a cycle containing vertex `A::\"c\"`
     replay_entities | add: a b; remove: x; add: a c | ! 2 duplicate entity `A::\"a\"`
     - replay_entities | partial
+    replay_entities_with_hasher | from: a b, b c; add: c d; upsert: b e; remove: c; partial | a 2, b 1,
+    replay_entities_with_hasher | from: a b; add: c c | ! 1 input graph has a cycle containing vertex `A::\"c\"`
 ";
 
 impl Calls for OnLists {
@@ -216,7 +218,11 @@ impl Calls for OnLists {
         match calls_of(alloc, row.given) {
             Some(calls) => {
                 refuse(alloc, number);
-                let answer = replay_entities(alloc, calls);
+                let answer = if row.call == "replay_entities" {
+                    replay_entities(alloc, calls)
+                } else {
+                    replay_entities_with_hasher(alloc, BuildHasherDefault::new(), calls)
+                };
                 let refused = relent(alloc);
                 let answer = match answer {
                     Ok(store) => {

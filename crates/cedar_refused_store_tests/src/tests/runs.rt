@@ -102,10 +102,12 @@ fn tried(alloc: Global, number: usize, input: &[u8], out: Kept, due: &[u8], row:
     };
     let mut out = out;
     refuse(alloc, number);
-    let answer = if row.call == "run" {
-        run(alloc, &mut reader, &mut out)
-    } else {
-        run_and_leave(alloc, &mut reader, &mut out)
+    let hasher = KeyedState::with_keys(1, 2);
+    let answer = match row.call {
+        "run" => run(alloc, &mut reader, &mut out),
+        "run_with" => run_with(alloc, hasher, &mut reader, &mut out),
+        "run_and_leave_with" => run_and_leave_with(alloc, hasher, &mut reader, &mut out),
+        _ => run_and_leave(alloc, &mut reader, &mut out),
     };
     let refused = relent(alloc);
     let answer = told(answer, out.bytes.as_slice(), due, row.want);
@@ -136,6 +138,14 @@ const RUNS: &str = "
     run_and_leave | frob; | 2 line 1: not a command;
     run_and_leave | ent>A::\"a\"; | read fault
     run_and_leave | ent>A::\"a\";build; | write fault
+    run_with | ent>A::\"a\">A::\"b\";ent>A::\"b\">A::\"c\";ent>A::\"d\";build;slice>A::\"b\";anc>A::\"b\";anc>A::\"a\"; | 0 ok 3;ok 1;anc>A::\"c\";no entity;
+    run_with | static>a>permit;template>t>principal;link>t>l>principal=A::\"x\";other;static>a>forbid;other;merge>keep;merge>rename;ids;unlink>l; | 0 ok;ok;ok;ok;ok;ok;refused: occupied a;ok>a>policy0;bodies>a>t>policy0;policies>a>l>policy0;ok;
+    run_with | static>a>permit;frob; | 2 ok;line 2: not a command;
+    run_with | ent>A::\"a\"; | read fault
+    run_with | ent>A::\"a\";build; | write fault
+    run_and_leave_with | ent>A::\"a\">A::\"b\";ent>A::\"b\">A::\"c\";build;anc>A::\"a\"; | 0 ok 2;anc>A::\"b\">A::\"c\";
+    run_and_leave_with | ent>A::\"a\"; | read fault
+    run_and_leave_with | ent>A::\"a\";build; | write fault
 ";
 
 impl Calls for OnRuns {

@@ -1,10 +1,10 @@
 // Slices of random stores beside what a search gives: of plain ones, and of stores that were taken as they are, which may have
 // cycles or lack ancestors.
-use super::keys::keyed;
 use super::stores::{beside, keys_in, listed, sliced, store_by, store_of};
 use super::worlds::{LETTERS, Row, is_least, reached, with_ancestors};
 use cedar_entities::entities::{Entities, TCComputation};
 use cedar_ids::entity::EntityUID;
+use cedar_keyed_hash::KeyedState;
 use std::alloc::{AllocError, Global};
 use std::hash::BuildHasher;
 use std::test::Fail;
@@ -176,7 +176,7 @@ fn made_by<S: BuildHasher + Copy>(
 
 // Whether the slices of a store under two keys are deeply equal.
 fn keys_agree(alloc: Global, case: &Case<'_>) -> Result<bool, Fail> {
-    let (one, other) = (keyed(1)?, keyed(200)?);
+    let (one, other) = (KeyedState::with_keys(1, 2), KeyedState::with_keys(u64::MAX, 3));
     let ((whole, part), (again, second)) = beside(
         made_by(alloc, one, case)?,
         made_by(alloc, other, case),
