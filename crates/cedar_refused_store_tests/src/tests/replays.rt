@@ -14,6 +14,7 @@ use cedar_refusals::{
 use cedar_replay::{EntityCall, replay_entities, replay_entities_with_hasher};
 use std::alloc::Global;
 use std::collections::HashSet;
+use std::hash::BuildHasherDefault;
 use std::rc::Rc;
 
 fn uid(alloc: Global, name: &str) -> Option<EntityUID> {

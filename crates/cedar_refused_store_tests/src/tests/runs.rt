@@ -1,9 +1,10 @@
 // Runs of the program. In a row an input and an output are written with `;` for the end of a line and `>` for a tab; before the
 // output stands the status.
+use cedar_keyed_hash::KeyedState;
 use cedar_refusals::{
     Answer, Calls, Row, Tried, ample_if, both, memory_if, refuse, relent, tried_rows, unmade,
 };
-use cedar_store::{RunError, run, run_and_leave};
+use cedar_store::{RunError, run, run_and_leave, run_and_leave_with, run_with};
 use std::alloc::Global;
 use std::io;
 use std::io::{ErrorKind, Read, Write};

@@ -1,0 +1,110 @@
+"""Inputs whose ids collide under the fixed seed of the default hasher, each beside ordinary ids of the same lengths.
+
+The default hasher multiplies eight bytes, joined by exclusive or to its state, by eight others, joined to a constant, and joins
+the halves of the product. So where its state is known, eight bytes can be chosen that make it 0, whatever comes before and after.
+"""
+MULTIPLIER, SEED, ONES = 0x9E3779B97F4A7C15, 0x243F6A8885A308D3, (1 << 64) - 1
+EDITS = 1000
+
+
+def joined(one, other):
+    product = one * other
+    return product & ONES ^ product >> 64
+
+
+def short(state, number, length):
+    """The hasher's state behind up to eight bytes, read as a number."""
+    return joined(state ^ number, MULTIPLIER ^ 2 * length)
+
+
+def long(state, text):
+    """The hasher's state behind sixteen bytes of a longer text."""
+    return joined(state ^ int.from_bytes(text[:8], "little"), MULTIPLIER ^ int.from_bytes(text[8:], "little"))
+
+
+def printable(number):
+    """A number's eight bytes as a text, if each is a character that stands for itself in a line."""
+    text = number.to_bytes(8, "little")
+    return text.decode() if all(32 < b < 127 and b not in b'"\\' for b in text) else None
+
+
+def crafted_type():
+    """A type, and the eight characters that begin an eid of 16 which goes to 0 whatever its others are."""
+    for number in range(100000):
+        name = f"T{number:05}"
+        text = name.encode()
+        state = short(SEED, int.from_bytes(text[:4] + text[-4:], "little"), len(text))
+        state = short(short(state, 0xFFFFFF, 1), 0, 8)
+        head = printable(state + 16 & ONES)
+        if head:
+            return name, head
+    raise SystemExit("no type is found")
+
+
+def crafted_start():
+    """The 24 characters that begin an id of 32 which goes to 0 whatever its others are."""
+    for number in range(1000000):
+        start = f"policy{number:010}"
+        head = printable(long(SEED + 32 & ONES, start.encode()))
+        if head:
+            return start + head
+    raise SystemExit("no id is found")
+
+
+def edits(size):
+    """Edits of one entity each of a store of entities without parents, half of them overwriting."""
+    for edit in range(EDITS):
+        own = (edit * 7919 + 1) % size
+        if edit % 4 == 3:
+            yield "remove", own, []
+        else:
+            yield "upsert", own, [(own * 31 + edit) % own] if own else []
+
+
+def store_lines(shape, size, uid):
+    """The lines that build a store, and may edit it: entities without parents, below one of them, or as a chain."""
+    for i in range(size):
+        parents = {"star": [0] if i else [], "chain": [i - 1] if i else []}.get(shape, [])
+        yield ["ent", uid(i)] + [uid(parent) for parent in parents]
+    yield ["build"]
+    if shape == "edits":
+        for verb, own, parents in edits(size):
+            if verb == "remove":
+                yield ["remove", uid(own)]
+            else:
+                yield ["ent", uid(own)] + [uid(parent) for parent in parents]
+                yield ["upsert"]
+
+
+def set_lines(shape, size, name):
+    """The lines that fill a policy set: with static policies, with links of one template, or two sets that are merged."""
+    if shape == "links":
+        yield ["template", name(size), "principal"]
+        for i in range(size):
+            yield ["link", name(size), name(i), 'principal=User::"one"']
+    elif shape == "static policies":
+        for i in range(size):
+            yield ["static", name(i), "permit"]
+    else:
+        for effect in "permit", "forbid":
+            for i in range(size // 2):
+                yield ["static", name(i), "permit" if i % 2 else effect]
+            yield ["other"]
+        yield ["merge", "rename"]
+    yield ["ids"]
+
+
+def stores(size):
+    """Each store with a title: its lines with crafted uids, and with ordinary ones."""
+    name, head = crafted_type()
+    for shape, count in ("single", size), ("star", size), ("chain", size // 20), ("edits", size):
+        for kind, start in ("crafted", head), ("ordinary", "ordinary"):
+            yield f"{shape} {count:,} of {kind} uids", store_lines(shape, count, lambda i, name=name, start=start: f'{name}::"{start}{i:08}"')
+
+
+def sets(size):
+    """Each policy set with a title: its lines with crafted ids, and with ordinary ones."""
+    start = crafted_start()
+    for shape in "static policies", "links", "merge":
+        for kind, head in ("crafted", start), ("ordinary", start[:16] + "ordinary"):
+            yield f"{shape} {size:,} of {kind} ids", set_lines(shape, size, lambda i, head=head: f"{head}{i:08}")
