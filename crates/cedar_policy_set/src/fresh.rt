@@ -22,7 +22,11 @@ fn numbered(alloc: Global, number: u128) -> Result<PolicyID, AllocError>
 }
 
 // Whether one of two sets binds an id.
-fn is_bound_in_either<S: BuildHasher + Copy>(here: &PolicySet<S>, other: &PolicySet<S>, id: &PolicyID) -> bool
+fn is_bound_in_either<S: BuildHasher + Copy>(
+    here: &PolicySet<S>,
+    other: &PolicySet<S>,
+    id: &PolicyID,
+) -> bool
     ensures { result ≡ is_bound_in_either here.now other.now id.now }
 {
     here.is_bound(id) || other.is_bound(id)

@@ -118,8 +118,10 @@ impl<S: BuildHasher + Copy> PolicySet<S> {
             &template,
         ) {
             Ok((id, listed)) => {
-                let ids =
-                    IndexSet::with_hasher(*self.templates.allocator(), *self.templates.hasher());
+                let ids = IndexSet::with_hasher(
+                    *self.templates.allocator(),
+                    *self.templates.hasher(),
+                );
                 put_last(&mut self.templates, id, template);
                 put_last(&mut self.template_to_links_map, listed, ids);
                 Ok(())

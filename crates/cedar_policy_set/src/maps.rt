@@ -21,7 +21,11 @@ use std::hash::BuildHasher;
 use std::rc::Rc;
 
 // Puts a value under a new key last, where there is room for it.
-pub(crate) fn put_last<V: Drop, S: BuildHasher + Copy>(map: &mut IndexMap<PolicyID, V, S>, key: PolicyID, value: V)
+pub(crate) fn put_last<V: Drop, S: BuildHasher + Copy>(
+    map: &mut IndexMap<PolicyID, V, S>,
+    key: PolicyID,
+    value: V,
+)
     requires room { 0 < spare map.old }
     requires absent { get same_text map.old key ≡ None }
     ensures { map.new.entries ≡ map.old.entries ++ (key, value) ∷ [] }
@@ -162,7 +166,11 @@ pub(crate) fn room_for_both<S: BuildHasher + Copy>(
 }
 
 // The set of one id.
-fn set_of<S: BuildHasher + Copy>(alloc: Global, hasher: S, id: &PolicyID) -> Result<IndexSet<PolicyID, S>, AllocError>
+fn set_of<S: BuildHasher + Copy>(
+    alloc: Global,
+    hasher: S,
+    id: &PolicyID,
+) -> Result<IndexSet<PolicyID, S>, AllocError>
     ensures { IfOk result (λ s. s.keys ≡ id.now ∷ []) }
 {
     let mut ids = IndexSet::with_hasher(alloc, hasher);
@@ -176,14 +184,20 @@ fn set_of<S: BuildHasher + Copy>(alloc: Global, hasher: S, id: &PolicyID) -> Res
 }
 
 // Puts a copy of an id last, if it isn't there.
-fn put_copy<S: BuildHasher + Copy>(ids: &mut IndexSet<PolicyID, S>, id: &PolicyID) -> Result<(), AllocError>
+fn put_copy<S: BuildHasher + Copy>(
+    ids: &mut IndexSet<PolicyID, S>,
+    id: &PolicyID,
+) -> Result<(), AllocError>
     ensures { OnOk result (ids.new.keys ≡ insert_key same_text ids.old.keys id.now) }
 {
     put_id(ids, id.clone()?)
 }
 
 // Puts an id last, if it isn't there.
-fn put_id<S: BuildHasher + Copy>(ids: &mut IndexSet<PolicyID, S>, id: PolicyID) -> Result<(), AllocError>
+fn put_id<S: BuildHasher + Copy>(
+    ids: &mut IndexSet<PolicyID, S>,
+    id: PolicyID,
+) -> Result<(), AllocError>
     ensures ok { OnOk result (ids.new.keys ≡ insert_key same_text ids.old.keys id) }
     ensures err { OnErr result (ids.new.keys ≡ ids.old.keys) }
 {
@@ -214,7 +228,11 @@ pub(crate) fn list_id<S: BuildHasher + Copy>(
 }
 
 // Takes an id out of what is listed under a body's.
-fn unlist_id<S: BuildHasher + Copy>(map: &mut IndexMap<PolicyID, IndexSet<PolicyID, S>, S>, body: &PolicyID, id: &PolicyID)
+fn unlist_id<S: BuildHasher + Copy>(
+    map: &mut IndexMap<PolicyID, IndexSet<PolicyID, S>, S>,
+    body: &PolicyID,
+    id: &PolicyID,
+)
     ensures { lists_of map.new.entries ≡ without_listed body.now id.now (lists_of map.old.entries) }
 {
     match map.get_mut(body) {
@@ -337,7 +355,10 @@ fn put_policies<S: BuildHasher + Copy>(
 }
 
 // Puts a policy with a new id last.
-fn put_policy<S: BuildHasher + Copy>(links: &mut IndexMap<PolicyID, Policy, S>, policy: Policy) -> Result<(), AllocError>
+fn put_policy<S: BuildHasher + Copy>(
+    links: &mut IndexMap<PolicyID, Policy, S>,
+    policy: Policy,
+) -> Result<(), AllocError>
     requires { get same_text links.old (policy_id policy) ≡ None }
     ensures { OnOk result (links.new.entries ≡ links.old.entries ++ (policy_id policy, policy) ∷ []) }
 {
@@ -382,7 +403,11 @@ fn no_ids<S: BuildHasher + Copy>(
 {
     let mut map = IndexMap::with_capacity_and_hasher(alloc, bodies.len(), hasher)?;
     for template in bodies {
-        put_new(&mut map, template.id().clone()?, IndexSet::with_hasher(alloc, hasher))?;
+        put_new(
+            &mut map,
+            template.id().clone()?,
+            IndexSet::with_hasher(alloc, hasher),
+        )?;
     }
     Ok(map)
 }

@@ -95,7 +95,10 @@ impl<S: BuildHasher + Copy> PolicySet<S> {
 }
 
 // The first of some ids, where none may be renamed.
-fn refused<'a, S: BuildHasher + Copy>(ids: &'a IndexSet<PolicyID, S>, rename: bool) -> Option<&'a PolicyID>
+fn refused<'a, S: BuildHasher + Copy>(
+    ids: &'a IndexSet<PolicyID, S>,
+    rename: bool,
+) -> Option<&'a PolicyID>
     ensures { Refuses (option_copied result) ids.now.keys rename }
 {
     if rename {
@@ -198,14 +201,24 @@ fn gather_one<S: BuildHasher + Copy>(
 }
 
 // Whether an id is looked at in this group and is not bound alike in both sets.
-fn is_conflicting<S: BuildHasher + Copy>(here: &PolicySet<S>, other: &PolicySet<S>, id: &PolicyID, group: Group) -> bool
+fn is_conflicting<S: BuildHasher + Copy>(
+    here: &PolicySet<S>,
+    other: &PolicySet<S>,
+    id: &PolicyID,
+    group: Group,
+) -> bool
     ensures { result ≡ (looked_at group here.now other.now id.now && not (is_same_at here.now other.now id.now)) }
 {
     is_looked_at(here, other, id, group) && !is_same_at(here, other, id)
 }
 
 // Whether an id is looked at in this group.
-fn is_looked_at<S: BuildHasher + Copy>(here: &PolicySet<S>, other: &PolicySet<S>, id: &PolicyID, group: Group) -> bool
+fn is_looked_at<S: BuildHasher + Copy>(
+    here: &PolicySet<S>,
+    other: &PolicySet<S>,
+    id: &PolicyID,
+    group: Group,
+) -> bool
     ensures { result ≡ looked_at group here.now other.now id.now }
 {
     match group {
@@ -217,14 +230,22 @@ fn is_looked_at<S: BuildHasher + Copy>(here: &PolicySet<S>, other: &PolicySet<S>
 }
 
 // Whether a body here and one there have an id.
-fn have_bodies<S: BuildHasher + Copy>(here: &PolicySet<S>, other: &PolicySet<S>, id: &PolicyID) -> bool
+fn have_bodies<S: BuildHasher + Copy>(
+    here: &PolicySet<S>,
+    other: &PolicySet<S>,
+    id: &PolicyID,
+) -> bool
     ensures { result ≡ (has_body here.now id.now && has_body other.now id.now) }
 {
     here.has_body(id) && other.has_body(id)
 }
 
 // Whether an id is bound alike in both sets.
-fn is_same_at<S: BuildHasher + Copy>(here: &PolicySet<S>, other: &PolicySet<S>, id: &PolicyID) -> bool
+fn is_same_at<S: BuildHasher + Copy>(
+    here: &PolicySet<S>,
+    other: &PolicySet<S>,
+    id: &PolicyID,
+) -> bool
     ensures { result ≡ is_same_at here.now other.now id.now }
 {
     here.get(id) == other.get(id) && here.get_template(id) == other.get_template(id)

@@ -7,8 +7,8 @@ ghost use Rattle.cedar_policy_set.specs.Views.{bodies_of};
 
 use crate::policy_set::{PolicySet, are_empty};
 use cedar_policy::{Policy, Template};
-use std::hash::BuildHasher;
 use std::fmt;
+use std::hash::BuildHasher;
 use std::rc::Rc;
 
 impl<S: BuildHasher + Copy> fmt::Display for PolicySet<S> {

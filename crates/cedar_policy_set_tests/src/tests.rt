@@ -18,9 +18,24 @@ mod texts;
 mod validity;
 
 use cedar_ids::entity::EntityUID;
+use cedar_keyed_hash::KeyedState;
 use cedar_test_helpers::tried::owned;
 use std::alloc::Global;
+use std::hash::{BuildHasherDefault, FoldHasher};
 use std::test::Fail;
+
+// The builder of hashers of a set that is given none.
+fn fixed() -> BuildHasherDefault<FoldHasher> {
+    BuildHasherDefault::new()
+}
+
+// Two builders of hashers with keys.
+fn keys() -> (KeyedState, KeyedState) {
+    (
+        KeyedState::with_keys(1, 2),
+        KeyedState::with_keys(u64::MAX, 3),
+    )
+}
 
 // The uid of type `A` with this eid.
 fn uid(alloc: Global, eid: &str) -> Result<EntityUID, Fail> {

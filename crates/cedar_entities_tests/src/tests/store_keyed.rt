@@ -70,7 +70,10 @@ fn agree<S: BuildHasher + Clone>(
 
 // Whether the stores of a list under two keys agree.
 fn keys_agree(alloc: Global, rows: &Rows, mode: TCComputation) -> Result<bool, Fail> {
-    let (one, other) = (KeyedState::with_keys(1, 2), KeyedState::with_keys(u64::MAX, 3));
+    let (one, other) = (
+        KeyedState::with_keys(1, 2),
+        KeyedState::with_keys(u64::MAX, 3),
+    );
     let first = built(alloc, one, rows, mode)?;
     let (first, second) = beside(first, built(alloc, other, rows, mode))?;
     Ok(agree(alloc, first, second)?)

@@ -149,7 +149,10 @@ fn closes_all_small_graphs(rt: HostRuntime) {
 #[test]
 fn closes_all_small_graphs_under_two_keys(rt: HostRuntime) {
     let alloc = rt.alloc();
-    let (one, other) = (KeyedState::with_keys(1, 2), KeyedState::with_keys(u64::MAX, 3));
+    let (one, other) = (
+        KeyedState::with_keys(1, 2),
+        KeyedState::with_keys(u64::MAX, 3),
+    );
     for number in 0..512 {
         assert!(rt;
             number_agrees(alloc, one, number),
@@ -222,7 +225,10 @@ fn checks_all_small_graphs(rt: HostRuntime) {
 #[test]
 fn checks_all_small_graphs_under_two_keys(rt: HostRuntime) {
     let alloc = rt.alloc();
-    let (one, other) = (KeyedState::with_keys(1, 2), KeyedState::with_keys(u64::MAX, 3));
+    let (one, other) = (
+        KeyedState::with_keys(1, 2),
+        KeyedState::with_keys(u64::MAX, 3),
+    );
     for number in 0..512 {
         assert!(rt;
             check_of_number_agrees(alloc, one, number),

@@ -5,11 +5,17 @@ use super::yes_or_no;
 use cedar_policy_set::PolicySet;
 use cedar_test_helpers::tried::{beside, owned};
 use std::alloc::Global;
+use std::hash::BuildHasher;
 use std::test::Fail;
 
 // How the sets that these calls leave stand to each other, seen from both sides.
-pub(super) fn stand(alloc: Global, one: &str, other: &str) -> Result<String, Fail> {
-    let (one, other) = beside(set_of(alloc, one)?, set_of(alloc, other))?;
+pub(super) fn stand<S: BuildHasher + Copy>(
+    alloc: Global,
+    keys: (S, S),
+    one: &str,
+    other: &str,
+) -> Result<String, Fail> {
+    let (one, other) = beside(set_of(alloc, keys.0, one)?, set_of(alloc, keys.1, other))?;
     let equal = one == other;
     let turned = other == one;
     drop(one);
@@ -25,7 +31,11 @@ pub(super) fn stand(alloc: Global, one: &str, other: &str) -> Result<String, Fai
 }
 
 // Whether a copy is equal, and stays as it was when the set changes.
-fn is_copied(alloc: Global, set: &mut PolicySet, call: &str) -> Result<bool, Fail> {
+fn is_copied<S: BuildHasher + Copy>(
+    alloc: Global,
+    set: &mut PolicySet<S>,
+    call: &str,
+) -> Result<bool, Fail> {
     let copy = set.clone()?;
     let equal = copy == *set;
     let before = board_of(set);
@@ -37,7 +47,10 @@ fn is_copied(alloc: Global, set: &mut PolicySet, call: &str) -> Result<bool, Fai
 }
 
 // Whether it does so at three calls, one after another.
-fn is_copied_thrice(alloc: Global, set: &mut PolicySet) -> Result<bool, Fail> {
+fn is_copied_thrice<S: BuildHasher + Copy>(
+    alloc: Global,
+    set: &mut PolicySet<S>,
+) -> Result<bool, Fail> {
     Ok(
         is_copied(alloc, set, "unlink l")?
             && is_copied(alloc, set, "remove_template t")?
@@ -47,8 +60,12 @@ fn is_copied_thrice(alloc: Global, set: &mut PolicySet) -> Result<bool, Fail> {
 
 // Whether a copy of the set that some calls leave is equal, and stays as it was when the set changes, at three calls in
 // turn.
-pub(super) fn copies_stand_apart(alloc: Global, calls: &str) -> Result<String, Fail> {
-    let mut set = set_of(alloc, calls)?;
+pub(super) fn copies_stand_apart<S: BuildHasher + Copy>(
+    alloc: Global,
+    hasher: S,
+    calls: &str,
+) -> Result<String, Fail> {
+    let mut set = set_of(alloc, hasher, calls)?;
     let told = is_copied_thrice(alloc, &mut set);
     drop(set);
     yes_or_no(alloc, told)

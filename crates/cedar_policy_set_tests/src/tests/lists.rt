@@ -2,10 +2,12 @@
 use super::board::{Body, Row, after, empty};
 use super::notation::{Call, Said, Verb, call_of, has_digit, unlinked};
 use super::script::{board_of, done};
+use super::{fixed, keys};
 use cedar_policy_set::PolicySet;
 use cedar_test_helpers::drawn::below;
 use cedar_test_helpers::tried::kept;
 use std::alloc::Global;
+use std::hash::BuildHasher;
 use std::test::Fail;
 
 // How many lists there were, how many calls in them, how many of those were refused, and after how
@@ -51,9 +53,9 @@ fn tell(tally: &mut Tally, said: Said, held: bool) {
 
 // Makes calls on the empty set, which is given, and on the empty board; after each the answers and
 // both orders have to be the same.
-fn compare_on(
+fn compare_on<S: BuildHasher + Copy>(
     alloc: Global,
-    set: &mut PolicySet,
+    set: &mut PolicySet<S>,
     tally: &mut Tally,
     calls: &[Call],
 ) -> Result<(), Fail> {
@@ -66,9 +68,14 @@ fn compare_on(
     Ok(())
 }
 
-fn compare(alloc: Global, tally: &mut Tally, calls: &[Call]) -> Result<(), Fail> {
+fn compare<S: BuildHasher + Copy>(
+    alloc: Global,
+    hasher: S,
+    tally: &mut Tally,
+    calls: &[Call],
+) -> Result<(), Fail> {
     more(&mut tally.lists);
-    let mut set = PolicySet::new(alloc);
+    let mut set = PolicySet::with_hasher(alloc, hasher);
     let done = compare_on(alloc, &mut set, tally, calls);
     drop(set);
     done
@@ -101,39 +108,54 @@ fn calls(alloc: Global, texts: &str) -> Result<Vec<Call>, Fail> {
 }
 
 // Each list of three calls that begins with these two.
-fn all_of_two(
+fn all_of_two<S: BuildHasher + Copy>(
     alloc: Global,
+    hasher: S,
     tally: &mut Tally,
     all: &[Call],
     one: Call,
     two: Call,
 ) -> Result<(), Fail> {
     for three in all {
-        compare(alloc, tally, &[one, two, *three])?;
+        compare(alloc, hasher, tally, &[one, two, *three])?;
     }
     Ok(())
 }
 
 // Each list of three calls that begins with this one.
-fn all_of_one(alloc: Global, tally: &mut Tally, all: &[Call], one: Call) -> Result<(), Fail> {
+fn all_of_one<S: BuildHasher + Copy>(
+    alloc: Global,
+    hasher: S,
+    tally: &mut Tally,
+    all: &[Call],
+    one: Call,
+) -> Result<(), Fail> {
     for two in all {
-        all_of_two(alloc, tally, all, one, *two)?;
+        all_of_two(alloc, hasher, tally, all, one, *two)?;
     }
     Ok(())
 }
 
-fn all_of_three(alloc: Global, all: &[Call]) -> Result<Tally, Fail> {
+fn all_of_three<S: BuildHasher + Copy>(
+    alloc: Global,
+    hasher: S,
+    all: &[Call],
+) -> Result<Tally, Fail> {
     let mut tally = nothing();
     for one in all {
-        all_of_one(alloc, &mut tally, all, *one)?;
+        all_of_one(alloc, hasher, &mut tally, all, *one)?;
     }
     Ok(tally)
 }
 
 // Each list of three of the calls with these texts.
-fn all_of_calls(alloc: Global, texts: &str) -> Result<Tally, Fail> {
+fn all_of_calls<S: BuildHasher + Copy>(
+    alloc: Global,
+    hasher: S,
+    texts: &str,
+) -> Result<Tally, Fail> {
     let all = calls(alloc, texts)?;
-    let tally = all_of_three(alloc, &all);
+    let tally = all_of_three(alloc, hasher, &all);
     drop(all);
     tally
 }
@@ -149,7 +171,10 @@ fn is_all_of_calls(tally: &Tally) -> bool {
 
 #[test]
 fn each_list_of_three_calls_leaves_its_board(rt: HostRuntime) -> Result<(), Fail> {
-    assert!(rt; is_all_of_calls(&all_of_calls(rt.alloc(), CALLS)?));
+    let (one, other) = keys();
+    assert!(rt; is_all_of_calls(&all_of_calls(rt.alloc(), fixed(), CALLS)?));
+    assert!(rt; is_all_of_calls(&all_of_calls(rt.alloc(), one, CALLS)?));
+    assert!(rt; is_all_of_calls(&all_of_calls(rt.alloc(), other, CALLS)?));
     Ok(())
 }
 
@@ -164,7 +189,10 @@ fn is_all_of_actions(tally: &Tally) -> bool {
 
 #[test]
 fn each_list_of_three_calls_on_actions_leaves_its_board(rt: HostRuntime) -> Result<(), Fail> {
-    assert!(rt; is_all_of_actions(&all_of_calls(rt.alloc(), ACTIONS)?));
+    let (one, other) = keys();
+    assert!(rt; is_all_of_actions(&all_of_calls(rt.alloc(), fixed(), ACTIONS)?));
+    assert!(rt; is_all_of_actions(&all_of_calls(rt.alloc(), one, ACTIONS)?));
+    assert!(rt; is_all_of_actions(&all_of_calls(rt.alloc(), other, ACTIONS)?));
     Ok(())
 }
 
@@ -271,19 +299,24 @@ fn drawn_calls(alloc: Global, seed: &mut u64) -> Result<Vec<Call>, Fail> {
     kept(calls, done)
 }
 
-fn compare_drawn(alloc: Global, tally: &mut Tally, seed: &mut u64) -> Result<(), Fail> {
+fn compare_drawn<S: BuildHasher + Copy>(
+    alloc: Global,
+    hasher: S,
+    tally: &mut Tally,
+    seed: &mut u64,
+) -> Result<(), Fail> {
     let calls = drawn_calls(alloc, seed)?;
-    let done = compare(alloc, tally, &calls);
+    let done = compare(alloc, hasher, tally, &calls);
     drop(calls);
     done
 }
 
 // This many lists.
-fn all_drawn(alloc: Global, count: u16) -> Result<Tally, Fail> {
+fn all_drawn<S: BuildHasher + Copy>(alloc: Global, hasher: S, count: u16) -> Result<Tally, Fail> {
     let mut tally = nothing();
     let mut seed = 2_026;
     for _list in 0..count {
-        compare_drawn(alloc, &mut tally, &mut seed)?;
+        compare_drawn(alloc, hasher, &mut tally, &mut seed)?;
     }
     Ok(tally)
 }
@@ -300,6 +333,9 @@ fn is_all_drawn(tally: &Tally) -> bool {
 
 #[test]
 fn longer_lists_of_calls_leave_their_board(rt: HostRuntime) -> Result<(), Fail> {
-    assert!(rt; is_all_drawn(&all_drawn(rt.alloc(), 20_000)?));
+    let (one, other) = keys();
+    assert!(rt; is_all_drawn(&all_drawn(rt.alloc(), fixed(), 20_000)?));
+    assert!(rt; is_all_drawn(&all_drawn(rt.alloc(), one, 20_000)?));
+    assert!(rt; is_all_drawn(&all_drawn(rt.alloc(), other, 20_000)?));
     Ok(())
 }

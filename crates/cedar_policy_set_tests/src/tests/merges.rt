@@ -3,15 +3,20 @@
 use super::board::{Board, Renaming, after, empty, merge};
 use super::notation::{Said, Why, call_of, put_letter, put_told};
 use super::script::{board_of, letter_of, said_by_set, set_of, told_on};
+use super::{fixed, keys};
 use cedar_ids::policy_id::PolicyID;
 use cedar_policy_set::{PolicySet, PolicySetError};
 use cedar_test_helpers::tried::{beside, is_told, kept, put_word};
 use indexmap::IndexMap;
 use std::alloc::Global;
+use std::hash::BuildHasher;
 use std::test::Fail;
 
 // Writes renamed ids and their new ones: `aP bQ `.
-fn put_renamed(text: &mut String, renaming: &IndexMap<PolicyID, PolicyID>) -> Result<(), Fail> {
+fn put_renamed<S: BuildHasher + Copy>(
+    text: &mut String,
+    renaming: &IndexMap<PolicyID, PolicyID, S>,
+) -> Result<(), Fail> {
     for (old, new) in renaming {
         put_letter(text, letter_of(old))?;
         put_letter(text, letter_of(new))?;
@@ -21,9 +26,9 @@ fn put_renamed(text: &mut String, renaming: &IndexMap<PolicyID, PolicyID>) -> Re
 }
 
 // What merging answers; renamed ids are written.
-fn answer(
+fn answer<S: BuildHasher + Copy>(
     text: &mut String,
-    answer: Result<IndexMap<PolicyID, PolicyID>, PolicySetError>,
+    answer: Result<IndexMap<PolicyID, PolicyID, S>, PolicySetError>,
 ) -> Result<Said, Fail> {
     match answer {
         Ok(renaming) => {
@@ -37,11 +42,11 @@ fn answer(
 }
 
 // Writes what merging a set into another answers, renamed ids before it, and both orders after it.
-fn put_merged(
+fn put_merged<S: BuildHasher + Copy>(
     alloc: Global,
     text: &mut String,
-    set: &mut PolicySet,
-    other: &PolicySet,
+    set: &mut PolicySet<S>,
+    other: &PolicySet<S>,
     rename: bool,
 ) -> Result<(), Fail> {
     let said = answer(text, set.merge_policyset(alloc, other, rename))?;
@@ -49,10 +54,10 @@ fn put_merged(
 }
 
 // That as a text.
-fn merged(
+fn merged<S: BuildHasher + Copy>(
     alloc: Global,
-    set: &mut PolicySet,
-    other: &PolicySet,
+    set: &mut PolicySet<S>,
+    other: &PolicySet<S>,
     rename: bool,
 ) -> Result<String, Fail> {
     let mut text = String::new(alloc);
@@ -61,8 +66,14 @@ fn merged(
 }
 
 // What merging a set that some calls leave into another such answers, renamed ids before it, and both orders after it.
-pub(super) fn told(alloc: Global, here: &str, other: &str, rename: bool) -> Result<String, Fail> {
-    let (other, mut set) = beside(set_of(alloc, other)?, set_of(alloc, here))?;
+pub(super) fn told<S: BuildHasher + Copy>(
+    alloc: Global,
+    keys: (S, S),
+    here: &str,
+    other: &str,
+    rename: bool,
+) -> Result<String, Fail> {
+    let (other, mut set) = beside(set_of(alloc, keys.1, other)?, set_of(alloc, keys.0, here))?;
     let told = merged(alloc, &mut set, &other, rename);
     drop(set);
     drop(other);
@@ -70,11 +81,11 @@ pub(super) fn told(alloc: Global, here: &str, other: &str, rename: bool) -> Resu
 }
 
 // Writes what merging a set into another answers, and both orders after it, twice in turn.
-fn put_twice(
+fn put_twice<S: BuildHasher + Copy>(
     alloc: Global,
     text: &mut String,
-    set: &mut PolicySet,
-    other: &PolicySet,
+    set: &mut PolicySet<S>,
+    other: &PolicySet<S>,
 ) -> Result<(), Fail> {
     put_merged(alloc, text, set, other, true)?;
     put_word(text, ", ")?;
@@ -82,15 +93,24 @@ fn put_twice(
 }
 
 // That as a text.
-fn told_twice(alloc: Global, set: &mut PolicySet, other: &PolicySet) -> Result<String, Fail> {
+fn told_twice<S: BuildHasher + Copy>(
+    alloc: Global,
+    set: &mut PolicySet<S>,
+    other: &PolicySet<S>,
+) -> Result<String, Fail> {
     let mut text = String::new(alloc);
     let done = put_twice(alloc, &mut text, set, other);
     kept(text, done)
 }
 
 // What merging a set that some calls leave into another such answers twice in turn, and both orders after each.
-pub(super) fn told_again(alloc: Global, here: &str, other: &str) -> Result<String, Fail> {
-    let (other, mut set) = beside(set_of(alloc, other)?, set_of(alloc, here))?;
+pub(super) fn told_again<S: BuildHasher + Copy>(
+    alloc: Global,
+    keys: (S, S),
+    here: &str,
+    other: &str,
+) -> Result<String, Fail> {
+    let (other, mut set) = beside(set_of(alloc, keys.1, other)?, set_of(alloc, keys.0, here))?;
     let told = told_twice(alloc, &mut set, &other);
     drop(set);
     drop(other);
@@ -98,10 +118,10 @@ pub(super) fn told_again(alloc: Global, here: &str, other: &str) -> Result<Strin
 }
 
 // Merges a set into another, and tells what the last of some calls on that answers, and both orders after it.
-fn told_then(
+fn told_then<S: BuildHasher + Copy>(
     alloc: Global,
-    set: &mut PolicySet,
-    other: &PolicySet,
+    set: &mut PolicySet<S>,
+    other: &PolicySet<S>,
     calls: &str,
 ) -> Result<String, Fail> {
     drop(set.merge_policyset(alloc, other, true)?);
@@ -109,13 +129,14 @@ fn told_then(
 }
 
 // The same of the sets that some calls leave.
-pub(super) fn told_after(
+pub(super) fn told_after<S: BuildHasher + Copy>(
     alloc: Global,
+    keys: (S, S),
     here: &str,
     other: &str,
     calls: &str,
 ) -> Result<String, Fail> {
-    let (other, mut set) = beside(set_of(alloc, other)?, set_of(alloc, here))?;
+    let (other, mut set) = beside(set_of(alloc, keys.1, other)?, set_of(alloc, keys.0, here))?;
     let told = told_then(alloc, &mut set, &other, calls);
     drop(set);
     drop(other);
@@ -215,37 +236,55 @@ fn plain_told(alloc: Global, here: &str, other: &str, rename: bool) -> Result<St
 }
 
 // Fails where merging these two is not as the model says.
-fn agrees(alloc: Global, here: &str, other: &str, rename: bool) -> Result<(), Fail> {
+fn agrees<S: BuildHasher + Copy>(
+    alloc: Global,
+    keys: (S, S),
+    here: &str,
+    other: &str,
+    rename: bool,
+) -> Result<(), Fail> {
     let want = plain_told(alloc, here, other, rename)?;
-    let told = told(alloc, here, other, rename);
+    let told = told(alloc, keys, here, other, rename);
     is_told(format_args!("{here} / {other}"), told, want.as_str())
 }
 
 // Fails with the first pair of sets with a number for the first of which merging is not as the model says.
-fn all_agree(alloc: Global, actions: bool, number: usize, rename: bool) -> Result<(), Fail> {
+fn all_agree<S: BuildHasher + Copy>(
+    alloc: Global,
+    keys: (S, S),
+    actions: bool,
+    number: usize,
+    rename: bool,
+) -> Result<(), Fail> {
     let here = calls_of(alloc, actions, number)?;
     for second in 0..49 {
         let other = calls_of(alloc, actions, second)?;
-        agrees(alloc, here.as_str(), other.as_str(), rename)?;
+        agrees(alloc, keys, here.as_str(), other.as_str(), rename)?;
     }
     Ok(())
 }
 
 // Fails with the first pair of sets of which merging is not as the model says, with renaming or without.
-fn each_agrees(alloc: Global, actions: bool) -> Result<(), Fail> {
+fn each_agrees<S: BuildHasher + Copy>(
+    alloc: Global,
+    keys: (S, S),
+    actions: bool,
+) -> Result<(), Fail> {
     for number in 0..49 {
-        all_agree(alloc, actions, number, true)?;
-        all_agree(alloc, actions, number, false)?;
+        all_agree(alloc, keys, actions, number, true)?;
+        all_agree(alloc, keys, actions, number, false)?;
     }
     Ok(())
 }
 
 #[test]
 fn merging_is_as_the_model_says(rt: HostRuntime) -> Result<(), Fail> {
-    each_agrees(rt.alloc(), false)
+    each_agrees(rt.alloc(), (fixed(), fixed()), false)?;
+    each_agrees(rt.alloc(), keys(), false)
 }
 
 #[test]
 fn merging_of_links_on_actions_is_as_the_model_says(rt: HostRuntime) -> Result<(), Fail> {
-    each_agrees(rt.alloc(), true)
+    each_agrees(rt.alloc(), (fixed(), fixed()), true)?;
+    each_agrees(rt.alloc(), keys(), true)
 }

@@ -3,18 +3,20 @@ use super::board::{Board, Renaming, after, empty, merge};
 use super::lists::drawn_call;
 use super::notation::{Said, Why};
 use super::script::{board_of, done, letter_of, said_by_set};
+use super::{fixed, keys};
 use cedar_ids::policy_id::PolicyID;
 use cedar_policy_set::{PolicySet, PolicySetError};
 use cedar_test_helpers::drawn::below;
 use cedar_test_helpers::tried::kept;
 use indexmap::IndexMap;
 use std::alloc::Global;
+use std::hash::BuildHasher;
 use std::test::Fail;
 
 // One drawn call; whether the answers and both orders are the same.
-fn call(
+fn call<S: BuildHasher + Copy>(
     alloc: Global,
-    set: &mut PolicySet,
+    set: &mut PolicySet<S>,
     board: &mut Board,
     seed: &mut u64,
 ) -> Result<bool, Fail> {
@@ -24,7 +26,10 @@ fn call(
 }
 
 // Whether ids are renamed as a renaming says, each in its turn, and no others.
-fn are_renamed(ids: &IndexMap<PolicyID, PolicyID>, renaming: &Renaming) -> bool {
+fn are_renamed<S: BuildHasher + Copy>(
+    ids: &IndexMap<PolicyID, PolicyID, S>,
+    renaming: &Renaming,
+) -> bool {
     let mut pairs = renaming.pairs.iter().flatten();
     for (old, new) in ids {
         if pairs.next() != Some(&(letter_of(old), letter_of(new))) {
@@ -35,8 +40,8 @@ fn are_renamed(ids: &IndexMap<PolicyID, PolicyID>, renaming: &Renaming) -> bool 
 }
 
 // Whether merging answers what it answers in the plain model.
-fn answers(
-    answer: Result<IndexMap<PolicyID, PolicyID>, PolicySetError>,
+fn answers<S: BuildHasher + Copy>(
+    answer: Result<IndexMap<PolicyID, PolicyID, S>, PolicySetError>,
     want: Result<Renaming, u8>,
 ) -> bool {
     match answer {
@@ -59,11 +64,11 @@ fn answers(
 }
 
 // Merges a set, which has this board; whether the answers, with the ids that are renamed, and both orders are the same.
-fn merge_set(
+fn merge_set<S: BuildHasher + Copy>(
     alloc: Global,
-    set: &mut PolicySet,
+    set: &mut PolicySet<S>,
     board: &mut Board,
-    other: &PolicySet,
+    other: &PolicySet<S>,
     rename: bool,
 ) -> bool {
     let theirs = board_of(other);
@@ -72,7 +77,11 @@ fn merge_set(
 }
 
 // Makes three drawn calls.
-fn three(alloc: Global, set: &mut PolicySet, seed: &mut u64) -> Result<(), Fail> {
+fn three<S: BuildHasher + Copy>(
+    alloc: Global,
+    set: &mut PolicySet<S>,
+    seed: &mut u64,
+) -> Result<(), Fail> {
     for _call in 0..3 {
         let _said = done(alloc, set, &drawn_call(seed))?;
     }
@@ -80,20 +89,25 @@ fn three(alloc: Global, set: &mut PolicySet, seed: &mut u64) -> Result<(), Fail>
 }
 
 // The set that three drawn calls leave.
-fn drawn_set(alloc: Global, seed: &mut u64) -> Result<PolicySet, Fail> {
-    let mut set = PolicySet::new(alloc);
+fn drawn_set<S: BuildHasher + Copy>(
+    alloc: Global,
+    hasher: S,
+    seed: &mut u64,
+) -> Result<PolicySet<S>, Fail> {
+    let mut set = PolicySet::with_hasher(alloc, hasher);
     let done = three(alloc, &mut set, seed);
     kept(set, done)
 }
 
 // Merges such a set.
-fn merge_drawn(
+fn merge_drawn<S: BuildHasher + Copy>(
     alloc: Global,
-    set: &mut PolicySet,
+    hasher: S,
+    set: &mut PolicySet<S>,
     board: &mut Board,
     seed: &mut u64,
 ) -> Result<bool, Fail> {
-    let other = drawn_set(alloc, seed)?;
+    let other = drawn_set(alloc, hasher, seed)?;
     let rename = below(seed, 4) != 0;
     let held = merge_set(alloc, set, board, &other, rename);
     drop(other);
@@ -101,29 +115,31 @@ fn merge_drawn(
 }
 
 // A call, or each fourth time a merge.
-fn step(
+fn step<S: BuildHasher + Copy>(
     alloc: Global,
-    set: &mut PolicySet,
+    hasher: S,
+    set: &mut PolicySet<S>,
     board: &mut Board,
     seed: &mut u64,
     number: u8,
 ) -> Result<bool, Fail> {
     if number % 4 == 3 {
-        return merge_drawn(alloc, set, board, seed);
+        return merge_drawn(alloc, hasher, set, board, seed);
     }
     call(alloc, set, board, seed)
 }
 
 // Makes this many steps.
-fn steps(
+fn steps<S: BuildHasher + Copy>(
     alloc: Global,
-    set: &mut PolicySet,
+    hasher: S,
+    set: &mut PolicySet<S>,
     board: &mut Board,
     seed: &mut u64,
     count: u8,
 ) -> Result<bool, Fail> {
     for number in 0..count {
-        if !step(alloc, set, board, seed, number)? {
+        if !step(alloc, hasher, set, board, seed, number)? {
             return Ok(false);
         }
     }
@@ -131,20 +147,20 @@ fn steps(
 }
 
 // One list of up to twelve.
-fn list(alloc: Global, seed: &mut u64) -> Result<bool, Fail> {
-    let mut set = PolicySet::new(alloc);
+fn list<S: BuildHasher + Copy>(alloc: Global, keys: (S, S), seed: &mut u64) -> Result<bool, Fail> {
+    let mut set = PolicySet::with_hasher(alloc, keys.0);
     let mut board = empty();
     let count = below(seed, 12).wrapping_add(1);
-    let told = steps(alloc, &mut set, &mut board, seed, count);
+    let told = steps(alloc, keys.1, &mut set, &mut board, seed, count);
     drop(set);
     told
 }
 
 // The number of the first list after which the set is another than the board, or this many.
-fn differing(alloc: Global, count: u16) -> Result<u16, Fail> {
+fn differing<S: BuildHasher + Copy>(alloc: Global, keys: (S, S), count: u16) -> Result<u16, Fail> {
     let mut seed = 1_956;
     for number in 0..count {
-        if !list(alloc, &mut seed)? {
+        if !list(alloc, keys, &mut seed)? {
             return Ok(number);
         }
     }
@@ -153,6 +169,7 @@ fn differing(alloc: Global, count: u16) -> Result<u16, Fail> {
 
 #[test]
 fn lists_of_calls_and_merges_leave_their_board(rt: HostRuntime) -> Result<(), Fail> {
-    assert!(rt; differing(rt.alloc(), 3_000)? == 3_000);
+    assert!(rt; differing(rt.alloc(), (fixed(), fixed()), 3_000)? == 3_000);
+    assert!(rt; differing(rt.alloc(), keys(), 3_000)? == 3_000);
     Ok(())
 }

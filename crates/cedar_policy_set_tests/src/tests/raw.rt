@@ -9,7 +9,7 @@ ghost use Rattle.cedar_policy_set.specs.laws.Joins.{CanJoinBothBy};
 
 use super::notation::row;
 use super::script::{policy_of, set_of, told_on};
-use super::yes_or_no;
+use super::{fixed, yes_or_no};
 use cedar_ids::policy_id::PolicyID;
 use cedar_policy::{Policy, Template};
 use cedar_policy_set::PolicySet;
@@ -191,7 +191,7 @@ fn crossed(alloc: Global, first: &str, second: &str) -> Result<PolicySet, Fail> 
 
 // Whether a set is the one that some calls make.
 fn is_made(alloc: Global, set: &PolicySet, calls: &str) -> Result<bool, Fail> {
-    let made = set_of(alloc, calls)?;
+    let made = set_of(alloc, fixed(), calls)?;
     let same = *set == made;
     drop(made);
     Ok(same)

@@ -7,22 +7,23 @@ use cedar_ids::policy_id::PolicyID;
 use cedar_policy_set::{IntoPolicies, PolicySet};
 use cedar_test_helpers::tried::beside;
 use std::alloc::Global;
+use std::hash::BuildHasher;
 use std::test::Fail;
 
-fn put_slotted(set: &PolicySet, board: &mut Board) {
+fn put_slotted<S: BuildHasher + Copy>(set: &PolicySet<S>, board: &mut Board) {
     for template in set.templates() {
         put_body(board, body_of(template));
     }
 }
 
-fn put_statics(set: &PolicySet, board: &mut Board) {
+fn put_statics<S: BuildHasher + Copy>(set: &PolicySet<S>, board: &mut Board) {
     for policy in set.static_policies() {
         put_row(board, row_of(policy));
     }
 }
 
 // The bodies that have slots, and the static policies.
-fn filtered(set: &PolicySet) -> Board {
+fn filtered<S: BuildHasher + Copy>(set: &PolicySet<S>) -> Board {
     let mut board = empty();
     put_slotted(set, &mut board);
     put_statics(set, &mut board);
@@ -30,8 +31,12 @@ fn filtered(set: &PolicySet) -> Board {
 }
 
 // Those of the set that some calls leave.
-pub(super) fn filtered_text(alloc: Global, calls: &str) -> Result<String, Fail> {
-    let set = set_of(alloc, calls)?;
+pub(super) fn filtered_text<S: BuildHasher + Copy>(
+    alloc: Global,
+    hasher: S,
+    calls: &str,
+) -> Result<String, Fail> {
+    let set = set_of(alloc, hasher, calls)?;
     let told = told_text(alloc, Said::Done, &filtered(&set));
     drop(set);
     told
@@ -47,13 +52,17 @@ fn all_of(policies: IntoPolicies) -> Board {
     board
 }
 
-pub(super) fn apart_text(alloc: Global, calls: &str) -> Result<String, Fail> {
-    let set = set_of(alloc, calls)?;
+pub(super) fn apart_text<S: BuildHasher + Copy>(
+    alloc: Global,
+    hasher: S,
+    calls: &str,
+) -> Result<String, Fail> {
+    let set = set_of(alloc, hasher, calls)?;
     told_text(alloc, Said::Done, &all_of(set.into_policies()))
 }
 
 // The policy and the body with an id.
-fn found(set: &PolicySet, id: &PolicyID) -> Board {
+fn found<S: BuildHasher + Copy>(set: &PolicySet<S>, id: &PolicyID) -> Board {
     let mut board = empty();
     if let Some(template) = set.get_template(id) {
         put_body(&mut board, body_of(template));
@@ -65,7 +74,7 @@ fn found(set: &PolicySet, id: &PolicyID) -> Board {
 }
 
 // Whether the shared body with an id is the first of a board, or there is none.
-fn is_shared(set: &PolicySet, id: &PolicyID, board: &Board) -> bool {
+fn is_shared<S: BuildHasher + Copy>(set: &PolicySet<S>, id: &PolicyID, board: &Board) -> bool {
     let [first, ..] = board.bodies;
     match set.get_template_arc(id) {
         Some(template) => first == Some(body_of(template)),
@@ -74,7 +83,11 @@ fn is_shared(set: &PolicySet, id: &PolicyID, board: &Board) -> bool {
 }
 
 // What is found with an id.
-fn found_in(alloc: Global, set: &PolicySet, id: &PolicyID) -> Result<String, Fail> {
+fn found_in<S: BuildHasher + Copy>(
+    alloc: Global,
+    set: &PolicySet<S>,
+    id: &PolicyID,
+) -> Result<String, Fail> {
     let board = found(set, id);
     if !is_shared(set, id, &board) {
         return Ok(String::from_str(alloc, "another is shared")?);
@@ -83,23 +96,32 @@ fn found_in(alloc: Global, set: &PolicySet, id: &PolicyID) -> Result<String, Fai
 }
 
 // What is found with a letter in the set that some calls leave.
-pub(super) fn found_text(alloc: Global, calls: &str, text: &str) -> Result<String, Fail> {
-    let (id, set) = beside(id_of(alloc, letter(text))?, set_of(alloc, calls))?;
+pub(super) fn found_text<S: BuildHasher + Copy>(
+    alloc: Global,
+    hasher: S,
+    calls: &str,
+    text: &str,
+) -> Result<String, Fail> {
+    let (id, set) = beside(id_of(alloc, letter(text))?, set_of(alloc, hasher, calls))?;
     let told = found_in(alloc, &set, &id);
     drop(set);
     drop(id);
     told
 }
 
-pub(super) fn is_empty(alloc: Global, calls: &str) -> Result<String, Fail> {
-    let set = set_of(alloc, calls)?;
+pub(super) fn is_empty<S: BuildHasher + Copy>(
+    alloc: Global,
+    hasher: S,
+    calls: &str,
+) -> Result<String, Fail> {
+    let set = set_of(alloc, hasher, calls)?;
     let is_empty = set.is_empty();
     drop(set);
     yes_or_no(alloc, Ok(is_empty))
 }
 
 // How many bodies, bodies with slots, static policies and policies there are.
-fn counts(set: &PolicySet) -> (usize, usize, usize, usize) {
+fn counts<S: BuildHasher + Copy>(set: &PolicySet<S>) -> (usize, usize, usize, usize) {
     let Board { bodies, policies } = board_of(set);
     (
         bodies.iter().flatten().count(),
@@ -109,7 +131,7 @@ fn counts(set: &PolicySet) -> (usize, usize, usize, usize) {
     )
 }
 
-fn slotted(set: &PolicySet) -> usize {
+fn slotted<S: BuildHasher + Copy>(set: &PolicySet<S>) -> usize {
     let mut count = 0_usize;
     for _template in set.templates() {
         count = count.saturating_add(1);
@@ -117,7 +139,7 @@ fn slotted(set: &PolicySet) -> usize {
     count
 }
 
-fn statics(set: &PolicySet) -> usize {
+fn statics<S: BuildHasher + Copy>(set: &PolicySet<S>) -> usize {
     let mut count = 0_usize;
     for _policy in set.static_policies() {
         count = count.saturating_add(1);
@@ -125,8 +147,12 @@ fn statics(set: &PolicySet) -> usize {
     count
 }
 
-pub(super) fn counted(alloc: Global, calls: &str) -> Result<String, Fail> {
-    let set = set_of(alloc, calls)?;
+pub(super) fn counted<S: BuildHasher + Copy>(
+    alloc: Global,
+    hasher: S,
+    calls: &str,
+) -> Result<String, Fail> {
+    let set = set_of(alloc, hasher, calls)?;
     let (bodies, slotted, statics, policies) = counts(&set);
     drop(set);
     Ok(format!(in alloc; "{bodies} {slotted} {statics} {policies}")?)

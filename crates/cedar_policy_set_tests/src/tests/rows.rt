@@ -7,9 +7,11 @@ use super::reads::{apart_text, counted, filtered_text, found_text, is_empty};
 use super::script::told;
 use super::texts::{action_of, of_joining, of_memory, of_removal, of_validation, text_of};
 use super::validity::valid;
+use super::{fixed, keys};
 use cedar_test_helpers::rows::all_hold;
 use cedar_test_helpers::tried::owned;
 use std::alloc::Global;
+use std::hash::BuildHasher;
 use std::test::Fail;
 
 // What the last of some calls answers, and both orders after it.
@@ -205,7 +207,14 @@ static i; template t; static j!; template u1; link l=u+1e => l=u1+1e | i t j! u1
 
 #[test]
 fn what_calls_answer_and_leave(rt: HostRuntime) -> Result<(), Fail> {
-    all_hold(rt.alloc(), CALLS, told)
+    let (one, other) = keys();
+    all_hold(
+        rt.alloc(),
+        CALLS,
+        |alloc, calls| told(alloc, fixed(), calls),
+    )?;
+    all_hold(rt.alloc(), CALLS, |alloc, calls| told(alloc, one, calls))?;
+    all_hold(rt.alloc(), CALLS, |alloc, calls| told(alloc, other, calls))
 }
 
 // What stands before the first mark of a text, and behind it.
@@ -214,42 +223,52 @@ fn cut(text: &str) -> (&str, &str) {
 }
 
 // What is told of a set, or of two.
-fn of_sets(alloc: Global, asked: &str) -> Result<String, Fail> {
+fn of_sets<S: BuildHasher + Copy>(
+    alloc: Global,
+    keys: (S, S),
+    asked: &str,
+) -> Result<String, Fail> {
     let (word, rest) = cut(asked);
     let (one, two) = cut(rest);
     match word {
-        "merge" => merged(alloc, one, two, true),
-        "keep" => merged(alloc, one, two, false),
-        "again" => told_again(alloc, one, two),
-        "after" => told_after(alloc, one, cut(two).0, cut(two).1),
-        "equal" => stand(alloc, one, two),
-        "copied" => copies_stand_apart(alloc, one),
-        "made" => made_text(alloc, one),
+        "merge" => merged(alloc, keys, one, two, true),
+        "keep" => merged(alloc, keys, one, two, false),
+        "again" => told_again(alloc, keys, one, two),
+        "after" => told_after(alloc, keys, one, cut(two).0, cut(two).1),
+        "equal" => stand(alloc, keys, one, two),
+        "copied" => copies_stand_apart(alloc, keys.0, one),
+        "made" => made_text(alloc, keys.0, one),
         "single" => is_added(alloc, one, two),
-        "lent" => is_lent_of(alloc, one),
+        "lent" => is_lent_of(alloc, keys.0, one),
         "raw" => is_raw(alloc, one, two),
         "on raw" => told_raw(alloc, one, two),
         "crossed" => is_crossed(alloc, one),
         "on crossed" => told_crossed(alloc, one),
-        _ => of_readers(alloc, word, one, two),
+        _ => of_readers(alloc, keys.0, word, one, two),
     }
 }
 
 // What its readers give, or refusals are written as.
-fn of_readers(alloc: Global, word: &str, one: &str, two: &str) -> Result<String, Fail> {
+fn of_readers<S: BuildHasher + Copy>(
+    alloc: Global,
+    hasher: S,
+    word: &str,
+    one: &str,
+    two: &str,
+) -> Result<String, Fail> {
     match word {
-        "filtered" => filtered_text(alloc, one),
-        "apart" => apart_text(alloc, one),
-        "found" => found_text(alloc, two, one),
-        "empty" => is_empty(alloc, one),
-        "counted" => counted(alloc, one),
-        "text" => text_of(alloc, one),
-        "action" => action_of(alloc, one, two),
+        "filtered" => filtered_text(alloc, hasher, one),
+        "apart" => apart_text(alloc, hasher, one),
+        "found" => found_text(alloc, hasher, two, one),
+        "empty" => is_empty(alloc, hasher, one),
+        "counted" => counted(alloc, hasher, one),
+        "text" => text_of(alloc, hasher, one),
+        "action" => action_of(alloc, hasher, one, two),
         "joining" => of_joining(alloc, one, two),
         "removal" => of_removal(alloc, one, two),
         "validation" => of_validation(alloc, one, two),
         "memory" => of_memory(alloc, one),
-        "valid" => valid(alloc, one),
+        "valid" => valid(alloc, hasher, one),
         _ => owned(alloc, "what is this word?"),
     }
 }
@@ -473,5 +492,20 @@ after|template t1; link l=t+1x|template t1; link l=t+1x; link m=t+1y|unlink l; r
 
 #[test]
 fn what_sets_are_and_give(rt: HostRuntime) -> Result<(), Fail> {
-    all_hold(rt.alloc(), SETS, of_sets)
+    let (one, other) = keys();
+    all_hold(
+        rt.alloc(),
+        SETS,
+        |alloc, asked| of_sets(alloc, (fixed(), fixed()), asked),
+    )?;
+    all_hold(
+        rt.alloc(),
+        SETS,
+        |alloc, asked| of_sets(alloc, (one, other), asked),
+    )?;
+    all_hold(
+        rt.alloc(),
+        SETS,
+        |alloc, asked| of_sets(alloc, (other, one), asked),
+    )
 }

@@ -20,6 +20,7 @@ use cedar_terms::slot::SlotId;
 use cedar_test_helpers::tried::{beside, kept};
 use std::alloc::Global;
 use std::collections::HashMap;
+use std::hash::BuildHasher;
 use std::rc::Rc;
 use std::test::Fail;
 
@@ -333,21 +334,21 @@ pub(super) fn row_of(policy: &Policy) -> Row {
 }
 
 // The bodies of a set in their order.
-fn put_bodies(set: &PolicySet, board: &mut Board) {
+fn put_bodies<S: BuildHasher + Copy>(set: &PolicySet<S>, board: &mut Board) {
     for template in set.all_templates() {
         put_body(board, body_of(template));
     }
 }
 
 // The policies of a set in their order.
-fn put_rows(set: &PolicySet, board: &mut Board) {
+fn put_rows<S: BuildHasher + Copy>(set: &PolicySet<S>, board: &mut Board) {
     for policy in set.policies() {
         put_row(board, row_of(policy));
     }
 }
 
 // Both orders of a set.
-pub(super) fn board_of(set: &PolicySet) -> Board {
+pub(super) fn board_of<S: BuildHasher + Copy>(set: &PolicySet<S>) -> Board {
     let mut board = empty();
     put_bodies(set, &mut board);
     put_rows(set, &mut board);
@@ -446,17 +447,29 @@ fn said_by_template_removal(answer: Result<Template, PolicySetTemplateRemovalErr
     }
 }
 
-fn add_static(alloc: Global, set: &mut PolicySet, row: Row) -> Result<Said, Fail> {
+fn add_static<S: BuildHasher + Copy>(
+    alloc: Global,
+    set: &mut PolicySet<S>,
+    row: Row,
+) -> Result<Said, Fail> {
     let policy = static_of(alloc, row.body)?;
     Ok(said_by_set(set.add_static(alloc, policy)))
 }
 
-fn add_template(alloc: Global, set: &mut PolicySet, row: Row) -> Result<Said, Fail> {
+fn add_template<S: BuildHasher + Copy>(
+    alloc: Global,
+    set: &mut PolicySet<S>,
+    row: Row,
+) -> Result<Said, Fail> {
     let template = template_of(alloc, row.body)?;
     Ok(said_by_set(set.add_template(alloc, template)))
 }
 
-fn add(alloc: Global, set: &mut PolicySet, row: Row) -> Result<Said, Fail> {
+fn add<S: BuildHasher + Copy>(
+    alloc: Global,
+    set: &mut PolicySet<S>,
+    row: Row,
+) -> Result<Said, Fail> {
     let policy = policy_of(alloc, row)?;
     Ok(said_by_set(set.add(alloc, policy)))
 }
@@ -480,7 +493,7 @@ fn linking_of(alloc: Global, row: Row) -> Result<Linking, Fail> {
 }
 
 // What linking answers: the policy that it lends.
-fn linked(alloc: Global, set: &mut PolicySet, linking: Linking) -> Said {
+fn linked<S: BuildHasher + Copy>(alloc: Global, set: &mut PolicySet<S>, linking: Linking) -> Said {
     let Linking {
         template,
         id,
@@ -492,26 +505,42 @@ fn linked(alloc: Global, set: &mut PolicySet, linking: Linking) -> Said {
     }
 }
 
-fn link(alloc: Global, set: &mut PolicySet, row: Row) -> Result<Said, Fail> {
+fn link<S: BuildHasher + Copy>(
+    alloc: Global,
+    set: &mut PolicySet<S>,
+    row: Row,
+) -> Result<Said, Fail> {
     let linking = linking_of(alloc, row)?;
     Ok(linked(alloc, set, linking))
 }
 
-fn unlink(alloc: Global, set: &mut PolicySet, row: Row) -> Result<Said, Fail> {
+fn unlink<S: BuildHasher + Copy>(
+    alloc: Global,
+    set: &mut PolicySet<S>,
+    row: Row,
+) -> Result<Said, Fail> {
     let id = id_of(alloc, row.id)?;
     let said = said_by_unlinking(set.unlink(&id));
     drop(id);
     Ok(said)
 }
 
-fn remove_static(alloc: Global, set: &mut PolicySet, row: Row) -> Result<Said, Fail> {
+fn remove_static<S: BuildHasher + Copy>(
+    alloc: Global,
+    set: &mut PolicySet<S>,
+    row: Row,
+) -> Result<Said, Fail> {
     let id = id_of(alloc, row.id)?;
     let said = said_by_removal(set.remove_static(&id));
     drop(id);
     Ok(said)
 }
 
-fn remove_template(alloc: Global, set: &mut PolicySet, row: Row) -> Result<Said, Fail> {
+fn remove_template<S: BuildHasher + Copy>(
+    alloc: Global,
+    set: &mut PolicySet<S>,
+    row: Row,
+) -> Result<Said, Fail> {
     let id = id_of(alloc, row.id)?;
     let said = said_by_template_removal(set.remove_template(&id));
     drop(id);
@@ -535,7 +564,7 @@ fn said_by_listing(answer: Result<LinkedIds<'_>, PolicySetGetLinksError>) -> Sai
     }
 }
 
-fn links(alloc: Global, set: &PolicySet, row: Row) -> Result<Said, Fail> {
+fn links<S: BuildHasher + Copy>(alloc: Global, set: &PolicySet<S>, row: Row) -> Result<Said, Fail> {
     let id = id_of(alloc, row.id)?;
     let said = said_by_listing(set.get_linked_policies(&id));
     drop(id);
@@ -543,7 +572,11 @@ fn links(alloc: Global, set: &PolicySet, row: Row) -> Result<Said, Fail> {
 }
 
 // One call on a set, and what it answers.
-pub(super) fn done(alloc: Global, set: &mut PolicySet, call: &Call) -> Result<Said, Fail> {
+pub(super) fn done<S: BuildHasher + Copy>(
+    alloc: Global,
+    set: &mut PolicySet<S>,
+    call: &Call,
+) -> Result<Said, Fail> {
     let row = call.row;
     match call.verb {
         Verb::Static => add_static(alloc, set, row),
@@ -558,7 +591,11 @@ pub(super) fn done(alloc: Global, set: &mut PolicySet, call: &Call) -> Result<Sa
 }
 
 // Makes some calls on a set; what the last one answers.
-pub(super) fn run(alloc: Global, set: &mut PolicySet, calls: &str) -> Result<Said, Fail> {
+pub(super) fn run<S: BuildHasher + Copy>(
+    alloc: Global,
+    set: &mut PolicySet<S>,
+    calls: &str,
+) -> Result<Said, Fail> {
     let mut said = Said::Done;
     for text in calls.split(';') {
         if !text.trim().is_empty() {
@@ -569,21 +606,33 @@ pub(super) fn run(alloc: Global, set: &mut PolicySet, calls: &str) -> Result<Sai
 }
 
 // The set that some calls leave.
-pub(super) fn set_of(alloc: Global, calls: &str) -> Result<PolicySet, Fail> {
-    let mut set = PolicySet::new(alloc);
+pub(super) fn set_of<S: BuildHasher + Copy>(
+    alloc: Global,
+    hasher: S,
+    calls: &str,
+) -> Result<PolicySet<S>, Fail> {
+    let mut set = PolicySet::with_hasher(alloc, hasher);
     let done = run(alloc, &mut set, calls);
     kept(set, done)
 }
 
 // What the last of some calls answers on a set, and both orders after it.
-pub(super) fn told_on(alloc: Global, set: &mut PolicySet, calls: &str) -> Result<String, Fail> {
+pub(super) fn told_on<S: BuildHasher + Copy>(
+    alloc: Global,
+    set: &mut PolicySet<S>,
+    calls: &str,
+) -> Result<String, Fail> {
     let said = run(alloc, set, calls)?;
     told_text(alloc, said, &board_of(set))
 }
 
 // What the last of some calls answers on the empty set, and both orders after it.
-pub(super) fn told(alloc: Global, calls: &str) -> Result<String, Fail> {
-    let mut set = PolicySet::new(alloc);
+pub(super) fn told<S: BuildHasher + Copy>(
+    alloc: Global,
+    hasher: S,
+    calls: &str,
+) -> Result<String, Fail> {
+    let mut set = PolicySet::with_hasher(alloc, hasher);
     let told = told_on(alloc, &mut set, calls);
     drop(set);
     told

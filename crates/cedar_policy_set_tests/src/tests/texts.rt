@@ -8,15 +8,24 @@ use cedar_policy_set::{
 };
 use cedar_test_helpers::tried::{beside, owned, written};
 use std::alloc::Global;
+use std::hash::BuildHasher;
 use std::test::Fail;
 
 // The text of the set that some calls leave.
-pub(super) fn text_of(alloc: Global, calls: &str) -> Result<String, Fail> {
-    written(alloc, set_of(alloc, calls)?)
+pub(super) fn text_of<S: BuildHasher + Copy>(
+    alloc: Global,
+    hasher: S,
+    calls: &str,
+) -> Result<String, Fail> {
+    written(alloc, set_of(alloc, hasher, calls)?)
 }
 
 // The text of the action's constraint of the policy with an id.
-fn action_in(alloc: Global, set: &PolicySet, id: &PolicyID) -> Result<String, Fail> {
+fn action_in<S: BuildHasher + Copy>(
+    alloc: Global,
+    set: &PolicySet<S>,
+    id: &PolicyID,
+) -> Result<String, Fail> {
     match set.get(id) {
         Some(policy) => written(alloc, policy.action_constraint(alloc)?),
         None => owned(alloc, "no policy"),
@@ -24,8 +33,13 @@ fn action_in(alloc: Global, set: &PolicySet, id: &PolicyID) -> Result<String, Fa
 }
 
 // That of the policy with a letter in the set that some calls leave.
-pub(super) fn action_of(alloc: Global, text: &str, calls: &str) -> Result<String, Fail> {
-    let (id, set) = beside(id_of(alloc, letter(text))?, set_of(alloc, calls))?;
+pub(super) fn action_of<S: BuildHasher + Copy>(
+    alloc: Global,
+    hasher: S,
+    text: &str,
+    calls: &str,
+) -> Result<String, Fail> {
+    let (id, set) = beside(id_of(alloc, letter(text))?, set_of(alloc, hasher, calls))?;
     let told = action_in(alloc, &set, &id);
     drop(set);
     drop(id);

@@ -4,12 +4,13 @@ use super::script::{board_of, set_of};
 use cedar_policy_set::{PolicySet, PolicySetValidationError};
 use cedar_test_helpers::tried::written;
 use std::alloc::Global;
+use std::hash::BuildHasher;
 use std::test::Fail;
 
 // The orders of a valid set, or why it is not valid.
-fn told(
+fn told<S: BuildHasher + Copy>(
     alloc: Global,
-    answer: Result<PolicySet, PolicySetValidationError>,
+    answer: Result<PolicySet<S>, PolicySetValidationError>,
 ) -> Result<String, Fail> {
     match answer {
         Ok(set) => {
@@ -22,6 +23,10 @@ fn told(
 }
 
 // What validating the set that some calls leave answers.
-pub(super) fn valid(alloc: Global, calls: &str) -> Result<String, Fail> {
-    told(alloc, set_of(alloc, calls)?.try_validate(alloc))
+pub(super) fn valid<S: BuildHasher + Copy>(
+    alloc: Global,
+    hasher: S,
+    calls: &str,
+) -> Result<String, Fail> {
+    told(alloc, set_of(alloc, hasher, calls)?.try_validate(alloc))
 }

@@ -176,7 +176,10 @@ fn made_by<S: BuildHasher + Copy>(
 
 // Whether the slices of a store under two keys are deeply equal.
 fn keys_agree(alloc: Global, case: &Case<'_>) -> Result<bool, Fail> {
-    let (one, other) = (KeyedState::with_keys(1, 2), KeyedState::with_keys(u64::MAX, 3));
+    let (one, other) = (
+        KeyedState::with_keys(1, 2),
+        KeyedState::with_keys(u64::MAX, 3),
+    );
     let ((whole, part), (again, second)) = beside(
         made_by(alloc, one, case)?,
         made_by(alloc, other, case),
