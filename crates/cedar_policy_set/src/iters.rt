@@ -10,6 +10,7 @@ use crate::lists::{has_no_slots, is_link};
 use cedar_ids::policy_id::PolicyID;
 use cedar_policy::{Policy, Template};
 use indexmap::{IndexMap, IndexSet, map, set};
+use std::hash::BuildHasher;
 use std::marker::Model;
 use std::rc::Rc;
 use std::slice;
@@ -76,7 +77,7 @@ impl Model for IntoPolicies {
 }
 
 impl IntoPolicies {
-    pub(crate) fn of(links: IndexMap<PolicyID, Policy, S>) -> IntoPolicies
+    pub(crate) fn of<S: BuildHasher + Drop>(links: IndexMap<PolicyID, Policy, S>) -> IntoPolicies
         ensures { result ≡ values_of links.entries }
     {
         IntoPolicies {
@@ -274,7 +275,7 @@ impl<'a> Model for LinkedIds<'a> {
 }
 
 impl<'a> LinkedIds<'a> {
-    pub(crate) fn of(ids: &'a IndexSet<PolicyID, S>) -> LinkedIds<'a>
+    pub(crate) fn of<S: BuildHasher>(ids: &'a IndexSet<PolicyID, S>) -> LinkedIds<'a>
         ensures { result ≡ ids.now.keys }
     {
         LinkedIds { inner: ids.iter() }

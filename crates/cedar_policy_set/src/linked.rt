@@ -48,7 +48,7 @@ impl<S: BuildHasher + Copy> PolicySet<S> {
     }
 }
 
-impl<S: BuildHasher + Copy> Drop for Linked<'_, S> {
+impl<S: BuildHasher> Drop for Linked<'_, S> {
     fn drop(self)
         ensures { self.exit.0.now ≡ self.entry.set.now }
     {

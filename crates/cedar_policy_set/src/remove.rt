@@ -12,6 +12,7 @@ use crate::lists::is_link;
 use crate::policy_set::PolicySet;
 use cedar_ids::policy_id::PolicyID;
 use cedar_policy::{Policy, Template};
+use std::hash::BuildHasher;
 
 impl<S: BuildHasher + Copy> PolicySet<S> {
     /// Takes out the link with this id, and closes the order up.

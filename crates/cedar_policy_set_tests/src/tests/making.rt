@@ -41,7 +41,7 @@ pub(super) fn made_text<S: BuildHasher + Copy>(
 }
 
 // The set of one policy; of a link with its template's id the empty one.
-fn alone<S: BuildHasher + Copy>(alloc: Global, policy: Policy) -> Result<PolicySet<S>, Fail> {
+fn alone(alloc: Global, policy: Policy) -> Result<PolicySet, Fail> {
     if !policy.is_static() && policy.id() == policy.template().id() {
         drop(policy);
         return Ok(PolicySet::new(alloc));

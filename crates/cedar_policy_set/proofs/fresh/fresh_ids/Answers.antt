@@ -8,12 +8,12 @@ use Rattle.cedar_policy_set.specs.laws.FreshLaws.{none_free_below, absent_key, b
 use Rattle.cedar_policy_set.proofs.fresh.fresh_ids.Goals as goal
 
 pub loop-id-init : goal.loop-id-init
-loop-id-init c =
+loop-id-init g c =
     rw c.new-renaming.ensures.empty
     (record { keys = c.into_iter-id-iterator.ensures.into_iter_gives.0; free = tt; next = none_free_below (is_bound_in_either c.args.here.now c.args.other.now) })
 
 pub loop-id-preserved : goal.loop-id-preserved
-loop-id-preserved c =
+loop-id-preserved g c =
     let ks : keys_of c.loop-id.renaming.entries ++ c.in-Some.id ∷ c.next.new.self ≡ c.args.ids.keys = ap (λ x. keys_of c.loop-id.renaming.entries ++ x) (sym c.in-Some.ensures.steps) ∙ c.loop-id.invariant.keys in
     let none = absent_key c.loop-id.renaming.entries c.in-Some.id (before_once (keys_of c.loop-id.renaming.entries) c.in-Some.id c.next.new.self (subst (AreOnce (λ (i : List ℕ). i)) (sym ks) c.requires)) in
     let m = fresh_more (is_bound_in_either c.args.here.now c.args.other.now) c.loop-id.renaming.entries c.insert.new.self.entries c.in-Some.id c.in_ok-fresh.fresh c.next.new.self c.args.ids.keys c.loop-id.start c.in_ok-fresh.number

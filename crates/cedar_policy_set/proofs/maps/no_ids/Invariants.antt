@@ -4,4 +4,4 @@ use Rattle.cedar_policy_set.specs.Views.{bodies_of}
 use Rattle.cedar_policy_set.proofs.maps.no_ids.Given as goal
 
 abbrev pub invariant-loop-template : goal.invariant-loop-template
-invariant-loop-template l = lists_of l.map.entries ≡ ids_by_body (bodies_of (take l.template-index l.bodies)) []
+invariant-loop-template g l = lists_of l.map.entries ≡ ids_by_body (bodies_of (take l.template-index l.bodies)) []

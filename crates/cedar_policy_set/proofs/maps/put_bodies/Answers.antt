@@ -5,14 +5,14 @@ use Rattle.cedar_policy_set.proofs.Entries.{shared_id, shared_once, next_absent,
 use Rattle.cedar_policy_set.proofs.maps.put_bodies.Goals as goal
 
 pub put_body-requires : goal.put_body-requires
-put_body-requires c =
+put_body-requires g c =
     let es = c.loop-template.templates.entries in
     let t = c.in-Some.template in
     let e : values_of es ++ t ∷ c.next.new.self.rest.items ≡ c.args.bodies.items = ap (λ x. values_of es ++ x) (sym c.in-Some.ensures.steps.0) ∙ c.loop-template.invariant.values in
     next_absent shared_id es t.value.id t c.next.new.self.rest.items c.args.bodies.items (shared_once c.args.bodies.items c.requires.once) c.loop-template.invariant.keyed e refl
 
 pub loop-template-preserved : goal.loop-template-preserved
-loop-template-preserved c =
+loop-template-preserved g c =
     let es = c.loop-template.templates.entries in
     let t = c.in-Some.template in
     let e : values_of es ++ t ∷ c.next.new.self.rest.items ≡ c.args.bodies.items = ap (λ x. values_of es ++ x) (sym c.in-Some.ensures.steps.0) ∙ c.loop-template.invariant.values in

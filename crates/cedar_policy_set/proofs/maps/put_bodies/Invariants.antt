@@ -5,7 +5,7 @@ use Rattle.cedar_policy_set.proofs.Entries.{shared_id}
 use Rattle.cedar_policy_set.proofs.maps.put_bodies.Given as goal
 
 abbrev pub invariant-loop-template : goal.invariant-loop-template
-invariant-loop-template l = record {
+invariant-loop-template g l = record {
   keyed : IsKeyed shared_id l.templates.entries;
   values : values_of l.templates.entries ++ l.template-iterator.rest.items ≡ l.fn.bodies.items;
 }

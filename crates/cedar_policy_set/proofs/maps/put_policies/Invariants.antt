@@ -5,7 +5,7 @@ use Rattle.cedar_policy_set.specs.laws.ListedLaws.{IsKeyed}
 use Rattle.cedar_policy_set.proofs.maps.put_policies.Given as goal
 
 abbrev pub invariant-loop-policy : goal.invariant-loop-policy
-invariant-loop-policy l = record {
+invariant-loop-policy g l = record {
   keyed : IsKeyed policy_id l.links.entries;
   values : values_of l.links.entries ++ l.policy-iterator.rest.items ≡ l.fn.policies.items;
 }

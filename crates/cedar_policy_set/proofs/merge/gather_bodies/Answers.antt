@@ -6,7 +6,7 @@ use Rattle.cedar_policy_set.specs.laws.MergeSteps.{gathered_first}
 use Rattle.cedar_policy_set.proofs.merge.gather_bodies.Goals as goal
 
 pub loop-template-preserved : goal.loop-template-preserved
-loop-template-preserved c =
+loop-template-preserved g c =
     let h = c.args.here.now in
     let o = c.args.other.now in
     let st = looked_at c.args.group h o in

@@ -8,7 +8,7 @@ use Rattle.cedar_policy_set.specs.Views.{bodies_of}
 use Rattle.cedar_policy_set.proofs.merge.join_body.Goals as goal
 
 pub returns-in_ok-push : goal.returns-in_ok-push
-returns-in_ok-push c =
+returns-in_ok-push g c =
     let t = c.args.template.now.value in
     let N = new_id c.args.renaming.now.entries t.id in
     let own : c.id.result.now ≡ t.id = c.id.ensures ∙ ap (λ (b : BodyParts). b.id) c.deref.ensures in

@@ -8,14 +8,14 @@ use Rattle.cedar_replay.proofs.entities.replay_entities_with_hasher.Goals as goa
 use Rattle.std.proofs.lemmas.List.{append_assoc, map-append}
 
 pub returns-in-Err-clause-err : goal.returns-in-Err-clause-err
-returns-in-Err-clause-err c =
+returns-in-Err-clause-err g c =
     let i = c.loop-call.invariant in
     let done = c.loop-call.yielded in
     let place = i.place ∙ ap (λ l. done ++ l) c.in-Some.ensures.steps.0 in
     stops call_of c.args.calls.items done c.in-Some.call _ c.loop-call.done c.in-Err.error place i.count i.passed (c.in-Err.ensures.err _ i.plain)
 
 pub loop-call-preserved : goal.loop-call-preserved
-loop-call-preserved c =
+loop-call-preserved g c =
     let i = c.loop-call.invariant in
     let done = c.loop-call.yielded in
     let call = c.in-Some.call in

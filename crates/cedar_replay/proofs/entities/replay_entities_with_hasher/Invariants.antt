@@ -7,7 +7,7 @@ use Rattle.cedar_replay.specs.CallsOf.{call_of}
 use Rattle.cedar_replay.proofs.entities.replay_entities_with_hasher.Given as goal
 
 abbrev pub invariant-loop-call : goal.invariant-loop-call
-invariant-loop-call l = record {
+invariant-loop-call g l = record {
   plain : IsPlainStore (all_made empty_world (map call_of l.yielded)) l.store;
   passed : AllPass empty_world (map call_of l.yielded);
   count : length l.yielded ≡ l.done;

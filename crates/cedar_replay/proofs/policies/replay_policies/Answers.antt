@@ -2,7 +2,7 @@ use Rattle.cedar_replay.proofs.PolicyReplays.{continues_start, continues_more, c
 use Rattle.cedar_replay.proofs.policies.replay_policies.Goals as goal
 
 pub loop-call-init : goal.loop-call-init
-loop-call-init c =
+loop-call-init g c =
     let same = c.into_iter-call-iterator.ensures.into_iter_gives.0 in
     let new = c.in_ok-answers.ensures in
     record {
@@ -11,10 +11,10 @@ loop-call-init c =
     }
 
 pub append-requires : goal.append-requires
-append-requires c = room_now _ _ c.in-Some.call _ _ c.in-Some.ensures.steps.0 c.loop-call.invariant.room
+append-requires g c = room_now _ _ c.in-Some.call _ _ c.in-Some.ensures.steps.0 c.loop-call.invariant.room
 
 pub loop-call-preserved : goal.loop-call-preserved
-loop-call-preserved c =
+loop-call-preserved g c =
     let cut = c.in-Some.ensures.steps.0 in
     record {
       room = room_more _ _ c.in-Some.call _ _ _ _ cut c.loop-call.invariant.room c.append.ensures.len c.append.ensures.room;
@@ -22,11 +22,11 @@ loop-call-preserved c =
     }
 
 pub returns-clause-count : goal.returns-clause-count
-returns-clause-count c =
+returns-clause-count g c =
     let left = none_left c.loop-call.call-iterator.rest.items _ c.loop-call.call-iterator.rest.ok.0 c.in-None.ensures.steps.0 in
     steps_count _ _ _ _ (continues_end _ _ _ _ _ left c.loop-call.invariant.steps)
 
 pub returns-clause-steps : goal.returns-clause-steps
-returns-clause-steps c =
+returns-clause-steps g c =
     let left = none_left c.loop-call.call-iterator.rest.items _ c.loop-call.call-iterator.rest.ok.0 c.in-None.ensures.steps.0 in
     continues_end _ _ _ _ _ left c.loop-call.invariant.steps

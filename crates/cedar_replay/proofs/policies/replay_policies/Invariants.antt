@@ -4,7 +4,7 @@ use Rattle.cedar_replay.proofs.PolicyReplays.{Continues}
 use Rattle.cedar_replay.proofs.policies.replay_policies.Given as goal
 
 abbrev pub invariant-loop-call : goal.invariant-loop-call
-invariant-loop-call l = record {
+invariant-loop-call g l = record {
   room : vec_len l.answers + length l.call-iterator.rest.items ≤ vec_capacity l.answers;
   steps : Continues l.fn.calls.items l.initial.set l.call-iterator.rest.items l.answers.items l.set;
 }

@@ -3,4 +3,4 @@ use Rattle.cedar_uid_sets.proofs.merge.shared.Given as goal
 
 -- the uids so far
 abbrev pub invariant-loop-uid : goal.invariant-loop-uid
-invariant-loop-uid l = l.shared.items ≡ l.yielded
+invariant-loop-uid g l = l.shared.items ≡ l.yielded

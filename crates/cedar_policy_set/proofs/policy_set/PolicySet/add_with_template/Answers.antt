@@ -9,7 +9,7 @@ use Rattle.cedar_policy_set.specs.laws.BoardLaws.{none_bound, can_join_both}
 use Rattle.cedar_policy_set.proofs.policy_set.PolicySet.add_with_template.Goals as goal
 
 pub put_both-requires : goal.put_both-requires
-put_both-requires c =
+put_both-requires g c =
     let e : (c.eq.result || c.is_bound.result) ≡ false = sym c.either.ensures ∙ c.if-either.false in
     let p = or_parts c.eq.result c.is_bound.result e in
     let theirs : c.id-2.result.now ≡ c.args.policy.template.id = c.id-2.ensures ∙ ap (λ (t : BodyParts). t.id) c.template.ensures in

@@ -6,7 +6,7 @@ use Rattle.cedar_policy_set.specs.laws.RawMaps.{IsWhole, raw_agree, shared_keys}
 use Rattle.cedar_policy_set.proofs.policy_set.PolicySet.from_raw_components.Goals as goal
 
 pub invariant_of-result : goal.invariant_of-result
-invariant_of-result c =
+invariant_of-result g c =
     raw_agree (maps_of c.args.templates.entries c.args.links.entries c.args.template_to_links_map.entries)
     (subst (IsDistinct same_text) (shared_keys c.args.templates.entries) c.len-bodies.ensures.unique) c.len-policies.ensures.unique
     (subst (All IsWhole) (c.as_slice.ensures ∙ c.values.ensures.rest) c.read_policies.ensures) c.requires

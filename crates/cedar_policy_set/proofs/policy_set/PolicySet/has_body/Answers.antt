@@ -6,6 +6,6 @@ use Rattle.std.specs.List.{list_any}
 use Rattle.cedar_policy_set.proofs.policy_set.PolicySet.has_body.Goals as goal
 
 pub returns : goal.returns
-returns c =
+returns g c =
     let m : Maps = maps_of c.self.inside.templates.entries c.self.inside.links.entries c.self.inside.template_to_links_map.entries in
     c.contains_key.ensures ∙ body_known m c.self.inside.templates.entries c.args.id.now c.self.invariant refl ∙ ap (λ (b : Board). list_any (is_body_at c.args.id.now) b.bodies) c.self.view_is

@@ -6,6 +6,6 @@ use Rattle.std.specs.List.{list_any}
 use Rattle.cedar_policy_set.proofs.policy_set.PolicySet.has_policy.Goals as goal
 
 pub returns : goal.returns
-returns c =
+returns g c =
     let m : Maps = maps_of c.self.inside.templates.entries c.self.inside.links.entries c.self.inside.template_to_links_map.entries in
     c.contains_key.ensures ∙ policy_known m c.args.id.now c.self.invariant ∙ ap (λ (b : Board). list_any (is_policy_at c.args.id.now) b.policies) c.self.view_is

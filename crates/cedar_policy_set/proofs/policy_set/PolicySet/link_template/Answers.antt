@@ -10,12 +10,12 @@ use Rattle.cedar_policy_set.specs.laws.BoardLaws.{unfit_is_refused, fit_goes_on}
 use Rattle.cedar_policy_set.proofs.policy_set.PolicySet.link_template.Goals as goal
 
 pub returns-in_err-policy : goal.returns-in_err-policy
-returns-in_err-policy c =
+returns-in_err-policy g c =
     let p = err_from_is_err_and c.from_residual.result c.from_residual.ensures.1 in
     rw (p.1, p.2) (refl, unfit_is_refused c.in_err-policy.field-0.0 (body_slots c.args.template.value) (env_of c.args.values) _ c.in_err-policy.ensures)
 
 pub returns-then-occupied : goal.returns-then-occupied
-returns-then-occupied c =
+returns-then-occupied g c =
     let kept = with_policy c.args.self.now (record { template = c.args.template.value; link = Some c.args.new_id; env = env_of c.args.values }) in
     let same : c.own_id_of.result ≡ c.args.new_id = ap (λ o. option_map_or (λ x. x) o []) (c.own_id_of.ensures ∙ ap (λ (q : PolicyParts). q.link) c.in_ok-policy.ensures.1) in (
       refl,

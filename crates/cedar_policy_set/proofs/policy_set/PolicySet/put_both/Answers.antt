@@ -9,7 +9,7 @@ use Rattle.cedar_policy_set.proofs.Entries.{absent_body, absent_policy, absent_l
 use Rattle.cedar_policy_set.proofs.policy_set.PolicySet.put_both.Goals as goal
 
 pub put_last-requires-clause-absent : goal.put_last-requires-clause-absent
-put_last-requires-clause-absent c =
+put_last-requires-clause-absent g c =
     let m : Maps = maps_of c.self.inside.templates.entries c.self.inside.links.entries c.self.inside.template_to_links_map.entries in
     let p = c.args.policy in
     let j : CanJoinBoth (board_in m) p = subst (λ b. CanJoinBoth b p) (sym c.self.view_is) c.requires in
@@ -17,7 +17,7 @@ put_last-requires-clause-absent c =
     rw (k, c.room_for_both.ensures.bodies) (absent_body m c.self.inside.templates.entries p.template.id c.self.invariant refl j.0)
 
 pub put_last-requires-in-Ok-clause-absent : goal.put_last-requires-in-Ok-clause-absent
-put_last-requires-in-Ok-clause-absent c =
+put_last-requires-in-Ok-clause-absent g c =
     let m : Maps = maps_of c.self.inside.templates.entries c.self.inside.links.entries c.self.inside.template_to_links_map.entries in
     let p = c.args.policy in
     let j : CanJoinBoth (board_in m) p = subst (λ b. CanJoinBoth b p) (sym c.self.view_is) c.requires in
@@ -25,7 +25,7 @@ put_last-requires-in-Ok-clause-absent c =
     rw (k, c.room_for_both.ensures.policies) (absent_policy m (policy_id p) c.self.invariant (both_free p.link (board_in m) p refl j.0 j.1))
 
 pub put_last-requires-in-Ok-2-clause-absent : goal.put_last-requires-in-Ok-2-clause-absent
-put_last-requires-in-Ok-2-clause-absent c =
+put_last-requires-in-Ok-2-clause-absent g c =
     let m : Maps = maps_of c.self.inside.templates.entries c.self.inside.links.entries c.self.inside.template_to_links_map.entries in
     let p = c.args.policy in
     let j : CanJoinBoth (board_in m) p = subst (λ b. CanJoinBoth b p) (sym c.self.view_is) c.requires in
@@ -33,7 +33,7 @@ put_last-requires-in-Ok-2-clause-absent c =
     rw (k, c.room_for_both.ensures.lists) (absent_list m c.self.inside.template_to_links_map.entries p.template.id c.self.invariant refl j.0)
 
 pub invariant_of-self : goal.invariant_of-self
-invariant_of-self c =
+invariant_of-self g c =
     let m : Maps = maps_of c.self.inside.templates.entries c.self.inside.links.entries c.self.inside.template_to_links_map.entries in
     let p = c.args.policy in
     let j : CanJoinBoth (board_in m) p = subst (λ b. CanJoinBoth b p) (sym c.self.view_is) c.requires in

@@ -7,7 +7,7 @@ use Rattle.cedar_policy_set.specs.laws.RenamingLaws.{renames}
 use Rattle.cedar_policy_set.proofs.policy_set.PolicySet.put_merged.Goals as goal
 
 pub replace-requires : goal.replace-requires
-replace-requires c =
+replace-requires g c =
     let h = c.args.self.now in
     let o = c.args.other.now in
     let r = c.args.renaming.now.entries in

@@ -9,7 +9,7 @@ use Rattle.cedar_policy_set.proofs.Entries.{absent_policy}
 use Rattle.cedar_policy_set.proofs.policy_set.PolicySet.put_policy.Goals as goal
 
 pub put_last-requires-clause-absent : goal.put_last-requires-clause-absent
-put_last-requires-clause-absent c =
+put_last-requires-clause-absent g c =
     let m : Maps = maps_of c.self.inside.templates.entries c.self.inside.links.entries c.self.inside.template_to_links_map.entries in
     let p = c.args.policy in
     let j : CanJoin (board_in m) p = subst (λ b. CanJoin b p) (sym c.self.view_is) c.requires in
@@ -17,7 +17,7 @@ put_last-requires-clause-absent c =
     rw (k, c.list_policy.ensures.policies) (absent_policy m (policy_id p) c.self.invariant (free_link p.link (board_in m) p refl j))
 
 pub invariant_of-self : goal.invariant_of-self
-invariant_of-self c =
+invariant_of-self g c =
     let m : Maps = maps_of c.self.inside.templates.entries c.self.inside.links.entries c.self.inside.template_to_links_map.entries in
     let p = c.args.policy in
     let j : CanJoin (board_in m) p = subst (λ b. CanJoin b p) (sym c.self.view_is) c.requires in

@@ -8,21 +8,21 @@ use Rattle.cedar_policy_set.proofs.Entries.{absent_body, absent_list, read_last}
 use Rattle.cedar_policy_set.proofs.policy_set.PolicySet.put_template.Goals as goal
 
 pub put_last-requires-clause-absent : goal.put_last-requires-clause-absent
-put_last-requires-clause-absent c =
+put_last-requires-clause-absent g c =
     let m : Maps = maps_of c.self.inside.templates.entries c.self.inside.links.entries c.self.inside.template_to_links_map.entries in
     let n : is_bound (board_in m) c.args.template.value.id ≡ false = ap (λ (b : Board). is_bound b c.args.template.value.id) c.self.view_is ∙ c.requires in
     let k : c.in-Ok.id ≡ c.args.template.value.id = c.in-Ok.ensures.ids.0 ∙ ap (λ (t : BodyParts). t.id) c.deref.ensures in
     rw (k, c.room_for_body.ensures.bodies) (absent_body m c.self.inside.templates.entries c.args.template.value.id c.self.invariant refl n)
 
 pub put_last-requires-in-Ok-clause-absent : goal.put_last-requires-in-Ok-clause-absent
-put_last-requires-in-Ok-clause-absent c =
+put_last-requires-in-Ok-clause-absent g c =
     let m : Maps = maps_of c.self.inside.templates.entries c.self.inside.links.entries c.self.inside.template_to_links_map.entries in
     let n : is_bound (board_in m) c.args.template.value.id ≡ false = ap (λ (b : Board). is_bound b c.args.template.value.id) c.self.view_is ∙ c.requires in
     let k : c.in-Ok.listed ≡ c.args.template.value.id = c.in-Ok.ensures.ids.1 ∙ ap (λ (t : BodyParts). t.id) c.deref.ensures in
     rw (k, c.room_for_body.ensures.lists) (absent_list m c.self.inside.template_to_links_map.entries c.args.template.value.id c.self.invariant refl n)
 
 pub invariant_of-self : goal.invariant_of-self
-invariant_of-self c =
+invariant_of-self g c =
     let m : Maps = maps_of c.self.inside.templates.entries c.self.inside.links.entries c.self.inside.template_to_links_map.entries in
     let t = c.args.template.value in
     let n : is_bound (board_in m) t.id ≡ false = ap (λ (b : Board). is_bound b t.id) c.self.view_is ∙ c.requires in

@@ -5,5 +5,5 @@ use Rattle.cedar_policy_set.proofs.Entries.{shared_values}
 use Rattle.cedar_policy_set.proofs.policy_set.PolicySet.shared_bodies.Goals as goal
 
 pub returns : goal.returns
-returns c =
+returns g c =
     ap bodies_of (c.as_slice.ensures ∙ c.values.ensures.rest) ∙ shared_values c.self.inside.templates.entries ∙ ap (λ (b : Board). b.bodies) c.self.view_is

@@ -10,7 +10,7 @@ use Rattle.cedar_policy_set.proofs.Entries.{body_read, policy_read, read_removed
 use Rattle.cedar_policy_set.proofs.policy_set.PolicySet.take.Goals as goal
 
 pub invariant_of-self : goal.invariant_of-self
-invariant_of-self c =
+invariant_of-self g c =
     let m : Maps = maps_of c.self.inside.templates.entries c.self.inside.links.entries c.self.inside.template_to_links_map.entries in
     let i = c.args.id.now in
     let n : has_links (board_in m) i ≡ false = ap (λ (b : Board). has_links b i) c.self.view_is ∙ c.requires in
@@ -21,20 +21,20 @@ invariant_of-self c =
     (c.unlist.ensures ∙ ap (unlisted o i) (ap lists_of c.shift_remove.ensures.entries ∙ read_removed (λ v. v.keys) (same_text i) c.self.inside.template_to_links_map.entries))).0
 
 pub returns-clause-body : goal.returns-clause-body
-returns-clause-body c =
+returns-clause-body g c =
     let m : Maps = maps_of c.self.inside.templates.entries c.self.inside.links.entries c.self.inside.template_to_links_map.entries in
     let i = c.args.id.now in
     ap (option_map (λ t. t.value)) c.shift_remove-template.ensures.value ∙ body_read m c.self.inside.templates.entries i c.self.invariant refl
     ∙ ap (λ (b : Board). find (is_body_at i) b.bodies) c.self.view_is
 
 pub returns-clause-policy : goal.returns-clause-policy
-returns-clause-policy c =
+returns-clause-policy g c =
     let m : Maps = maps_of c.self.inside.templates.entries c.self.inside.links.entries c.self.inside.template_to_links_map.entries in
     let i = c.args.id.now in
     c.shift_remove-policy.ensures.value ∙ policy_read m i c.self.invariant ∙ ap (λ (b : Board). find (is_policy_at i) b.policies) c.self.view_is
 
 pub returns-clause-taken : goal.returns-clause-taken
-returns-clause-taken c =
+returns-clause-taken g c =
     let m : Maps = maps_of c.self.inside.templates.entries c.self.inside.links.entries c.self.inside.template_to_links_map.entries in
     let i = c.args.id.now in
     let n : has_links (board_in m) i ≡ false = ap (λ (b : Board). has_links b i) c.self.view_is ∙ c.requires in

@@ -6,6 +6,6 @@ use Rattle.cedar_policy_set.specs.laws.Founds.{found_binding}
 use Rattle.cedar_policy_set.proofs.policy_set.PolicySet.unlink.Goals as goal
 
 pub take-body-requires : goal.take-body-requires
-take-body-requires c =
+take-body-requires g c =
     bound_policy_unlinked c.args.self.now c.args.id.now c.in-Some-Policy.policy.now (subst IsBoard c.self.view_is c.self.invariant.board)
     (subst (λ x. Some (found_binding x) ≡ bound_at c.args.self.now c.args.id.now) c.in-Some-Policy.field-0-is c.in-Some-Policy.ensures)
