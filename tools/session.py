@@ -1,5 +1,6 @@
-"""What the program writes for an input, by a plain model: the lines that `cedar_store/specs/Command.antt` and
-`cedar_policy_lines/specs/PolicyCommand.antt` say, and what the two files `Output.antt` and `PolicyOutput.antt` make of them.
+"""What the program writes for an input, by a plain model: the lines that `EntityCommand.antt` of `cedar_entity_lines` and
+`PolicyCommand.antt` of `cedar_policy_lines` say, and what `EntityOutput.antt`, `PolicyOutput.antt` and `Output.antt` of
+`cedar_store` make of them.
 
 A world is a dictionary from the text of a uid to the set of its parents; a board is a dictionary of bodies and one of policies,
 each in their order. `./bench` compares the program with it.

@@ -1,4 +1,5 @@
 pub mod Answers
+pub mod Calls
 pub mod ClosureFaults
 pub mod Codes
 pub mod Edits

@@ -20,7 +20,7 @@ use Rattle.cedar_ids.specs.declared.entity.EntityUID.TheVariants as uids
 use Rattle.cedar_policy_lines.specs.PolicyCommand.{PolicyCommand, IsPolicyCommand, bound_more}
 use Rattle.cedar_binding.specs.Bindings.{EnvParts, binds}
 use Rattle.cedar_terms.specs.declared.slot.SlotId.{SlotId}
-use Rattle.cedar_policy_lines.specs.Reads.{ReadsAs}
+use Rattle.cedar_lines.specs.Reads.{ReadsAs}
 use Rattle.cedar_policy_lines.specs.laws.PolicyReading.{behind, uid_read, read_uid, binding_of, with_binding, bindings_from, policy_command}
 use Rattle.cedar_policy_lines.specs.laws.ReadCommands.{command_is_read, read_is_command, none_goes_on}
 

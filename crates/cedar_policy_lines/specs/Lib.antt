@@ -3,5 +3,4 @@ pub mod Codes
 pub mod CommandOf
 pub mod PolicyCommand
 pub mod PolicyOutput
-pub mod Reads
 pub mod laws

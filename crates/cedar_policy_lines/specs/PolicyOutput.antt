@@ -5,6 +5,7 @@ use Rattle.std.specs.Option.{unwrap_or}
 use Rattle.cedar_ids.specs.Escape.{escaped_output}
 use Rattle.cedar_ids.specs.Uid.{UidParts}
 use Rattle.cedar_ids.specs.Printed.{uid_output}
+use Rattle.cedar_lines.specs.Lines.{written_line}
 use Rattle.cedar_terms.specs.declared.slot.SlotId.TheVariants.{Principal, Action, Resource}
 use Rattle.cedar_binding.specs.Bindings.{is_among}
 use Rattle.cedar_scope.specs.Scope.{Constraint, any, equals, to_slot}
@@ -20,10 +21,6 @@ use Rattle.cedar_policy_lines.specs.PolicyCommand.{PolicyCommand, Static, Templa
 use Rattle.cedar_policy_lines.specs.declared.field.TemplateSlots.{TemplateSlots}
 
 -- ---- texts
-
--- a text and a line feed
-abbrev pub written_line : List ℕ → List ℕ
-written_line text = text ++ 10 ∷ []
 
 -- the text of an id. Nothing is written of an id past ASCII, which no line gives
 abbrev pub id_text : List ℕ → List ℕ

@@ -5,24 +5,16 @@ ghost use Rattle.std.specs.String.{string_bytes};
 ghost use Rattle.cedar_ids.specs.UidOf.{uid_parts};
 ghost use Rattle.cedar_policy_set.specs.Refusals.{told_by_set, told_by_linking, told_by_unlinking};
 ghost use Rattle.cedar_policy_set.specs.Merge.{body_ids, policy_ids};
-ghost use Rattle.cedar_policy_lines.specs.PolicyOutput.{written_line, ok_line, merged_line, id_text, uid_text, id_field, renamed_fields, ids_lines};
+ghost use Rattle.cedar_policy_lines.specs.PolicyOutput.{ok_line, merged_line, id_text, uid_text, id_field, renamed_fields, ids_lines};
 ghost use Rattle.cedar_policy_lines.specs.laws.Machines.{Said, SaidMerged, refused_with};
 
 use cedar_ids::entity::EntityUID;
 use cedar_ids::policy_id::PolicyID;
+use cedar_lines::writing::push_line;
 use cedar_policy::{LinkingError, Policy};
 use cedar_policy_set::{PolicySet, PolicySetError, PolicySetUnlinkError};
 use indexmap::IndexMap;
 use std::alloc::{AllocError, Global};
-
-// Adds a text and a line feed.
-fn push_line(out: &mut Vec<u8>, text: &str) -> Result<(), AllocError>
-    ensures { OnOk result (out.new.items ≡ out.old.items ++ written_line text.now) }
-{
-    out.extend_from_slice(text.as_bytes())?;
-    out.push(b'\n')?;
-    Ok(())
-}
 
 // Adds that a command was taken.
 pub(crate) fn push_ok(out: &mut Vec<u8>) -> Result<(), AllocError>

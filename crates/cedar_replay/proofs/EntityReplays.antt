@@ -5,7 +5,7 @@ use Rattle.cedar_entities.specs.Plain.{StoreView, IsPlainStore, AreBare, given_o
 use Rattle.cedar_entity.specs.View.{EntityView}
 use Rattle.cedar_entities.specs.World.{World, empty_world, added, overwritten, AllAgree, IsCyclic}
 use Rattle.cedar_entity.specs.declared.err.EntitiesError.{EntitiesError}
-use Rattle.cedar_replay.specs.Calls.{Call, made, all_made, Passes, AllPass, IsRefusedAs, StopsAt}
+use Rattle.cedar_entities.specs.Calls.{Call, made, all_made, Passes, AllPass, IsRefusedAs, StopsAt}
 use Rattle.std.proofs.lemmas.List.{map-append}
 
 pub made_push : (W : World) (cs : List Call) (c : Call) → all_made W (cs ++ c ∷ []) ≡ made (all_made W cs) c

@@ -3,7 +3,7 @@ ghost use Rattle.std.specs.Prelude.{◌≡◌, IfOk, IfErr, OnOk, map};
 ghost use Rattle.std.specs.List.{AllByRecursion};
 ghost use Rattle.cedar_entities.specs.Plain.{IsPlainStore};
 ghost use Rattle.cedar_entities.specs.World.{World, empty_world};
-ghost use Rattle.cedar_replay.specs.Calls.{made, all_made, Passes, AllPass, IsRefusedAs, StopsAt};
+ghost use Rattle.cedar_entities.specs.Calls.{made, all_made, Passes, AllPass, IsRefusedAs, StopsAt};
 ghost use Rattle.cedar_replay.specs.CallsOf.{call_of, HasBareEntities};
 
 use cedar_entities::{Entities, EntitiesError, Entity, TCComputation};

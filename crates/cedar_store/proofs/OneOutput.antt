@@ -1,156 +1,87 @@
 -- No input has two outputs.
-use Rattle.std.specs.Prelude.{◌≡◌, ℕ, ◌+◌, List, [], ◌∷◌, ◌++◌, codes, Bool, true, false, ◌||◌}
+use Rattle.std.specs.Prelude.{◌≡◌, ℕ, ◌+◌, List, [], ◌∷◌, codes, Option, Some, None}
 use Rattle.std.proofs.Common.{ap, sym, refl, subst, ◌∙◌, inl, inr}
-use Rattle.std.proofs.lemmas.Bool.{false≢true, or_cases}
-use Rattle.std.specs.Cmp.{tied_itself}
-use Rattle.std.specs.Fmt.{decimal}
-use Rattle.std.specs.Bool.{MatchBool}
-use Rattle.std.specs.List.{AllByRecursion, flat_map}
-use Rattle.std.specs.List.Sorted.{IsStrictlySortedBy}
-use Rattle.std.specs.Set.{is_member}
-use Rattle.std.specs.FinMap as finmap
-use Rattle.std.specs.Ordering.{is_eq}
-use Rattle.std.specs.declared.cmp.Ordering.TheVariants.{Less}
-use Rattle.cedar_ids.specs.UidOf.{uid_order, same_uid}
-use Rattle.cedar_ids.specs.laws.UidOfLaws.{same_uid_decides, same_uid_equiv, uid_order_total}
 use Rattle.cedar_ids.specs.declared.entity.EntityUID.{EntityUID}
+use Rattle.cedar_entity_lines.specs.EntityCommand.{EntityCommand, Ent, Build, Add, Upsert, Remove, Slice, Anc, AreFields, IsEntityCommand}
+use Rattle.cedar_entity_lines.specs.laws.OneAnswer.{one_entity_gives}
+use Rattle.cedar_entity_lines.specs.laws.ReadCommands.{one_entity_command}
+use Rattle.cedar_policy_lines.specs.PolicyCommand.{PolicyCommand, IsPolicyCommand}
 use Rattle.cedar_policy_lines.specs.laws.OneAnswer.{one_policy_gives}
-use Rattle.cedar_slice.specs.laws.OneSlice.{one_slice}
-use Rattle.cedar_store.specs.Command.{Command, Nothing, Ent, Build, Add, Upsert, Remove, Slice, Anc, Policy}
-use Rattle.cedar_entities.specs.World.{World, Given, AllAgree, Agrees, FirstDiffers, empty_world}
-use Rattle.cedar_store.specs.Output.{State, Written, Adds, Overwrites, Deletes, Slices, AreAncestors, Gives, IsOutput, IsOutputFrom, after, written_line, uid_text, field_of}
-use Rattle.cedar_store.proofs.Commands.{one_command}
-use Rattle.cedar_store.proofs.Lists.{all_at}
+use Rattle.cedar_policy_lines.specs.laws.PolicyReading.{policy_command}
+use Rattle.cedar_policy_lines.specs.laws.ReadCommands.{command_is_read}
+use Rattle.cedar_store.specs.Command.{Command, Nothing, Entity, Policy, IsCommand}
+use Rattle.cedar_store.specs.Output.{State, Written, Gives, IsOutput, IsOutputFrom, after}
 
--- the first place that differs is one place
-split_agrees : {X : Type 0} (P : X → Type 0) (before before' : List X) (at at' : X) (after after' : List X) → before ++ at ∷ after ≡ before' ++ at' ∷ after'
-    → AllByRecursion P before → AllByRecursion P before' → (P at → ⊥) → (P at' → ⊥) → at ≡ at'
-split_agrees P [] [] at at' after after' e h k d d' = cc
-split_agrees P [] (b ∷ bs) at at' after after' e h k d d' = absurd (d (subst P (sym (heads e)) k.0))
+-- ---- fields are those of one command
+
+-- fields that begin with such a word are those of no command on policy sets
+none_behind : (w : List ℕ) (us : List EntityUID) (fs : List (List ℕ)) → ((ts : List (List ℕ)) → policy_command (w ∷ ts) ≡ None) → AreFields w us fs → policy_command fs ≡ None
+none_behind w us [] none h = absurd h
+none_behind w us (f ∷ fs) none h = ap (λ v. policy_command (v ∷ fs)) h.0 ∙ none fs
+
+none_read : (fs : List (List ℕ)) (c : PolicyCommand) → policy_command fs ≡ None → IsPolicyCommand c fs → ⊥
+none_read fs c e h = let g : None ≡ Some c = sym e ∙ command_is_read c fs h in cc
+
+-- and so are those of a command on the store
+no_policy : (c : EntityCommand) (fs : List (List ℕ)) → IsEntityCommand c fs → policy_command fs ≡ None
+no_policy (Ent u ps) fs h = none_behind (codes "ent") (u ∷ ps) fs (λ ts. refl) h
+no_policy Build fs h = none_behind (codes "build") [] fs (λ ts. refl) h
+no_policy Add fs h = none_behind (codes "add") [] fs (λ ts. refl) h
+no_policy Upsert fs h = none_behind (codes "upsert") [] fs (λ ts. refl) h
+no_policy (Remove us) fs h = none_behind (codes "remove") us fs (λ ts. refl) h.0
+no_policy (Slice us) fs h = none_behind (codes "slice") us fs (λ ts. refl) h.0
+no_policy (Anc u) fs h = none_behind (codes "anc") (u ∷ []) fs (λ ts. refl) h
+
+both : (c : EntityCommand) (d : PolicyCommand) (fs : List (List ℕ)) → IsEntityCommand c fs → IsPolicyCommand d fs → ⊥
+both c d fs h k = none_read fs d (no_policy c fs h) k
+
+-- an empty field is the word of no command on the store
+not_empty : (w : List ℕ) (us : List EntityUID) → ([] ≡ w → ⊥) → AreFields w us ([] ∷ []) → ⊥
+not_empty w us none h = none h.0
+
+no_entity : (c : EntityCommand) → IsEntityCommand c ([] ∷ []) → ⊥
+no_entity (Ent u ps) h = not_empty (codes "ent") (u ∷ ps) (λ e. cc) h
+no_entity Build h = not_empty (codes "build") [] (λ e. cc) h
+no_entity Add h = not_empty (codes "add") [] (λ e. cc) h
+no_entity Upsert h = not_empty (codes "upsert") [] (λ e. cc) h
+no_entity (Remove us) h = not_empty (codes "remove") us (λ e. cc) h.0
+no_entity (Slice us) h = not_empty (codes "slice") us (λ e. cc) h.0
+no_entity (Anc u) h = not_empty (codes "anc") (u ∷ []) (λ e. cc) h
+
+nothing_or_entity : (c : EntityCommand) (fs : List (List ℕ)) → fs ≡ [] ∷ [] → IsEntityCommand c fs → ⊥
+nothing_or_entity c fs e h = no_entity c (subst (IsEntityCommand c) e h)
+
+nothing_or_policy : (c : PolicyCommand) (fs : List (List ℕ)) → fs ≡ [] ∷ [] → IsPolicyCommand c fs → ⊥
+nothing_or_policy c fs e h = none_read ([] ∷ []) c refl (subst (IsPolicyCommand c) e h)
+
+same_policy : (c d : PolicyCommand) (fs : List (List ℕ)) → IsPolicyCommand c fs → IsPolicyCommand d fs → c ≡ d
+same_policy c d fs h k = one_some (sym (command_is_read c fs h) ∙ command_is_read d fs k)
   where
-    heads : {X : Type 0} {x y : X} {xs ys : List X} → x ∷ xs ≡ y ∷ ys → x ≡ y
-    heads p = cc
-split_agrees P (a ∷ rest) [] at at' after after' e h k d d' = absurd (d' (subst P (heads e) h.0))
-  where
-    heads : {X : Type 0} {x y : X} {xs ys : List X} → x ∷ xs ≡ y ∷ ys → x ≡ y
-    heads p = cc
-split_agrees P (a ∷ rest) (b ∷ bs) at at' after after' e h k d d' = split_agrees P rest bs at at' after after' (tails e) h.1 k.1 d d'
-  where
-    tails : {X : Type 0} {x y : X} {xs ys : List X} → x ∷ xs ≡ y ∷ ys → xs ≡ ys
-    tails p = cc
+    one_some : {X : Type 0} {x y : X} → Some x ≡ Some y → x ≡ y
+    one_some e = cc
 
-one_differs : (W : World) (L : List Given) (u v : EntityUID) → FirstDiffers W L u → FirstDiffers W L v → u ≡ v
-one_differs W L u v f g =
-    sym f.uid ∙ ap (λ (x : Given). x.uid) (split_agrees (Agrees W L) f.before g.before f.at g.at f.after g.after (sym f.place ∙ g.place) f.agree g.agree f.differs g.differs) ∙ g.uid
+-- fields are those of one command
+one_command : (c d : Command) (fs : List (List ℕ)) → IsCommand c fs → IsCommand d fs → c ≡ d
+one_command Nothing Nothing fs h k = refl
+one_command Nothing (Entity d) fs h k = absurd (nothing_or_entity d fs h k)
+one_command Nothing (Policy d) fs h k = absurd (nothing_or_policy d fs h k)
+one_command (Entity c) Nothing fs h k = absurd (nothing_or_entity c fs k h)
+one_command (Entity c) (Entity d) fs h k = ap Entity (one_entity_command c d fs h k)
+one_command (Entity c) (Policy d) fs h k = absurd (both c d fs h k)
+one_command (Policy c) Nothing fs h k = absurd (nothing_or_policy c fs k h)
+one_command (Policy c) (Entity d) fs h k = absurd (both d c fs k h)
+one_command (Policy c) (Policy d) fs h k = ap Policy (same_policy c d fs h k)
 
-agree_apart : (W : World) (L : List Given) (u : EntityUID) → FirstDiffers W L u → AllAgree W L → ⊥
-agree_apart W L u f h = f.differs (all_at (Agrees W L) f.before f.at f.after (subst (AllByRecursion (Agrees W L)) f.place h))
-
-one_adds : (base : World) (L : List Given) (V W : World) (out out' : List ℕ) → Adds base L V out → Adds base L W out' → (V ≡ W) × (out ≡ out')
-one_adds base L V W out out' (inl a) (inl b) = (a.2 ∙ sym b.2, a.3 ∙ ap (λ u. written_line (codes "refused: duplicate " ++ uid_text u)) (one_differs base L a.0 b.0 a.1 b.1) ∙ sym b.3)
-one_adds base L V W out out' (inl a) (inr (inl b)) = absurd (agree_apart base L a.0 a.1 b.0)
-one_adds base L V W out out' (inl a) (inr (inr b)) = absurd (agree_apart base L a.0 a.1 b.0.0)
-one_adds base L V W out out' (inr (inl a)) (inl b) = absurd (agree_apart base L b.0 b.1 a.0)
-one_adds base L V W out out' (inr (inl a)) (inr (inl b)) = (a.2 ∙ sym b.2, a.3 ∙ sym b.3)
-one_adds base L V W out out' (inr (inl a)) (inr (inr b)) = absurd (b.0.1 a.1)
-one_adds base L V W out out' (inr (inr a)) (inl b) = absurd (agree_apart base L b.0 b.1 a.0.0)
-one_adds base L V W out out' (inr (inr a)) (inr (inl b)) = absurd (a.0.1 b.1)
-one_adds base L V W out out' (inr (inr a)) (inr (inr b)) =
-    let same : V ≡ W = a.1 ∙ sym b.1 in
-    (same, a.2 ∙ ap (λ X. written_line (codes "ok " ++ decimal (finmap.len X.entities))) same ∙ sym b.2)
-
-one_overwrites : (base : World) (L : List Given) (V W : World) (out out' : List ℕ) → Overwrites base L V out → Overwrites base L W out' → (V ≡ W) × (out ≡ out')
-one_overwrites base L V W out out' (inl a) (inl b) = (a.1 ∙ sym b.1, a.2 ∙ sym b.2)
-one_overwrites base L V W out out' (inl a) (inr b) = absurd (b.0 a.0)
-one_overwrites base L V W out out' (inr a) (inl b) = absurd (a.0 b.0)
-one_overwrites base L V W out out' (inr a) (inr b) =
-    let same : V ≡ W = a.1 ∙ sym b.1 in
-    (same, a.2 ∙ ap (λ X. written_line (codes "ok " ++ decimal (finmap.len X.entities))) same ∙ sym b.2)
-
-one_deletes : (base : World) (U : List EntityUID) (V W : World) (out out' : List ℕ) → Deletes base U V out → Deletes base U W out' → (V ≡ W) × (out ≡ out')
-one_deletes base U V W out out' a b =
-    let same : V ≡ W = a.0 ∙ sym b.0 in
-    (same, a.1 ∙ ap (λ X. written_line (codes "ok " ++ decimal (finmap.len X.entities))) same ∙ sym b.1)
-
-one_slices : (base : World) (U : List EntityUID) (V W : World) (out out' : List ℕ) → Slices base U V out → Slices base U W out' → (V ≡ W) × (out ≡ out')
-one_slices base U V W out out' a b =
-    let same : V ≡ W = one_slice base U V W a.0 b.0 in
-    (same, a.1 ∙ ap (λ X. written_line (codes "ok " ++ decimal (finmap.len X.entities))) same ∙ sym b.1)
-
--- a list that ascends is one by its members
-not_itself : (u : EntityUID) → uid_order u u ≡ Less → ⊥
-not_itself u h = false≢true (ap is_eq (sym h ∙ tied_itself uid_order_total u))
-
-above_all : (u : EntityUID) (us : List EntityUID) → AllByRecursion (λ y. uid_order u y ≡ Less) us → (q : EntityUID) → is_member same_uid us q ≡ true → uid_order u q ≡ Less
-above_all u [] h q m = absurd (false≢true m)
-above_all u (x ∷ us) h q m = elim (or_cases (same_uid q x) (is_member same_uid us q) m) [
-  | inl e ↦ ap (uid_order u) ((same_uid_decides q x).0 e) ∙ h.0
-  | inr r ↦ above_all u us h.1 q r
-]
-
-here : (u : EntityUID) (us : List EntityUID) → is_member same_uid (u ∷ us) u ≡ true
-here u us = ap (λ b. b || is_member same_uid us u) (same_uid_equiv.refl u)
-
-pub or_right : (a b : Bool) → b ≡ true → (a || b) ≡ true
-or_right true b h = refl
-or_right false b h = h
-
-heads_agree : (u v : EntityUID) (us vs : List EntityUID) → AllByRecursion (λ y. uid_order u y ≡ Less) us → AllByRecursion (λ y. uid_order v y ≡ Less) vs
-    → is_member same_uid (v ∷ vs) u ≡ true → is_member same_uid (u ∷ us) v ≡ true → u ≡ v
-heads_agree u v us vs h k a b = elim (or_cases (same_uid u v) (is_member same_uid vs u) a) [
-  | inl e ↦ (same_uid_decides u v).0 e
-  | inr r ↦ elim (or_cases (same_uid v u) (is_member same_uid us v) b) [
-    | inl e ↦ sym ((same_uid_decides v u).0 e)
-    | inr t ↦ absurd (not_itself u (uid_order_total.trans u v u (above_all u us h v t) (above_all v vs k u r)))
-  ]
-]
-
-in_tail : (u q : EntityUID) (us vs : List EntityUID) → AllByRecursion (λ y. uid_order u y ≡ Less) us → is_member same_uid us q ≡ true → is_member same_uid (u ∷ vs) q ≡ true → is_member same_uid vs q ≡ true
-in_tail u q us vs h m a = elim (or_cases (same_uid q u) (is_member same_uid vs q) a) [
-  | inl e ↦ absurd (not_itself u (ap (uid_order u) (sym ((same_uid_decides q u).0 e)) ∙ above_all u us h q m))
-  | inr r ↦ r
-]
-
-abbrev pub Members : List EntityUID → List EntityUID → Type 0
-Members us vs = (q : EntityUID) → is_member same_uid us q ≡ true → is_member same_uid vs q ≡ true
-
-pub same_ascending : (us vs : List EntityUID) → IsStrictlySortedBy uid_order us → IsStrictlySortedBy uid_order vs → Members us vs → Members vs us → us ≡ vs
-unfolding IsStrictlySortedBy
-same_ascending [] [] h k f g = refl
-same_ascending [] (v ∷ vs) h k f g = absurd (false≢true (g v (here v vs)))
-same_ascending (u ∷ us) [] h k f g = absurd (false≢true (f u (here u us)))
-same_ascending (u ∷ us) (v ∷ vs) h k f g =
-    let same : u ≡ v = heads_agree u v us vs h.0 k.0 (f u (here u us)) (g v (here v vs)) in
-    let forth = λ (q : EntityUID) (m : is_member same_uid us q ≡ true). in_tail u q us vs h.0 m (subst (λ x. is_member same_uid (x ∷ vs) q ≡ true) (sym same) (f q (or_right (same_uid q u) _ m))) in
-    let back = λ (q : EntityUID) (m : is_member same_uid vs q ≡ true). in_tail v q vs us k.0 m (subst (λ x. is_member same_uid (x ∷ us) q ≡ true) same (g q (or_right (same_uid q v) _ m))) in
-    λ i. same i ∷ same_ascending us vs h.1 k.1 forth back i
-
-one_ancestors : (W : World) (u : EntityUID) (us vs : List EntityUID) → AreAncestors W u us → AreAncestors W u vs → us ≡ vs
-one_ancestors W u us vs a b = same_ascending us vs a.ascend b.ascend (λ q m. (b.reached q).1 ((a.reached q).0 m)) (λ q m. (a.reached q).1 ((b.reached q).0 m))
-
-one_shown : (W : World) (u : EntityUID) (out out' : List ℕ) (b : Bool)
-    → MatchBool b ((uids : List EntityUID) × AreAncestors W u uids × (out ≡ written_line (codes "anc" ++ flat_map field_of uids))) (out ≡ written_line (codes "no entity"))
-    → MatchBool b ((uids : List EntityUID) × AreAncestors W u uids × (out' ≡ written_line (codes "anc" ++ flat_map field_of uids))) (out' ≡ written_line (codes "no entity"))
-    → out ≡ out'
-one_shown W u out out' true h k = h.2 ∙ ap (λ l. written_line (codes "anc" ++ flat_map field_of l)) (one_ancestors W u h.0 k.0 h.1 k.1) ∙ sym k.2
-one_shown W u out out' false h k = h ∙ sym k
-
--- one list that waits, one world and two boards are one state
-joined : (t t' : State) (out out' : List ℕ) → t.waiting ≡ t'.waiting → (t.world ≡ t'.world) × (out ≡ out') → t.boards ≡ t'.boards → (t ≡ t') × (out ≡ out')
-joined t t' out out' w a b = (λ i. record { waiting = w i; world = a.0 i; boards = b i }, a.1)
+-- ---- a command gives one answer
 
 one_step : (s t t' : State) (c : Command) (out out' : List ℕ) → Gives s c t out → Gives s c t' out' → (t ≡ t') × (out ≡ out')
 one_step s t t' Nothing out out' h k = (h.0 ∙ sym k.0, h.1 ∙ sym k.1)
-one_step s t t' (Ent u ps) out out' h k = (h.0 ∙ sym k.0, h.1 ∙ sym k.1)
-one_step s t t' Build out out' h k = joined t t' _ _ (h.0 ∙ sym k.0) (one_adds empty_world s.waiting t.world t'.world out out' h.1 k.1) (h.2 ∙ sym k.2)
-one_step s t t' Add out out' h k = joined t t' _ _ (h.0 ∙ sym k.0) (one_adds s.world s.waiting t.world t'.world out out' h.1 k.1) (h.2 ∙ sym k.2)
-one_step s t t' Upsert out out' h k = joined t t' _ _ (h.0 ∙ sym k.0) (one_overwrites s.world s.waiting t.world t'.world out out' h.1 k.1) (h.2 ∙ sym k.2)
-one_step s t t' (Remove us) out out' h k = joined t t' _ _ (h.0 ∙ sym k.0) (one_deletes s.world us t.world t'.world out out' h.1 k.1) (h.2 ∙ sym k.2)
-one_step s t t' (Slice us) out out' h k = joined t t' _ _ (h.0 ∙ sym k.0) (one_slices s.world us t.world t'.world out out' h.1 k.1) (h.2 ∙ sym k.2)
-one_step s t t' (Anc u) out out' h k = (h.0 ∙ sym k.0, one_shown s.world u out out' (finmap.contains_key s.world.entities u) h.1 k.1)
+one_step s t t' (Entity c) out out' h k =
+    let same = one_entity_gives c s.entities t.entities t'.entities out out' h.0 k.0 in
+    (λ i. record { entities = same.0 i; boards = (h.1 ∙ sym k.1) i }, same.1)
 one_step s t t' (Policy c) out out' h k =
-    let same = one_policy_gives c s.boards t.boards t'.boards out out' h.2 k.2 in
-    joined t t' out out' (h.0 ∙ sym k.0) (h.1 ∙ sym k.1, same.1) same.0
+    let same = one_policy_gives c s.boards t.boards t'.boards out out' h.1 k.1 in
+    (λ i. record { entities = (h.0 ∙ sym k.0) i; boards = same.0 i }, same.1)
 
 one_from : (ls : List (List ℕ)) (n : ℕ) (s : State) (v w : Written) → IsOutputFrom n s ls v → IsOutputFrom n s ls w → v ≡ w
 unfolding IsOutputFrom

@@ -10,9 +10,7 @@
 
 mod line;
 mod machine;
-mod parent_fields;
 mod program;
-mod uid_text;
 
 pub use cedar_action::{ActionConstraint, ActionTypesError, EntityIterator};
 pub use cedar_annotation::{Annotation, Annotations};
@@ -70,9 +68,21 @@ pub mod iters {
     pub use cedar_scope::iters::ConstraintTypeNames;
 }
 
+/// What lines share: their fields, a field that is a uid, and lines that are written.
+pub mod lines {
+    pub use cedar_lines::field::uid_field;
+    pub use cedar_lines::line::read_fields;
+    pub use cedar_lines::writing::push_line;
+}
+
+/// The lines on the store: reading them, and the store that they change, with the entities that wait for it.
+pub mod entity_lines {
+    pub use cedar_entity_lines::{EntityCommand, KnownUids, LineStore, read_entity_command};
+}
+
 /// The lines on policy sets: reading them, and the two sets that they change.
 pub mod policy_lines {
-    pub use cedar_policy_lines::field::uid_field;
+    pub use cedar_lines::field::uid_field;
     pub use cedar_policy_lines::{PolicyCommand, PolicySets, read_policy_command};
 }
 

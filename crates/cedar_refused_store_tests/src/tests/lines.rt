@@ -1,5 +1,8 @@
-// The calls by which lines on policy sets are read and answered. Fields stand apart by blanks.
-use cedar_policy_lines::field::uid_field;
+// The calls that lines share, and those by which lines on policy sets are read and answered. Fields stand apart by blanks, but for
+// `read_fields`, by tabs.
+use cedar_lines::field::uid_field;
+use cedar_lines::line::read_fields;
+use cedar_lines::writing::push_line;
 use cedar_policy_lines::{PolicyCommand, PolicySets, read_policy_command};
 use cedar_refusals::{
     Answer, Calls, Row, Tried, ample_if, is_worded, judged, refuse, relent, tried_rows, unmade,
@@ -12,6 +15,9 @@ const LINES: &str = "
     uid_field | A::\"a\" | A::\"a\"
     - uid_field | A::b | none
     uid_field | A::\"'\" | none
+    read_fields | ent\tA::\"a\"\tA::\"b\" | 3
+    - read_fields | \u{e9} | none
+    push_line | anc A::\"a\" | anc A::\"a\"
     read_policy_command | static a permit | some
     read_policy_command | template t both | some
     read_policy_command | template t action | some
@@ -131,6 +137,33 @@ fn taken(alloc: Global, number: usize, row: Row<'_>) -> Tried {
     tried
 }
 
+fn parted(alloc: Global, number: usize, row: Row<'_>) -> Tried {
+    let mut fields: Vec<&str> = Vec::new(alloc);
+    refuse(alloc, number);
+    let answer = read_fields(&mut fields, row.given.as_bytes());
+    let refused = relent(alloc);
+    let answer = match answer {
+        Ok(true) => ample_if(is_worded(alloc, &fields.len(), row.want)),
+        Ok(false) => ample_if(row.want == "none"),
+        Err(_) => Answer::Memory,
+    };
+    drop(fields);
+    Tried { answer, refused }
+}
+
+fn written(alloc: Global, number: usize, row: Row<'_>) -> Tried {
+    let mut out = Vec::new(alloc);
+    refuse(alloc, number);
+    let answer = push_line(&mut out, row.given);
+    let refused = relent(alloc);
+    let answer = match answer {
+        Ok(()) => ample_if(are_words(out.as_slice(), row.want)),
+        Err(_) => Answer::Memory,
+    };
+    drop(out);
+    Tried { answer, refused }
+}
+
 impl Calls for OnLines {
     fn tried(&self, alloc: Global, number: usize, row: Row<'_>) -> Tried {
         match row.call {
@@ -146,6 +179,8 @@ impl Calls for OnLines {
                     },
                 )
             }
+            "read_fields" => parted(alloc, number, row),
+            "push_line" => written(alloc, number, row),
             "read_policy_command" => read(alloc, number, row),
             "PolicySets::take" => taken(alloc, number, row),
             _ => unmade(),

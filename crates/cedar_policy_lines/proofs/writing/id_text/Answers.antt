@@ -2,7 +2,7 @@ use Rattle.std.proofs.Common.{◌≡◌, Some, [], ◌∙◌, sym, ap, true, Boo
 use Rattle.std.specs.Option.{unwrap_or}
 use Rattle.std.proofs.lemmas.Result.{IfOk-weaker}
 use Rattle.cedar_ids.specs.Escape.{is_ascii, escaped, escaped_output}
-use Rattle.cedar_policy_lines.proofs.Ascii.{is_ascii-from_cases}
+use Rattle.cedar_lines.specs.laws.Ascii.{is_ascii-from_cases}
 use Rattle.cedar_policy_lines.proofs.writing.id_text.Goals as goal
 
 pub returns-then-is_ascii : goal.returns-then-is_ascii

@@ -4,7 +4,7 @@ use Rattle.std.proofs.lemmas.Result.{IfOk-weaker}
 use Rattle.cedar_ids.specs.Escape.{is_ascii}
 use Rattle.cedar_ids.specs.Printed.{printed_uid, uid_output}
 use Rattle.cedar_ids.specs.UidOf.{uid_parts}
-use Rattle.cedar_policy_lines.proofs.Ascii.{is_ascii-from_cases}
+use Rattle.cedar_lines.specs.laws.Ascii.{is_ascii-from_cases}
 use Rattle.cedar_policy_lines.proofs.writing.uid_text.Goals as goal
 
 pub returns-then-is_ascii : goal.returns-then-is_ascii

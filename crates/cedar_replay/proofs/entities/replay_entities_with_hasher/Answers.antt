@@ -1,7 +1,7 @@
 use Rattle.std.proofs.Common.{[], ◌∷◌, ◌+◌, ap, sym, subst, ◌∙◌, ◌++◌, map}
 use Rattle.cedar_entities.specs.Plain.{IsPlainStore}
 use Rattle.cedar_entities.specs.World.{World, empty_world}
-use Rattle.cedar_replay.specs.Calls.{all_made, AllPass}
+use Rattle.cedar_entities.specs.Calls.{all_made, AllPass}
 use Rattle.cedar_replay.specs.CallsOf.{call_of}
 use Rattle.cedar_replay.proofs.EntityReplays.{made_push, pass_push, longer, stops}
 use Rattle.cedar_replay.proofs.entities.replay_entities_with_hasher.Goals as goal

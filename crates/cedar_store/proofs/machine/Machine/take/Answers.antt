@@ -4,7 +4,7 @@ use Rattle.cedar_store.specs.declared.line.Command.{Command}
 use Rattle.cedar_store.specs.declared.machine.Machine.{Machine}
 use Rattle.cedar_store.specs.laws.CommandOf.{command_of}
 use Rattle.cedar_store.specs.laws.Machines.{HasAsciiUids, MachineGives}
-use Rattle.cedar_store.proofs.Steps.{nothing_takes, anc_takes, policy_takes}
+use Rattle.cedar_store.proofs.Joined.{nothing_takes, entity_takes, policy_takes}
 use Rattle.cedar_store.proofs.machine.Machine.take.Goals as goal
 
 pub returns-in-Nothing : goal.returns-in-Nothing
@@ -12,52 +12,18 @@ returns-in-Nothing c s h =
     subst (λ (d : Command). HasAsciiUids (command_of d) → MachineGives (command_of d) s c.args.self.now c.args.out.now.items c.args.out.now.items) (sym c.in-Nothing.is)
     (λ a. nothing_takes c.args.self.now s c.args.out.now.items h)
 
-pub returns-in-Ent : goal.returns-in-Ent
-returns-in-Ent c = on_ok_weaker c.ent.result
-    (λ k s h. subst (λ (d : Command). HasAsciiUids (command_of d) → MachineGives (command_of d) s c.ent.new.self c.args.out.now.items c.args.out.now.items) (sym c.in-Ent.is)
-    (λ a. k s h a c.args.out.now.items))
-    c.ent.ensures
-
-pub returns-in-Build : goal.returns-in-Build
-returns-in-Build c = on_ok_weaker c.build.result
-    (λ k s h. subst (λ (d : Command). HasAsciiUids (command_of d) → MachineGives (command_of d) s c.build.new.self c.args.out.now.items c.build.new.out.items) (sym c.in-Build.is)
-    (λ a. k s h))
-    c.build.ensures
-
-pub returns-in-Add : goal.returns-in-Add
-returns-in-Add c = on_ok_weaker c.add.result
-    (λ k s h. subst (λ (d : Command). HasAsciiUids (command_of d) → MachineGives (command_of d) s c.add.new.self c.args.out.now.items c.add.new.out.items) (sym c.in-Add.is)
-    (λ a. k s h))
-    c.add.ensures
-
-pub returns-in-Upsert : goal.returns-in-Upsert
-returns-in-Upsert c = on_ok_weaker c.upsert.result
-    (λ k s h. subst (λ (d : Command). HasAsciiUids (command_of d) → MachineGives (command_of d) s c.upsert.new.self c.args.out.now.items c.upsert.new.out.items) (sym c.in-Upsert.is)
-    (λ a. k s h))
-    c.upsert.ensures
-
-pub returns-in-Remove : goal.returns-in-Remove
-returns-in-Remove c = on_ok_weaker c.remove.result
-    (λ k s h. subst (λ (d : Command). HasAsciiUids (command_of d) → MachineGives (command_of d) s c.remove.new.self c.args.out.now.items c.remove.new.out.items) (sym c.in-Remove.is)
-    (λ a. k s h))
-    c.remove.ensures
-
-pub returns-in-Slice : goal.returns-in-Slice
-returns-in-Slice c = on_ok_weaker c.slice.result
-    (λ k s h. subst (λ (d : Command). HasAsciiUids (command_of d) → MachineGives (command_of d) s c.slice.new.self c.args.out.now.items c.slice.new.out.items) (sym c.in-Slice.is)
-    (λ a. k s h))
-    c.slice.ensures
-
-pub returns-in-Anc : goal.returns-in-Anc
-returns-in-Anc c = on_ok_weaker c.anc.result
-    (λ k s h. subst (λ (d : Command). HasAsciiUids (command_of d) → MachineGives (command_of d) s c.args.self.now c.args.out.now.items c.anc.new.out.items) (sym c.in-Anc.is)
-    (λ a. anc_takes c.args.self.now s c.in-Anc.uid c.args.out.now.items c.anc.new.out.items h (k s h)))
-    c.anc.ensures
+pub returns-in-Entity : goal.returns-in-Entity
+returns-in-Entity c =
+    let new : Machine = record { entities = c.take.new.self; sets = c.args.self.now.sets; known = c.args.self.now.known } in
+    on_ok_weaker c.take.result
+    (λ k s h. subst (λ (d : Command). HasAsciiUids (command_of d) → MachineGives (command_of d) s new c.args.out.now.items c.take.new.out.items) (sym c.in-Entity.is)
+    (λ a. entity_takes c.args.self.now new s _ c.args.out.now.items c.take.new.out.items h refl (k s.entities h.entities a)))
+    c.take.ensures
 
 pub returns-in-Policy : goal.returns-in-Policy
 returns-in-Policy c =
-    let new : Machine = record { waiting = c.args.self.now.waiting; store = c.args.self.now.store; sets = c.take.new.self; known = c.args.self.now.known } in
-    on_ok_weaker c.take.result
-    (λ k s h. subst (λ (d : Command). HasAsciiUids (command_of d) → MachineGives (command_of d) s new c.args.out.now.items c.take.new.out.items) (sym c.in-Policy.is)
-    (λ a. policy_takes c.args.self.now new s _ c.args.out.now.items c.take.new.out.items h refl refl k))
-    c.take.ensures
+    let new : Machine = record { entities = c.args.self.now.entities; sets = c.take-2.new.self; known = c.args.self.now.known } in
+    on_ok_weaker c.take-2.result
+    (λ k s h. subst (λ (d : Command). HasAsciiUids (command_of d) → MachineGives (command_of d) s new c.args.out.now.items c.take-2.new.out.items) (sym c.in-Policy.is)
+    (λ a. policy_takes c.args.self.now new s _ c.args.out.now.items c.take-2.new.out.items h refl k))
+    c.take-2.ensures

@@ -1,0 +1,321 @@
+-- What the store's steps make of its state.
+use Rattle.std.specs.Prelude.{◌≡◌, ◌↔◌, ℕ, List, [], ◌∷◌, ◌++◌, codes, Bool, true, false, ◌||◌, Option, Some, None, map, not, Result, Ok, Err, OnOk, IfOk, IfErr}
+use Rattle.std.proofs.Common.{ap, sym, refl, subst, ◌∙◌, inl, inr}
+use Rattle.std.specs.Prelude.{cond, if◌then◌else◌}
+use Rattle.std.specs.Cmp.Lexicographic.{bytes_decides}
+use Rattle.std.proofs.lemmas.Bool.{false≢true, or_cases, or_right}
+use Rattle.std.specs.Bool.{MatchBool}
+use Rattle.std.specs.Option.{option_map, option_or, is_some, IfSome}
+use Rattle.std.specs.List.{AllByRecursion, flat_map}
+use Rattle.std.specs.List.Sorted.{IsStrictlySortedBy}
+use Rattle.std.specs.Set.{is_member}
+use Rattle.std.specs.FinSet as set
+use Rattle.std.specs.FinMap as finmap
+use Rattle.std.specs.Ordering.{eq_by_cmp}
+use Rattle.std.specs.Cmp.{first_so}
+use Rattle.cedar_graph.specs.Graph.{Reach, Path}
+use Rattle.cedar_graph.specs.declared.err.TcError.TheVariants as tc
+use Rattle.cedar_ids.specs.UidOf.{uid_order, same_uid}
+use Rattle.cedar_ids.specs.laws.UidOfLaws.{same_uid_equiv, same_uid_decides}
+use Rattle.cedar_ids.specs.declared.entity.EntityUID.{EntityUID}
+use Rattle.cedar_entity.specs.Fields.{Fields, AreFieldsOf, field_at}
+use Rattle.cedar_uid_sets.specs.laws.Sets.{contains_listed}
+use Rattle.cedar_entities.specs.Plain.{StoreView, IsPlainStore, parts_of, given_of, IsBare, AreBare}
+use Rattle.cedar_entity.specs.View.{EntityView, has_ancestor}
+use Rattle.cedar_entities.specs.Refusals.{IsAddingRefused, IsOverwritingRefused}
+use Rattle.cedar_entities.specs.World.{World, Parts, Given, given, graph, is_parent_in, entry_of, reversed, goes, without, added, overwritten, deleted, empty_world, AllAgree}
+use Rattle.cedar_entity.specs.declared.err.EntitiesError.{EntitiesError}
+use Rattle.cedar_entity.specs.declared.err.EntitiesError.TheVariants as errors
+use Rattle.cedar_entities.specs.laws.Worlds.{get_added, get_overwritten, get_deleted}
+use Rattle.cedar_lines.specs.Lines.{written_line}
+use Rattle.cedar_slice.specs.Slices.{IsPlainSlice}
+use Rattle.cedar_slice.specs.laws.OneSlice.{slice_edges}
+use Rattle.cedar_entity_lines.specs.EntityCommand.{Ent, Build, Add, Upsert, Remove, Slice, Anc}
+use Rattle.cedar_entity_lines.specs.EntityOutput.{EntityState, Adds, Overwrites, AreAncestors, ShowsAncestors, count_line, uid_text, field_of}
+use Rattle.cedar_entity_lines.specs.Holding.{StoreAndWaiting, IsAsciiUid, IsAsciiGiven, IsAsciiWorld, AreAsciiUids, Holds, EntityWrites}
+use Rattle.cedar_entity_lines.specs.laws.Machines.{Refused, Settles}
+use Rattle.cedar_entity_lines.specs.laws.OneAnswer.{all_at}
+use mathlib.Core.List.{append-nil}
+use Rattle.std.proofs.lemmas.List.{map-append}
+use Rattle.std.proofs.Common.{append_assoc}
+use Rattle.cedar_entity.specs.laws.UidSets.{kept_in}
+use Rattle.cedar_entities.specs.laws.Lists.{all_push}
+
+-- why adding was refused, as it is written
+pub refused_adds : (base : World) (L : List Given) (e : EntitiesError) (old new : List ℕ) → AllByRecursion IsAsciiGiven L → IsAddingRefused base L e → Refused e old new
+    → (text : List ℕ) × Adds base L empty_world text × (new ≡ old ++ text)
+refused_adds base L (errors.Duplicate u) old new ascii h r =
+    let g = all_at IsAsciiGiven h.before h.at h.after (subst (AllByRecursion IsAsciiGiven) h.place ascii) in
+    (written_line (codes "refused: duplicate " ++ uid_text u), inl (u, h, refl, refl), r (subst IsAsciiUid h.uid g.0))
+refused_adds base L (errors.TransitiveClosureError (tc.MissingTcEdge x)) old new ascii h r = absurd r
+refused_adds base L (errors.TransitiveClosureError (tc.HasCycle x)) old new ascii h r = (written_line (codes "refused: cycle"), inr (inl (h.0, (_, h.1), refl, refl)), r)
+refused_adds base L (errors.TransitiveClosureError tc.Memory) old new ascii h r = absurd r
+refused_adds base L (errors.SelfAncestor u) old new ascii h r = absurd r
+refused_adds base L (errors.DuplicateAncestor u x) old new ascii h r = absurd r
+refused_adds base L (errors.ActionParentIsNotAction u p) old new ascii h r = absurd r
+refused_adds base L (errors.ReservedKey k) old new ascii h r = absurd r
+refused_adds base L errors.Memory old new ascii h r = absurd r
+
+-- why overwriting was
+pub refused_overwrites : (base : World) (L : List Given) (e : EntitiesError) (old new : List ℕ) → IsOverwritingRefused base L e → Refused e old new
+    → (text : List ℕ) × Overwrites base L empty_world text × (new ≡ old ++ text)
+refused_overwrites base L (errors.Duplicate u) old new h r = absurd h
+refused_overwrites base L (errors.TransitiveClosureError (tc.MissingTcEdge x)) old new h r = absurd r
+refused_overwrites base L (errors.TransitiveClosureError (tc.HasCycle x)) old new h r = (written_line (codes "refused: cycle"), inl ((_, h), refl, refl), r)
+refused_overwrites base L (errors.TransitiveClosureError tc.Memory) old new h r = absurd r
+refused_overwrites base L (errors.SelfAncestor u) old new h r = absurd r
+refused_overwrites base L (errors.DuplicateAncestor u x) old new h r = absurd r
+refused_overwrites base L (errors.ActionParentIsNotAction u p) old new h r = absurd r
+refused_overwrites base L (errors.ReservedKey k) old new h r = absurd r
+refused_overwrites base L errors.Memory old new h r = absurd r
+
+-- the parents that are found have ASCII eids
+abbrev pub ascii_parts : Option Parts → Type 0
+ascii_parts o = IfSome o (λ p. (q : EntityUID) → set.contains p.parents q ≡ true → IsAsciiUid q)
+
+pick_ascii : (b : Bool) (p : Parts) (o : Option Parts) → ((q : EntityUID) → set.contains p.parents q ≡ true → IsAsciiUid q) → ascii_parts o → ascii_parts (cond b (Some p) o)
+pick_ascii true p o h k = h
+pick_ascii false p o h k = k
+
+abbrev pub ascii_entry : EntityUID × Parts → Type 0
+ascii_entry e = (q : EntityUID) → set.contains e.1.parents q ≡ true → IsAsciiUid q
+
+find_ascii : (es : List (EntityUID × Parts)) (a : EntityUID) → AllByRecursion ascii_entry es → ascii_parts (finmap.find uid_order a es)
+find_ascii [] a h = tt
+find_ascii (e ∷ es) a h = pick_ascii (eq_by_cmp uid_order a e.0) e.1 (finmap.find uid_order a es) h.0 (find_ascii es a h.1)
+
+entries_ascii : (L : List Given) → AllByRecursion IsAsciiGiven L → AllByRecursion ascii_entry (map entry_of L)
+entries_ascii [] h = tt
+entries_ascii (g ∷ L) h = (h.0.1, entries_ascii L h.1)
+
+all_reversed : {X : Type 0} (P : X → Type 0) (xs : List X) → AllByRecursion P xs → AllByRecursion P (reversed xs)
+all_reversed P [] h = tt
+all_reversed P (x ∷ xs) h = all_push P (reversed xs) x (all_reversed P xs h.1) h.0
+
+parent_ascii : (o : Option Parts) (b : EntityUID) → ascii_parts o → is_parent_in o b ≡ true → IsAsciiUid b
+parent_ascii None b h e = absurd (false≢true e)
+parent_ascii (Some p) b h e = h b e
+
+found_parts : (o : Option Parts) → ((b : EntityUID) → is_parent_in o b ≡ true → IsAsciiUid b) → ascii_parts o
+found_parts None h = tt
+found_parts (Some p) h = h
+
+parts_or : (o p : Option Parts) → ascii_parts o → ascii_parts p → ascii_parts (option_or o p)
+parts_or None p h k = k
+parts_or (Some x) p h k = h
+
+-- a world whose entries have such parents
+from_parts : (W : World) → ((a : EntityUID) → ascii_parts (finmap.get W.entities a)) → IsAsciiWorld W
+from_parts W h a b e = parent_ascii (finmap.get W.entities a) b (h a) e
+
+parts_in : (W : World) → IsAsciiWorld W → (a : EntityUID) → ascii_parts (finmap.get W.entities a)
+parts_in W h a = found_parts (finmap.get W.entities a) (h a)
+
+pub added_ascii : (W : World) (L : List Given) → IsAsciiWorld W → AllByRecursion IsAsciiGiven L → IsAsciiWorld (added W L)
+added_ascii W L h k = from_parts (added W L) (λ a. subst ascii_parts (sym (get_added W L a)) (parts_or _ _ (parts_in W h a) (find_ascii (map entry_of L) a (entries_ascii L k))))
+
+pub overwritten_ascii : (W : World) (L : List Given) → IsAsciiWorld W → AllByRecursion IsAsciiGiven L → IsAsciiWorld (overwritten W L)
+overwritten_ascii W L h k =
+    from_parts (overwritten W L) (λ a. subst ascii_parts (sym (get_overwritten W L a)) (parts_or _ _ (find_ascii (reversed (map entry_of L)) a (all_reversed ascii_entry (map entry_of L) (entries_ascii L k))) (parts_in W h a)))
+
+left_ascii : (gone : EntityUID → Bool) (a : EntityUID) (b : Bool) (o : Option Parts) → ascii_parts o → ascii_parts (option_map (λ p. (without gone (a, p)).1) (cond b o None))
+left_ascii gone a false o h = tt
+left_ascii gone a true None h = tt
+left_ascii gone a true (Some p) h = λ q e. h q (first_so (set.contains p.parents q) (not (gone q)) (sym (kept_in p.parents gone q) ∙ e))
+
+pub deleted_ascii : (W : World) (U : List EntityUID) → IsAsciiWorld W → IsAsciiWorld (deleted W U)
+deleted_ascii W U h = from_parts (deleted W U) (λ a. subst ascii_parts (sym (get_deleted W U a)) (left_ascii (goes W U) a (not (goes W U a)) (finmap.get W.entities a) (parts_in W h a)))
+
+pub empty_ascii : IsAsciiWorld empty_world
+empty_ascii a b e = absurd (false≢true (sym (ap (λ o. is_parent_in o b) (finmap.get-empty uid_order a)) ∙ e))
+
+-- an entity that waits
+listed_ascii : (ps : List EntityUID) → AreAsciiUids ps → (q : EntityUID) → is_member same_uid ps q ≡ true → IsAsciiUid q
+listed_ascii [] h q m = absurd (false≢true m)
+listed_ascii (p ∷ ps) h q m = elim (or_cases (same_uid q p) (is_member same_uid ps q) m) [
+  | inl e ↦ subst IsAsciiUid (sym ((same_uid_decides q p).0 e)) h.0
+  | inr r ↦ listed_ascii ps h.1 q r
+]
+
+pub given_ascii : (u : EntityUID) (ps : List EntityUID) → AreAsciiUids (u ∷ ps) → IsAsciiGiven (given u ps)
+given_ascii u ps h = (h.0, λ q m. listed_ascii ps h.1 q (sym (contains_listed ps q) ∙ m))
+
+-- what is reached is a parent
+last_step : (G : EntityUID → EntityUID → Bool) (a b : EntityUID) (xs : List EntityUID) → Path G a xs b → (c : EntityUID) × (G c b ≡ true)
+last_step G a b [] p = (a, p)
+last_step G a b (x ∷ xs) p = last_step G x b xs p.1
+
+all_members : (P : EntityUID → Type 0) (us : List EntityUID) → ((q : EntityUID) → is_member same_uid us q ≡ true → P q) → AllByRecursion P us
+all_members P [] h = tt
+all_members P (u ∷ us) h = (
+  h u (ap (λ b. b || is_member same_uid us u) (same_uid_equiv.refl u)),
+  all_members P us (λ q m. h q (or_right (same_uid q u) _ m)),
+)
+
+-- the ancestors of an entity of a plain store
+abbrev pub FoundAt : World → EntityUID → EntityView → Type 0
+FoundAt W u e = (x : EntityUID) → (has_ancestor e x ≡ true) ↔ Reach (graph W) u x
+
+pub found_reach : (W : World) (S : StoreView) (u : EntityUID) (e : EntityView) → IsPlainStore W S → Some e ≡ finmap.get S.held u → FoundAt W u e
+found_reach W S u e plain at = subst (λ o. IfSome o (FoundAt W u)) (sym at) (plain.reached u)
+
+pub found_ascii : (W : World) (u : EntityUID) (e : EntityView) (us : List EntityUID) → FoundAt W u e → IsAsciiWorld W → ((q : EntityUID) → is_member same_uid us q ≡ has_ancestor e q) → AreAsciiUids us
+found_ascii W u e us found ascii members = all_members IsAsciiUid us (λ q m.
+    let r = (found q).0 (sym (members q) ∙ m) in
+    let s = last_step (graph W) u q r.0 r.1 in
+    ascii s.0 q s.1)
+
+holds_key : (W : World) (S : StoreView) (u : EntityUID) (o : Option EntityView) → IsPlainStore W S → o ≡ finmap.get S.held u → finmap.contains_key W.entities u ≡ is_some (option_map parts_of o)
+holds_key W S u o plain at = ap is_some (sym (plain.holds u)) ∙ ap (λ r. is_some (option_map parts_of r)) (sym at)
+
+pub shows_some : (W : World) (S : StoreView) (u : EntityUID) (e : EntityView) (us : List EntityUID) → IsPlainStore W S → Some e ≡ finmap.get S.held u
+    → IsStrictlySortedBy uid_order us → ((q : EntityUID) → is_member same_uid us q ≡ has_ancestor e q) → ShowsAncestors W u (written_line (codes "anc" ++ flat_map field_of us))
+shows_some W S u e us plain at ascend members =
+    let found = found_reach W S u e plain at in
+    let text = written_line (codes "anc" ++ flat_map field_of us) in
+    subst (λ b. MatchBool b ((uids : List EntityUID) × AreAncestors W u uids × (text ≡ written_line (codes "anc" ++ flat_map field_of uids))) (text ≡ written_line (codes "no entity")))
+    (sym (holds_key W S u (Some e) plain at))
+    (us, record { ascend = ascend; reached = λ q. (λ m. (found q).0 (sym (members q) ∙ m), λ r. members q ∙ (found q).1 r) }, refl)
+
+pub shows_none : (W : World) (S : StoreView) (u : EntityUID) → IsPlainStore W S → None ≡ finmap.get S.held u → ShowsAncestors W u (written_line (codes "no entity"))
+shows_none W S u plain at =
+    let text = written_line (codes "no entity") in
+    subst (λ b. MatchBool b ((uids : List EntityUID) × AreAncestors W u uids × (text ≡ written_line (codes "anc" ++ flat_map field_of uids))) (text ≡ written_line (codes "no entity")))
+    (sym (holds_key W S u None plain at)) refl
+
+-- no pairs give no fields
+pub no_fields : (fs : Fields) → AreFieldsOf [] fs → fs ≡ []
+no_fields [] h = refl
+no_fields (f ∷ fs) h = absurd (false≢true (ap is_some (sym (h.last f.0)) ∙ ap (λ b. is_some (if b then Some f.1 else field_at f.0 fs)) ((bytes_decides f.0 f.0).1 refl)))
+
+-- the store takes an entity
+pub ent_takes : (m n : StoreAndWaiting) (s : EntityState) (u : EntityUID) (ps : List EntityUID) (e : EntityView) (out : List ℕ) → Holds m s → n.waiting ≡ m.waiting ++ e ∷ [] → n.store ≡ m.store
+    → given_of e ≡ given u ps → IsBare e → AreAsciiUids (u ∷ ps) → EntityWrites (Ent u ps) s n out out
+ent_takes m n s u ps e out h items store is bare ascii = (
+  record { waiting = s.waiting ++ given u ps ∷ []; world = s.world },
+  [],
+  (refl, refl),
+  record {
+    waiting = ap (map given_of) items ∙ map-append given_of m.waiting (e ∷ []) ∙ (λ i. h.waiting i ++ is i ∷ []);
+    bare = subst AreBare (sym items) (all_push IsBare m.waiting e h.bare bare);
+    plain = subst (IsPlainStore s.world) (sym store) h.plain;
+    ascii_waiting = all_push IsAsciiGiven s.waiting (given u ps) h.ascii_waiting (given_ascii u ps ascii);
+    ascii_world = h.ascii_world;
+  },
+  sym (append-nil out),
+)
+
+-- a world is held, and nothing that waits
+pub settled : (n : StoreAndWaiting) (W : World) → n.waiting ≡ [] → IsPlainStore W n.store → IsAsciiWorld W → Holds n (record { waiting = []; world = W })
+settled n W none plain ascii = record {
+  waiting = ap (map given_of) none;
+  bare = subst AreBare (sym none) tt;
+  plain = plain;
+  ascii_waiting = tt;
+  ascii_world = ascii;
+}
+
+-- the store takes an adding
+pub add_takes : (m n : StoreAndWaiting) (s : EntityState) (list : List EntityView) (store : StoreView) (r : Result StoreView EntitiesError) (old new : List ℕ) → Holds m s → list ≡ m.waiting → store ≡ m.store → n.waiting ≡ []
+    → OnOk r ((W : World) → IsPlainStore W store → AreBare list → AllAgree W (map given_of list))
+    → IfOk r (λ S. (W : World) → IsPlainStore W store → AreBare list → IsPlainStore (added W (map given_of list)) S)
+    → IfErr r (λ e. (W : World) → IsPlainStore W store → AreBare list → IsAddingRefused W (map given_of list) e)
+    → Settles r n old new → EntityWrites Add s n old new
+add_takes m n s list store (Ok S) old new h same at none agrees ok err settles =
+    let L : map given_of list ≡ s.waiting = ap (map given_of) same ∙ h.waiting in
+    let bare = subst AreBare (sym same) h.bare in
+    let before = subst (IsPlainStore s.world) (sym at) h.plain in
+    let plain = subst (λ l. IsPlainStore (added s.world l) S) L (ok s.world before bare) in
+    let k = settles (added s.world s.waiting) plain in (
+      record { waiting = []; world = added s.world s.waiting },
+      count_line (added s.world s.waiting),
+      (refl, inr (inr ((subst (AllAgree s.world) L (agrees s.world before bare), (λ c. plain.acyclic c.0 c.1)), refl, refl))),
+      settled n (added s.world s.waiting) none k.0 (added_ascii s.world s.waiting h.ascii_world h.ascii_waiting),
+      k.1,
+    )
+add_takes m n s list store (Err e) old new h same at none agrees ok err settles =
+    let L : map given_of list ≡ s.waiting = ap (map given_of) same ∙ h.waiting in
+    let bare = subst AreBare (sym same) h.bare in
+    let before = subst (IsPlainStore s.world) (sym at) h.plain in
+    let r = refused_adds s.world s.waiting e old new h.ascii_waiting (subst (λ l. IsAddingRefused s.world l e) L (err s.world before bare)) settles.1 in
+    (record { waiting = []; world = empty_world }, r.0, (refl, r.1), settled n empty_world none settles.0 empty_ascii, r.2)
+
+-- a build is an adding to the store without entities
+pub build_takes : (m n : StoreAndWaiting) (s : EntityState) (old new : List ℕ) → Holds m s → n.waiting ≡ m.waiting → IsPlainStore empty_world n.store
+    → (o : StoreAndWaiting) → ((t : EntityState) → Holds n t → EntityWrites Add t o old new) → EntityWrites Build s o old new
+build_takes m n s old new h same plain o takes =
+    takes (record { waiting = s.waiting; world = empty_world })
+    (record { waiting = ap (map given_of) same ∙ h.waiting; bare = subst AreBare (sym same) h.bare; plain = plain; ascii_waiting = h.ascii_waiting; ascii_world = empty_ascii })
+
+-- the store takes an overwriting
+pub upsert_takes : (m n : StoreAndWaiting) (s : EntityState) (list : List EntityView) (store : StoreView) (r : Result StoreView EntitiesError) (old new : List ℕ) → Holds m s → list ≡ m.waiting → store ≡ m.store → n.waiting ≡ []
+    → IfOk r (λ S. (W : World) → IsPlainStore W store → AreBare list → IsPlainStore (overwritten W (map given_of list)) S)
+    → IfErr r (λ e. (W : World) → IsPlainStore W store → AreBare list → IsOverwritingRefused W (map given_of list) e)
+    → Settles r n old new → EntityWrites Upsert s n old new
+upsert_takes m n s list store (Ok S) old new h same at none ok err settles =
+    let L : map given_of list ≡ s.waiting = ap (map given_of) same ∙ h.waiting in
+    let plain = subst (λ l. IsPlainStore (overwritten s.world l) S) L (ok s.world (subst (IsPlainStore s.world) (sym at) h.plain) (subst AreBare (sym same) h.bare)) in
+    let k = settles (overwritten s.world s.waiting) plain in (
+      record { waiting = []; world = overwritten s.world s.waiting },
+      count_line (overwritten s.world s.waiting),
+      (refl, inr ((λ c. plain.acyclic c.0 c.1), refl, refl)),
+      settled n (overwritten s.world s.waiting) none k.0 (overwritten_ascii s.world s.waiting h.ascii_world h.ascii_waiting),
+      k.1,
+    )
+upsert_takes m n s list store (Err e) old new h same at none ok err settles =
+    let L : map given_of list ≡ s.waiting = ap (map given_of) same ∙ h.waiting in
+    let r = refused_overwrites s.world s.waiting e old new (subst (λ l. IsOverwritingRefused s.world l e) L (err s.world (subst (IsPlainStore s.world) (sym at) h.plain) (subst AreBare (sym same) h.bare))) settles.1 in
+    (record { waiting = []; world = empty_world }, r.0, (refl, r.1), settled n empty_world none settles.0 empty_ascii, r.2)
+
+-- the store takes a removal
+pub remove_takes : (m n : StoreAndWaiting) (s : EntityState) (us : List EntityUID) (store : StoreView) (r : Result StoreView EntitiesError) (old new : List ℕ) → Holds m s → store ≡ m.store → n.waiting ≡ m.waiting
+    → IfOk r (λ S. (W : World) → IsPlainStore W store → IsPlainStore (deleted W us) S)
+    → IfErr r (λ e. (W : World) → IsPlainStore W store → e ≡ errors.Memory)
+    → Settles r n old new → EntityWrites (Remove us) s n old new
+remove_takes m n s us store (Ok S) old new h at same ok err settles =
+    let k = settles (deleted s.world us) (ok s.world (subst (IsPlainStore s.world) (sym at) h.plain)) in (
+      record { waiting = s.waiting; world = deleted s.world us },
+      count_line (deleted s.world us),
+      (refl, (refl, refl)),
+      record {
+        waiting = ap (map given_of) same ∙ h.waiting;
+        bare = subst AreBare (sym same) h.bare;
+        plain = k.0;
+        ascii_waiting = h.ascii_waiting;
+        ascii_world = deleted_ascii s.world us h.ascii_world;
+      },
+      k.1,
+    )
+remove_takes m n s us store (Err e) old new h at same ok err settles = absurd (subst (λ x. Refused x old new) (err s.world (subst (IsPlainStore s.world) (sym at) h.plain)) settles.1)
+
+-- the store takes a slice
+pub slice_takes : (m n : StoreAndWaiting) (s : EntityState) (us : List EntityUID) (r : Result StoreView EntitiesError) (old new : List ℕ) → Holds m s → n.waiting ≡ m.waiting
+    → IfOk r (λ S. (W : World) → IsPlainStore W m.store → IsPlainSlice W us S)
+    → IfErr r (λ e. e ≡ errors.Memory)
+    → Settles r n old new → EntityWrites (Slice us) s n old new
+slice_takes m n s us (Ok S) old new h same ok err settles =
+    let p = ok s.world h.plain in
+    let k = settles p.world p.is_plain in (
+      record { waiting = s.waiting; world = p.world },
+      count_line p.world,
+      (refl, (p.is_slice, refl)),
+      record {
+        waiting = ap (map given_of) same ∙ h.waiting;
+        bare = subst AreBare (sym same) h.bare;
+        plain = k.0;
+        ascii_waiting = h.ascii_waiting;
+        ascii_world = λ a b e. h.ascii_world a b (slice_edges s.world us p.world p.is_slice a b e);
+      },
+      k.1,
+    )
+slice_takes m n s us (Err e) old new h same ok err settles = absurd (subst (λ x. Refused x old new) err settles.1)
+
+-- the ancestors are written
+pub anc_takes : (m : StoreAndWaiting) (s : EntityState) (u : EntityUID) (old new : List ℕ) → Holds m s → (text : List ℕ) × ShowsAncestors s.world u text × (new ≡ old ++ text) → EntityWrites (Anc u) s m old new
+anc_takes m s u old new h k = (s, k.0, (refl, k.1), h, k.2)
+
+-- one field more is written, and the others are left
+pub fields_left : (x : EntityUID) (left all : List EntityUID) (start now new : List ℕ) → AreAsciiUids (x ∷ left) × (now ++ flat_map field_of (x ∷ left) ≡ start ++ flat_map field_of all) →
+    (IsAsciiUid x → new ≡ now ++ field_of x) → AreAsciiUids left × (new ++ flat_map field_of left ≡ start ++ flat_map field_of all)
+fields_left x left all start now new h step =
+    (h.0.1, ap (λ l. l ++ flat_map field_of left) (step h.0.0) ∙ append_assoc now (field_of x) (flat_map field_of left) ∙ h.1)

@@ -1,0 +1,33 @@
+use Rattle.std.specs.Prelude.{codes, ◌++◌}
+use Rattle.std.proofs.Common.{sym, subst}
+use Rattle.std.specs.List.{flat_map}
+use Rattle.std.proofs.lemmas.Result.{on_ok_weaker}
+use Rattle.cedar_lines.specs.Lines.{written_line}
+use Rattle.cedar_entity_lines.specs.EntityOutput.{field_of}
+use Rattle.cedar_entity_lines.specs.Holding.{Holds}
+use Rattle.cedar_entity_lines.proofs.Steps.{shows_none, shows_some, found_reach, found_ascii}
+use Rattle.cedar_entity_lines.proofs.machine.LineStore.anc.Goals as goal
+
+pub returns-in-None : goal.returns-in-None
+returns-in-None c = on_ok_weaker c.push_line.result
+    (λ text s h.
+    let held = subst (λ m. Holds m s) (sym c.self.view_is) h in
+    (written_line (codes "no entity"), shows_none s.world _ c.args.uid.now held.plain c.in-None.ensures.value, text))
+    c.push_line.ensures
+
+pub returns-in-Some : goal.returns-in-Some
+returns-in-Some c =
+    let e = c.in-Some.entity.now in
+    let us = c.ancestors_in_order.result in
+    let at = c.in-Some.ensures.value in
+    let ascend = c.ancestors_in_order.ensures.ascending in
+    let members = c.ancestors_in_order.ensures.members in
+    on_ok_weaker c.push_ancestors.result
+    (λ text s h.
+    let held = subst (λ m. Holds m s) (sym c.self.view_is) h in
+    let found = found_reach s.world _ c.args.uid.now e held.plain at in (
+      written_line (codes "anc" ++ flat_map field_of us),
+      shows_some s.world _ c.args.uid.now e us held.plain at ascend members,
+      text (found_ascii s.world c.args.uid.now e us found h.ascii_world members),
+    ))
+    c.push_ancestors.ensures

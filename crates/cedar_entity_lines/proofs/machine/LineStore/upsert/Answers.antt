@@ -1,0 +1,20 @@
+use Rattle.std.proofs.Common.{ap, sym, subst, ◌∙◌, Vec, Global}
+use Rattle.std.specs.declared.rc.Rc.{Rc}
+use Rattle.std.proofs.lemmas.Result.{on_ok_weaker}
+use Rattle.cedar_entity.specs.View.{EntityView}
+use Rattle.cedar_entities.specs.Plain.{entities_in}
+use Rattle.cedar_entity_lines.specs.Holding.{StoreAndWaiting, Holds}
+use Rattle.cedar_entity_lines.proofs.Steps.{upsert_takes}
+use Rattle.cedar_entity_lines.proofs.machine.LineStore.upsert.Goals as goal
+
+pub returns : goal.returns
+returns c =
+    let old : StoreAndWaiting = record { waiting = entities_in c.self.inside.waiting.items; store = c.self.inside.store } in
+    on_ok_weaker c.settle.result
+    (λ k s h. upsert_takes old c.settle.new.self s (entities_in c.replace-list.result.items) c.replace-store.result c.upsert_entities-given.result c.args.out.now.items c.settle.new.out.items
+    (subst (λ m. Holds m s) (sym c.self.view_is) h)
+    (ap (λ (v : Vec (Rc EntityView Global) Global). entities_in v.items) c.replace-list.ensures.value)
+    c.replace-store.ensures.value
+    (c.settle.ensures.waiting ∙ ap (λ (v : Vec (Rc EntityView Global) Global). entities_in v.items) c.replace-list.ensures.after ∙ ap entities_in c.new.ensures.items)
+    c.upsert_entities-given.ensures.plain c.upsert_entities-given.ensures.plain_err k)
+    c.settle.ensures.settles

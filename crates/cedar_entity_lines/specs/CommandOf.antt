@@ -1,0 +1,14 @@
+-- Which command a command of the program's code is.
+use Rattle.cedar_entity_lines.specs.EntityCommand.{EntityCommand, Ent, Build, Add, Upsert, Remove, Slice, Anc}
+use Rattle.cedar_entity_lines.specs.declared.command.EntityCommand as code
+use Rattle.cedar_entity_lines.specs.declared.command.EntityCommand.TheVariants as read
+
+-- the command that was read, as contracts see it
+abbrev pub command_of : code.EntityCommand → EntityCommand
+command_of (read.Ent u ps) = Ent u ps.items
+command_of read.Build = Build
+command_of read.Add = Add
+command_of read.Upsert = Upsert
+command_of (read.Remove us) = Remove us.items
+command_of (read.Slice us) = Slice us.items
+command_of (read.Anc u) = Anc u

@@ -1,0 +1,28 @@
+-- What the store's steps add to what is written.
+use Rattle.std.specs.Prelude.{◌≡◌, ℕ, List, ◌++◌, codes, Result, Ok, Err}
+use Rattle.cedar_lines.specs.Lines.{written_line}
+use Rattle.cedar_graph.specs.declared.err.TcError.TheVariants.{HasCycle}
+use Rattle.cedar_entities.specs.ClosureFaults.{IsClosureFault}
+use Rattle.cedar_entities.specs.Refusals.{MatchRefusal}
+use Rattle.cedar_entities.specs.Plain.{StoreView, IsPlainStore}
+use Rattle.cedar_entities.specs.World.{World, empty_world}
+use Rattle.cedar_entity.specs.declared.err.EntitiesError.{EntitiesError}
+use Rattle.cedar_entity.specs.declared.err.EntitiesError.TheVariants.{Duplicate, TransitiveClosureError}
+use Rattle.cedar_entity_lines.specs.EntityOutput.{count_line, uid_text}
+use Rattle.cedar_entity_lines.specs.Holding.{StoreAndWaiting, IsAsciiUid}
+
+-- a refusal that a call with computed ancestors may give: a duplicate, a cycle, or want of memory
+abbrev pub IsTold : EntitiesError → Type 0
+IsTold e = MatchRefusal e (λ _. Unit {0}) (λ t. IsClosureFault t (λ _ _ _. ⊥) (λ _. Unit {0}))
+
+-- what a refusal adds; nothing else is written
+abbrev pub Refused : EntitiesError → List ℕ → List ℕ → Type 0
+Refused (Duplicate u) old new = IsAsciiUid u → new ≡ old ++ written_line (codes "refused: duplicate " ++ uid_text u)
+Refused (TransitiveClosureError (HasCycle v)) old new = new ≡ old ++ written_line (codes "refused: cycle")
+Refused e old new = ⊥
+
+-- a call on the store gave r, and that is kept: the store, with the line of its count added or, where it was refused, the
+-- store without entities, with the line of the refusal
+abbrev pub Settles : Result StoreView EntitiesError → StoreAndWaiting → List ℕ → List ℕ → Type 0
+Settles (Ok S) m old new = (W : World) → IsPlainStore W S → IsPlainStore W m.store × (new ≡ old ++ count_line W)
+Settles (Err e) m old new = IsPlainStore empty_world m.store × Refused e old new

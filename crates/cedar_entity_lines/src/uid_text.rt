@@ -1,0 +1,207 @@
+//! Reading uids of which many have one type: the types that were read are known by their texts, and shared.
+ghost use Rattle.std.specs.Prelude.{◌≡◌, ◌++◌, List, ℕ, IfOk, MatchOption, IfSome, IsTrue, codes};
+ghost use Rattle.std.specs.List.{list_all};
+ghost use Rattle.cedar_ids.specs.laws.PlainBytes.{is_plain_byte};
+ghost use Rattle.cedar_ids.specs.Name.{NameParts};
+ghost use Rattle.cedar_ids.specs.TextOf.{IsNameText, IsPrinted};
+ghost use Rattle.cedar_ids.specs.UidOf.{uid_parts};
+ghost use Rattle.cedar_ids.specs.Views.{type_name};
+ghost use Rattle.cedar_ids.specs.declared.entity.EntityUID.{EntityUID};
+ghost use Rattle.cedar_lines.specs.Reads.{ReadsAs};
+
+use cedar_ids::entity::{Eid, EntityType, EntityUID};
+use cedar_ids::err::ParseErrors;
+use cedar_lines::field::uid_field;
+use std::alloc::{AllocError, Global};
+use std::marker::Model;
+
+// A type, and its text. Contracts see the name of the type.
+#[derive(Drop)]
+pub(crate) struct KnownType {
+    text: String,
+    ty: EntityType,
+}
+
+impl Model for KnownType {
+    ghost use Rattle.std.specs.String.{string_bytes};
+    ghost use Rattle.cedar_ids.specs.Name.{NameParts};
+    ghost use Rattle.cedar_ids.specs.TextOf.{IsNameText};
+    ghost use Rattle.cedar_ids.specs.Views.{type_name};
+
+    ghost Value = { NameParts };
+
+    ghost view = { λ k. type_name k.ty };
+
+    ghost invariant = { λ k. IsNameText (type_name k.ty) (string_bytes k.text) };
+}
+
+// So many types are known at the most.
+const MOST: usize = 16;
+
+// A type that was read is known from then on, while there are few.
+fn keep_type(
+    alloc: Global,
+    known: &mut Vec<KnownType>,
+    text: &str,
+    ty: &EntityType,
+) -> Result<(), AllocError>
+    requires { IsNameText (type_name ty.now) text.now }
+{
+    if known.len() >= MOST {
+        return Ok(());
+    }
+    let text = String::from_str(alloc, text)?;
+    known.push(KnownType {
+        text,
+        ty: ty.clone()?,
+    })?;
+    Ok(())
+}
+
+// The type whose text this is, if it is that of one, read anew.
+fn read_type(
+    alloc: Global,
+    known: &mut Vec<KnownType>,
+    text: &str,
+) -> Result<Option<EntityType>, AllocError>
+    ensures { IfOk result (λ o. IfSome o (λ t. IsNameText (type_name t) text.now)) }
+{
+    match EntityType::from_normalized_str(alloc, text) {
+        Ok(ty) => {
+            keep_type(alloc, known, text, &ty)?;
+            Ok(Some(ty))
+        }
+        Err(ParseErrors::Memory) => Err(AllocError),
+        Err(ParseErrors::NotNormalized) => Ok(None),
+        Err(ParseErrors::InvalidName) => Ok(None),
+    }
+}
+
+// Whether a text is printable ASCII without quotes and backslashes, so that it is its own escape.
+fn is_plain(text: &str) -> bool
+    ensures { result ≡ list_all is_plain_byte text.now }
+{
+    text.as_bytes().iter().all(|b| 32 <= *b && *b < 127 && *b != b'\'' && *b != b'"' && *b != b'\\')
+}
+
+// What stands between `::"` at the front and a `"` at the end, where that is its own escape.
+fn eid_after(text: &str) -> Option<&str>
+    ensures split { IfSome result (λ e. text.now ≡ codes "::\"" ++ (e.now ++ codes "\"")) }
+    ensures plain { IfSome result (λ e. IsTrue (list_all is_plain_byte e.now)) }
+{
+    let eid = text.strip_prefix("::\"")?.strip_suffix('"')?;
+    if is_plain(eid) {
+        return Some(eid);
+    }
+    None
+}
+
+// What stands before the first `::"`, and between that and a last `"`, where the second is its own escape.
+fn plain_halves(text: &str) -> Option<(&str, &str)>
+    ensures split { IfSome result (λ r. text.now ≡ r.0.now ++ (codes "::\"" ++ (r.1.now ++ codes "\""))) }
+    ensures plain { IfSome result (λ r. IsTrue (list_all is_plain_byte r.1.now)) }
+{
+    let (name, eid) = text.strip_suffix('"')?.split_once("::\"")?;
+    if is_plain(eid) {
+        return Some((name, eid));
+    }
+    None
+}
+
+// The uid of a type and an eid that is its own escape. Its text is that of the type, the mark, the eid and a quote.
+fn uid_of_parts(alloc: Global, ty: EntityType, eid: &str) -> Result<EntityUID, AllocError>
+    requires { IsTrue (list_all is_plain_byte eid.now) }
+    ensures { IfOk result (λ u. (name : List ℕ) → IsNameText (type_name ty) name →
+        IsPrinted (uid_parts u) (name ++ (codes "::\"" ++ (eid.now ++ codes "\"")))) }
+{
+    let eid = String::from_str(alloc, eid)?;
+    Ok(EntityUID::from_components(ty, Eid::new(eid), None))
+}
+
+// A type that is known, shared once more.
+fn type_of(known: &KnownType) -> Result<EntityType, AllocError>
+    ensures { IfOk result (λ t. type_name t ≡ known.now) }
+{
+    known.ty.clone()
+}
+
+// The uid of this type with a text, if the text is that of one whose eid is its own escape.
+fn uid_of_type(
+    alloc: Global,
+    known: &KnownType,
+    text: &str,
+) -> Result<Option<EntityUID>, AllocError>
+    ensures { IfOk result (λ o. IfSome o (λ u. IsPrinted (uid_parts u) text.now)) }
+{
+    let Some(rest) = text.strip_prefix(known.text.as_str()) else {
+        return Ok(None);
+    };
+    let Some(eid) = eid_after(rest) else {
+        return Ok(None);
+    };
+    Ok(Some(uid_of_parts(alloc, type_of(known)?, eid)?))
+}
+
+// The uid with a text, of a type that is known.
+fn uid_of_known(
+    alloc: Global,
+    known: &[KnownType],
+    text: &str,
+) -> Result<Option<EntityUID>, AllocError>
+    ensures { IfOk result (λ o. IfSome o (λ u. IsPrinted (uid_parts u) text.now)) }
+{
+    for one in known {
+        if let Some(uid) = uid_of_type(alloc, one, text)? {
+            return Ok(Some(uid));
+        }
+    }
+    Ok(None)
+}
+
+// The uid of a type that is read anew and an eid that is its own escape, if the first text is that of a type.
+fn uid_of_halves(
+    alloc: Global,
+    known: &mut Vec<KnownType>,
+    name: &str,
+    eid: &str,
+) -> Result<Option<EntityUID>, AllocError>
+    requires { IsTrue (list_all is_plain_byte eid.now) }
+    ensures { IfOk result (λ o. IfSome o (λ u. IsPrinted (uid_parts u) (name.now ++ (codes "::\"" ++ (eid.now ++ codes "\""))))) }
+{
+    let Some(ty) = read_type(alloc, known, name)? else {
+        return Ok(None);
+    };
+    Ok(Some(uid_of_parts(alloc, ty, eid)?))
+}
+
+// The uid with a text, where that is read without an escape and of a name.
+fn uid_of_plain(
+    alloc: Global,
+    known: &mut Vec<KnownType>,
+    text: &str,
+) -> Result<Option<EntityUID>, AllocError>
+    ensures { IfOk result (λ o. IfSome o (λ u. IsPrinted (uid_parts u) text.now)) }
+{
+    if let Some(uid) = uid_of_known(alloc, known, text)? {
+        return Ok(Some(uid));
+    }
+    match plain_halves(text) {
+        None => Ok(None),
+        Some((name, eid)) => uid_of_halves(alloc, known, name, eid),
+    }
+}
+
+// The uid with an ASCII eid whose text a field is, if there is one. Where the eid has no escape its type is shared with
+// other uids of that type, and neither has a location. Any other text is read by itself.
+pub(crate) fn uid_of_text(
+    alloc: Global,
+    known: &mut Vec<KnownType>,
+    text: &str,
+) -> Result<Option<EntityUID>, AllocError>
+    ensures { IfOk result (ReadsAs (λ (u : EntityUID). IsPrinted (uid_parts u) text.now) (λ u. u)) }
+{
+    if let Some(uid) = uid_of_plain(alloc, known, text)? {
+        return Ok(Some(uid));
+    }
+    uid_field(alloc, text)
+}

@@ -1,0 +1,140 @@
+// The calls by which lines on the store are read and answered. Fields stand apart by blanks.
+use cedar_entity_lines::{EntityCommand, KnownUids, LineStore, read_entity_command};
+use cedar_refusals::{
+    Answer, Calls, Row, Tried, ample_if, judged, refuse, relent, tried_rows, unmade,
+};
+use std::alloc::Global;
+
+struct OnStores;
+
+const STORES: &str = "
+    read_entity_command | ent A::\"a\" A::\"b\" A::\"c\" | some
+    read_entity_command | ent A::\"'\" | none
+    - read_entity_command | ent | none
+    read_entity_command | anc A::\"a\" | some
+    read_entity_command | remove A::\"a\" B::\"b\" | some
+    read_entity_command | slice A::\"a\" | some
+    - read_entity_command | slice | none
+    - read_entity_command | build | some
+    - read_entity_command | add | some
+    - read_entity_command | upsert | some
+    - read_entity_command | build A::\"a\" | none
+    - read_entity_command | frob | none
+    LineStore::take | ent A::\"a\" A::\"b\"
+    LineStore::take | ent A::\"a\" A::\"b\"; build | ok 1
+    LineStore::take | ent A::\"a\" A::\"a\"; build | refused: cycle
+    LineStore::take | ent A::\"a\" A::\"b\"; ent A::\"a\" A::\"c\"; build | refused: duplicate A::\"a\"
+    LineStore::take | ent A::\"a\" A::\"b\"; build; ent A::\"b\" A::\"c\"; add | ok 2
+    LineStore::take | ent A::\"a\" A::\"b\"; build; ent A::\"a\" A::\"c\"; upsert | ok 1
+    LineStore::take | ent A::\"a\" A::\"b\"; ent A::\"b\"; build; remove A::\"b\" | ok 1
+    LineStore::take | ent A::\"a\" A::\"b\"; ent A::\"b\"; build; slice A::\"b\" | ok 1
+    LineStore::take | ent A::\"a\" A::\"b\"; ent A::\"b\" A::\"c\"; build; anc A::\"a\" | anc A::\"b\" A::\"c\"
+    LineStore::take | anc A::\"a\" | no entity
+";
+
+fn read(alloc: Global, number: usize, row: Row<'_>) -> Tried {
+    let fields: Result<Vec<&str>, std::alloc::AllocError> = row.given.split(' ').collect(alloc);
+    match fields {
+        Ok(fields) => {
+            let mut known = KnownUids::new(alloc);
+            refuse(alloc, number);
+            let tried = judged(
+                alloc,
+                read_entity_command(alloc, &mut known, fields.as_slice()),
+                row.want,
+                |command| command.is_some() == (row.want == "some"),
+            );
+            drop(known);
+            drop(fields);
+            tried
+        }
+        Err(_) => unmade(),
+    }
+}
+
+// The command with a text.
+fn command(alloc: Global, text: &str) -> Option<EntityCommand> {
+    let fields: Result<Vec<&str>, std::alloc::AllocError> = text.split(' ').collect(alloc);
+    match fields {
+        Ok(fields) => {
+            let mut known = KnownUids::new(alloc);
+            let command = read_entity_command(alloc, &mut known, fields.as_slice());
+            drop(known);
+            drop(fields);
+            match command {
+                Ok(command) => command,
+                Err(_) => None,
+            }
+        }
+        Err(_) => None,
+    }
+}
+
+// The store after commands; whether all could be taken.
+fn prepared(alloc: Global, store: &mut LineStore, texts: &str) -> bool {
+    for text in texts.split(';') {
+        if !text.trim().is_empty() {
+            match command(alloc, text.trim()) {
+                Some(command) => {
+                    let mut out = Vec::new(alloc);
+                    let taken = store.take(alloc, command, &mut out).is_ok();
+                    drop(out);
+                    if !taken {
+                        return false;
+                    }
+                }
+                None => return false,
+            }
+        }
+    }
+    true
+}
+
+// Whether bytes have these words, with blanks for tabs and ends of lines.
+fn are_words(bytes: &[u8], want: &str) -> bool {
+    match str::from_utf8(bytes) {
+        Ok(text) => cedar_refusals::has_words(text, want),
+        Err(_) => false,
+    }
+}
+
+fn taken(alloc: Global, number: usize, row: Row<'_>) -> Tried {
+    let (before, text) = row.given.rsplit_once(';').unwrap_or(("", row.given));
+    let mut store = LineStore::new(alloc);
+    let well = prepared(alloc, &mut store, before);
+    let tried = match command(alloc, text.trim()) {
+        Some(command) if well => {
+            let mut out = Vec::new(alloc);
+            refuse(alloc, number);
+            let answer = store.take(alloc, command, &mut out);
+            let refused = relent(alloc);
+            let answer = match answer {
+                Ok(()) => ample_if(are_words(out.as_slice(), row.want)),
+                Err(_) => Answer::Memory,
+            };
+            drop(out);
+            Tried { answer, refused }
+        }
+        command => {
+            drop(command);
+            unmade()
+        }
+    };
+    drop(store);
+    tried
+}
+
+impl Calls for OnStores {
+    fn tried(&self, alloc: Global, number: usize, row: Row<'_>) -> Tried {
+        match row.call {
+            "read_entity_command" => read(alloc, number, row),
+            "LineStore::take" => taken(alloc, number, row),
+            _ => unmade(),
+        }
+    }
+}
+
+#[test]
+fn each_call_on_lines_of_the_store(rt: HostRuntime) {
+    assert!(rt; tried_rows(rt, &OnStores, STORES));
+}

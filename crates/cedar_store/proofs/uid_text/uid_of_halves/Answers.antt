@@ -1,4 +1,0 @@
-use Rattle.cedar_store.proofs.uid_text.uid_of_halves.Goals as goal
-
-pub returns : goal.returns
-returns c = c.in_ok-uid_of_parts.ensures c.args.name.now (rw c.in-Some.is at c.in_ok-ty.ensures)
