@@ -17,18 +17,20 @@ use cedar_lines::writing::push_line;
 use cedar_slice::slice;
 use cedar_uid_sets::{SharedUid, Union};
 use std::alloc::{AllocError, Global};
+use std::hash::{BuildHasher, BuildHasherDefault, FoldHasher};
 use std::marker::Model;
 use std::mem;
 use std::rc::Rc;
 
-/// The store of a run, and the entities that wait for a call on it. Contracts see what both have. It is this project's own.
+/// The store of a run, and the entities that wait for a call on it. Contracts see what both have; the store hashes uids by what
+/// `S` builds, which they do not see. It is this project's own.
 #[derive(Debug, Drop)]
-pub struct LineStore {
+pub struct LineStore<S: BuildHasher = BuildHasherDefault<FoldHasher>> {
     waiting: Vec<Rc<Entity>>,
-    store: Entities,
+    store: Entities<S>,
 }
 
-impl Model for LineStore {
+impl<S: BuildHasher> Model for LineStore<S> {
     ghost use Rattle.cedar_entities.specs.Plain.{entities_in};
     ghost use Rattle.cedar_entity_lines.specs.Codes.{waiting_code};
     ghost use Rattle.cedar_entity_lines.specs.Holding.{StoreAndWaiting};
@@ -119,9 +121,18 @@ impl LineStore {
     pub fn new(alloc: Global) -> LineStore
         ensures { Holds result no_entity }
     {
+        LineStore::with_hasher(alloc, BuildHasherDefault::new())
+    }
+}
+
+impl<S: BuildHasher + Copy> LineStore<S> {
+    /// Nothing waits, and the store is empty; stores hash uids by what `hasher` builds. Takes no memory.
+    pub fn with_hasher(alloc: Global, hasher: S) -> LineStore<S>
+        ensures { Holds result no_entity }
+    {
         LineStore {
             waiting: Vec::new(alloc),
-            store: Entities::new(alloc),
+            store: Entities::with_hasher(alloc, hasher),
         }
     }
 
@@ -146,7 +157,7 @@ impl LineStore {
     fn settle(
         &mut self,
         alloc: Global,
-        given: Result<Entities, EntitiesError>,
+        given: Result<Entities<S>, EntitiesError>,
         out: &mut Vec<u8>,
     ) -> Result<(), AllocError>
         requires { IfErr given IsTold }
@@ -159,7 +170,7 @@ impl LineStore {
                 push_count(alloc, out, self.store.len())
             }
             Err(error) => {
-                self.store = Entities::new(alloc);
+                self.store = Entities::with_hasher(alloc, *self.store.hasher());
                 push_refusal(alloc, out, &error)
             }
         }
@@ -171,7 +182,8 @@ impl LineStore {
             EntityWrites Add s self.new out.old.items out.new.items) }
     {
         let list = mem::replace(&mut self.waiting, Vec::new(alloc));
-        let store = mem::replace(&mut self.store, Entities::new(alloc));
+        let hasher = *self.store.hasher();
+        let store = mem::replace(&mut self.store, Entities::with_hasher(alloc, hasher));
         let given = store.add_entities(alloc, list, TCComputation::ComputeNow);
         self.settle(alloc, given, out)
     }
@@ -181,7 +193,7 @@ impl LineStore {
         ensures { OnOk result ((s : EntityState) → Holds self.old s →
             EntityWrites Build s self.new out.old.items out.new.items) }
     {
-        self.store = Entities::new(alloc);
+        self.store = Entities::with_hasher(alloc, *self.store.hasher());
         self.add(alloc, out)
     }
 
@@ -191,7 +203,8 @@ impl LineStore {
             EntityWrites Upsert s self.new out.old.items out.new.items) }
     {
         let list = mem::replace(&mut self.waiting, Vec::new(alloc));
-        let store = mem::replace(&mut self.store, Entities::new(alloc));
+        let hasher = *self.store.hasher();
+        let store = mem::replace(&mut self.store, Entities::with_hasher(alloc, hasher));
         let given = store.upsert_entities(alloc, list, TCComputation::ComputeNow);
         self.settle(alloc, given, out)
     }
@@ -206,7 +219,8 @@ impl LineStore {
         ensures { OnOk result ((s : EntityState) → Holds self.old s →
             EntityWrites (Remove uids.items) s self.new out.old.items out.new.items) }
     {
-        let store = mem::replace(&mut self.store, Entities::new(alloc));
+        let hasher = *self.store.hasher();
+        let store = mem::replace(&mut self.store, Entities::with_hasher(alloc, hasher));
         let given = store.remove_entities(alloc, uids, TCComputation::ComputeNow);
         self.settle(alloc, given, out)
     }

@@ -17,17 +17,19 @@ use cedar_ids::policy_id::PolicyID;
 use cedar_policy::SlotEnv;
 use cedar_policy_set::PolicySet;
 use std::alloc::{AllocError, Global};
+use std::hash::{BuildHasher, BuildHasherDefault, FoldHasher};
 use std::marker::Model;
 use std::mem;
 
-/// The two policy sets of a run: the current one, and the one aside. Contracts see their boards. It is this project's own.
+/// The two policy sets of a run: the current one, and the one aside. Contracts see their boards; the sets hash ids by what `S`
+/// builds, which they do not see. It is this project's own.
 #[derive(Debug, Drop)]
-pub struct PolicySets {
-    current: PolicySet,
-    aside: PolicySet,
+pub struct PolicySets<S: BuildHasher = BuildHasherDefault<FoldHasher>> {
+    current: PolicySet<S>,
+    aside: PolicySet<S>,
 }
 
-impl Model for PolicySets {
+impl<S: BuildHasher> Model for PolicySets<S> {
     ghost use Rattle.cedar_policy_lines.specs.Boards.{Boards};
     ghost use Rattle.cedar_policy_lines.specs.Codes.{boards_code};
 
@@ -43,9 +45,18 @@ impl PolicySets {
     pub fn new(alloc: Global) -> PolicySets
         ensures { result ≡ no_boards }
     {
+        PolicySets::with_hasher(alloc, BuildHasherDefault::new())
+    }
+}
+
+impl<S: BuildHasher + Copy> PolicySets<S> {
+    /// Two sets without a binding, which hash ids by what `hasher` builds. Takes no memory.
+    pub fn with_hasher(alloc: Global, hasher: S) -> PolicySets<S>
+        ensures { result ≡ no_boards }
+    {
         PolicySets {
-            current: PolicySet::new(alloc),
-            aside: PolicySet::new(alloc),
+            current: PolicySet::with_hasher(alloc, hasher),
+            aside: PolicySet::with_hasher(alloc, hasher),
         }
     }
 

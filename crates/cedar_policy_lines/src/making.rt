@@ -18,6 +18,7 @@ use cedar_policy::{LinkingError, SlotEnv, StaticPolicy, Template, UnexpectedSlot
 use cedar_policy_set::PolicySet;
 use cedar_scope::{PrincipalConstraint, ResourceConstraint};
 use std::alloc::{AllocError, Global};
+use std::hash::BuildHasher;
 
 // A static policy that constrains nothing.
 pub(crate) fn static_policy(
@@ -139,9 +140,9 @@ pub(crate) fn template(
 }
 
 // Links a template, and keeps the link in the set alone.
-pub(crate) fn link(
+pub(crate) fn link<S: BuildHasher + Copy>(
     alloc: Global,
-    set: &mut PolicySet,
+    set: &mut PolicySet<S>,
     template_id: PolicyID,
     new_id: PolicyID,
     values: SlotEnv,

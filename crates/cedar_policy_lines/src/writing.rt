@@ -15,6 +15,7 @@ use cedar_policy::{LinkingError, Policy};
 use cedar_policy_set::{PolicySet, PolicySetError, PolicySetUnlinkError};
 use indexmap::IndexMap;
 use std::alloc::{AllocError, Global};
+use std::hash::BuildHasher;
 
 // Adds that a command was taken.
 pub(crate) fn push_ok(out: &mut Vec<u8>) -> Result<(), AllocError>
@@ -150,10 +151,10 @@ pub(crate) fn push_by_unlinking(
 }
 
 // Adds the ids that were renamed, each with its new one.
-fn push_renamed(
+fn push_renamed<S: BuildHasher + Copy>(
     alloc: Global,
     out: &mut Vec<u8>,
-    renaming: &IndexMap<PolicyID, PolicyID>,
+    renaming: &IndexMap<PolicyID, PolicyID, S>,
 ) -> Result<(), AllocError>
     ensures { OnOk result (out.new.items ≡ out.old.items ++ flat_map renamed_fields renaming.now.entries) }
 {
@@ -165,10 +166,10 @@ fn push_renamed(
 }
 
 // Adds that the sets were merged.
-fn push_merged(
+fn push_merged<S: BuildHasher + Copy>(
     alloc: Global,
     out: &mut Vec<u8>,
-    renaming: &IndexMap<PolicyID, PolicyID>,
+    renaming: &IndexMap<PolicyID, PolicyID, S>,
 ) -> Result<(), AllocError>
     ensures { OnOk result (out.new.items
         ≡ out.old.items ++ merged_line renaming.now.entries) }
@@ -180,10 +181,10 @@ fn push_merged(
 }
 
 // Adds what merging answered.
-pub(crate) fn push_by_merging(
+pub(crate) fn push_by_merging<S: BuildHasher + Copy>(
     alloc: Global,
     out: &mut Vec<u8>,
-    answer: Result<IndexMap<PolicyID, PolicyID>, PolicySetError>,
+    answer: Result<IndexMap<PolicyID, PolicyID, S>, PolicySetError>,
 ) -> Result<(), AllocError>
     ensures { OnOk result (SaidMerged (λ r. r.entries) answer out.old.items out.new.items) }
 {
@@ -195,7 +196,11 @@ pub(crate) fn push_by_merging(
 }
 
 // Adds the ids of all bodies.
-fn push_bodies(alloc: Global, out: &mut Vec<u8>, set: &PolicySet) -> Result<(), AllocError>
+fn push_bodies<S: BuildHasher + Copy>(
+    alloc: Global,
+    out: &mut Vec<u8>,
+    set: &PolicySet<S>,
+) -> Result<(), AllocError>
     ensures { OnOk result (out.new.items ≡ out.old.items ++ flat_map id_field (body_ids set.now)) }
 {
     for template in set.all_templates() {
@@ -205,7 +210,11 @@ fn push_bodies(alloc: Global, out: &mut Vec<u8>, set: &PolicySet) -> Result<(), 
 }
 
 // Adds the ids of all policies.
-fn push_policies(alloc: Global, out: &mut Vec<u8>, set: &PolicySet) -> Result<(), AllocError>
+fn push_policies<S: BuildHasher + Copy>(
+    alloc: Global,
+    out: &mut Vec<u8>,
+    set: &PolicySet<S>,
+) -> Result<(), AllocError>
     ensures { OnOk result (out.new.items ≡ out.old.items ++ flat_map id_field (policy_ids set.now)) }
 {
     for policy in set.policies() {
@@ -215,7 +224,11 @@ fn push_policies(alloc: Global, out: &mut Vec<u8>, set: &PolicySet) -> Result<()
 }
 
 // Adds the two lines of a set's ids.
-pub(crate) fn push_ids(alloc: Global, out: &mut Vec<u8>, set: &PolicySet) -> Result<(), AllocError>
+pub(crate) fn push_ids<S: BuildHasher + Copy>(
+    alloc: Global,
+    out: &mut Vec<u8>,
+    set: &PolicySet<S>,
+) -> Result<(), AllocError>
     ensures { OnOk result (out.new.items ≡ out.old.items ++ ids_lines set.now) }
 {
     out.extend_from_slice(b"bodies")?;

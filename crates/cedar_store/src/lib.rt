@@ -35,7 +35,9 @@ pub use cedar_policy_set::{
     PolicySetGetLinksError, PolicySetPolicyRemovalError, PolicySetTemplateRemovalError,
     PolicySetUnlinkError, PolicySetValidationError, StaticPolicies, Templates,
 };
-pub use cedar_replay::{Answer, EntityCall, PolicyCall, replay_entities, replay_policies};
+pub use cedar_replay::{
+    Answer, EntityCall, PolicyCall, replay_entities, replay_entities_with_hasher, replay_policies,
+};
 pub use cedar_scope::{
     EntityReference, PrincipalConstraint, PrincipalOrResource, PrincipalOrResourceConstraint,
     ResourceConstraint,
@@ -46,7 +48,7 @@ pub use cedar_terms::{
     StaticallyTyped, Unknown, Value, ValueKind, Var, is_reserved_key,
 };
 pub use cedar_uid_sets::Union;
-pub use program::{RunError, run, run_and_leave};
+pub use program::{RunError, run, run_and_leave, run_and_leave_with, run_with};
 
 /// What is done with bindings, and the texts of refusals.
 pub mod bindings {

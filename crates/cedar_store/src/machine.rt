@@ -9,13 +9,14 @@ use cedar_entity_lines::{KnownUids, LineStore};
 use cedar_lines::writing::push_line;
 use cedar_policy_lines::PolicySets;
 use std::alloc::{AllocError, Global};
+use std::hash::BuildHasher;
 
 // The state of a run: the store with the entities that wait for it, and the policy sets; and the types and parents that are
 // known by their texts, which say nothing of the state.
 #[derive(Drop)]
-pub(crate) struct Machine {
-    entities: LineStore,
-    sets: PolicySets,
+pub(crate) struct Machine<S: BuildHasher> {
+    entities: LineStore<S>,
+    sets: PolicySets<S>,
     known: KnownUids,
 }
 
@@ -27,14 +28,14 @@ pub(crate) fn push_fault(alloc: Global, out: &mut Vec<u8>, number: usize) -> Res
     push_line(out, text.as_str())
 }
 
-impl Machine {
+impl<S: BuildHasher + Copy> Machine<S> {
     // Nothing waits, the store is empty, and so are the policy sets.
-    pub(crate) fn new(alloc: Global) -> Machine
+    pub(crate) fn new(alloc: Global, hasher: S) -> Machine<S>
         ensures { Holds result start }
     {
         Machine {
-            entities: LineStore::new(alloc),
-            sets: PolicySets::new(alloc),
+            entities: LineStore::with_hasher(alloc, hasher),
+            sets: PolicySets::with_hasher(alloc, hasher),
             known: KnownUids::new(alloc),
         }
     }

@@ -7,6 +7,7 @@ ghost use Rattle.cedar_store.specs.Faults.{Leaves};
 
 use crate::machine::{Machine, push_fault};
 use std::alloc::{AllocError, Global};
+use std::hash::{BuildHasher, BuildHasherDefault, FoldHasher};
 use std::io::{Read, Write};
 use std::mem;
 use thiserror::Error;
@@ -52,11 +53,15 @@ fn lines_of(alloc: Global, input: &[u8]) -> Result<Vec<&[u8]>, AllocError>
 }
 
 // What is written for an input, the status, and the machine as it stands then.
-fn answer(alloc: Global, input: &[u8]) -> Result<(Vec<u8>, u8, Machine), AllocError>
+fn answer<S: BuildHasher + Copy>(
+    alloc: Global,
+    hasher: S,
+    input: &[u8],
+) -> Result<(Vec<u8>, u8, Machine<S>), AllocError>
     ensures { IfOk result (λ r. IsOutput input.now (record { bytes = r.0.items; status = r.1 })) }
 {
     let lines = lines_of(alloc, input)?;
-    let mut machine = Machine::new(alloc);
+    let mut machine = Machine::new(alloc, hasher);
     let mut fields = Vec::new(alloc);
     let mut out = Vec::new(alloc);
     for (i, line) in lines.iter().enumerate() {
@@ -78,11 +83,12 @@ fn send<W: Write>(writer: &mut W, bytes: &[u8]) -> Result<(), RunError>
 }
 
 // Reads the input to its end, writes its output, and answers the status and the machine as it stands then.
-fn run_by<R: Read, W: Write>(
+fn run_by<S: BuildHasher + Copy, R: Read, W: Write>(
     alloc: Global,
+    hasher: S,
     reader: &mut R,
     writer: &mut W,
-) -> Result<(u8, Machine), RunError>
+) -> Result<(u8, Machine<S>), RunError>
     ensures written { IfOk result (λ r. IfSome (R.remaining reader.old) (λ input.
         (bytes : List ℕ) × IsOutput input (record { bytes = bytes; status = r.0 })
         × Appends (W.contents writer.old) (W.contents writer.new) bytes)) }
@@ -90,7 +96,7 @@ fn run_by<R: Read, W: Write>(
     ensures err { IfErr result (λ e. Leaves e (writer.new ≡ writer.old)) }
 {
     let input = read_all(alloc, reader)?;
-    let (out, status, machine) = answer(alloc, &input).map_err(|_| RunError::Memory)?;
+    let (out, status, machine) = answer(alloc, hasher, &input).map_err(|_| RunError::Memory)?;
     match send(writer, &out) {
         Ok(()) => Ok((status, machine)),
         Err(error) => {
@@ -110,6 +116,9 @@ fn run_by<R: Read, W: Write>(
 /// whole store; `add`, `upsert` and `remove` walk over the store and close what they touch; `anc` sorts the
 /// ancestors that it writes; and a line on policy sets costs what the call on the set does. The program is this
 /// project's own.
+///
+/// Its maps hash by a fixed seed, so that whoever picks the ids of an input can make it slow: where strangers do,
+/// [`run_with`] takes a builder of hashers that has a random key.
 pub fn run<R: Read, W: Write>(alloc: Global, reader: &mut R, writer: &mut W) -> Result<u8, RunError>
     // Where the reader and the writer tell their bytes, what was written is the output of what was read,
     // and so is the status.
@@ -126,7 +135,33 @@ pub fn run<R: Read, W: Write>(alloc: Global, reader: &mut R, writer: &mut W) -> 
     // After a read fault, or where memory ran out, nothing was written.
     ensures err { IfErr result (λ e. Leaves e (writer.new ≡ writer.old)) }
 {
-    let (status, machine) = run_by(alloc, reader, writer)?;
+    let hasher: BuildHasherDefault<FoldHasher> = BuildHasherDefault::new();
+    run_with(alloc, hasher, reader, writer)
+}
+
+/// Does what [`run`] does, by maps that hash by what `hasher` builds, which no answer shows.
+pub fn run_with<S: BuildHasher + Copy, R: Read, W: Write>(
+    alloc: Global,
+    hasher: S,
+    reader: &mut R,
+    writer: &mut W,
+) -> Result<u8, RunError>
+    // Where the reader and the writer tell their bytes, what was written is the output of what was read,
+    // and so is the status.
+    ensures written { IfOk result (λ status. IfSome (R.remaining reader.old) (λ input.
+        (bytes : List ℕ) × IsOutput input (record { bytes = bytes; status = status })
+        × Appends (W.contents writer.old) (W.contents writer.new) bytes)) }
+
+    // Every input has exactly one output.
+    ensures one { HasOneOutput }
+
+    // The input was read to its end.
+    ensures end { OnOk result (IsAtEnd (R.remaining reader.new)) }
+
+    // After a read fault, or where memory ran out, nothing was written.
+    ensures err { IfErr result (λ e. Leaves e (writer.new ≡ writer.old)) }
+{
+    let (status, machine) = run_by(alloc, hasher, reader, writer)?;
     drop(machine);
     Ok(status)
 }
@@ -154,7 +189,33 @@ pub fn run_and_leave<R: Read, W: Write>(
     // After a read fault, or where memory ran out, nothing was written.
     ensures err { IfErr result (λ e. Leaves e (writer.new ≡ writer.old)) }
 {
-    let (status, machine) = run_by(alloc, reader, writer)?;
+    let hasher: BuildHasherDefault<FoldHasher> = BuildHasherDefault::new();
+    run_and_leave_with(alloc, hasher, reader, writer)
+}
+
+/// Does what [`run_and_leave`] does, by maps that hash by what `hasher` builds, which no answer shows.
+pub fn run_and_leave_with<S: BuildHasher + Copy, R: Read, W: Write>(
+    alloc: Global,
+    hasher: S,
+    reader: &mut R,
+    writer: &mut W,
+) -> Result<u8, RunError>
+    // Where the reader and the writer tell their bytes, what was written is the output of what was read,
+    // and so is the status.
+    ensures written { IfOk result (λ status. IfSome (R.remaining reader.old) (λ input.
+        (bytes : List ℕ) × IsOutput input (record { bytes = bytes; status = status })
+        × Appends (W.contents writer.old) (W.contents writer.new) bytes)) }
+
+    // Every input has exactly one output.
+    ensures one { HasOneOutput }
+
+    // The input was read to its end.
+    ensures end { OnOk result (IsAtEnd (R.remaining reader.new)) }
+
+    // After a read fault, or where memory ran out, nothing was written.
+    ensures err { IfErr result (λ e. Leaves e (writer.new ≡ writer.old)) }
+{
+    let (status, machine) = run_by(alloc, hasher, reader, writer)?;
     mem::forget(machine);
     Ok(status)
 }

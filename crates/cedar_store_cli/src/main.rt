@@ -1,12 +1,20 @@
 //! The program: the lines of standard input in, their answers to standard output.
 #![tactic(auto)]
 
-use cedar_store::run_and_leave;
+use cedar_keyed_hash::KeyedState;
+use cedar_store::run_and_leave_with;
 use std::io;
 use std::process::ExitCode;
 
 fn main(rt: HostRuntime) -> ExitCode {
-    match run_and_leave(rt.alloc(), &mut rt.reader(), &mut io::writer(&rt)) {
+    let hasher = match KeyedState::new(&rt) {
+        Ok(hasher) => hasher,
+        Err(error) => {
+            let _ = eprintln!(rt; "{error}");
+            return ExitCode::FAILURE;
+        }
+    };
+    match run_and_leave_with(rt.alloc(), hasher, &mut rt.reader(), &mut io::writer(&rt)) {
         Ok(status) => ExitCode::from(status),
         Err(error) => {
             let _ = eprintln!(rt; "{error}");

@@ -4,7 +4,7 @@ use Rattle.cedar_store.proofs.Lines.{line_taken, line_refused, lines_end}
 use Rattle.cedar_store.proofs.program.answer.Goals as goal
 
 pub loop-i-init : goal.loop-i-init
-loop-i-init c =
+loop-i-init g c =
     let lines = sym c.in_ok-lines.ensures in (
       start,
       c.new-machine.ensures,
@@ -13,19 +13,19 @@ loop-i-init c =
     )
 
 pub returns-then-not-branch : goal.returns-then-not-branch
-returns-then-not-branch c =
+returns-then-not-branch g c =
     let i = c.loop-i.invariant in
     let known = rw c.if-not-branch.true at c.in_ok-line.ensures in
     subst (λ o. IsOutput c.args.input.now (record { bytes = o; status = 2 })) (sym c.in_ok-push_fault.ensures)
     (line_refused (IsOutput c.args.input.now) (c.loop-i.i + 1) c.loop-i.i i.0 c.line.new.self c.loop-i.out.items c.line.new.out.items c.deref-line-items.result.now _ (omega arith) (known i.0 i.1) i.2)
 
 pub loop-i-preserved : goal.loop-i-preserved
-loop-i-preserved c =
+loop-i-preserved g c =
     let i = c.loop-i.invariant in
     let known = rw c.if-not-branch.false at c.in_ok-line.ensures in
     line_taken (IsOutput c.args.input.now) (c.loop-i.i + 1) c.loop-i.i i.0 c.line.new.self c.loop-i.out.items c.line.new.out.items c.deref-line-items.result.now _ (omega arith) (known i.0 i.1) i.2
 
 pub returns : goal.returns
-returns c =
+returns g c =
     let i = c.loop-i.invariant in
     lines_end (IsOutput c.args.input.now) (c.loop-i.i + 1) c.loop-i.i i.0 c.loop-i.out.items c.deref-line-items.result.now (omega arith) i.2

@@ -9,14 +9,14 @@ use Rattle.cedar_entity_lines.proofs.Steps.{shows_none, shows_some, found_reach,
 use Rattle.cedar_entity_lines.proofs.machine.LineStore.anc.Goals as goal
 
 pub returns-in-None : goal.returns-in-None
-returns-in-None c = on_ok_weaker c.push_line.result
+returns-in-None g c = on_ok_weaker c.push_line.result
     (λ text s h.
     let held = subst (λ m. Holds m s) (sym c.self.view_is) h in
     (written_line (codes "no entity"), shows_none s.world _ c.args.uid.now held.plain c.in-None.ensures.value, text))
     c.push_line.ensures
 
 pub returns-in-Some : goal.returns-in-Some
-returns-in-Some c =
+returns-in-Some g c =
     let e = c.in-Some.entity.now in
     let us = c.ancestors_in_order.result in
     let at = c.in-Some.ensures.value in

@@ -6,7 +6,7 @@ use Rattle.cedar_entity_lines.proofs.Steps.{build_takes}
 use Rattle.cedar_entity_lines.proofs.machine.LineStore.build.Goals as goal
 
 pub returns : goal.returns
-returns c =
+returns g c =
     let old : StoreAndWaiting = record { waiting = entities_in c.self.inside.waiting.items; store = c.self.inside.store } in
     let emptied : StoreAndWaiting = record { waiting = entities_in c.self.inside.waiting.items; store = c.new.result } in
     on_ok_weaker c.add.result

@@ -8,7 +8,7 @@ use Rattle.cedar_entity_lines.proofs.machine.LineStore.ent.Goals as goal
 use Rattle.std.proofs.lemmas.List.{map-append}
 
 pub returns : goal.returns
-returns c s h ascii out =
+returns g c s h ascii out =
     let old : StoreAndWaiting = record { waiting = entities_in c.self.inside.waiting.items; store = c.self.inside.store } in
     let made = c.in_ok-entity-2.ensures.ok ∙ c.in_ok-entity.ensures in
     ent_takes old _ s c.args.uid c.args.parents.items c.in_ok-entity-2.entity.value out (subst (λ m. Holds m s) (sym c.self.view_is) h)

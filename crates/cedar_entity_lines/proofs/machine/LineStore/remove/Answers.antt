@@ -6,7 +6,7 @@ use Rattle.cedar_entity_lines.proofs.Steps.{remove_takes}
 use Rattle.cedar_entity_lines.proofs.machine.LineStore.remove.Goals as goal
 
 pub returns : goal.returns
-returns c =
+returns g c =
     let old : StoreAndWaiting = record { waiting = entities_in c.self.inside.waiting.items; store = c.self.inside.store } in
     on_ok_weaker c.settle.result
     (λ k s h. remove_takes old c.settle.new.self s c.args.uids.items c.replace-store.result c.remove_entities-given.result c.args.out.now.items c.settle.new.out.items

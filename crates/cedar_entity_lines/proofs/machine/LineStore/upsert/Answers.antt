@@ -8,7 +8,7 @@ use Rattle.cedar_entity_lines.proofs.Steps.{upsert_takes}
 use Rattle.cedar_entity_lines.proofs.machine.LineStore.upsert.Goals as goal
 
 pub returns : goal.returns
-returns c =
+returns g c =
     let old : StoreAndWaiting = record { waiting = entities_in c.self.inside.waiting.items; store = c.self.inside.store } in
     on_ok_weaker c.settle.result
     (λ k s h. upsert_takes old c.settle.new.self s (entities_in c.replace-list.result.items) c.replace-store.result c.upsert_entities-given.result c.args.out.now.items c.settle.new.out.items

@@ -8,12 +8,12 @@ use Rattle.cedar_store.proofs.Joined.{nothing_takes, entity_takes, policy_takes}
 use Rattle.cedar_store.proofs.machine.Machine.take.Goals as goal
 
 pub returns-in-Nothing : goal.returns-in-Nothing
-returns-in-Nothing c s h =
+returns-in-Nothing g c s h =
     subst (λ (d : Command). HasAsciiUids (command_of d) → MachineGives (command_of d) s c.args.self.now c.args.out.now.items c.args.out.now.items) (sym c.in-Nothing.is)
     (λ a. nothing_takes c.args.self.now s c.args.out.now.items h)
 
 pub returns-in-Entity : goal.returns-in-Entity
-returns-in-Entity c =
+returns-in-Entity g c =
     let new : Machine = record { entities = c.take.new.self; sets = c.args.self.now.sets; known = c.args.self.now.known } in
     on_ok_weaker c.take.result
     (λ k s h. subst (λ (d : Command). HasAsciiUids (command_of d) → MachineGives (command_of d) s new c.args.out.now.items c.take.new.out.items) (sym c.in-Entity.is)
@@ -21,7 +21,7 @@ returns-in-Entity c =
     c.take.ensures
 
 pub returns-in-Policy : goal.returns-in-Policy
-returns-in-Policy c =
+returns-in-Policy g c =
     let new : Machine = record { entities = c.args.self.now.entities; sets = c.take-2.new.self; known = c.args.self.now.known } in
     on_ok_weaker c.take-2.result
     (λ k s h. subst (λ (d : Command). HasAsciiUids (command_of d) → MachineGives (command_of d) s new c.args.out.now.items c.take-2.new.out.items) (sym c.in-Policy.is)

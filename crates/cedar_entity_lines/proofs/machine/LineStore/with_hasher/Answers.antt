@@ -2,7 +2,7 @@ use Rattle.std.proofs.Common.{ap}
 use Rattle.cedar_entities.specs.Plain.{entities_in}
 use Rattle.cedar_entities.specs.World.{empty_world}
 use Rattle.cedar_entity_lines.proofs.Steps.{settled, empty_ascii}
-use Rattle.cedar_entity_lines.proofs.machine.LineStore.new.Goals as goal
+use Rattle.cedar_entity_lines.proofs.machine.LineStore.with_hasher.Goals as goal
 
 pub returns : goal.returns
-returns c = settled _ empty_world (ap entities_in c.new.ensures.items) c.new-2.ensures.plain empty_ascii
+returns g c = settled _ empty_world (ap entities_in c.new.ensures.items) c.new-2.ensures.plain empty_ascii
