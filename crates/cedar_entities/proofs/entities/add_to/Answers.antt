@@ -18,18 +18,18 @@ use Rattle.cedar_entities.specs.Touching.{is_touched, inserted_in}
 use Rattle.cedar_entities.proofs.entities.add_to.Goals as goal
 
 pub returns-in_err-put_all-clause-err : goal.returns-in_err-put_all-clause-err
-returns-in_err-put_all-clause-err c =
+returns-in_err-put_all-clause-err g c =
     let p = err_from_is_err_and c.from_residual-in_err-put_all.result c.from_residual-in_err-put_all.ensures.1 in
     rw (p.1, p.2) (mismatch_at (held c.args.entities.now) (held c.args.entities.now) c.args.list.items _ refl c.in_err-put_all.field-0.0 c.in_err-put_all.ensures.err)
 
 pub returns-clause-err : goal.returns-clause-err
-returns-clause-err c =
+returns-clause-err g c =
     let L = c.args.list.items in
     let put = put_in c.args.entities.now c.put_all.new.entities (held_map c.args.entities.now) L refl c.in_ok-put_all.ensures.ok in
     IfErr-weaker c.settle.result _ _ (λ e h. closure_at _ (with_first (held_map c.args.entities.now) L) c.args.tc_computation _ _ put c.in_ok-put_all.ensures.agree e h) c.settle.ensures.err
 
 pub returns-clause-ok : goal.returns-clause-ok
-returns-clause-ok c =
+returns-clause-ok g c =
     let m = c.args.entities.now in
     let D = held_map m in
     let L = c.args.list.items in
@@ -44,7 +44,7 @@ returns-clause-ok c =
     (subst (λ E. IsSettled c.args.tc_computation (contains same_uid c.note_all-2.new.noted) E (held_map c.settle.new.entities)) put h)) c.settle.ensures.ok
 
 pub returns-in_err-put_all-clause-named : goal.returns-in_err-put_all-clause-named
-returns-in_err-put_all-clause-named c =
+returns-in_err-put_all-clause-named g c =
     let D = held_map c.args.entities.now in
     let L = c.args.list.items in
     let p = err_from_is_err_and c.from_residual-in_err-put_all.result c.from_residual-in_err-put_all.ensures.1 in
@@ -52,7 +52,7 @@ returns-in_err-put_all-clause-named c =
     (none_named (FirstMismatch (held c.args.entities.now) L) (is_touched D (inserted_in D L)) c.in_err-put_all.field-0.0 c.in_err-put_all.ensures.err))
 
 pub returns-clause-named : goal.returns-clause-named
-returns-clause-named c =
+returns-clause-named g c =
     let m = c.args.entities.now in
     let D = held_map m in
     let L = c.args.list.items in

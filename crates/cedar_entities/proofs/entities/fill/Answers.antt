@@ -9,18 +9,18 @@ use Rattle.cedar_entities.specs.Present.{FirstMismatch}
 use Rattle.cedar_entities.proofs.entities.fill.Goals as goal
 
 pub returns-in_err-put_all-clause-err : goal.returns-in_err-put_all-clause-err
-returns-in_err-put_all-clause-err c =
+returns-in_err-put_all-clause-err g c =
     let p = err_from_is_err_and c.from_residual.result c.from_residual.ensures.1 in
     rw (p.1, p.2) (mismatch_at (held c.args.entities.now) (held c.args.entities.now) c.args.list.items _ refl c.in_err-put_all.field-0.0 c.in_err-put_all.ensures.err)
 
 pub returns-clause-err : goal.returns-clause-err
-returns-clause-err c =
+returns-clause-err g c =
     let L = c.args.list.items in
     let put = put_in c.args.entities.now c.put_all.new.entities (held_map c.args.entities.now) L refl c.in_ok-put_all.ensures.ok in
     IfErr-weaker c.settle_whole.result _ _ (λ e h. closure_at _ (with_first (held_map c.args.entities.now) L) c.args.tc_computation _ _ put c.in_ok-put_all.ensures.agree e h) c.settle_whole.ensures.err
 
 pub returns-clause-ok : goal.returns-clause-ok
-returns-clause-ok c =
+returns-clause-ok g c =
     let D = held_map c.args.entities.now in
     let L = c.args.list.items in
     let put = put_in c.args.entities.now c.put_all.new.entities D L refl c.in_ok-put_all.ensures.ok in
@@ -28,7 +28,7 @@ returns-clause-ok c =
     (h (is_touched D (inserted_in D L)) (all_inserted c.args.entities.now c.put_all.new.entities L c.requires.empty c.in_ok-put_all.ensures.ok))) c.settle_whole.ensures.ok
 
 pub returns-in_err-put_all-clause-named : goal.returns-in_err-put_all-clause-named
-returns-in_err-put_all-clause-named c =
+returns-in_err-put_all-clause-named g c =
     let D = held_map c.args.entities.now in
     let L = c.args.list.items in
     let p = err_from_is_err_and c.from_residual.result c.from_residual.ensures.1 in
@@ -36,7 +36,7 @@ returns-in_err-put_all-clause-named c =
     (none_named (FirstMismatch (held c.args.entities.now) L) (is_touched D (inserted_in D L)) c.in_err-put_all.field-0.0 c.in_err-put_all.ensures.err))
 
 pub returns-clause-named : goal.returns-clause-named
-returns-clause-named c =
+returns-clause-named g c =
     let D = held_map c.args.entities.now in
     let L = c.args.list.items in
     IfErr-weaker c.settle_whole.result _ _

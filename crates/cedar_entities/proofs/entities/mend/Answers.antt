@@ -4,6 +4,6 @@ use Rattle.cedar_entities.proofs.Adds.{refused_for}
 use Rattle.cedar_entities.proofs.entities.mend.Goals as goal
 
 pub returns-in_ok-repair-in-EnforceAlreadyComputed-clause-err : goal.returns-in_ok-repair-in-EnforceAlreadyComputed-clause-err
-returns-in_ok-repair-in-EnforceAlreadyComputed-clause-err c =
+returns-in_ok-repair-in-EnforceAlreadyComputed-clause-err g c =
     rw c.in-EnforceAlreadyComputed.is (IfErr-weaker c.check.result _ _
     (λ e h. refused_for _ _ (λ t k. (held_map c.repair-in-EnforceAlreadyComputed.new.entities, c.in_ok-repair-in-EnforceAlreadyComputed.ensures.ok.0, k)) e h) c.check.ensures.err)

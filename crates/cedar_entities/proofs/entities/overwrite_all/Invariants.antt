@@ -6,7 +6,7 @@ use Rattle.cedar_entities.specs.laws.Held.{held, UidsMatch}
 use Rattle.cedar_entities.proofs.entities.overwrite_all.Given as goal
 
 abbrev pub invariant-loop-entity : goal.invariant-loop-entity
-invariant-loop-entity l = record {
+invariant-loop-entity g l = record {
   keys : UidsMatch l.entities;
   holds : (q : EntityUID) → held l.entities q ≡ option_or (last_entity l.yielded q) (held l.initial.entities q);
 }

@@ -11,7 +11,7 @@ use Rattle.cedar_entities.proofs.entities.put_all.Goals as goal
 use Rattle.cedar_entities.specs.laws.Lists.{all_push}
 
 pub loop-entity-init : goal.loop-entity-init
-loop-entity-init c = record {
+loop-entity-init g c = record {
   keys = c.requires;
   agree = tt;
   holds = λ q. or_none _;
@@ -19,10 +19,10 @@ loop-entity-init c = record {
 }
 
 pub put_new-requires : goal.put_new-requires
-put_new-requires c = c.loop-entity.invariant.keys
+put_new-requires g c = c.loop-entity.invariant.keys
 
 pub loop-entity-preserved : goal.loop-entity-preserved
-loop-entity-preserved c =
+loop-entity-preserved g c =
     let f = held c.args.entities.now in
     let now = held c.loop-entity.entities in
     let i = c.loop-entity.invariant in
@@ -38,7 +38,7 @@ loop-entity-preserved c =
     }
 
 pub returns-in_err-put_new-clause-err : goal.returns-in_err-put_new-clause-err
-returns-in_err-put_new-clause-err c =
+returns-in_err-put_new-clause-err g c =
     let i = c.loop-entity.invariant in
     let done = c.loop-entity.yielded in
     let r = c.in-Some.entity in
@@ -48,16 +48,16 @@ returns-in_err-put_new-clause-err c =
     place i.holds i.agree c.in_err-put_new.field-0.0 c.in_err-put_new.ensures.err)
 
 pub returns-clause-keys : goal.returns-clause-keys
-returns-clause-keys c = c.loop-entity.invariant.keys
+returns-clause-keys g c = c.loop-entity.invariant.keys
 
 pub returns-clause-agree : goal.returns-clause-agree
-returns-clause-agree c =
+returns-clause-agree g c =
     let gives = c.into_iter-entity-iterator.ensures.into_iter_gives in
     let whole = sym (map_same c.loop-entity.yielded) ∙ (YieldsList-end (YieldsList-from_vec {s = c.into_iter-entity-iterator.result} c.args.list.items gives.0 (gives.1 ∙ c.args.list.ok.0)) c.loop-entity.yielded c.loop-entity.entity-iterator c.loop-entity.yielded_by c.next.result c.next.new.self c.in-None.is c.next.ensures.steps).0 in
     subst (λ l. AllByRecursion (MatchesPresent (held c.args.entities.now) c.args.list.items) l) whole c.loop-entity.invariant.agree
 
 pub returns-clause-ok : goal.returns-clause-ok
-returns-clause-ok c q =
+returns-clause-ok g c q =
     let gives = c.into_iter-entity-iterator.ensures.into_iter_gives in
     let whole = sym (map_same c.loop-entity.yielded) ∙ (YieldsList-end (YieldsList-from_vec {s = c.into_iter-entity-iterator.result} c.args.list.items gives.0 (gives.1 ∙ c.args.list.ok.0)) c.loop-entity.yielded c.loop-entity.entity-iterator c.loop-entity.yielded_by c.next.result c.next.new.self c.in-None.is c.next.ensures.steps).0 in
     c.loop-entity.invariant.holds q ∙ ap (λ l. option_or (held c.args.entities.now q) (first_entity l q)) whole

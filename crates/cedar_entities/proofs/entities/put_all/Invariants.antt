@@ -8,7 +8,7 @@ use Rattle.cedar_entities.specs.Present.{first_entity, MatchesPresent}
 use Rattle.cedar_entities.proofs.entities.put_all.Given as goal
 
 abbrev pub invariant-loop-entity : goal.invariant-loop-entity
-invariant-loop-entity l = record {
+invariant-loop-entity g l = record {
   keys : UidsMatch l.entities;
   agree : AllByRecursion (MatchesPresent (held l.initial.entities) l.fn.list.items) l.yielded;
   holds : (q : EntityUID) → held l.entities q ≡ option_or (held l.initial.entities q) (first_entity l.yielded q);

@@ -7,13 +7,13 @@ use Rattle.cedar_entities.proofs.Versions.{stays_held, put, put_keys}
 use Rattle.cedar_entities.proofs.entities.put_new.Goals as goal
 
 pub returns-in-Some-clause-ok : goal.returns-in-Some-clause-ok
-returns-in-Some-clause-ok c q =
+returns-in-Some-clause-ok g c q =
     let key : c.coming.inside.uid ≡ c.args.coming.uid = c.coming.invariant ∙ ap (λ (e : EntityView). e.uid) c.coming.view_is in
     stays_held (held c.args.entities.now) c.args.coming (shared c.in-Some.present.now)
     (ap (held c.args.entities.now) (sym key) ∙ ap (option_map shared) (sym c.get.ensures.value ∙ ap option_copied c.in-Some.is)) q
 
 pub returns-then-not-deep_eq-clause-err : goal.returns-then-not-deep_eq-clause-err
-returns-then-not-deep_eq-clause-err c =
+returns-then-not-deep_eq-clause-err g c =
     let key : c.coming.inside.uid ≡ c.args.coming.uid = c.coming.invariant ∙ ap (λ (e : EntityView). e.uid) c.coming.view_is in (
       c.in_ok-plain_copy_of.ensures ∙ c.uid-then-not-deep_eq.ensures ∙ key,
       shared c.in-Some.present.now,
@@ -23,16 +23,16 @@ returns-then-not-deep_eq-clause-err c =
     )
 
 pub returns-clause-keys : goal.returns-clause-keys
-returns-clause-keys c = put_keys c.args.entities.now c.insert.new.self c.coming.inside.uid _ c.coming.invariant c.in_ok-insert.ensures.updates.0 c.requires
+returns-clause-keys g c = put_keys c.args.entities.now c.insert.new.self c.coming.inside.uid _ c.coming.invariant c.in_ok-insert.ensures.updates.0 c.requires
 
 pub returns-clause-agrees : goal.returns-clause-agrees
-returns-clause-agrees c =
+returns-clause-agrees g c =
     let key : c.coming.inside.uid ≡ c.args.coming.uid = c.coming.invariant ∙ ap (λ (e : EntityView). e.uid) c.coming.view_is in
     let none : held c.args.entities.now c.args.coming.uid ≡ None =
     ap (held c.args.entities.now) (sym key) ∙ ap (option_map shared) (sym c.get.ensures.value ∙ ap option_copied c.in_default.is) in
     subst (λ o. IfSome o (λ h. IsDeepEqual h c.args.coming)) (sym none) tt
 
 pub returns-clause-ok : goal.returns-clause-ok
-returns-clause-ok c =
+returns-clause-ok g c =
     let key : c.coming.inside.uid ≡ c.args.coming.uid = c.coming.invariant ∙ ap (λ (e : EntityView). e.uid) c.coming.view_is in
     put c.args.entities.now c.insert.new.self c.coming.inside.uid _ c.args.coming key c.coming.view_is (sym c.get.ensures.value ∙ ap option_copied c.in_default.is) c.in_ok-insert.ensures.updates.0

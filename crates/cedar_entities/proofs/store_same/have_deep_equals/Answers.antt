@@ -13,7 +13,7 @@ use Rattle.cedar_entities.proofs.Alike.{found_alike}
 use Rattle.cedar_entities.proofs.store_same.have_deep_equals.Goals as goal
 
 pub returns-then-not-has_deep_equal_at : goal.returns-then-not-has_deep_equal_at
-returns-then-not-has_deep_equal_at c =
+returns-then-not-has_deep_equal_at g c =
     let m = c.args.one.now in
     let gives = c.into_iter-uid-iterator.ensures.into_iter_gives in
     let found = (hash_map_turn deref_pair c.loop-uid.yielded c.into_iter-uid-iterator.result c.loop-uid.uid-iterator c.next.new.self c.next.result (c.in-Some.uid, c.in-Some.node) c.loop-uid.yielded_by c.in-Some.is c.next.ensures.steps same_uid_equiv m gives.0 gives.4).1 in (
@@ -23,7 +23,7 @@ returns-then-not-has_deep_equal_at c =
     )
 
 pub returns : goal.returns
-returns c =
+returns g c =
     let m = c.args.one.now in
     let gives = c.into_iter-uid-iterator.ensures.into_iter_gives in
     let whole = (iter_end deref_pair m.entries c.loop-uid.yielded c.into_iter-uid-iterator.result c.loop-uid.uid-iterator c.next.new.self c.next.result gives.0 c.loop-uid.yielded_by c.in-None.is c.next.ensures.steps).0 in

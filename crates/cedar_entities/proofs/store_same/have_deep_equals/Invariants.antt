@@ -5,4 +5,4 @@ use Rattle.cedar_entities.specs.laws.Held.{held, shared}
 use Rattle.cedar_entities.proofs.store_same.have_deep_equals.Given as goal
 
 abbrev pub invariant-loop-uid : goal.invariant-loop-uid
-invariant-loop-uid l = All (λ p. HasDeepEqual (Some (shared p.1.now)) (held l.other p.0.now)) l.yielded
+invariant-loop-uid g l = All (λ p. HasDeepEqual (Some (shared p.1.now)) (held l.other p.0.now)) l.yielded

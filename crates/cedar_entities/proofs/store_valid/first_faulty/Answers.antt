@@ -9,7 +9,7 @@ use Rattle.cedar_entities.proofs.FirstFaults.{at_own_uid, first_step, first_of_a
 use Rattle.cedar_entities.proofs.store_valid.first_faulty.Goals as goal
 
 pub loop-uid-preserved : goal.loop-uid-preserved
-loop-uid-preserved c =
+loop-uid-preserved g c =
     let m = c.args.entities.now in
     let gives = c.into_iter-uid-iterator.ensures.into_iter_gives in
     let found = (hash_map_turn deref_pair c.loop-uid.yielded c.into_iter-uid-iterator.result c.loop-uid._uid-iterator c.next.new.self c.next.result (c.in-Some._uid, c.in-Some.node) c.loop-uid.yielded_by c.in-Some.is c.next.ensures.steps same_uid_equiv m gives.0 gives.4).1 in
@@ -19,7 +19,7 @@ loop-uid-preserved c =
     c.loop-uid.invariant
 
 pub returns : goal.returns
-returns c =
+returns g c =
     let m = c.args.entities.now in
     let gives = c.into_iter-uid-iterator.ensures.into_iter_gives in
     let whole = (iter_end deref_pair m.entries c.loop-uid.yielded c.into_iter-uid-iterator.result c.loop-uid._uid-iterator c.next.new.self c.next.result gives.0 c.loop-uid.yielded_by c.in-None.is c.next.ensures.steps).0 in

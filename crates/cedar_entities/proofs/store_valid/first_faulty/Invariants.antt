@@ -4,4 +4,4 @@ use Rattle.cedar_entities.proofs.FirstFaults.{IsFirstOf}
 use Rattle.cedar_entities.proofs.store_valid.first_faulty.Given as goal
 
 abbrev pub invariant-loop-uid : goal.invariant-loop-uid
-invariant-loop-uid l = IsFirstOf (held l.entities) (λ p. shared p.1.now) l.yielded (option_copied l.least)
+invariant-loop-uid g l = IsFirstOf (held l.entities) (λ p. shared p.1.now) l.yielded (option_copied l.least)

@@ -4,4 +4,4 @@ use Rattle.cedar_entities.specs.laws.Held.{held}
 use Rattle.cedar_entities.proofs.touching.absent_uids.Given as goal
 
 abbrev pub invariant-loop-shared : goal.invariant-loop-shared
-invariant-loop-shared l = l.kept.items ≡ filter (λ u. not (is_some (held l.entities u))) l.yielded
+invariant-loop-shared g l = l.kept.items ≡ filter (λ u. not (is_some (held l.entities u))) l.yielded

@@ -9,7 +9,7 @@ use Rattle.cedar_entities.proofs.Touched.{meet}
 use Rattle.cedar_entities.proofs.touching.has_any_among.Goals as goal
 
 pub returns-then-contains : goal.returns-then-contains
-returns-then-contains c =
+returns-then-contains g c =
     let us = c.ancestors-uid-items.result in
     let keys = c.args.uids.now.keys in
     let turn = YieldsList-turn (YieldsList-from_first (λ x. x.now) (λ l. l) {s = c.into_iter-uid-iterator.result} us c.into_iter-uid-iterator.ensures.into_iter_gives) c.loop-uid.yielded c.loop-uid.uid-iterator c.loop-uid.yielded_by c.next.result c.next.new.self c.in-Some.uid c.in-Some.is c.next.ensures.steps in
@@ -19,7 +19,7 @@ returns-then-contains c =
     ∙ ap (λ f. list_any f keys) (λ i k. ancestors_listed c.args.entity.now us c.ancestors-uid-items.ensures k i)
 
 pub returns : goal.returns
-returns c =
+returns g c =
     let us = c.ancestors-uid-items.result in
     let keys = c.args.uids.now.keys in
     let whole = (YieldsList-end (YieldsList-from_first (λ x. x.now) (λ l. l) {s = c.into_iter-uid-iterator.result} us c.into_iter-uid-iterator.ensures.into_iter_gives) c.loop-uid.yielded c.loop-uid.uid-iterator c.loop-uid.yielded_by c.next.result c.next.new.self c.in-None.is c.next.ensures.steps).0 in

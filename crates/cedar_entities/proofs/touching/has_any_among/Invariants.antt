@@ -5,4 +5,4 @@ use Rattle.cedar_ids.specs.UidOf.{same_uid}
 use Rattle.cedar_entities.proofs.touching.has_any_among.Given as goal
 
 abbrev pub invariant-loop-uid : goal.invariant-loop-uid
-invariant-loop-uid l = list_any (contains same_uid l.uids) (map (λ x. x.now) l.yielded) ≡ false
+invariant-loop-uid g l = list_any (contains same_uid l.uids) (map (λ x. x.now) l.yielded) ≡ false

@@ -4,4 +4,4 @@ use Rattle.cedar_entities.specs.laws.Held.{held}
 use Rattle.cedar_entities.proofs.touching.held_uids.Given as goal
 
 abbrev pub invariant-loop-uid : goal.invariant-loop-uid
-invariant-loop-uid l = l.kept.items ≡ filter (λ u. is_some (held l.entities u)) l.yielded
+invariant-loop-uid g l = l.kept.items ≡ filter (λ u. is_some (held l.entities u)) l.yielded

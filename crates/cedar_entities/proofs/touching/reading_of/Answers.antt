@@ -5,7 +5,7 @@ use Rattle.cedar_entities.specs.laws.Held.{held}
 use Rattle.cedar_entities.proofs.touching.reading_of.Goals as goal
 
 pub returns-clause-read : goal.returns-clause-read
-returns-clause-read c =
+returns-clause-read g c =
     let f = held c.args.entities.now in
     record {
       by = λ q. c.in_ok-by.ensures q ∙ ap (is_ancestor_in (f q)) (sym c.in_ok-uid.ensures);

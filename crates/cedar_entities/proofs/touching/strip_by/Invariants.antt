@@ -8,5 +8,5 @@ use Rattle.cedar_entities.specs.laws.Held.{held}
 use Rattle.cedar_entities.proofs.touching.strip_by.Given as goal
 
 abbrev pub invariant-loop-uid : goal.invariant-loop-uid
-invariant-loop-uid l = (q : EntityUID) → held l.entities q ≡ cond (is_member same_uid (take l.uid-index l.by) q)
+invariant-loop-uid g l = (q : EntityUID) → held l.entities q ≡ cond (is_member same_uid (take l.uid-index l.by) q)
     (option_map (stripped (is_member same_uid l.gone) (is_member same_uid l.lost)) (held l.initial.entities q)) (held l.initial.entities q)

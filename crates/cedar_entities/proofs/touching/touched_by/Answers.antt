@@ -16,7 +16,7 @@ use Rattle.cedar_entities.proofs.Versions.{map_append_one}
 use Rattle.cedar_entities.proofs.touching.touched_by.Goals as goal
 
 pub loop-key-preserved-in_ok-push : goal.loop-key-preserved-in_ok-push
-loop-key-preserved-in_ok-push c q =
+loop-key-preserved-in_ok-push g c q =
     let m = c.args.entities.now in
     let gives = c.into_iter-key-iterator.ensures.into_iter_gives in
     let found = (hash_map_turn deref_pair c.loop-key.yielded c.into_iter-key-iterator.result c.loop-key.key-iterator c.next.new.self c.next.result (c.in-Some.key, c.in-Some.node) c.loop-key.yielded_by c.in-Some.is c.next.ensures.steps same_uid_equiv m gives.0 gives.4).1 in
@@ -27,7 +27,7 @@ loop-key-preserved-in_ok-push c q =
     hits ∙ ap (λ l. is_some (lookup (same_uid q) l) && is_ancestor_in (held m q) c.args.uid.now) (sym (map_append_one deref_pair c.loop-key.yielded (c.in-Some.key, c.in-Some.node)))
 
 pub loop-key-preserved : goal.loop-key-preserved
-loop-key-preserved c q =
+loop-key-preserved g c q =
     let m = c.args.entities.now in
     let gives = c.into_iter-key-iterator.ensures.into_iter_gives in
     let found = (hash_map_turn deref_pair c.loop-key.yielded c.into_iter-key-iterator.result c.loop-key.key-iterator c.next.new.self c.next.result (c.in-Some.key, c.in-Some.node) c.loop-key.yielded_by c.in-Some.is c.next.ensures.steps same_uid_equiv m gives.0 gives.4).1 in
@@ -36,7 +36,7 @@ loop-key-preserved c q =
     out ∙ ap (λ l. is_some (lookup (same_uid q) l) && is_ancestor_in (held m q) c.args.uid.now) (sym (map_append_one deref_pair c.loop-key.yielded (c.in-Some.key, c.in-Some.node)))
 
 pub returns : goal.returns
-returns c q =
+returns g c q =
     let m = c.args.entities.now in
     let gives = c.into_iter-key-iterator.ensures.into_iter_gives in
     let whole = (iter_end deref_pair m.entries c.loop-key.yielded c.into_iter-key-iterator.result c.loop-key.key-iterator c.next.new.self c.next.result gives.0 c.loop-key.yielded_by c.in-None.is c.next.ensures.steps).0 in

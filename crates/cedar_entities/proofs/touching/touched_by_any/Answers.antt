@@ -17,7 +17,7 @@ use Rattle.cedar_entities.proofs.Versions.{map_append_one}
 use Rattle.cedar_entities.proofs.touching.touched_by_any.Goals as goal
 
 pub loop-key-preserved-in_ok-push : goal.loop-key-preserved-in_ok-push
-loop-key-preserved-in_ok-push c q =
+loop-key-preserved-in_ok-push g c q =
     let m = c.args.entities.now in
     let u = c.args.uids.now in
     let gives = c.into_iter-key-iterator.ensures.into_iter_gives in
@@ -29,7 +29,7 @@ loop-key-preserved-in_ok-push c q =
     hits ∙ ap (λ l. is_some (lookup (same_uid q) l) && list_any (is_ancestor_in (held m q)) u.keys) (sym (map_append_one deref_pair c.loop-key.yielded (c.in-Some.key, c.in-Some.node)))
 
 pub loop-key-preserved : goal.loop-key-preserved
-loop-key-preserved c q =
+loop-key-preserved g c q =
     let m = c.args.entities.now in
     let u = c.args.uids.now in
     let gives = c.into_iter-key-iterator.ensures.into_iter_gives in
@@ -39,7 +39,7 @@ loop-key-preserved c q =
     out ∙ ap (λ l. is_some (lookup (same_uid q) l) && list_any (is_ancestor_in (held m q)) u.keys) (sym (map_append_one deref_pair c.loop-key.yielded (c.in-Some.key, c.in-Some.node)))
 
 pub returns : goal.returns
-returns c q =
+returns g c q =
     let m = c.args.entities.now in
     let u = c.args.uids.now in
     let gives = c.into_iter-key-iterator.ensures.into_iter_gives in

@@ -7,7 +7,7 @@ use Rattle.cedar_slice.proofs.Wanting.{found_push, map_append_one}
 use Rattle.cedar_slice.proofs.slicing.copies_of.Goals as goal
 
 pub loop-uid-preserved : goal.loop-uid-preserved
-loop-uid-preserved c =
+loop-uid-preserved g c =
     let held = finmap.get c.args.store.now.held in
     let done = map (λ x. x.now) c.loop-uid.yielded in
     let more = sym (map_append_one (λ x. x.now) c.loop-uid.yielded c.in-Some.uid) in (

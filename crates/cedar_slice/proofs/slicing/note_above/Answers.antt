@@ -6,6 +6,6 @@ use Rattle.cedar_entities.specs.Modes.{is_ancestor_in}
 use Rattle.cedar_slice.proofs.slicing.note_above.Goals as goal
 
 pub returns-in-Some : goal.returns-in-Some
-returns-in-Some c = on_ok_weaker c.note_all.result
+returns-in-Some g c = on_ok_weaker c.note_all.result
     (λ h q. h q ∙ ap (λ b. contains same_uid c.args.noted.now q || b) (c.shared_ancestors.ensures q ∙ ap (λ o. is_ancestor_in o q) c.in-Some.ensures.value))
     c.note_all.ensures

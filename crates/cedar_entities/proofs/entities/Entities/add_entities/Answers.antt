@@ -13,7 +13,7 @@ use Rattle.cedar_entities.proofs.Adds.{stored, refused_over_plain}
 use Rattle.cedar_entities.proofs.entities.Entities.add_entities.Goals as goal
 
 pub returns-in_err-add_all-clause-err : goal.returns-in_err-add_all-clause-err
-returns-in_err-add_all-clause-err c =
+returns-in_err-add_all-clause-err g c =
     let m = c.self.inside.entities in
     let D = c.args.self.held in
     let is : held_map m ≡ D = ap (λ (s : StoreView). s.held) c.self.view_is in
@@ -24,7 +24,7 @@ returns-in_err-add_all-clause-err c =
     (subst (λ l. MatchRefusal c.in_err-add_all.field-0.0 (FirstMismatch (held m) l) (λ t. AllMatch (held m) l × IsClosureRefused c.args.tc_computation (with_first (held_map m) l) t)) c.in_ok-coming.ensures c.in_err-add_all.ensures.err)))
 
 pub returns-in_err-add_all-clause-plain_err : goal.returns-in_err-add_all-clause-plain_err
-returns-in_err-add_all-clause-plain_err c =
+returns-in_err-add_all-clause-plain_err g c =
     let m = c.self.inside.entities in
     let D = c.args.self.held in
     let is : held_map m ≡ D = ap (λ (s : StoreView). s.held) c.self.view_is in
@@ -36,30 +36,30 @@ returns-in_err-add_all-clause-plain_err c =
     (subst (λ l. MatchRefusal c.in_err-add_all.field-0.0 (FirstMismatch (held m) l) (λ t. AllMatch (held m) l × IsClosureRefused c.args.tc_computation (with_first (held_map m) l) t)) c.in_ok-coming.ensures c.in_err-add_all.ensures.err))))
 
 pub returns-clause-agree : goal.returns-clause-agree
-returns-clause-agree c = subst (λ f. AllMatch f (map (λ r. r.value) c.args.list.items)) (stored c.self.inside.entities c.args.self.held (ap (λ (s : StoreView). s.held) c.self.view_is))
+returns-clause-agree g c = subst (λ f. AllMatch f (map (λ r. r.value) c.args.list.items)) (stored c.self.inside.entities c.args.self.held (ap (λ (s : StoreView). s.held) c.self.view_is))
     (subst (AllMatch (held c.self.inside.entities)) c.in_ok-coming.ensures c.in_ok-add_all.ensures.agree)
 
 pub returns-clause-ok : goal.returns-clause-ok
-returns-clause-ok c =
+returns-clause-ok g c =
     let L = map (λ r. r.value) c.args.list.items in
     subst (λ D. IsSettled c.args.tc_computation (is_touched D (inserted_in D L)) (with_first D L) (held_map c.add_all.new.entities)) (ap (λ (s : StoreView). s.held) c.self.view_is)
     (subst (λ l. IsSettled c.args.tc_computation (is_touched (held_map c.self.inside.entities) (inserted_in (held_map c.self.inside.entities) l)) (with_first (held_map c.self.inside.entities) l) (held_map c.add_all.new.entities)) c.in_ok-coming.ensures c.in_ok-add_all.ensures.ok)
 
 pub returns-clause-untouched : goal.returns-clause-untouched
-returns-clause-untouched c =
+returns-clause-untouched g c =
     let D = c.args.self.held in
     let L = map (λ r. r.value) c.args.list.items in
     settled_untouched c.args.tc_computation (inserted_in D L) D (with_first D L) (held_map c.add_all.new.entities) (add_untouched D L) (returns-clause-ok c)
 
 pub returns-clause-plain_agree : goal.returns-clause-plain_agree
-returns-clause-plain_agree c W plain bare = all_agree W c.args.self (map (λ r. r.value) c.args.list.items) plain bare (returns-clause-agree c)
+returns-clause-plain_agree g c W plain bare = all_agree W c.args.self (map (λ r. r.value) c.args.list.items) plain bare (returns-clause-agree c)
 
 pub returns-clause-plain : goal.returns-clause-plain
-returns-clause-plain c W plain bare = settled_plain W c.args.self (map (λ r. r.value) c.args.list.items) plain bare c.args.tc_computation
+returns-clause-plain g c W plain bare = settled_plain W c.args.self (map (λ r. r.value) c.args.list.items) plain bare c.args.tc_computation
     (record { held = held_map c.add_all.new.entities; partial = c.self.inside.partial }) (ap (λ (s : StoreView). s.partial) c.self.view_is) (returns-clause-ok c)
 
 pub returns-in_err-add_all-clause-named : goal.returns-in_err-add_all-clause-named
-returns-in_err-add_all-clause-named c =
+returns-in_err-add_all-clause-named g c =
     let L = map (λ r. r.value) c.args.list.items in
     let p = err_from_is_err_and c.from_residual-in_err-add_all.result c.from_residual-in_err-add_all.ensures.1 in
     rw (p.1, p.2) (subst (λ D. WhereComputed c.args.tc_computation (NamesOneOf (is_touched D (inserted_in D L)) c.in_err-add_all.field-0.0)) (ap (λ (s : StoreView). s.held) c.self.view_is)

@@ -6,14 +6,14 @@ use Rattle.cedar_entities.proofs.UidsAlike.{to_same, same_back, same_forth}
 use Rattle.cedar_entities.proofs.entities.Entities.has_same_uids.Goals as goal
 
 pub returns-then-not-have_keys_of : goal.returns-then-not-have_keys_of
-returns-then-not-have_keys_of c = (
+returns-then-not-have_keys_of g c = (
   λ e. absurd (false≢true e),
   λ k. sym c.if-not-have_keys_of.true ∙ c.have_keys_of.ensures.1 (same_back c.self.inside.entities c.other.inside.entities c.args.self.now c.args.other.now
       (ap (λ (s : StoreView). s.held) c.self.view_is) (ap (λ (s : StoreView). s.held) c.other.view_is) k),
 )
 
 pub returns : goal.returns
-returns c = (
+returns g c = (
   λ e. to_same c.self.inside.entities c.other.inside.entities c.args.self.now c.args.other.now
       (ap (λ (s : StoreView). s.held) c.self.view_is) (ap (λ (s : StoreView). s.held) c.other.view_is)
       (sym (ap (λ (s : StoreView). s.partial) c.self.view_is) ∙ sym (same_flag c.other.inside.partial c.self.inside.partial c.if-other-self.false) ∙ ap (λ (s : StoreView). s.partial) c.other.view_is)

@@ -15,7 +15,7 @@ use Rattle.cedar_entities.proofs.Removing.{left_refused, mended_plain, mended_un
 use Rattle.cedar_entities.proofs.entities.Entities.remove_entities.Goals as goal
 
 pub returns-in_err-mend-clause-err : goal.returns-in_err-mend-clause-err
-returns-in_err-mend-clause-err c =
+returns-in_err-mend-clause-err g c =
     let is = ap (λ (s : StoreView). s.held) c.self.view_is in
     let D = c.args.self.held in
     let U = c.args.list.items in
@@ -28,7 +28,7 @@ returns-in_err-mend-clause-err c =
     (subst (λ E. MatchRefusal c.in_err-mend.field-0.0 (λ _. ⊥) (IsMendRefused c.args.tc_computation (contains same_uid c.apply_each.new.touched) E)) taken c.in_err-mend.ensures.err))
 
 pub returns-in_err-mend-clause-plain_err : goal.returns-in_err-mend-clause-plain_err
-returns-in_err-mend-clause-plain_err c =
+returns-in_err-mend-clause-plain_err g c =
     let is = ap (λ (s : StoreView). s.held) c.self.view_is in
     let D = c.args.self.held in
     let U = c.args.list.items in
@@ -42,7 +42,7 @@ returns-in_err-mend-clause-plain_err c =
     (subst (λ E. MatchRefusal c.in_err-mend.field-0.0 (λ _. ⊥) (IsMendRefused c.args.tc_computation (contains same_uid c.apply_each.new.touched) E)) taken c.in_err-mend.ensures.err)))
 
 pub returns-clause-ok : goal.returns-clause-ok
-returns-clause-ok c =
+returns-clause-ok g c =
     let is = ap (λ (s : StoreView). s.held) c.self.view_is in
     let D = c.args.self.held in
     let U = c.args.list.items in
@@ -54,17 +54,17 @@ returns-clause-ok c =
     (subst (λ E. IsMended c.args.tc_computation (contains same_uid c.apply_each.new.touched) E (held_map c.mend.new.entities)) taken c.in_ok-mend.ensures.ok)
 
 pub returns-clause-untouched : goal.returns-clause-untouched
-returns-clause-untouched c =
+returns-clause-untouched g c =
     let D = c.args.self.held in
     let U = c.args.list.items in
     mended_untouched c.args.tc_computation (removed_from D U) D (taken_out D U) (held_map c.mend.new.entities) (taken_untouched D U) (returns-clause-ok c)
 
 pub returns-clause-plain : goal.returns-clause-plain
-returns-clause-plain c W plain = mended_plain W c.args.self c.args.list.items plain c.args.tc_computation
+returns-clause-plain g c W plain = mended_plain W c.args.self c.args.list.items plain c.args.tc_computation
     (record { held = held_map c.mend.new.entities; partial = c.self.inside.partial }) (ap (λ (s : StoreView). s.partial) c.self.view_is) (returns-clause-ok c)
 
 pub returns-in_err-mend-clause-named : goal.returns-in_err-mend-clause-named
-returns-in_err-mend-clause-named c =
+returns-in_err-mend-clause-named g c =
     let is = ap (λ (s : StoreView). s.held) c.self.view_is in
     let D = c.args.self.held in
     let U = c.args.list.items in

@@ -17,7 +17,7 @@ use Rattle.cedar_entities.proofs.Overwriting.{so_far, over_between, over_plain, 
 use Rattle.cedar_entities.proofs.entities.Entities.upsert_entities.Goals as goal
 
 pub returns-in_err-settle-clause-err : goal.returns-in_err-settle-clause-err
-returns-in_err-settle-clause-err c =
+returns-in_err-settle-clause-err g c =
     let is = ap (λ (s : StoreView). s.held) c.self.view_is in
     let L = map (λ r. r.value) c.args.list.items in
     let uids : map (λ a. a.uid) c.in_ok-read.read.items ≡ uids_of L = c.in_ok-read.ensures.uids ∙ c.deref-2.ensures.value ∙ c.in_ok-uids.ensures ∙ ap uids_of (c.deref.ensures.value ∙ c.in_ok-coming.ensures) in
@@ -26,7 +26,7 @@ returns-in_err-settle-clause-err c =
     rw (p.1, p.2) (subst (λ D. MatchRefusal c.in_err-settle.field-0.0 (λ _. ⊥) (IsClosureRefused c.args.tc_computation D)) laid c.in_err-settle.ensures.err)
 
 pub returns-in_err-settle-clause-plain_err : goal.returns-in_err-settle-clause-plain_err
-returns-in_err-settle-clause-plain_err c =
+returns-in_err-settle-clause-plain_err g c =
     let is = ap (λ (s : StoreView). s.held) c.self.view_is in
     let L = map (λ r. r.value) c.args.list.items in
     let uids : map (λ a. a.uid) c.in_ok-read.read.items ≡ uids_of L = c.in_ok-read.ensures.uids ∙ c.deref-2.ensures.value ∙ c.in_ok-uids.ensures ∙ ap uids_of (c.deref.ensures.value ∙ c.in_ok-coming.ensures) in
@@ -36,7 +36,7 @@ returns-in_err-settle-clause-plain_err c =
     (subst (λ D. MatchRefusal c.in_err-settle.field-0.0 (λ _. ⊥) (IsClosureRefused c.args.tc_computation D)) laid c.in_err-settle.ensures.err))
 
 pub returns-clause-ok : goal.returns-clause-ok
-returns-clause-ok c =
+returns-clause-ok g c =
     let is = ap (λ (s : StoreView). s.held) c.self.view_is in
     let L = map (λ r. r.value) c.args.list.items in
     let uids : map (λ a. a.uid) c.in_ok-read.read.items ≡ uids_of L = c.in_ok-read.ensures.uids ∙ c.deref-2.ensures.value ∙ c.in_ok-uids.ensures ∙ ap uids_of (c.deref.ensures.value ∙ c.in_ok-coming.ensures) in
@@ -47,21 +47,21 @@ returns-clause-ok c =
     (subst (λ D. IsSettled c.args.tc_computation (contains same_uid c.apply_each.new.touched) D (held_map c.settle.new.entities)) laid c.in_ok-settle.ensures.ok)
 
 pub returns-clause-untouched : goal.returns-clause-untouched
-returns-clause-untouched c =
+returns-clause-untouched g c =
     let L = map (λ r. r.value) c.args.list.items in
     settled_untouched c.args.tc_computation (uids_of L) c.args.self.held (put_over c.args.self.held L) (held_map c.settle.new.entities) (over_untouched c.args.self.held L) (returns-clause-ok c)
 
 pub returns-clause-between : goal.returns-clause-between
-returns-clause-between c W plain =
+returns-clause-between g c W plain =
     let L = map (λ r. r.value) c.args.list.items in
     over_between W c.args.self plain c.args.tc_computation L (is_touched c.args.self.held (uids_of L)) (held_map c.settle.new.entities) (returns-clause-ok c)
 
 pub returns-clause-plain : goal.returns-clause-plain
-returns-clause-plain c W plain bare = over_plain W c.args.self (map (λ r. r.value) c.args.list.items) plain bare c.args.tc_computation
+returns-clause-plain g c W plain bare = over_plain W c.args.self (map (λ r. r.value) c.args.list.items) plain bare c.args.tc_computation
     (record { held = held_map c.settle.new.entities; partial = c.self.inside.partial }) (ap (λ (s : StoreView). s.partial) c.self.view_is) (returns-clause-ok c)
 
 pub returns-in_err-settle-clause-named : goal.returns-in_err-settle-clause-named
-returns-in_err-settle-clause-named c =
+returns-in_err-settle-clause-named g c =
     let is = ap (λ (s : StoreView). s.held) c.self.view_is in
     let L = map (λ r. r.value) c.args.list.items in
     let uids : map (λ a. a.uid) c.in_ok-read.read.items ≡ uids_of L = c.in_ok-read.ensures.uids ∙ c.deref-2.ensures.value ∙ c.in_ok-uids.ensures ∙ ap uids_of (c.deref.ensures.value ∙ c.in_ok-coming.ensures) in
@@ -71,4 +71,4 @@ returns-in_err-settle-clause-named c =
     rw (p.1, p.2) (subst (λ f. WhereComputed c.args.tc_computation (NamesOneOf f c.in_err-settle.field-0.0)) touched c.in_err-settle.ensures.named)
 
 pub returns-clause-so_far : goal.returns-clause-so_far
-returns-clause-so_far c W plain k = so_far W c.args.self plain (take k (uids_of (map (λ r. r.value) c.args.list.items)))
+returns-clause-so_far g c W plain k = so_far W c.args.self plain (take k (uids_of (map (λ r. r.value) c.args.list.items)))

@@ -6,7 +6,7 @@ use Rattle.cedar_entities.proofs.PlainStores.{plain_empty}
 use Rattle.cedar_entities.proofs.entities.Entities.with_hasher.Goals as goal
 
 pub returns-clause-value : goal.returns-clause-value
-returns-clause-value c = λ i. record { held = seen_empty c.with_hasher.result c.with_hasher.ensures.empty i; partial = false }
+returns-clause-value g c = λ i. record { held = seen_empty c.with_hasher.result c.with_hasher.ensures.empty i; partial = false }
 
 pub returns-clause-plain : goal.returns-clause-plain
-returns-clause-plain c = subst (λ (h : Held). IsPlainStore empty_world (record { held = h; partial = false })) (sym (seen_empty c.with_hasher.result c.with_hasher.ensures.empty)) plain_empty
+returns-clause-plain g c = subst (λ (h : Held). IsPlainStore empty_world (record { held = h; partial = false })) (sym (seen_empty c.with_hasher.result c.with_hasher.ensures.empty)) plain_empty
