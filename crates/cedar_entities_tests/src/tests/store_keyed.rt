@@ -1,9 +1,10 @@
 // Two stores of the same entities whose hashers have other keys.
-use super::store_beside::{Answer, beside, built};
+use super::store_beside::{Answer, built};
 use super::store_lists::three;
 use super::store_world::Rows;
 use cedar_entities::entities::{Entities, TCComputation};
 use cedar_keyed_hash::KeyedState;
+use cedar_test_helpers::tried::beside;
 use std::alloc::{AllocError, Global};
 use std::hash::BuildHasher;
 use std::test::Fail;
