@@ -1,5 +1,5 @@
 //! Reading the edges of a map of nodes as arcs between numbers.
-ghost use Rattle.std.specs.Prelude.{List, ◌≡◌, ◌<◌, ◌≤◌, ◌+◌, ℕ, true, length, is_some, IsSome, IfOk, OnOk, slice_get, Some, ◌++◌, ◌∷◌, [], slice_index, take, false};
+ghost use Rattle.std.specs.Prelude.{List, ◌≡◌, ◌<◌, ◌≤◌, ◌+◌, ◌-◌, ℕ, true, length, is_some, IsSome, IfOk, OnOk, slice_get, Some, ◌++◌, ◌∷◌, [], slice_index, take, false};
 ghost use Rattle.std.specs.Set.{is_member, ClonesAreEqual};
 ghost use Rattle.std.specs.HashMap.{get, hash_map_len};
 ghost use Rattle.std.specs.HashSet.{contains, hash_set_len};
@@ -96,6 +96,46 @@ fn read_row<K: Clone + Eq + Hash, V: TCNode<K>, S: BuildHasher>(
     Ok(())
 }
 
+// The arcs of the nodes of some numbers.
+fn read_rows<K: Clone + Eq + Hash, V: TCNode<K>, S: BuildHasher>(
+    alloc: Global,
+    nodes: &HashMap<K, V, S>,
+    s: &mut Reading<K, S>,
+    start: usize,
+    end: usize,
+) -> Result<(), AllocError>
+    requires copies { ClonesAreEqual K.eq K.is_clone }
+    requires unique { IsUnique K.eq s.old.keys }
+    requires order { start ≤ end }
+    requires within { end ≤ length s.old.keys.keys }
+    requires arcs { AreArcsOf K.eq (graph_of K.eq V.edges nodes.now) start s.old.keys.keys s.old.from.items s.old.to.items }
+    ensures unique { OnOk result (IsUnique K.eq s.new.keys) }
+    ensures keys { OnOk result (IsPrefix s.old.keys.keys s.new.keys.keys) }
+    ensures arcs { OnOk result (AreArcsOf K.eq (graph_of K.eq V.edges nodes.now) end s.new.keys.keys s.new.from.items s.new.to.items) }
+    ensures reads { OnOk result (s.new.reads ≤ s.old.reads + (end - start)) }
+{
+    for a in start..end {
+        read_row(alloc, nodes, s, a)?;
+    }
+    Ok(())
+}
+
+// Nothing read of some keys, with room for so many arcs.
+fn nothing_read<K: Clone + Eq + Hash, S: BuildHasher + Drop>(
+    alloc: Global,
+    keys: IndexSet<K, S>,
+    room: usize,
+) -> Result<Reading<K, S>, AllocError>
+    ensures { IfOk result (λ s. (s.keys ≡ keys) × (s.from.items ≡ []) × (s.to.items ≡ []) × (s.reads ≡ 0)) }
+{
+    Ok(Reading {
+        keys,
+        from: Vec::with_capacity(alloc, room)?,
+        to: Vec::with_capacity(alloc, room)?,
+        reads: 0,
+    })
+}
+
 // What was read, and how many of the numbers are to be fixed, and how many were read.
 #[derive(Drop)]
 pub(crate) struct FixReading<K: Eq + Hash, S: BuildHasher> {
@@ -119,15 +159,8 @@ pub(crate) fn read_arcs<K: Clone + Eq + Hash, V: TCNode<K>, S: BuildHasher + Clo
 {
     let keys = number_keys(alloc, nodes)?;
     let count = keys.len();
-    let mut s = Reading {
-        keys,
-        from: Vec::new(alloc),
-        to: Vec::new(alloc),
-        reads: 0,
-    };
-    for a in 0..count {
-        read_row(alloc, nodes, &mut s, a)?;
-    }
+    let mut s = nothing_read(alloc, keys, 0)?;
+    read_rows(alloc, nodes, &mut s, 0, count)?;
     Ok(FixReading {
         reading: s,
         fixed: count,
@@ -175,19 +208,10 @@ pub(crate) fn read_fix<K: Clone + Eq + Hash, V: TCNode<K>, S: BuildHasher + Clon
 {
     let keys = number_set(alloc, nodes.hasher().clone()?, fix)?;
     let fixed = keys.len();
-    let mut s = Reading {
-        keys,
-        from: Vec::with_capacity(alloc, ARCS)?,
-        to: Vec::with_capacity(alloc, ARCS)?,
-        reads: 0,
-    };
-    for a in 0..fixed {
-        read_row(alloc, nodes, &mut s, a)?;
-    }
+    let mut s = nothing_read(alloc, keys, ARCS)?;
+    read_rows(alloc, nodes, &mut s, 0, fixed)?;
     let near = s.keys.len();
-    for b in fixed..near {
-        read_row(alloc, nodes, &mut s, b)?;
-    }
+    read_rows(alloc, nodes, &mut s, fixed, near)?;
     Ok(FixReading {
         reading: s,
         fixed,

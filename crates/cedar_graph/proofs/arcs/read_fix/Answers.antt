@@ -1,25 +1,11 @@
 use Rattle.std.proofs.Common.{◌≡◌, ◌<◌, ◌≤◌, arith, rules, get_or, sym, refl, subst, ◌∙◌, length, take}
 use Rattle.std.specs.Set.{is_member}
-use Rattle.std.proofs.lemmas.Grind.{common_steps}
 use Rattle.std.proofs.lemmas.Option.{slice_get_within}
 use Rattle.cedar_graph.specs.Graph.{graph_of}
-use Rattle.cedar_graph.specs.laws.Arcs.{AreArcsOf}
+use Rattle.cedar_graph.specs.laws.Arcs.{IsPrefix}
 use Rattle.cedar_graph.proofs.Reaches.{graph_from, and_parts, and_from}
-use Rattle.cedar_graph.proofs.Keyed.{got_some, prefix_got, prefix_back, prefix_length, prefix_refl, prefix_trans, prefix_take, number_same, got_of_member, member_of_got, member_alike}
+use Rattle.cedar_graph.proofs.Keyed.{got_some, prefix_got, prefix_back, prefix_length, prefix_trans, prefix_take, number_same, got_of_member, member_of_got, member_alike}
 use Rattle.cedar_graph.proofs.arcs.read_fix.Goals as goal
-
-pub loop-b-init : goal.loop-b-init
-loop-b-init g c =
-    let eq = g.K.PartialEq.eq in
-    let G = graph_of eq g.V.TCNode.edges c.args.nodes.now in
-    let i = c.loop-a.invariant in
-    let s = c.loop-a.s in
-    let done : c.loop-a.a ≡ c.len-fixed.result = grind (arith, common_steps) in
-    record {
-      unique = i.unique;
-      keys = prefix_refl s.keys.keys;
-      arcs = subst (λ n. AreArcsOf eq G n s.keys.keys s.from.items s.to.items) done i.arcs;
-    }
 
 pub returns-clause-same : goal.returns-clause-same
 returns-clause-same g c =
@@ -29,14 +15,12 @@ returns-clause-same g c =
     let alike = g.met.V.TCNode.respects_eq in
     let nodes = c.args.nodes.now in
     let G = graph_of eq edges nodes in
-    let i = c.loop-b.invariant in
-    let s = c.loop-b.s in
-    let keys1 = c.loop-a.s.keys.keys in
+    let i = c.in_ok-read_rows-2.ensures in
+    let s = c.read_rows-2.new.s in
+    let keys1 = c.read_rows.new.s.keys.keys in
     let keys = s.keys.keys in
     let near_len : c.len-near.result ≡ length keys1 = search rules in
     let near_is : take (length keys1) keys ≡ keys1 = prefix_take keys1 keys i.keys in
-    let below : c.loop-b.b ≤ length keys1 = grind (arith, common_steps) in
-    let over : length keys1 ≤ c.loop-b.b = grind (arith, common_steps) in
     rw (near_len, near_is) (record {
       respects_eq = λ x y z h. rw (member_alike laws keys1 x y h, graph_from laws edges alike nodes x y z h);
       has_key = λ a b h. got_some keys b (rw (← h.3) (i.arcs.to_in h.0 h.1));
@@ -55,10 +39,11 @@ returns-clause-same g c =
 pub returns-clause-all : goal.returns-clause-all
 returns-clause-all g c =
     let keys0 = c.in_ok-keys.keys.keys in
-    let keys1 = c.loop-a.s.keys.keys in
-    let keys = c.loop-b.s.keys.keys in
+    let keys1 = c.read_rows.new.s.keys.keys in
+    let keys = c.read_rows-2.new.s.keys.keys in
+    let first : IsPrefix keys0 keys1 = subst (λ ks. IsPrefix ks.keys keys1) c.in_ok-s.ensures.0 c.in_ok-read_rows.ensures.keys in
     let len : c.len-fixed.result ≡ length keys0 = search rules in
-    let whole = prefix_trans keys0 keys1 keys c.loop-a.invariant.keys c.loop-b.invariant.keys in
+    let whole = prefix_trans keys0 keys1 keys first c.in_ok-read_rows-2.ensures.keys in
     λ q h.
     let n = c.in_ok-keys.ensures.all q h in
     (n.0, n.1, omega (arith, len, slice_get_within keys0 n.0 n.1 n.2), prefix_got keys0 keys whole n.0 n.1 n.2, n.3)
@@ -66,10 +51,11 @@ returns-clause-all g c =
 pub returns-clause-only : goal.returns-clause-only
 returns-clause-only g c =
     let keys0 = c.in_ok-keys.keys.keys in
-    let keys1 = c.loop-a.s.keys.keys in
-    let keys = c.loop-b.s.keys.keys in
+    let keys1 = c.read_rows.new.s.keys.keys in
+    let keys = c.read_rows-2.new.s.keys.keys in
+    let first : IsPrefix keys0 keys1 = subst (λ ks. IsPrefix ks.keys keys1) c.in_ok-s.ensures.0 c.in_ok-read_rows.ensures.keys in
     let len : c.len-fixed.result ≡ length keys0 = search rules in
-    let whole = prefix_trans keys0 keys1 keys c.loop-a.invariant.keys c.loop-b.invariant.keys in
+    let whole = prefix_trans keys0 keys1 keys first c.in_ok-read_rows-2.ensures.keys in
     λ i k lt got. c.in_ok-keys.ensures.only i k (prefix_back keys0 keys whole i k (omega (arith, len)) got)
 
 pub returns-clause-near : goal.returns-clause-near
@@ -79,42 +65,42 @@ returns-clause-near g c =
     let edges = g.V.TCNode.edges in
     let alike = g.met.V.TCNode.respects_eq in
     let nodes = c.args.nodes.now in
-    let i = c.loop-a.invariant in
-    let s = c.loop-a.s in
+    let i = c.in_ok-read_rows.ensures in
+    let s = c.read_rows.new.s in
     let keys0 = c.in_ok-keys.keys.keys in
     let keys1 = s.keys.keys in
-    let keys = c.loop-b.s.keys.keys in
+    let keys = c.read_rows-2.new.s.keys.keys in
     let near_len : c.len-near.result ≡ length keys1 = search rules in
-    let near_is : take (length keys1) keys ≡ keys1 = prefix_take keys1 keys c.loop-b.invariant.keys in
-    let over : length keys0 ≤ c.loop-a.a = grind (arith, common_steps) in
+    let near_is : take (length keys1) keys ≡ keys1 = prefix_take keys1 keys c.in_ok-read_rows-2.ensures.keys in
+    let first : IsPrefix keys0 keys1 = subst (λ ks. IsPrefix ks.keys keys1) c.in_ok-s.ensures.0 c.in_ok-read_rows.ensures.keys in
+    let len : c.len-fixed.result ≡ length keys0 = search rules in
     rw (near_len, near_is) (λ x u h e.
     let n = c.in_ok-keys.ensures.all x h in
     let n_in : n.0 < length keys0 = slice_get_within keys0 n.0 n.1 n.2 in
-    let a = i.arcs.complete n.0 n.1 u (omega arith) (prefix_got keys0 keys1 i.keys n.0 n.1 n.2) (sym (graph_from laws edges alike nodes x n.1 u n.3) ∙ e) in
+    let a = i.arcs.complete n.0 n.1 u (omega (arith, len)) (prefix_got keys0 keys1 first n.0 n.1 n.2) (sym (graph_from laws edges alike nodes x n.1 u n.3) ∙ e) in
     member_of_got eq keys1 (get_or s.to.items a.0 0) a.1 u a.4 a.5)
 
 pub returns-clause-near_fixed : goal.returns-clause-near_fixed
 returns-clause-near_fixed g c =
     let eq = g.K.PartialEq.eq in
-    let i = c.loop-a.invariant in
     let keys0 = c.in_ok-keys.keys.keys in
-    let keys1 = c.loop-a.s.keys.keys in
-    let keys = c.loop-b.s.keys.keys in
+    let keys1 = c.read_rows.new.s.keys.keys in
+    let keys = c.read_rows-2.new.s.keys.keys in
+    let first : IsPrefix keys0 keys1 = subst (λ ks. IsPrefix ks.keys keys1) c.in_ok-s.ensures.0 c.in_ok-read_rows.ensures.keys in
     let near_len : c.len-near.result ≡ length keys1 = search rules in
-    let near_is : take (length keys1) keys ≡ keys1 = prefix_take keys1 keys c.loop-b.invariant.keys in
+    let near_is : take (length keys1) keys ≡ keys1 = prefix_take keys1 keys c.in_ok-read_rows-2.ensures.keys in
     rw (near_len, near_is) (λ x h.
     let n = c.in_ok-keys.ensures.all x h in
-    member_of_got eq keys1 n.0 n.1 x (prefix_got keys0 keys1 i.keys n.0 n.1 n.2) n.3)
+    member_of_got eq keys1 n.0 n.1 x (prefix_got keys0 keys1 first n.0 n.1 n.2) n.3)
 
 pub returns-clause-arcs : goal.returns-clause-arcs
 returns-clause-arcs g c =
-    let i = c.loop-b.invariant in
-    let keys1 = c.loop-a.s.keys.keys in
-    let keys = c.loop-b.s.keys.keys in
+    let i = c.in_ok-read_rows-2.ensures in
+    let keys1 = c.read_rows.new.s.keys.keys in
+    let keys = c.read_rows-2.new.s.keys.keys in
     let near_len : c.len-near.result ≡ length keys1 = search rules in
-    let below : c.loop-b.b ≤ length keys1 = grind (arith, common_steps) in
     record {
       same_len = i.arcs.same_len;
-      from_in = λ k h. omega (arith, i.arcs.from_in k h, below, prefix_length keys1 keys i.keys);
+      from_in = λ k h. omega (arith, i.arcs.from_in k h, near_len, prefix_length keys1 keys i.keys);
       to_in = i.arcs.to_in;
     }
