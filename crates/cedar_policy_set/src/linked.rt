@@ -38,7 +38,7 @@ impl<S: BuildHasher + Copy> PolicySet<S> {
         new_id: PolicyID,
         values: SlotEnv,
     ) -> Result<Linked<'_, S>, LinkingError>
-        ensures* refused { sem 𝓛 (RestsIfErr the_row self.entry (λ l. l.set.ghost_name) result (λ n. n ≡ self.old)) }
+        ensures* refused { sem 𝓛 (RestsIfErr (the_row S.row S.Hasher.row S.BuildHasher S.Hasher.Hasher) self.entry (λ l. l.set.ghost_name) result (λ n. n ≡ self.old)) }
         ensures same_set { IfOk result (λ l. l.set.ghost_name ≡ self.entry.ghost_name) }
         ensures steps { Answers told_by_linking (λ l. l.set.now) result (link_step self.old template_id new_id (env_of values)) }
         ensures undone { IfOk result (λ l. UnlinksTo self.old template_id new_id (env_of values) l.set.now) }

@@ -168,7 +168,7 @@ policy_new_by : (o : Option (List ℕ)) (c : List ℕ → List ℕ) (i : List �
 policy_new_by None c i = refl
 policy_new_by (Some l) c i = refl
 
-policy_new : (c : List ℕ → List ℕ) (p : PolicyParts) → policy_id (renamed_policy c p) ≡ c (policy_id p)
+pub policy_new : (c : List ℕ → List ℕ) (p : PolicyParts) → policy_id (renamed_policy c p) ≡ c (policy_id p)
 policy_new c p = policy_new_by p.link c p.template.id
 
 -- the ids of what is here stand nowhere in what joins

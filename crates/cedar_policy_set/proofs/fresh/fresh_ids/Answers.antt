@@ -9,7 +9,7 @@ use Rattle.cedar_policy_set.proofs.fresh.fresh_ids.Goals as goal
 
 pub loop-id-init : goal.loop-id-init
 loop-id-init g c =
-    rw c.new-renaming.ensures.empty
+    rw c.with_hasher-renaming.ensures.empty
     (record { keys = c.into_iter-id-iterator.ensures.into_iter_gives.0; free = tt; next = none_free_below (is_bound_in_either c.args.here.now c.args.other.now) })
 
 pub loop-id-preserved : goal.loop-id-preserved

@@ -30,4 +30,4 @@ invariant_of-self g c =
     let l : c.in-Ok.listed ≡ t.id = c.in-Ok.ensures.ids.1 ∙ ap (λ (t : BodyParts). t.id) c.deref.ensures in
     (template_kept m t _ _ c.self.invariant n
     (read_last (λ v. v.value) c.self.inside.templates.entries c.room_for_body.new.templates.entries c.put_last.new.map.entries _ t.id c.args.template t c.room_for_body.ensures.bodies c.put_last.ensures k refl)
-    (read_last (λ v. v.keys) c.self.inside.template_to_links_map.entries c.room_for_body.new.map.entries c.put_last-in-Ok.new.map.entries _ t.id c.new-ids.result [] c.room_for_body.ensures.lists c.put_last-in-Ok.ensures l c.new-ids.ensures.empty)).0
+    (read_last (λ v. v.keys) c.self.inside.template_to_links_map.entries c.room_for_body.new.map.entries c.put_last-in-Ok.new.map.entries _ t.id c.with_hasher-ids.result [] c.room_for_body.ensures.lists c.put_last-in-Ok.ensures l c.with_hasher-ids.ensures.empty)).0
