@@ -6,21 +6,48 @@ mod slices;
 mod slots;
 mod streams;
 
-use cedar_store::{RunError, run};
+use cedar_keyed_hash::KeyedState;
+use cedar_store::{RunError, run, run_with};
 use std::alloc::Global;
 use std::io;
 use std::io::{ErrorKind, Read, Write};
 use std::process::Abort;
 use std::test::Fail;
 
-// Whether a run writes this, and ends with this status.
+// Whether a run under a key writes this, and ends with this status.
+fn is_answered_by(
+    alloc: Global,
+    hasher: KeyedState,
+    input: &[u8],
+    output: &[u8],
+    status: u8,
+) -> bool {
+    let mut reader = input;
+    let mut out = Vec::new(alloc);
+    let found = run_with(alloc, hasher, &mut reader, &mut out);
+    let told = matches!(found, Ok(found) if found == status) && out.as_slice() == output;
+    drop(out);
+    told
+}
+
+// Whether runs under two keys write this, and end with this status.
+fn are_answered(alloc: Global, input: &[u8], output: &[u8], status: u8) -> bool {
+    let (one, other) = (
+        KeyedState::with_keys(1, 2),
+        KeyedState::with_keys(u64::MAX, 3),
+    );
+    is_answered_by(alloc, one, input, output, status)
+        && is_answered_by(alloc, other, input, output, status)
+}
+
+// Whether a run writes this, and ends with this status, and so do runs under two keys.
 fn is_answered(alloc: Global, input: &[u8], output: &[u8], status: u8) -> bool {
     let mut reader = input;
     let mut out = Vec::new(alloc);
     let found = run(alloc, &mut reader, &mut out);
     let told = matches!(found, Ok(found) if found == status) && out.as_slice() == output;
     drop(out);
-    told
+    told && are_answered(alloc, input, output, status)
 }
 
 // Each input, with what is written and the status that are due.

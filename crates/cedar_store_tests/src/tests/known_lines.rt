@@ -1,5 +1,6 @@
 // Lines of which some tell what others told: types and parents that the program knows from lines before, and fields that stand
 // where those of other lines stood.
+use super::are_answered;
 use cedar_store::{RunError, run, run_and_leave};
 use cedar_test_helpers::tried::{beside, kept};
 use std::alloc::Global;
@@ -35,7 +36,7 @@ fn writes(alloc: Global, input: &str, want: &str) -> bool {
     let status = status_of(run(alloc, &mut input.as_bytes(), &mut out));
     let told = out.as_slice() == want.as_bytes();
     drop(out);
-    status == 0 && told
+    status == 0 && told && are_answered(alloc, input.as_bytes(), want.as_bytes(), 0)
 }
 
 #[test]

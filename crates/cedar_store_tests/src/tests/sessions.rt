@@ -1,5 +1,6 @@
 // Sessions of drawn lines on templates and links, each beside a plain model: one list of templates and links in the order in
 // which they came.
+use super::are_answered;
 use super::known_lines::status_of;
 use cedar_store::run;
 use cedar_test_helpers::drawn::below;
@@ -458,7 +459,7 @@ fn is_run(alloc: Global, input: &mut String, want: &str, status: u8) -> Result<b
     let ended = status_of(run(alloc, &mut input.as_bytes(), &mut out));
     let told = ended == status && out.as_slice() == want.as_bytes();
     drop(out);
-    Ok(told)
+    Ok(told && are_answered(alloc, input.as_bytes(), want.as_bytes(), status))
 }
 
 // Whether a drawn session is as the model says.

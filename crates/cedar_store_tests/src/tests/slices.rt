@@ -1,4 +1,5 @@
 // Lines that make the store its slice.
+use super::are_answered;
 use cedar_store::{RunError, run};
 use std::alloc::Global;
 
@@ -19,7 +20,7 @@ fn writes(alloc: Global, input: &str, want: &str, status: u8) -> bool {
     let ended = is_status(run(alloc, &mut input.as_bytes(), &mut out), status);
     let told = out.as_slice() == want.as_bytes();
     drop(out);
-    ended && told
+    ended && told && are_answered(alloc, input.as_bytes(), want.as_bytes(), status)
 }
 
 #[test]
