@@ -122,7 +122,6 @@ impl<S: BuildHasher + Copy> PolicySets<S> {
     }
 
     // The set aside is merged into the current one.
-    #[tactic(auto, using(crate::proofs::Merging::merge_writes))]
     fn merge(&mut self, alloc: Global, rename: bool, out: &mut Vec<u8>) -> Result<(), AllocError>
         ensures { OnOk result (PolicyWrites (merge_command rename) self.old self.new out.old.items out.new.items) }
     {
