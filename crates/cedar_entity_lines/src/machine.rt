@@ -160,7 +160,9 @@ impl LineStore {
             }
             Err(error) => {
                 self.store = Entities::new(alloc);
-                push_refusal(alloc, out, &error)
+                let told = push_refusal(alloc, out, &error);
+                drop(error);
+                told
             }
         }
     }
