@@ -171,7 +171,9 @@ impl<S: BuildHasher + Copy> LineStore<S> {
             }
             Err(error) => {
                 self.store = Entities::with_hasher(alloc, *self.store.hasher());
-                push_refusal(alloc, out, &error)
+                let told = push_refusal(alloc, out, &error);
+                drop(error);
+                told
             }
         }
     }

@@ -1,5 +1,5 @@
 //! Which line of the program is which command.
-ghost use Rattle.std.specs.Prelude.{◌≡◌, ◌∷◌, [], IfOk, IsTrue, IsFalse, map};
+ghost use Rattle.std.specs.Prelude.{◌≡◌, ◌↔◌, ◌∷◌, [], IfOk, IsTrue, map};
 ghost use Rattle.cedar_lines.specs.Reads.{ReadsAs};
 ghost use Rattle.cedar_store.specs.Command.{IsCommand, IsLine};
 ghost use Rattle.cedar_store.specs.laws.CommandOf.{command_of};
@@ -22,11 +22,10 @@ pub(crate) enum Command {
 
 // Whether the fields are those of an empty line.
 fn is_nothing(fields: &[&str]) -> bool
-    ensures yes { IsTrue result → map (λ f. f.now) fields.now ≡ [] ∷ [] }
-    ensures no { IsFalse result → map (λ f. f.now) fields.now ≡ [] ∷ [] → ⊥ }
+    ensures { IsTrue result ↔ (map (λ f. f.now) fields.now ≡ [] ∷ []) }
 {
     match fields.split_first() {
-        Some((word, rest)) => *word == "" && rest.is_empty(),
+        Some((word, rest)) => word.is_empty() && rest.is_empty(),
         None => false,
     }
 }

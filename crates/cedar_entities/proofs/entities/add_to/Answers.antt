@@ -38,7 +38,7 @@ returns-clause-ok g c =
     let all : fresh ≡ filter (λ u. not (is_some (held m u))) (uids_of L) =
     c.in_ok-fresh.ensures ∙ ap (filter (λ u. not (is_some (held m u)))) (c.in_ok-uids.ensures ∙ ap uids_of c.deref.ensures.value) in
     let touched = added_touched m c.put_all.new.entities c.note_all.new.noted c.note_all-2.new.noted D L fresh c.in_ok-by.by.items refl put all
-    (λ q. c.in_ok-note_all.ensures.ok q ∙ ap (λ ks. is_member same_uid ks q || is_member same_uid fresh q) c.new-touched.ensures.empty)
+    (λ q. c.in_ok-note_all.ensures.ok q ∙ ap (λ ks. is_member same_uid ks q || is_member same_uid fresh q) c.with_hasher-touched.ensures.empty)
     c.in_ok-by.ensures c.in_ok-note_all-2.ensures.ok in
     on_ok_weaker c.settle.result (λ h. subst (λ f. IsSettled c.args.tc_computation f (with_first D L) (held_map c.settle.new.entities)) touched
     (subst (λ E. IsSettled c.args.tc_computation (contains same_uid c.note_all-2.new.noted) E (held_map c.settle.new.entities)) put h)) c.settle.ensures.ok
@@ -61,6 +61,6 @@ returns-clause-named g c =
     let all : fresh ≡ filter (λ u. not (is_some (held m u))) (uids_of L) =
     c.in_ok-fresh.ensures ∙ ap (filter (λ u. not (is_some (held m u)))) (c.in_ok-uids.ensures ∙ ap uids_of c.deref.ensures.value) in
     let touched = added_touched m c.put_all.new.entities c.note_all.new.noted c.note_all-2.new.noted D L fresh c.in_ok-by.by.items refl put all
-    (λ q. c.in_ok-note_all.ensures.ok q ∙ ap (λ ks. is_member same_uid ks q || is_member same_uid fresh q) c.new-touched.ensures.empty)
+    (λ q. c.in_ok-note_all.ensures.ok q ∙ ap (λ ks. is_member same_uid ks q || is_member same_uid fresh q) c.with_hasher-touched.ensures.empty)
     c.in_ok-by.ensures c.in_ok-note_all-2.ensures.ok in
     IfErr-weaker c.settle.result _ _ (λ e h. subst (λ f. WhereComputed c.args.tc_computation (NamesOneOf f e)) touched h) c.settle.ensures.named

@@ -22,7 +22,7 @@ returns-in_err-mend-clause-err g c =
     let uids : map (λ a. a.uid) c.in_ok-read.read.items ≡ c.in_ok-gone.gone.items = c.in_ok-read.ensures.uids ∙ c.deref.ensures.value in
     let taken = taken_from c.self.inside.entities c.apply_each.new.entities c.take_out.new.entities D U c.in_ok-gone.gone.items c.in_ok-read.read.items is c.in_ok-gone.ensures uids c.in_ok-read.ensures.read (rw (← c.deref-2.ensures.value) c.in_ok-apply_each.ensures.ok) c.take_out.ensures.left in
     let touched = noted_touched c.self.inside.entities D (removed_from D U) c.in_ok-read.read.items (contains same_uid c.apply_each.new.touched) is (uids ∙ c.in_ok-gone.ensures ∙ gone_all c.self.inside.entities D U is) c.in_ok-read.ensures.read
-    (λ q. c.in_ok-apply_each.ensures.touched q ∙ ap (λ ks. is_member same_uid ks q || notes c.in_ok-read.read.items q) c.new-touched.ensures.empty) in
+    (λ q. c.in_ok-apply_each.ensures.touched q ∙ ap (λ ks. is_member same_uid ks q || notes c.in_ok-read.read.items q) c.with_hasher-touched.ensures.empty) in
     let p = err_from_is_err_and c.from_residual-in_err-mend.result c.from_residual-in_err-mend.ensures.1 in
     rw (p.1, p.2) (subst (λ f. MatchRefusal c.in_err-mend.field-0.0 (λ _. ⊥) (IsMendRefused c.args.tc_computation f (taken_out D U))) touched
     (subst (λ E. MatchRefusal c.in_err-mend.field-0.0 (λ _. ⊥) (IsMendRefused c.args.tc_computation (contains same_uid c.apply_each.new.touched) E)) taken c.in_err-mend.ensures.err))
@@ -35,7 +35,7 @@ returns-in_err-mend-clause-plain_err g c =
     let uids : map (λ a. a.uid) c.in_ok-read.read.items ≡ c.in_ok-gone.gone.items = c.in_ok-read.ensures.uids ∙ c.deref.ensures.value in
     let taken = taken_from c.self.inside.entities c.apply_each.new.entities c.take_out.new.entities D U c.in_ok-gone.gone.items c.in_ok-read.read.items is c.in_ok-gone.ensures uids c.in_ok-read.ensures.read (rw (← c.deref-2.ensures.value) c.in_ok-apply_each.ensures.ok) c.take_out.ensures.left in
     let touched = noted_touched c.self.inside.entities D (removed_from D U) c.in_ok-read.read.items (contains same_uid c.apply_each.new.touched) is (uids ∙ c.in_ok-gone.ensures ∙ gone_all c.self.inside.entities D U is) c.in_ok-read.ensures.read
-    (λ q. c.in_ok-apply_each.ensures.touched q ∙ ap (λ ks. is_member same_uid ks q || notes c.in_ok-read.read.items q) c.new-touched.ensures.empty) in
+    (λ q. c.in_ok-apply_each.ensures.touched q ∙ ap (λ ks. is_member same_uid ks q || notes c.in_ok-read.read.items q) c.with_hasher-touched.ensures.empty) in
     let p = err_from_is_err_and c.from_residual-in_err-mend.result c.from_residual-in_err-mend.ensures.1 in
     rw (p.1, p.2) (λ W plain. left_refused W c.args.self U plain c.args.tc_computation c.in_err-mend.field-0.0
     (subst (λ f. MatchRefusal c.in_err-mend.field-0.0 (λ _. ⊥) (IsMendRefused c.args.tc_computation f (taken_out D U))) touched
@@ -49,7 +49,7 @@ returns-clause-ok g c =
     let uids : map (λ a. a.uid) c.in_ok-read.read.items ≡ c.in_ok-gone.gone.items = c.in_ok-read.ensures.uids ∙ c.deref.ensures.value in
     let taken = taken_from c.self.inside.entities c.apply_each.new.entities c.take_out.new.entities D U c.in_ok-gone.gone.items c.in_ok-read.read.items is c.in_ok-gone.ensures uids c.in_ok-read.ensures.read (rw (← c.deref-2.ensures.value) c.in_ok-apply_each.ensures.ok) c.take_out.ensures.left in
     let touched = noted_touched c.self.inside.entities D (removed_from D U) c.in_ok-read.read.items (contains same_uid c.apply_each.new.touched) is (uids ∙ c.in_ok-gone.ensures ∙ gone_all c.self.inside.entities D U is) c.in_ok-read.ensures.read
-    (λ q. c.in_ok-apply_each.ensures.touched q ∙ ap (λ ks. is_member same_uid ks q || notes c.in_ok-read.read.items q) c.new-touched.ensures.empty) in
+    (λ q. c.in_ok-apply_each.ensures.touched q ∙ ap (λ ks. is_member same_uid ks q || notes c.in_ok-read.read.items q) c.with_hasher-touched.ensures.empty) in
     subst (λ f. IsMended c.args.tc_computation f (taken_out D U) (held_map c.mend.new.entities)) touched
     (subst (λ E. IsMended c.args.tc_computation (contains same_uid c.apply_each.new.touched) E (held_map c.mend.new.entities)) taken c.in_ok-mend.ensures.ok)
 
@@ -70,6 +70,6 @@ returns-in_err-mend-clause-named g c =
     let U = c.args.list.items in
     let uids : map (λ a. a.uid) c.in_ok-read.read.items ≡ c.in_ok-gone.gone.items = c.in_ok-read.ensures.uids ∙ c.deref.ensures.value in
     let touched = noted_touched c.self.inside.entities D (removed_from D U) c.in_ok-read.read.items (contains same_uid c.apply_each.new.touched) is (uids ∙ c.in_ok-gone.ensures ∙ gone_all c.self.inside.entities D U is) c.in_ok-read.ensures.read
-    (λ q. c.in_ok-apply_each.ensures.touched q ∙ ap (λ ks. is_member same_uid ks q || notes c.in_ok-read.read.items q) c.new-touched.ensures.empty) in
+    (λ q. c.in_ok-apply_each.ensures.touched q ∙ ap (λ ks. is_member same_uid ks q || notes c.in_ok-read.read.items q) c.with_hasher-touched.ensures.empty) in
     let p = err_from_is_err_and c.from_residual-in_err-mend.result c.from_residual-in_err-mend.ensures.1 in
     rw (p.1, p.2) (subst (λ f. WhereComputed c.args.tc_computation (NamesOneOf f c.in_err-mend.field-0.0)) touched c.in_err-mend.ensures.named)

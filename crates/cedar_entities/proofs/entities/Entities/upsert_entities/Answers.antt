@@ -42,7 +42,7 @@ returns-clause-ok g c =
     let uids : map (λ a. a.uid) c.in_ok-read.read.items ≡ uids_of L = c.in_ok-read.ensures.uids ∙ c.deref-2.ensures.value ∙ c.in_ok-uids.ensures ∙ ap uids_of (c.deref.ensures.value ∙ c.in_ok-coming.ensures) in
     let laid = laid_over c.self.inside.entities c.apply_each.new.entities c.overwrite_all.new.entities c.args.self.held L c.in_ok-read.read.items is uids c.in_ok-read.ensures.read c.in_ok-apply_each.ensures.ok (λ q. c.in_ok-overwrite_all.ensures.ok q ∙ ap (λ l. option_or (last_entity l q) (held c.apply_each.new.entities q)) c.in_ok-coming.ensures) in
     let touched = noted_touched c.self.inside.entities c.args.self.held (uids_of L) c.in_ok-read.read.items (contains same_uid c.apply_each.new.touched) is uids c.in_ok-read.ensures.read
-    (λ q. c.in_ok-apply_each.ensures.touched q ∙ ap (λ ks. is_member same_uid ks q || notes c.in_ok-read.read.items q) c.new-touched.ensures.empty) in
+    (λ q. c.in_ok-apply_each.ensures.touched q ∙ ap (λ ks. is_member same_uid ks q || notes c.in_ok-read.read.items q) c.with_hasher-touched.ensures.empty) in
     subst (λ f. IsSettled c.args.tc_computation f (put_over c.args.self.held L) (held_map c.settle.new.entities)) touched
     (subst (λ D. IsSettled c.args.tc_computation (contains same_uid c.apply_each.new.touched) D (held_map c.settle.new.entities)) laid c.in_ok-settle.ensures.ok)
 
@@ -66,7 +66,7 @@ returns-in_err-settle-clause-named g c =
     let L = map (λ r. r.value) c.args.list.items in
     let uids : map (λ a. a.uid) c.in_ok-read.read.items ≡ uids_of L = c.in_ok-read.ensures.uids ∙ c.deref-2.ensures.value ∙ c.in_ok-uids.ensures ∙ ap uids_of (c.deref.ensures.value ∙ c.in_ok-coming.ensures) in
     let touched = noted_touched c.self.inside.entities c.args.self.held (uids_of L) c.in_ok-read.read.items (contains same_uid c.apply_each.new.touched) is uids c.in_ok-read.ensures.read
-    (λ q. c.in_ok-apply_each.ensures.touched q ∙ ap (λ ks. is_member same_uid ks q || notes c.in_ok-read.read.items q) c.new-touched.ensures.empty) in
+    (λ q. c.in_ok-apply_each.ensures.touched q ∙ ap (λ ks. is_member same_uid ks q || notes c.in_ok-read.read.items q) c.with_hasher-touched.ensures.empty) in
     let p = err_from_is_err_and c.from_residual-in_err-settle.result c.from_residual-in_err-settle.ensures.1 in
     rw (p.1, p.2) (subst (λ f. WhereComputed c.args.tc_computation (NamesOneOf f c.in_err-settle.field-0.0)) touched c.in_err-settle.ensures.named)
 

@@ -1,19 +1,18 @@
-use Rattle.std.proofs.Common.{sym, subst, IfOk}
+use Rattle.std.proofs.Common.{subst, IfOk}
 use Rattle.std.proofs.lemmas.Result.{on_ok_weaker}
-use Rattle.cedar_entities.specs.Plain.{StoreView, IsPlainStore, entities_in}
+use Rattle.cedar_entities.specs.Plain.{StoreView, IsPlainStore}
 use Rattle.cedar_entities.specs.World.{World}
 use Rattle.cedar_slice.specs.Slices.{IsPlainSlice}
-use Rattle.cedar_entity_lines.specs.Holding.{StoreAndWaiting, Holds}
+use Rattle.cedar_entity_lines.specs.Holding.{StoreAndWaiting}
 use Rattle.cedar_entity_lines.proofs.Steps.{slice_takes}
 use Rattle.cedar_entity_lines.proofs.machine.LineStore.slice.Goals as goal
 
 pub returns : goal.returns
 returns g c =
-    let old : StoreAndWaiting = record { waiting = entities_in c.self.inside.waiting.items; store = c.self.inside.store } in
+    let plain = subst (λ (m : StoreAndWaiting). IfOk c.slice-given.result (λ (S : StoreView). (W : World) → IsPlainStore W m.store → IsPlainSlice W c.deref.result.now S)) c.self.view_is c.slice-given.ensures.plain in
     on_ok_weaker c.settle.result
-    (λ k s h. slice_takes old c.settle.new.self s c.args.uids.items c.slice-given.result c.args.out.now.items c.settle.new.out.items
-    (subst (λ m. Holds m s) (sym c.self.view_is) h)
+    (λ k s h. slice_takes c.args.self.now c.settle.new.self s c.args.uids.items c.slice-given.result c.args.out.now.items c.settle.new.out.items h
     c.settle.ensures.waiting
-    (subst (λ us. IfOk c.slice-given.result (λ (S : StoreView). (W : World) → IsPlainStore W c.self.inside.store → IsPlainSlice W us S)) c.deref.ensures.value c.slice-given.ensures.plain)
+    (subst (λ us. IfOk c.slice-given.result (λ (S : StoreView). (W : World) → IsPlainStore W c.args.self.now.store → IsPlainSlice W us S)) c.deref.ensures.value plain)
     c.slice-given.ensures.err k)
     c.settle.ensures.settles

@@ -5,4 +5,4 @@ use Rattle.cedar_entity_lines.proofs.Steps.{settled, empty_ascii}
 use Rattle.cedar_entity_lines.proofs.machine.LineStore.with_hasher.Goals as goal
 
 pub returns : goal.returns
-returns g c = settled _ empty_world (ap entities_in c.new.ensures.items) c.new-2.ensures.plain empty_ascii
+returns g c = settled _ empty_world (ap entities_in c.new.ensures.items) c.with_hasher.ensures.plain empty_ascii
