@@ -1,5 +1,5 @@
 //! The constructors of stores that hash by the default builder of hashers.
-ghost use Rattle.std.specs.Prelude.{◌≡◌, map, IfOk, IfErr, OnOk};
+ghost use Rattle.std.specs.Prelude.{◌≡◌, false, map, IfOk, IfErr, OnOk};
 ghost use Rattle.std.specs.FinMap as finmap;
 ghost use Rattle.cedar_entities.specs.Modes.{IsClosureRefused, WhereComputed};
 ghost use Rattle.cedar_entities.specs.Plain.{IsPlainStore, AreBare, given_of, no_entities};

@@ -7,4 +7,4 @@ pub returns-clause-held : goal.returns-clause-held
 returns-clause-held g c = ap (λ es. finmap.from_entries es) (copied _ (λ p q h. h) c.args.entities.now.entries c.in_ok-copy.copy.entries c.in_ok-copy.ensures.cases)
 
 pub returns-clause-keys : goal.returns-clause-keys
-returns-clause-keys g c = copied_match c.args.entities.now c.in_ok-copy.copy (returns-clause-held c) c.requires
+returns-clause-keys g c = copied_match c.args.entities.now c.in_ok-copy.copy (returns-clause-held g c) c.requires

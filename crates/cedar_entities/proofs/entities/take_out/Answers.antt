@@ -18,4 +18,4 @@ returns-clause-left g c q =
     c.loop-uid.invariant q ∙ ap (λ l. cond (is_member same_uid l q) None (held c.args.entities.now q)) whole
 
 pub returns-clause-keys : goal.returns-clause-keys
-returns-clause-keys g c = left_match c.args.entities.now c.loop-uid.entities (is_member same_uid c.args.gone.items) (returns-clause-left c) c.requires
+returns-clause-keys g c = left_match c.args.entities.now c.loop-uid.entities (is_member same_uid c.args.gone.items) (returns-clause-left g c) c.requires

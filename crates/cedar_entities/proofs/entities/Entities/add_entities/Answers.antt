@@ -49,14 +49,14 @@ pub returns-clause-untouched : goal.returns-clause-untouched
 returns-clause-untouched g c =
     let D = c.args.self.held in
     let L = map (λ r. r.value) c.args.list.items in
-    settled_untouched c.args.tc_computation (inserted_in D L) D (with_first D L) (held_map c.add_all.new.entities) (add_untouched D L) (returns-clause-ok c)
+    settled_untouched c.args.tc_computation (inserted_in D L) D (with_first D L) (held_map c.add_all.new.entities) (add_untouched D L) (returns-clause-ok g c)
 
 pub returns-clause-plain_agree : goal.returns-clause-plain_agree
-returns-clause-plain_agree g c W plain bare = all_agree W c.args.self (map (λ r. r.value) c.args.list.items) plain bare (returns-clause-agree c)
+returns-clause-plain_agree g c W plain bare = all_agree W c.args.self (map (λ r. r.value) c.args.list.items) plain bare (returns-clause-agree g c)
 
 pub returns-clause-plain : goal.returns-clause-plain
 returns-clause-plain g c W plain bare = settled_plain W c.args.self (map (λ r. r.value) c.args.list.items) plain bare c.args.tc_computation
-    (record { held = held_map c.add_all.new.entities; partial = c.self.inside.partial }) (ap (λ (s : StoreView). s.partial) c.self.view_is) (returns-clause-ok c)
+    (record { held = held_map c.add_all.new.entities; partial = c.self.inside.partial }) (ap (λ (s : StoreView). s.partial) c.self.view_is) (returns-clause-ok g c)
 
 pub returns-in_err-add_all-clause-named : goal.returns-in_err-add_all-clause-named
 returns-in_err-add_all-clause-named g c =

@@ -57,11 +57,11 @@ pub returns-clause-untouched : goal.returns-clause-untouched
 returns-clause-untouched g c =
     let D = c.args.self.held in
     let U = c.args.list.items in
-    mended_untouched c.args.tc_computation (removed_from D U) D (taken_out D U) (held_map c.mend.new.entities) (taken_untouched D U) (returns-clause-ok c)
+    mended_untouched c.args.tc_computation (removed_from D U) D (taken_out D U) (held_map c.mend.new.entities) (taken_untouched D U) (returns-clause-ok g c)
 
 pub returns-clause-plain : goal.returns-clause-plain
 returns-clause-plain g c W plain = mended_plain W c.args.self c.args.list.items plain c.args.tc_computation
-    (record { held = held_map c.mend.new.entities; partial = c.self.inside.partial }) (ap (λ (s : StoreView). s.partial) c.self.view_is) (returns-clause-ok c)
+    (record { held = held_map c.mend.new.entities; partial = c.self.inside.partial }) (ap (λ (s : StoreView). s.partial) c.self.view_is) (returns-clause-ok g c)
 
 pub returns-in_err-mend-clause-named : goal.returns-in_err-mend-clause-named
 returns-in_err-mend-clause-named g c =

@@ -49,16 +49,16 @@ returns-clause-ok g c =
 pub returns-clause-untouched : goal.returns-clause-untouched
 returns-clause-untouched g c =
     let L = map (λ r. r.value) c.args.list.items in
-    settled_untouched c.args.tc_computation (uids_of L) c.args.self.held (put_over c.args.self.held L) (held_map c.settle.new.entities) (over_untouched c.args.self.held L) (returns-clause-ok c)
+    settled_untouched c.args.tc_computation (uids_of L) c.args.self.held (put_over c.args.self.held L) (held_map c.settle.new.entities) (over_untouched c.args.self.held L) (returns-clause-ok g c)
 
 pub returns-clause-between : goal.returns-clause-between
 returns-clause-between g c W plain =
     let L = map (λ r. r.value) c.args.list.items in
-    over_between W c.args.self plain c.args.tc_computation L (is_touched c.args.self.held (uids_of L)) (held_map c.settle.new.entities) (returns-clause-ok c)
+    over_between W c.args.self plain c.args.tc_computation L (is_touched c.args.self.held (uids_of L)) (held_map c.settle.new.entities) (returns-clause-ok g c)
 
 pub returns-clause-plain : goal.returns-clause-plain
 returns-clause-plain g c W plain bare = over_plain W c.args.self (map (λ r. r.value) c.args.list.items) plain bare c.args.tc_computation
-    (record { held = held_map c.settle.new.entities; partial = c.self.inside.partial }) (ap (λ (s : StoreView). s.partial) c.self.view_is) (returns-clause-ok c)
+    (record { held = held_map c.settle.new.entities; partial = c.self.inside.partial }) (ap (λ (s : StoreView). s.partial) c.self.view_is) (returns-clause-ok g c)
 
 pub returns-in_err-settle-clause-named : goal.returns-in_err-settle-clause-named
 returns-in_err-settle-clause-named g c =
