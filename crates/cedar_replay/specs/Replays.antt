@@ -10,9 +10,9 @@ use Rattle.cedar_replay.specs.declared.call.Answer.TheVariants as answers
 use Rattle.cedar_replay.specs.declared.call.PolicyCall.{PolicyCall}
 use Rattle.cedar_replay.specs.declared.call.PolicyCall.TheVariants as calls
 
--- the call answers so, and makes the second board of the first: by its step, or by merging. Want of memory leaves the
+-- the call answers so, and makes the second board of the first, whatever builds the hashers: by its step, or by merging. Want of memory leaves the
 -- board as it was. No call has an answer in another call's variant
-abbrev pub IsStep : PolicyCall → Answer → Board → Board → Type 0
+abbrev pub IsStep : {S H : Type 0} → PolicyCall S H → Answer S H → Board → Board → Type 0
 IsStep (calls.AddStatic s) (answers.AddStatic r) old new = Steps told_by_set r old new (add_static_step old s)
 IsStep (calls.AddTemplate t) (answers.AddTemplate r) old new = Steps told_by_set r old new (add_template_step old t)
 IsStep (calls.Add p) (answers.Add r) old new = Steps told_by_set r old new (add_step old p)
@@ -24,7 +24,7 @@ IsStep (calls.Merge other rename) (answers.Merge r) old new = Merges (λ m. m.en
 IsStep c a old new = ⊥
 
 -- the calls answer so one after another, each from the board that the one before it made, and the last board is `new`
-abbrev pub AreSteps : List PolicyCall → List Answer → Board → Board → Type 0
+abbrev pub AreSteps : {S H : Type 0} → List (PolicyCall S H) → List (Answer S H) → Board → Board → Type 0
 AreSteps [] [] old new = new ≡ old
 AreSteps [] (a ∷ rest) old new = ⊥
 AreSteps (c ∷ cs) [] old new = ⊥

@@ -28,7 +28,7 @@ pub enum EntityCall {
 }
 
 // The store after one call.
-fn replay_one<S: BuildHasher + Clone>(
+fn replay_one<S: BuildHasher + Copy>(
     alloc: Global,
     store: Entities<S>,
     call: EntityCall,
@@ -42,7 +42,7 @@ fn replay_one<S: BuildHasher + Clone>(
 {
     match call {
         EntityCall::From(list) => {
-            let hasher = store.hasher().clone()?;
+            let hasher = *store.hasher();
             Entities::from_entities_with_hasher(alloc, hasher, list, TCComputation::ComputeNow)
         }
         EntityCall::Add(list) => store.add_entities(alloc, list, TCComputation::ComputeNow),
@@ -80,7 +80,7 @@ pub fn replay_entities(
 }
 
 /// What [`replay_entities`] gives, with stores that hash uids by what `hasher` builds.
-pub fn replay_entities_with_hasher<S: BuildHasher + Clone>(
+pub fn replay_entities_with_hasher<S: BuildHasher + Copy>(
     alloc: Global,
     hasher: S,
     calls: Vec<EntityCall>,
