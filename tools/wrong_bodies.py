@@ -6,7 +6,7 @@ check can try one wrong body of each of several functions at once, and costs lit
 what that costs is to read the crate. What tells that a wrong body was refused is the line of its own function. A function whose
 callee is not proved is not judged, and waits for a later check.
 
-A wrong body is tried alone, by `rt must-fail`, where this cannot tell: where it changes what is no body (a type, a constant, a
+A wrong body is tried alone, and `rt must-fail` is asked in the end, where this cannot tell: where it changes what is no body (a type, a constant, a
 clause), where its function has no line of its own, where a check stops before it judges, and where its function was proved.
 """
 import glob
@@ -130,8 +130,8 @@ class Crate:
         shutil.rmtree(self.folder, ignore_errors=True)
         shutil.copytree(self.kept, self.folder, symlinks=True, copy_function=link_or_copy)
 
-    def check(self, edits):
-        """What a check of the crate with these edits tells, over what a check of the crate as it stands kept."""
+    def checked(self, edits):
+        """What a check of the crate with these edits tells, over what a check of the crate as it stands kept, and its status."""
         self.restore()
         for file in {edit.file for edit in edits}:
             text = next(edit.text for edit in edits if edit.file == file)
@@ -141,7 +141,12 @@ class Crate:
             with open(f'{self.folder}/{file}', 'w', encoding='utf-8') as out:
                 out.write(text)
         ran = subprocess.run(['rt', 'check'], cwd=self.folder, stdout=subprocess.PIPE, stderr=subprocess.STDOUT, text=True, check=False)
-        return ran.stdout if ran.returncode == 1 and 'logic=not-proved' in ran.stdout else ''
+        return ran.stdout, ran.returncode
+
+    def check(self, edits):
+        """What such a check tells where it judges the crate and does not prove it, and else nothing."""
+        told, status = self.checked(edits)
+        return told if status == 1 and 'logic=not-proved' in told else ''
 
     def together(self, edits):
         """Tries edits of different functions in one check. Returns those that wait, and those that are to be tried alone."""
@@ -178,19 +183,31 @@ class Crate:
             alone += more
         return alone
 
-    def alone(self, edits):
-        """Tries edits one by one, by `rt must-fail`."""
+    def alone(self, edit):
+        """Tries one edit by a check of the whole crate, as `rt must-fail` does; what that cannot tell it is asked itself."""
+        told, status = self.checked([edit])
+        about = re.findall(r'(?m)^(?:note: )?\S+:\d+:\d+: .*$', told)
+        goals = [line for line in about if (': error' in line or line.startswith('note: ')) and not LOST_NAME.search(line)]
+        if status == 1 and 'logic=not-proved' in told and goals:
+            self.counts['refused'] += 1
+            self.say(f'{self.name}/{edit.name}: refused: {goals[0][:150]}')
+        elif status == 0:
+            self.counts['not'] += 1
+            self.say(f'{self.name}/{edit.name}: NOT REFUSED: the crate is still proved with this edit')
+        else:
+            self.asked(edit)
+
+    def asked(self, edit):
+        """Has `rt must-fail` try one edit."""
         self.restore()
         shutil.rmtree(f'{self.folder}/must-fail', ignore_errors=True)
         os.mkdir(f'{self.folder}/must-fail')
-        for edit in edits:
-            shutil.copy(f'{self.kept}/{"must-fail" if "/must-fail/" in edit.path else "wrong-bodies"}/{edit.name}.edit', f'{self.folder}/must-fail/')
-        with subprocess.Popen(['rt', 'must-fail', self.name], cwd=self.room, stdout=subprocess.PIPE, stderr=subprocess.STDOUT, text=True) as ran:
-            for line in ran.stdout:
-                kinds = [kind for kind, mark in (('refused', ': refused'), ('not', 'NOT REFUSED'), ('not', 'BAD EDIT'), ('not tried', 'NOT TRIED')) if mark in line]
-                if kinds and line.lstrip('rt: ').startswith('must-fail'):
-                    self.counts[kinds[0]] += 1
-                self.say(line.rstrip())
+        folder = 'must-fail' if '/must-fail/' in edit.path else 'wrong-bodies'
+        shutil.copy(f'{self.kept}/{folder}/{edit.name}.edit', f'{self.folder}/must-fail/')
+        ran = subprocess.run(['rt', 'must-fail', self.name], cwd=self.room, stdout=subprocess.PIPE, stderr=subprocess.STDOUT, text=True, check=False)
+        kind = 'refused' if ': refused' in ran.stdout else 'not' if re.search('NOT REFUSED|BAD EDIT', ran.stdout) else 'not tried'
+        self.counts[kind] += 1
+        self.say(ran.stdout.rstrip())
 
     def run(self):
         """Tries all wrong bodies of the crate."""
@@ -202,8 +219,8 @@ class Crate:
         os.rename(self.folder, self.kept)
         alone = [edit for edit in self.edits if not edit.function]
         alone += self.by_rounds([edit for edit in self.edits if edit.function])
-        if alone:
-            self.alone(alone)
+        for edit in alone:
+            self.alone(edit)
         self.restore()
         lost = len(self.edits) - sum(self.counts.values())
         self.counts['not tried'] += max(0, lost)
