@@ -1,6 +1,7 @@
 -- No input has two outputs.
-use Rattle.std.specs.Prelude.{◌≡◌, ℕ, ◌+◌, List, [], ◌∷◌, codes, Option, Some, None}
+use Rattle.std.specs.Prelude.{◌≡◌, ℕ, ◌+◌, List, [], ◌∷◌, codes, Bool, true, false, Some, None}
 use Rattle.std.proofs.Common.{ap, sym, refl, subst, ◌∙◌, inl, inr}
+use Rattle.std.proofs.lemmas.Bool.{false≢true}
 use Rattle.cedar_ids.specs.declared.entity.EntityUID.{EntityUID}
 use Rattle.cedar_entity_lines.specs.EntityCommand.{EntityCommand, Ent, Build, Add, Upsert, Remove, Slice, Anc, AreFields, IsEntityCommand}
 use Rattle.cedar_entity_lines.specs.laws.OneAnswer.{one_entity_gives}
@@ -36,17 +37,21 @@ both : (c : EntityCommand) (d : PolicyCommand) (fs : List (List ℕ)) → IsEnti
 both c d fs h k = none_read fs d (no_policy c fs h) k
 
 -- an empty field is the word of no command on the store
-not_empty : (w : List ℕ) (us : List EntityUID) → ([] ≡ w → ⊥) → AreFields w us ([] ∷ []) → ⊥
-not_empty w us none h = none h.0
+is_empty : List ℕ → Bool
+is_empty [] = true
+is_empty (x ∷ xs) = false
+
+not_empty : (w : List ℕ) (us : List EntityUID) → is_empty w ≡ false → AreFields w us ([] ∷ []) → ⊥
+not_empty w us e h = false≢true (sym e ∙ sym (ap is_empty h.0))
 
 no_entity : (c : EntityCommand) → IsEntityCommand c ([] ∷ []) → ⊥
-no_entity (Ent u ps) h = not_empty (codes "ent") (u ∷ ps) (λ e. cc) h
-no_entity Build h = not_empty (codes "build") [] (λ e. cc) h
-no_entity Add h = not_empty (codes "add") [] (λ e. cc) h
-no_entity Upsert h = not_empty (codes "upsert") [] (λ e. cc) h
-no_entity (Remove us) h = not_empty (codes "remove") us (λ e. cc) h.0
-no_entity (Slice us) h = not_empty (codes "slice") us (λ e. cc) h.0
-no_entity (Anc u) h = not_empty (codes "anc") (u ∷ []) (λ e. cc) h
+no_entity (Ent u ps) h = not_empty (codes "ent") (u ∷ ps) refl h
+no_entity Build h = not_empty (codes "build") [] refl h
+no_entity Add h = not_empty (codes "add") [] refl h
+no_entity Upsert h = not_empty (codes "upsert") [] refl h
+no_entity (Remove us) h = not_empty (codes "remove") us refl h.0
+no_entity (Slice us) h = not_empty (codes "slice") us refl h.0
+no_entity (Anc u) h = not_empty (codes "anc") (u ∷ []) refl h
 
 nothing_or_entity : (c : EntityCommand) (fs : List (List ℕ)) → fs ≡ [] ∷ [] → IsEntityCommand c fs → ⊥
 nothing_or_entity c fs e h = no_entity c (subst (IsEntityCommand c) e h)
@@ -74,14 +79,18 @@ one_command (Policy c) (Policy d) fs h k = ap Policy (same_policy c d fs h k)
 
 -- ---- a command gives one answer
 
+-- what two kinds of lines leave is one state
+joined : (t t' : State) (out out' : List ℕ) → t.entities ≡ t'.entities → t.boards ≡ t'.boards → out ≡ out' → (t ≡ t') × (out ≡ out')
+joined t t' out out' e b o = (λ i. record { entities = e i; boards = b i }, o)
+
 one_step : (s t t' : State) (c : Command) (out out' : List ℕ) → Gives s c t out → Gives s c t' out' → (t ≡ t') × (out ≡ out')
 one_step s t t' Nothing out out' h k = (h.0 ∙ sym k.0, h.1 ∙ sym k.1)
 one_step s t t' (Entity c) out out' h k =
     let same = one_entity_gives c s.entities t.entities t'.entities out out' h.0 k.0 in
-    (λ i. record { entities = same.0 i; boards = (h.1 ∙ sym k.1) i }, same.1)
+    joined t t' out out' same.0 (h.1 ∙ sym k.1) same.1
 one_step s t t' (Policy c) out out' h k =
     let same = one_policy_gives c s.boards t.boards t'.boards out out' h.1 k.1 in
-    (λ i. record { entities = (h.0 ∙ sym k.0) i; boards = same.0 i }, same.1)
+    joined t t' out out' (h.0 ∙ sym k.0) same.0 same.1
 
 one_from : (ls : List (List ℕ)) (n : ℕ) (s : State) (v w : Written) → IsOutputFrom n s ls v → IsOutputFrom n s ls w → v ≡ w
 unfolding IsOutputFrom
