@@ -1,6 +1,6 @@
 use Rattle.std.proofs.Common.{◌+◌, sym, subst, arith}
 use Rattle.cedar_store.specs.Output.{start, IsOutput}
-use Rattle.cedar_store.proofs.Lines.{line_taken, line_refused, lines_end}
+use Rattle.cedar_store.proofs.EachLine.{line_taken, line_refused, lines_end}
 use Rattle.cedar_store.proofs.program.answer.Goals as goal
 
 pub loop-i-init : goal.loop-i-init

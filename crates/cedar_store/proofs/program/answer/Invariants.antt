@@ -1,7 +1,7 @@
 use Rattle.std.specs.Prelude.{◌+◌, map, drop}
 use Rattle.cedar_store.specs.laws.Machines.{Holds}
 use Rattle.cedar_store.specs.Output.{State, IsOutput}
-use Rattle.cedar_store.proofs.Lines.{Continues}
+use Rattle.cedar_store.proofs.EachLine.{Continues}
 use Rattle.cedar_store.proofs.program.answer.Given as goal
 
 abbrev pub invariant-loop-i : goal.invariant-loop-i
