@@ -1,8 +1,8 @@
 // Looking up 10,000 uids among 10, 1,000 and 100,000 ancestors, and among as many uids in a hash set: what the looks cost
 // is the difference between a test that looks and the one that only makes what is looked at (docs/PERFORMANCE.md).
-use super::{beside, pushed};
 use cedar_entity::entity::Entity;
 use cedar_ids::entity::EntityUID;
+use cedar_test_helpers::tried::{beside, kept, pushed};
 use std::alloc::Global;
 use std::collections::HashSet;
 use std::test::Fail;
@@ -60,113 +60,103 @@ fn found_hashed(set: &HashSet<EntityUID>, uids: &[EntityUID]) -> u32 {
 // The entity with so many indirect ancestors.
 fn grown(alloc: Global, count: u32) -> Result<Entity, Fail> {
     let mut entity = Entity::with_uid(alloc, numbered(alloc, count)?);
-    match add_all(alloc, &mut entity, count) {
-        Ok(()) => Ok(entity),
-        Err(fail) => {
-            drop(entity);
-            Err(fail)
-        }
-    }
+    let done = add_all(alloc, &mut entity, count);
+    kept(entity, done)
 }
 
 // The hash set of so many uids.
 fn hashed(alloc: Global, count: u32) -> Result<HashSet<EntityUID>, Fail> {
     let mut set = HashSet::new(alloc);
-    match put_all(alloc, &mut set, count) {
-        Ok(()) => Ok(set),
-        Err(fail) => {
-            drop(set);
-            Err(fail)
-        }
-    }
+    let done = put_all(alloc, &mut set, count);
+    kept(set, done)
 }
 
-// How many of 10,000 uids are found among so many ancestors, if they are looked for.
-fn looks_among(alloc: Global, count: u32, looks: bool) -> Result<u32, Fail> {
+// Fails where another number of uids was found than these.
+fn are_found(times: u32, want: u32) -> Result<(), Fail> {
+    if times == want {
+        return Ok(());
+    }
+    Err(Fail::new(format_args!("{times} were found")))
+}
+
+// Looks for 10,000 uids among so many ancestors, or makes them alone; it fails where one is not found.
+fn among(alloc: Global, count: u32, looks: bool) -> Result<(), Fail> {
     let (uids, entity) = beside(spread(alloc, count)?, grown(alloc, count))?;
-    let times = if looks { found(&entity, &uids) } else { 0 };
+    let times = if looks { found(&entity, &uids) } else { 10_000 };
     drop(entity);
     drop(uids);
-    Ok(times)
+    are_found(times, 10_000)
 }
 
-// How many of 10,000 uids are found in a hash set of so many, if they are looked for.
-fn looks_among_hashed(alloc: Global, count: u32, looks: bool) -> Result<u32, Fail> {
+// Looks for 10,000 uids in a hash set of so many, or makes them alone; it fails where one is not found.
+fn among_hashed(alloc: Global, count: u32, looks: bool) -> Result<(), Fail> {
     let (uids, set) = beside(spread(alloc, count)?, hashed(alloc, count))?;
-    let times = if looks { found_hashed(&set, &uids) } else { 0 };
+    let times = if looks {
+        found_hashed(&set, &uids)
+    } else {
+        10_000
+    };
     drop(set);
     drop(uids);
-    Ok(times)
+    are_found(times, 10_000)
 }
 
 #[test]
 fn makes_ten_ancestors(rt: HostRuntime) -> Result<(), Fail> {
-    assert!(rt; looks_among(rt.alloc(), 10, false)? == 0);
-    Ok(())
+    among(rt.alloc(), 10, false)
 }
 
 #[test]
 fn looks_among_ten_ancestors(rt: HostRuntime) -> Result<(), Fail> {
-    assert!(rt; looks_among(rt.alloc(), 10, true)? == 10_000);
-    Ok(())
+    among(rt.alloc(), 10, true)
 }
 
 #[test]
 fn makes_a_thousand_ancestors(rt: HostRuntime) -> Result<(), Fail> {
-    assert!(rt; looks_among(rt.alloc(), 1_000, false)? == 0);
-    Ok(())
+    among(rt.alloc(), 1_000, false)
 }
 
 #[test]
 fn looks_among_a_thousand_ancestors(rt: HostRuntime) -> Result<(), Fail> {
-    assert!(rt; looks_among(rt.alloc(), 1_000, true)? == 10_000);
-    Ok(())
+    among(rt.alloc(), 1_000, true)
 }
 
 #[test]
 fn makes_a_hundred_thousand_ancestors(rt: HostRuntime) -> Result<(), Fail> {
-    assert!(rt; looks_among(rt.alloc(), 100_000, false)? == 0);
-    Ok(())
+    among(rt.alloc(), 100_000, false)
 }
 
 #[test]
 fn looks_among_a_hundred_thousand_ancestors(rt: HostRuntime) -> Result<(), Fail> {
-    assert!(rt; looks_among(rt.alloc(), 100_000, true)? == 10_000);
-    Ok(())
+    among(rt.alloc(), 100_000, true)
 }
 
 #[test]
 fn makes_ten_hashed_uids(rt: HostRuntime) -> Result<(), Fail> {
-    assert!(rt; looks_among_hashed(rt.alloc(), 10, false)? == 0);
-    Ok(())
+    among_hashed(rt.alloc(), 10, false)
 }
 
 #[test]
 fn looks_among_ten_hashed_uids(rt: HostRuntime) -> Result<(), Fail> {
-    assert!(rt; looks_among_hashed(rt.alloc(), 10, true)? == 10_000);
-    Ok(())
+    among_hashed(rt.alloc(), 10, true)
 }
 
 #[test]
 fn makes_a_thousand_hashed_uids(rt: HostRuntime) -> Result<(), Fail> {
-    assert!(rt; looks_among_hashed(rt.alloc(), 1_000, false)? == 0);
-    Ok(())
+    among_hashed(rt.alloc(), 1_000, false)
 }
 
 #[test]
 fn looks_among_a_thousand_hashed_uids(rt: HostRuntime) -> Result<(), Fail> {
-    assert!(rt; looks_among_hashed(rt.alloc(), 1_000, true)? == 10_000);
-    Ok(())
+    among_hashed(rt.alloc(), 1_000, true)
 }
 
 #[test]
 fn makes_a_hundred_thousand_hashed_uids(rt: HostRuntime) -> Result<(), Fail> {
-    assert!(rt; looks_among_hashed(rt.alloc(), 100_000, false)? == 0);
-    Ok(())
+    among_hashed(rt.alloc(), 100_000, false)
 }
 
 #[test]
 fn looks_among_a_hundred_thousand_hashed_uids(rt: HostRuntime) -> Result<(), Fail> {
-    assert!(rt; looks_among_hashed(rt.alloc(), 100_000, true)? == 10_000);
-    Ok(())
+    among_hashed(rt.alloc(), 100_000, true)
 }
