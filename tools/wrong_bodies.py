@@ -1,5 +1,6 @@
 #!/usr/bin/env python3
-"""Tries wrong bodies, many in one check: `./wrong-bodies` says what for. Run at the top of the repository, with names of crates.
+"""Tries wrong bodies, many in one check: `./wrong-bodies` says what for. Run at the top of the repository, with names of crates;
+`--jobs N` before them gives each check N jobs, where rt's own choice is too much beside other work.
 
 A contract stands between a function and its callers, so whether a body is proved does not hang on what other bodies do. So one
 check can try one wrong body of each of several functions at once, and costs little more than a check that tries one: most of
@@ -113,8 +114,8 @@ def link_or_copy(one, other):
 class Crate:
     """A crate in a copy of the repository, and its wrong bodies."""
 
-    def __init__(self, room, name):
-        self.name, self.folder = name, f'{room}/crates/{name}'
+    def __init__(self, room, name, jobs):
+        self.name, self.folder, self.jobs = name, f'{room}/crates/{name}', jobs
         self.kept = f'{room}/kept-{name}'
         edits = sorted(glob.glob(f'{self.folder}/must-fail/*.edit') + glob.glob(f'{self.folder}/wrong-bodies/*.edit'))
         self.edits = [WrongBody(path, self.folder) for path in edits]
@@ -140,7 +141,7 @@ class Crate:
                     text = edit.edited(text)
             with open(f'{self.folder}/{file}', 'w', encoding='utf-8') as out:
                 out.write(text)
-        ran = subprocess.run(['rt', 'check'], cwd=self.folder, stdout=subprocess.PIPE, stderr=subprocess.STDOUT, text=True, check=False)
+        ran = subprocess.run(['rt', 'check', *self.jobs], cwd=self.folder, stdout=subprocess.PIPE, stderr=subprocess.STDOUT, text=True, check=False)
         return ran.stdout, ran.returncode
 
     def check(self, edits):
@@ -211,7 +212,7 @@ class Crate:
 
     def run(self):
         """Tries all wrong bodies of the crate."""
-        ran = subprocess.run(['rt', 'check'], cwd=self.folder, stdout=subprocess.PIPE, stderr=subprocess.STDOUT, text=True, check=False)
+        ran = subprocess.run(['rt', 'check', *self.jobs], cwd=self.folder, stdout=subprocess.PIPE, stderr=subprocess.STDOUT, text=True, check=False)
         if ran.returncode:
             sys.stdout.write(ran.stdout)
             sys.exit(f'wrong-bodies: {self.name} as it stands is not proved')
@@ -227,6 +228,9 @@ class Crate:
 
 
 def main(names):
+    jobs = []
+    if names[:1] == ['--jobs']:
+        jobs, names = names[:2], names[2:]
     if not names:
         names = sorted({path.split('/')[1] for path in glob.glob('crates/*/must-fail/*.edit') + glob.glob('crates/*/wrong-bodies/*.edit')})
     for name in names:
@@ -235,7 +239,7 @@ def main(names):
     counts = {'refused': 0, 'not': 0, 'not tried': 0}
     with tempfile.TemporaryDirectory() as room:
         subprocess.run(['cp', '-a', 'crates.txt', 'HANDLES', 'crates', room], check=True)
-        crates = [Crate(room, name) for name in names]
+        crates = [Crate(room, name, jobs) for name in names]
         total = sum(len(crate.edits) for crate in crates)
         print(f'{total} wrong bodies of {len(crates)} crates: some 20 seconds of a processor each, {total * 20 / 3600:.1f} hours by the mean', flush=True)
         print('before them a check of each crate, and of those below it, that is not proved here yet: a whole proof (docs/GATE.md)', flush=True)
