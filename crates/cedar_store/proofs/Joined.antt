@@ -13,11 +13,11 @@ use Rattle.cedar_store.specs.laws.Machines.{Holds, MachineGives, HasAsciiUids}
 use Rattle.cedar_store.specs.declared.machine.Machine.{Machine}
 
 -- an empty line changes nothing
-pub nothing_takes : (m : Machine) (s : State) (out : List ℕ) → Holds m s → MachineGives Nothing s m out out
+pub nothing_takes : {S H : Type 0} → (m : Machine S H) (s : State) (out : List ℕ) → Holds m s → MachineGives Nothing s m out out
 nothing_takes m s out h = (s, [], (refl, refl), h, sym (append-nil out))
 
 -- the machine takes a command on the store
-pub entity_takes : (m n : Machine) (s : State) (c : EntityCommand) (old new : List ℕ) → Holds m s → n.sets ≡ m.sets → held.EntityWrites c s.entities n.entities old new → MachineGives (Entity c) s n old new
+pub entity_takes : {S H : Type 0} → (m n : Machine S H) (s : State) (c : EntityCommand) (old new : List ℕ) → Holds m s → n.sets ≡ m.sets → held.EntityWrites c s.entities n.entities old new → MachineGives (Entity c) s n old new
 entity_takes m n s c old new h sets k = (
   record { entities = k.0; boards = s.boards },
   k.1,
@@ -27,7 +27,7 @@ entity_takes m n s c old new h sets k = (
 )
 
 -- the machine takes a command on policy sets
-pub policy_takes : (m n : Machine) (s : State) (c : PolicyCommand) (old new : List ℕ) → Holds m s → n.entities ≡ m.entities → PolicyWrites c m.sets n.sets old new → MachineGives (Policy c) s n old new
+pub policy_takes : {S H : Type 0} → (m n : Machine S H) (s : State) (c : PolicyCommand) (old new : List ℕ) → Holds m s → n.entities ≡ m.entities → PolicyWrites c m.sets n.sets old new → MachineGives (Policy c) s n old new
 policy_takes m n s c old new h entities k = (
   record { entities = s.entities; boards = n.sets },
   k.0,

@@ -37,7 +37,7 @@ both : (c : EntityCommand) (d : PolicyCommand) (fs : List (List ℕ)) → IsEnti
 both c d fs h k = none_read fs d (no_policy c fs h) k
 
 -- an empty field is the word of no command on the store
-is_empty : List ℕ → Bool
+abbrev is_empty : List ℕ → Bool
 is_empty [] = true
 is_empty (x ∷ xs) = false
 

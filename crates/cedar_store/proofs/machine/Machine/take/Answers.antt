@@ -14,7 +14,7 @@ returns-in-Nothing g c s h =
 
 pub returns-in-Entity : goal.returns-in-Entity
 returns-in-Entity g c =
-    let new : Machine = record { entities = c.take.new.self; sets = c.args.self.now.sets; known = c.args.self.now.known } in
+    let new : Machine g.row.S.Denot g.row.S-Hasher.Denot = record { entities = c.take.new.self; sets = c.args.self.now.sets; known = c.args.self.now.known } in
     on_ok_weaker c.take.result
     (λ k s h. subst (λ (d : Command). HasAsciiUids (command_of d) → MachineGives (command_of d) s new c.args.out.now.items c.take.new.out.items) (sym c.in-Entity.is)
     (λ a. entity_takes c.args.self.now new s _ c.args.out.now.items c.take.new.out.items h refl (k s.entities h.entities a)))
@@ -22,8 +22,8 @@ returns-in-Entity g c =
 
 pub returns-in-Policy : goal.returns-in-Policy
 returns-in-Policy g c =
-    let new : Machine = record { entities = c.args.self.now.entities; sets = c.take-2.new.self; known = c.args.self.now.known } in
-    on_ok_weaker c.take-2.result
-    (λ k s h. subst (λ (d : Command). HasAsciiUids (command_of d) → MachineGives (command_of d) s new c.args.out.now.items c.take-2.new.out.items) (sym c.in-Policy.is)
-    (λ a. policy_takes c.args.self.now new s _ c.args.out.now.items c.take-2.new.out.items h refl k))
-    c.take-2.ensures
+    let new : Machine g.row.S.Denot g.row.S-Hasher.Denot = record { entities = c.args.self.now.entities; sets = c.take-in-Policy.new.self; known = c.args.self.now.known } in
+    on_ok_weaker c.take-in-Policy.result
+    (λ k s h. subst (λ (d : Command). HasAsciiUids (command_of d) → MachineGives (command_of d) s new c.args.out.now.items c.take-in-Policy.new.out.items) (sym c.in-Policy.is)
+    (λ a. policy_takes c.args.self.now new s _ c.args.out.now.items c.take-in-Policy.new.out.items h refl k))
+    c.take-in-Policy.ensures
