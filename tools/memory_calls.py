@@ -57,7 +57,7 @@ def functions(text):
         if not found:
             continue
         signature, last = line, at
-        while signature.count('(') != signature.count(')'):
+        while '(' not in signature or signature.count('(') != signature.count(')'):
             last += 1
             signature += ' ' + lines[last].strip()
         if '->' not in signature and lines[last + 1].strip().startswith('->'):
