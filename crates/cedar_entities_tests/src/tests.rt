@@ -1,3 +1,4 @@
+mod store_batches;
 mod store_beside;
 mod store_edits;
 mod store_faults;
