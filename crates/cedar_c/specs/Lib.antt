@@ -1,0 +1,6 @@
+pub mod PoliciesHeld
+pub mod PolicyCalls
+pub mod Runs
+pub mod Statuses
+pub mod StoreCalls
+pub mod StoreHeld
