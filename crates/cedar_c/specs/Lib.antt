@@ -4,3 +4,4 @@ pub mod Runs
 pub mod Statuses
 pub mod StoreCalls
 pub mod StoreHeld
+pub mod Texts

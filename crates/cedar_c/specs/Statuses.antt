@@ -13,3 +13,10 @@ closed = 2
 
 abbrev pub bad_argument : ℕ
 bad_argument = 3
+
+-- a text is no uid's; the store has no such entity
+abbrev pub not_a_uid : ℕ
+not_a_uid = 4
+
+abbrev pub no_entity : ℕ
+no_entity = 5

@@ -9,6 +9,7 @@ mod parts;
 mod policies;
 mod policies_handle;
 mod program;
+mod reading;
 mod status;
 mod store;
 mod store_handle;

@@ -11,3 +11,9 @@ pub const CLOSED: u32 = 2;
 
 /// A part of a text, a place or a mode is out of range.
 pub const BAD_ARGUMENT: u32 = 3;
+
+/// A text is no uid's.
+pub const NOT_A_UID: u32 = 4;
+
+/// The store has no such entity.
+pub const NO_ENTITY: u32 = 5;

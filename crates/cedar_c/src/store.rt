@@ -3,9 +3,10 @@ ghost use Rattle.std.specs.Prelude.{◌≡◌, ◌≢◌, Option, Some, None};
 ghost use Rattle.std.specs.Option.{is_some, option_map};
 ghost use Rattle.cedar_c.specs.Statuses.{ok, no_memory};
 ghost use Rattle.cedar_entities.specs.World.{empty_world};
-ghost use Rattle.cedar_c.specs.StoreCalls.{HasWorld, Counts};
+ghost use Rattle.cedar_c.specs.StoreCalls.{HasWorld, Counts, Asks, AsksHandle};
 
-use crate::status::{NO_MEMORY, OK};
+use crate::reading::uid_of;
+use crate::status::{CLOSED, NO_ENTITY, NO_MEMORY, OK};
 use crate::store_handle::{Held, Inner};
 use cedar_entities::entities::Entities;
 use std::alloc::Global;
@@ -93,4 +94,46 @@ pub extern "C" fn cedar_store_len(alloc: Global, handle: &mut Store) -> usize
     let count = inner.store.len();
     *handle = opened(inner);
     count
+}
+
+// Whether an entity of a store is a descendant of a uid.
+fn ask(alloc: Global, store: &Entities, child: &[u8], ancestor: &[u8], answer: &mut bool) -> u32
+    ensures { Asks store.now child.now ancestor.now result answer.new }
+{
+    let child = match uid_of(alloc, child) {
+        Ok(uid) => uid,
+        Err(status) => return status,
+    };
+    let ancestor = match uid_of(alloc, ancestor) {
+        Ok(uid) => uid,
+        Err(status) => return status,
+    };
+    match store.stored(&child) {
+        None => NO_ENTITY,
+        Some(entity) => {
+            *answer = entity.is_descendant_of(&ancestor);
+            OK
+        }
+    }
+}
+
+/// Whether the entity with the first uid is a descendant of the second, in `answer`: over parents, however many. The status is
+/// `NO_ENTITY` where the store has no such entity, and `NOT_A_UID` where one of the texts is no uid's.
+#[unsafe(no_mangle)]
+pub extern "C" fn cedar_store_is_descendant_of(
+    alloc: Global,
+    handle: &mut Store,
+    child: &[u8],
+    ancestor: &[u8],
+    answer: &mut bool,
+) -> u32
+    ensures same { handle.new.held.value ≡ handle.old.held.value }
+    ensures asks { AsksHandle handle.old.held.value child.now ancestor.now result answer.new }
+{
+    let Some(inner) = take(alloc, handle) else {
+        return CLOSED;
+    };
+    let status = ask(alloc, &inner.store, child, ancestor, answer);
+    *handle = opened(inner);
+    status
 }
