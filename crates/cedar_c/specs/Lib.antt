@@ -1,0 +1,7 @@
+pub mod PoliciesHeld
+pub mod PolicyCalls
+pub mod Runs
+pub mod Statuses
+pub mod StoreCalls
+pub mod StoreHeld
+pub mod Texts
