@@ -3,23 +3,18 @@ ghost use Rattle.std.specs.Prelude.{◌≡◌, Option, Some, None, IsSome};
 ghost use Rattle.cedar_c.specs.declared.policies_handle.Inner.{Inner as Inside};
 ghost use Rattle.cedar_c.specs.PoliciesHeld.{held_owns, held_coded};
 
-use crate::layout::Span;
 use crate::parts::Parts;
-use cedar_policy_set::PolicySet;
+use cedar_c_sets::KeptSet;
 use std::alloc::Global;
 use std::boxed::Box;
 use std::marker::Model;
 use std::ptr;
 
-/// What a handle keeps for its caller: a policy set, and the bytes and parts of the last answer.
+/// What a handle keeps for its caller.
 #[derive(Drop)]
 pub struct Inner {
-    /// The policy set.
-    pub set: PolicySet,
-    /// The bytes of the last answer.
-    pub answer: Vec<u8>,
-    /// Where each item of the last answer stands in its bytes.
-    pub spans: Vec<Span>,
+    /// A policy set, the last answer and the last refusal.
+    pub kept: KeptSet,
 }
 
 /// Nothing, or a box.

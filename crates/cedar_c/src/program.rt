@@ -1,10 +1,12 @@
-//! The whole program in one call.
-ghost use Rattle.std.specs.Prelude.{◌≡◌, length, take, min, IfOk};
+//! The whole program in one call, and whether a text is a uid's.
+ghost use Rattle.std.specs.Prelude.{◌≡◌, IfOk};
 ghost use Rattle.cedar_store.specs.Output.{IsOutput};
+ghost use Rattle.cedar_c.specs.Checks.{Checks};
 ghost use Rattle.cedar_c.specs.Statuses.{ok};
 ghost use Rattle.cedar_c.specs.Runs.{Runs};
 
-use crate::status::{NO_MEMORY, OK};
+use crate::copying::copy_out;
+use cedar_c_lists::{Reason, check_uid, status_of};
 use cedar_store::{RunError, run};
 use std::alloc::Global;
 
@@ -16,18 +18,6 @@ fn output_of(alloc: Global, input: &[u8]) -> Result<(Vec<u8>, u8), RunError>
     let mut out = Vec::new(alloc);
     let status = run(alloc, &mut reader, &mut out)?;
     Ok((out, status))
-}
-
-// Copies as much as there is room for, and tells the length of all of it.
-pub(crate) fn copy(answer: &[u8], out: &mut [u8]) -> usize
-    ensures told { result ≡ length answer.now }
-    ensures len { length out.new ≡ length out.old }
-    ensures bytes { take (min (length out.old) result) out.new
-        ≡ take (min (length out.old) result) answer.now }
-{
-    let count = answer.len().min(out.len());
-    out[..count].copy_from_slice(&answer[..count]);
-    answer.len()
 }
 
 /// Takes all lines of an input, and writes as much of the output as there is room for; `told` has the length of all of it, and
@@ -43,9 +33,17 @@ pub extern "C" fn cedar_run(
     ensures { result ≡ ok → Runs input.now out.old out.new told.new ended.new }
 {
     let Ok((bytes, status)) = output_of(alloc, input) else {
-        return NO_MEMORY;
+        return Reason::NoMemory.number();
     };
-    *told = copy(&bytes, out);
+    *told = copy_out(&bytes, 0, out);
     *ended = u32::from(status);
-    OK
+    0
+}
+
+/// Whether a text is a uid's.
+#[unsafe(no_mangle)]
+pub extern "C" fn cedar_uid_check(alloc: Global, text: &[u8]) -> u32
+    ensures { Checks text.now result }
+{
+    status_of(check_uid(alloc, text))
 }

@@ -3,23 +3,18 @@ ghost use Rattle.std.specs.Prelude.{◌≡◌, Option, Some, None, IsSome};
 ghost use Rattle.cedar_c.specs.declared.store_handle.Inner.{Inner as Inside};
 ghost use Rattle.cedar_c.specs.StoreHeld.{held_owns, held_coded};
 
-use crate::layout::Span;
 use crate::parts::Parts;
-use cedar_entities::entities::Entities;
+use cedar_c_stores::KeptStore;
 use std::alloc::Global;
 use std::boxed::Box;
 use std::marker::Model;
 use std::ptr;
 
-/// What a handle keeps for its caller: a store, and the bytes and parts of the last answer.
+/// What a handle keeps for its caller.
 #[derive(Drop)]
 pub struct Inner {
-    /// The store.
-    pub store: Entities,
-    /// The bytes of the last answer.
-    pub answer: Vec<u8>,
-    /// Where each item of the last answer stands in its bytes.
-    pub spans: Vec<Span>,
+    /// A store, the last answer and the last refusal.
+    pub kept: KeptStore,
 }
 
 /// Nothing, or a box.
