@@ -1,5 +1,5 @@
 //! Calls on handles of policy sets.
-ghost use Rattle.std.specs.Prelude.{◌≡◌, ◌≢◌, ◌×◌, Option, Some, None};
+ghost use Rattle.std.specs.Prelude.{◌≡◌, ◌≢◌, Option, Some, None};
 ghost use Rattle.std.specs.Option.{is_some, option_map};
 ghost use Rattle.cedar_policy_set.specs.Boards.{empty_board};
 ghost use Rattle.cedar_policy_set.specs.Steps.{remove_static_step, remove_template_step, unlink_step};
