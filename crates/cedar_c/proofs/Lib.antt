@@ -1,0 +1,2 @@
+pub mod PoliciesAsBox
+pub mod StoreAsBox
