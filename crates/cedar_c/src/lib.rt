@@ -6,6 +6,7 @@
 #![tactic(auto, using(cedar_ids::specs::laws::UidOfLaws::same_uid_decides))]
 
 mod copying;
+mod keys;
 mod parts;
 mod policies;
 mod policies_handle;

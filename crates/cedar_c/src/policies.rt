@@ -8,6 +8,7 @@ ghost use Rattle.cedar_c.specs.Statuses.{ok, no_memory};
 ghost use Rattle.cedar_c.specs.PolicyCalls.{Boxes, Changes, ChangesBy, Compares, CopiesAnswer, CopiesRefusal, CopiesSpans, Fills, FillsBy, HasBoard};
 
 use crate::copying::copy_out;
+use crate::keys::hasher_of;
 use crate::policies_handle::{Held, Inner};
 use cedar_c_lists::{Reason, Span, status_of};
 use cedar_c_sets::KeptSet;
@@ -82,13 +83,18 @@ fn fill(alloc: Global, handle: &mut Policies, made: Result<KeptSet, Reason>) -> 
     }
 }
 
-/// The set without policies. What the handle held before is freed.
+/// The set without policies, whose maps hash with two numbers of the caller as their key. What the handle held before is freed.
 #[unsafe(no_mangle)]
-pub extern "C" fn cedar_policies_new(alloc: Global, handle: &mut Policies) -> u32
+pub extern "C" fn cedar_policies_new(
+    alloc: Global,
+    handle: &mut Policies,
+    seed: u64,
+    key: u64,
+) -> u32
     ensures new { result ≡ ok → HasBoard empty_board handle.new.held.value }
     ensures err { result ≢ ok → (result ≡ no_memory) × (handle.new.held.value ≡ handle.old.held.value) }
 {
-    fill(alloc, handle, Ok(KeptSet::new(alloc)))
+    fill(alloc, handle, Ok(KeptSet::new(alloc, hasher_of(seed, key))))
 }
 
 /// Frees what the handle holds, and closes it. A closed one stays closed.

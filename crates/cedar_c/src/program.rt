@@ -6,33 +6,38 @@ ghost use Rattle.cedar_c.specs.Statuses.{ok};
 ghost use Rattle.cedar_c.specs.Runs.{Runs};
 
 use crate::copying::copy_out;
+use crate::keys::hasher_of;
 use cedar_c_lists::{Reason, check_uid, status_of};
-use cedar_store::{RunError, run};
+use cedar_keyed_hash::KeyedState;
+use cedar_store::{RunError, run_with};
 use std::alloc::Global;
 
 // The output of an input, and its status.
-fn output_of(alloc: Global, input: &[u8]) -> Result<(Vec<u8>, u8), RunError>
+fn output_of(alloc: Global, hasher: KeyedState, input: &[u8]) -> Result<(Vec<u8>, u8), RunError>
     ensures { IfOk result (λ r. IsOutput input.now (record { bytes = r.0.items; status = r.1 })) }
 {
     let mut reader = input;
     let mut out = Vec::new(alloc);
-    let status = run(alloc, &mut reader, &mut out)?;
+    let status = run_with(alloc, hasher, &mut reader, &mut out)?;
     Ok((out, status))
 }
 
-/// Takes all lines of an input, and writes as much of the output as there is room for; `told` has the length of all of it, and
-/// `ended` the status of the run, 0 or 2. Another call with more room makes the same output.
+/// Takes all lines of an input, by maps that hash with two numbers of the caller as their key, and writes as much of the output as
+/// there is room for; `told` has the length of all of it, and `ended` the status of the run, 0 or 2. Another call with more room
+/// makes the same output.
 #[unsafe(no_mangle)]
 pub extern "C" fn cedar_run(
     alloc: Global,
     input: &[u8],
+    seed: u64,
+    key: u64,
     out: &mut [u8],
     told: &mut usize,
     ended: &mut u32,
 ) -> u32
     ensures { result ≡ ok → Runs input.now out.old out.new told.new ended.new }
 {
-    let Ok((bytes, status)) = output_of(alloc, input) else {
+    let Ok((bytes, status)) = output_of(alloc, hasher_of(seed, key), input) else {
         return Reason::NoMemory.number();
     };
     *told = copy_out(&bytes, 0, out);

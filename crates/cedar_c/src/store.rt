@@ -8,6 +8,7 @@ ghost use Rattle.cedar_c.specs.Statuses.{ok, no_memory};
 ghost use Rattle.cedar_c.specs.StoreCalls.{AsksHandle, Boxes, Changes, Compares, CopiesAnswer, CopiesRefusal, CopiesSpans, Counts, Fills, FillsBy, HasWorld};
 
 use crate::copying::copy_out;
+use crate::keys::hasher_of;
 use crate::store_handle::{Held, Inner};
 use cedar_c_lists::{Edge, Reason, Span, status_of, tell};
 use cedar_c_stores::KeptStore;
@@ -82,13 +83,13 @@ fn fill(alloc: Global, handle: &mut Store, made: Result<KeptStore, Reason>) -> u
     }
 }
 
-/// The store without entities. What the handle held before is freed.
+/// The store without entities, whose map hashes with two numbers of the caller as its key. What the handle held before is freed.
 #[unsafe(no_mangle)]
-pub extern "C" fn cedar_store_new(alloc: Global, handle: &mut Store) -> u32
+pub extern "C" fn cedar_store_new(alloc: Global, handle: &mut Store, seed: u64, key: u64) -> u32
     ensures new { result ≡ ok → HasWorld empty_world handle.new.held.value }
     ensures err { result ≢ ok → (result ≡ no_memory) × (handle.new.held.value ≡ handle.old.held.value) }
 {
-    fill(alloc, handle, Ok(KeptStore::new(alloc)))
+    fill(alloc, handle, Ok(KeptStore::new(alloc, hasher_of(seed, key))))
 }
 
 /// Frees what the handle holds, and closes it. A closed one stays closed.

@@ -13,6 +13,7 @@ use crate::making::{bindings_of, effect_of, slots_of, static_policy, template};
 use crate::telling::{Told, by_linking, by_removal, by_set, by_template_removal, by_unlinking};
 use cedar_c_lists::{Answer, Reason, Span, id_of};
 use cedar_ids::policy_id::PolicyID;
+use cedar_keyed_hash::KeyedState;
 use cedar_policy::{LinkingError, SlotEnv, StaticPolicy, Template};
 use cedar_policy_set::PolicySet;
 use indexmap::IndexMap;
@@ -21,8 +22,8 @@ use std::alloc::{AllocError, Global};
 /// A policy set, the texts of the last answer, and the text of the last refusal.
 #[derive(Drop)]
 pub struct KeptSet {
-    /// The policy set.
-    pub set: PolicySet,
+    /// The policy set, whose maps hash with the caller's key.
+    pub set: PolicySet<KeyedState>,
     /// The texts that the last call that lists or merges gave.
     pub answer: Answer,
     /// The text of the last refusal of a call on the set.
@@ -30,7 +31,7 @@ pub struct KeptSet {
 }
 
 // The ids of all bodies, as texts.
-fn body_texts(alloc: Global, set: &PolicySet) -> Result<Answer, AllocError>
+fn body_texts(alloc: Global, set: &PolicySet<KeyedState>) -> Result<Answer, AllocError>
     ensures { IfOk result (λ a. a ≡ body_ids set.now) }
 {
     let mut answer = Answer::new(alloc);
@@ -41,7 +42,7 @@ fn body_texts(alloc: Global, set: &PolicySet) -> Result<Answer, AllocError>
 }
 
 // The ids of all policies, as texts.
-fn policy_texts(alloc: Global, set: &PolicySet) -> Result<Answer, AllocError>
+fn policy_texts(alloc: Global, set: &PolicySet<KeyedState>) -> Result<Answer, AllocError>
     ensures { IfOk result (λ a. a ≡ policy_ids set.now) }
 {
     let mut answer = Answer::new(alloc);
@@ -54,7 +55,7 @@ fn policy_texts(alloc: Global, set: &PolicySet) -> Result<Answer, AllocError>
 // A renaming, as texts.
 fn texts_of_renaming(
     alloc: Global,
-    renaming: &IndexMap<PolicyID, PolicyID>,
+    renaming: &IndexMap<PolicyID, PolicyID, KeyedState>,
 ) -> Result<Answer, AllocError>
     ensures { IfOk result (λ a. a ≡ renaming_texts renaming.now.entries) }
 {
@@ -69,7 +70,7 @@ fn texts_of_renaming(
 // Links a template, and keeps the link in the set alone.
 fn link(
     alloc: Global,
-    set: &mut PolicySet,
+    set: &mut PolicySet<KeyedState>,
     template: PolicyID,
     id: PolicyID,
     values: SlotEnv,
@@ -82,7 +83,7 @@ fn link(
 
 impl KeptSet {
     /// A set of which nothing was answered and nothing refused. Takes no memory.
-    pub fn of(alloc: Global, set: PolicySet) -> KeptSet
+    pub fn of(alloc: Global, set: PolicySet<KeyedState>) -> KeptSet
         ensures set { result.set ≡ set }
         ensures answer { result.answer ≡ [] }
         ensures refusal { result.refusal.items ≡ [] }
@@ -95,12 +96,12 @@ impl KeptSet {
     }
 
     /// The set without a binding. Takes no memory.
-    pub fn new(alloc: Global) -> KeptSet
+    pub fn new(alloc: Global, hasher: KeyedState) -> KeptSet
         ensures set { result.set ≡ empty_board }
         ensures answer { result.answer ≡ [] }
         ensures refusal { result.refusal.items ≡ [] }
     {
-        KeptSet::of(alloc, PolicySet::new(alloc))
+        KeptSet::of(alloc, PolicySet::with_hasher(alloc, hasher))
     }
 
     // The text of a refusal is kept, and its reason told.

@@ -11,6 +11,7 @@ use crate::refusal::{reason_of, text_of};
 use cedar_c_lists::{Answer, Reason, Span, uid_of, uids_of, with_uid};
 use cedar_entities::{Entities, EntitiesError, Entity, TCComputation, Uids};
 use cedar_ids::entity::EntityUID;
+use cedar_keyed_hash::KeyedState;
 use cedar_slice::slice;
 use cedar_uid_sets::Union;
 use std::alloc::{AllocError, Global};
@@ -20,12 +21,14 @@ use std::rc::Rc;
 /// A store of entities, the texts of the last answer, and the text of the last refusal.
 #[derive(Drop)]
 pub struct KeptStore {
-    /// The store.
-    pub store: Entities,
+    /// The store, whose map hashes with the caller's key.
+    pub store: Entities<KeyedState>,
     /// The texts that the last call that lists gave.
     pub answer: Answer,
     /// The text of the last refusal of a call on the store.
     pub refusal: Vec<u8>,
+    // What builds the hashers of the next store.
+    hasher: KeyedState,
 }
 
 // The texts of ancestors.
@@ -51,8 +54,9 @@ fn texts_of_set(alloc: Global, uids: Uids<'_>) -> Result<Answer, AllocError>
 }
 
 impl KeptStore {
-    /// A store of which nothing was answered and nothing refused. Takes no memory.
-    pub fn of(alloc: Global, store: Entities) -> KeptStore
+    /// A store of which nothing was answered and nothing refused, and what builds the hashers of stores that take its place.
+    /// Takes no memory.
+    pub fn of(alloc: Global, hasher: KeyedState, store: Entities<KeyedState>) -> KeptStore
         ensures store { result.store ≡ store }
         ensures answer { result.answer ≡ [] }
         ensures refusal { result.refusal.items ≡ [] }
@@ -61,16 +65,17 @@ impl KeptStore {
             store,
             answer: Answer::new(alloc),
             refusal: Vec::new(alloc),
+            hasher,
         }
     }
 
     /// The store without entities. Takes no memory.
-    pub fn new(alloc: Global) -> KeptStore
+    pub fn new(alloc: Global, hasher: KeyedState) -> KeptStore
         ensures store { result.store ≡ empty_store }
         ensures answer { result.answer ≡ [] }
         ensures refusal { result.refusal.items ≡ [] }
     {
-        KeptStore::of(alloc, Entities::new(alloc))
+        KeptStore::of(alloc, hasher, Entities::with_hasher(alloc, hasher))
     }
 
     // The text of an error is kept, and its reason told.
@@ -91,7 +96,7 @@ impl KeptStore {
     fn settle(
         &mut self,
         alloc: Global,
-        given: Result<Entities, EntitiesError>,
+        given: Result<Entities<KeyedState>, EntitiesError>,
     ) -> Result<(), Reason>
         ensures { Settles given result self.new }
     {
@@ -101,7 +106,7 @@ impl KeptStore {
                 Ok(())
             }
             Err(error) => {
-                self.store = Entities::new(alloc);
+                self.store = Entities::with_hasher(alloc, self.hasher);
                 Err(self.refuse(alloc, error))
             }
         }
@@ -116,7 +121,7 @@ impl KeptStore {
     ) -> Result<(), Reason>
         ensures { Adds mode (entities_in list.items) self.old.store result self.new }
     {
-        let store = mem::replace(&mut self.store, Entities::new(alloc));
+        let store = mem::replace(&mut self.store, Entities::with_hasher(alloc, self.hasher));
         let given = store.add_entities(alloc, list, mode);
         self.settle(alloc, given)
     }
@@ -131,7 +136,7 @@ impl KeptStore {
     ) -> Result<(), Reason>
         ensures { Adds mode (entities_in list.items) empty_store result self.new }
     {
-        self.store = Entities::new(alloc);
+        self.store = Entities::with_hasher(alloc, self.hasher);
         self.add_list(alloc, list, mode)
     }
 
@@ -145,7 +150,7 @@ impl KeptStore {
     ) -> Result<(), Reason>
         ensures { Upserts mode (entities_in list.items) self.old.store result self.new }
     {
-        let store = mem::replace(&mut self.store, Entities::new(alloc));
+        let store = mem::replace(&mut self.store, Entities::with_hasher(alloc, self.hasher));
         let given = store.upsert_entities(alloc, list, mode);
         self.settle(alloc, given)
     }
@@ -159,7 +164,7 @@ impl KeptStore {
     ) -> Result<(), Reason>
         ensures { Removes mode uids.items self.old.store result self.new }
     {
-        let store = mem::replace(&mut self.store, Entities::new(alloc));
+        let store = mem::replace(&mut self.store, Entities::with_hasher(alloc, self.hasher));
         let given = store.remove_entities(alloc, uids, mode);
         self.settle(alloc, given)
     }
@@ -236,7 +241,7 @@ impl KeptStore {
         ensures { MatchResult result (λ k. IsSlice uids.items self.now.store k.store) (λ w. w ≡ reasons.NoMemory) }
     {
         match slice(alloc, &self.store, &uids) {
-            Ok(store) => Ok(KeptStore::of(alloc, store)),
+            Ok(store) => Ok(KeptStore::of(alloc, self.hasher, store)),
             Err(_want) => Err(Reason::NoMemory),
         }
     }
@@ -254,7 +259,7 @@ impl KeptStore {
         ensures { Copies self.now.store result }
     {
         let store = self.store.clone()?;
-        Ok(KeptStore::of(alloc, store))
+        Ok(KeptStore::of(alloc, self.hasher, store))
     }
 
     /// Whether both stores have deeply equal entities. Takes no memory.
