@@ -237,7 +237,7 @@ pub extern "C" fn cedar_policies_merge(
 /// The ids of the bodies, for 0, or of the policies, for 1, become the answer, in their order.
 #[unsafe(no_mangle)]
 pub extern "C" fn cedar_policies_ids(alloc: Global, handle: &mut Policies, kind: u32) -> u32
-    ensures { Changes (λ r i j. (j.set ≡ i.set) × ListsIds kind i.set r j.answer) handle.old.held.value result handle.new.held.value }
+    ensures { Changes (ListsIds kind) handle.old.held.value result handle.new.held.value }
 {
     let Some(mut inner) = take(alloc, handle) else {
         return CLOSED;

@@ -239,7 +239,7 @@ pub extern "C" fn cedar_store_is_descendant_of(
 /// The ancestors of the entity with a uid become the answer, in the order of uids.
 #[unsafe(no_mangle)]
 pub extern "C" fn cedar_store_ancestors(alloc: Global, handle: &mut Store, uid: &[u8]) -> u32
-    ensures { Changes (λ r i j. (j.store ≡ i.store) × Listing has_ancestor IsAbove i.store uid.now r j.answer) handle.old.held.value result handle.new.held.value }
+    ensures { Changes (Listing has_ancestor IsAbove uid.now) handle.old.held.value result handle.new.held.value }
 {
     let Some(mut inner) = take(alloc, handle) else {
         return CLOSED;
@@ -252,7 +252,7 @@ pub extern "C" fn cedar_store_ancestors(alloc: Global, handle: &mut Store, uid: 
 /// The parents of the entity with a uid become the answer, in the order of uids.
 #[unsafe(no_mangle)]
 pub extern "C" fn cedar_store_parents(alloc: Global, handle: &mut Store, uid: &[u8]) -> u32
-    ensures { Changes (λ r i j. (j.store ≡ i.store) × Listing has_parent IsParent i.store uid.now r j.answer) handle.old.held.value result handle.new.held.value }
+    ensures { Changes (Listing has_parent IsParent uid.now) handle.old.held.value result handle.new.held.value }
 {
     let Some(mut inner) = take(alloc, handle) else {
         return CLOSED;
@@ -265,7 +265,7 @@ pub extern "C" fn cedar_store_parents(alloc: Global, handle: &mut Store, uid: &[
 /// Looks for what is wrong with the store, and tells the first fault.
 #[unsafe(no_mangle)]
 pub extern "C" fn cedar_store_validate(alloc: Global, handle: &mut Store) -> u32
-    ensures { Changes (λ r i j. (j.store ≡ i.store) × Validates i.store r j.refusal.items) handle.old.held.value result handle.new.held.value }
+    ensures { Changes Validates handle.old.held.value result handle.new.held.value }
 {
     let Some(mut inner) = take(alloc, handle) else {
         return CLOSED;

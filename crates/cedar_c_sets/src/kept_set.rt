@@ -6,7 +6,7 @@ ghost use Rattle.cedar_policy_set.specs.Boards.{empty_board};
 ghost use Rattle.cedar_policy_set.specs.Merge.{body_ids, policy_ids};
 ghost use Rattle.cedar_policy_set.specs.Refusals.{Steps, told_by_linking};
 ghost use Rattle.cedar_policy_set.specs.Steps.{add_static_step, add_template_step, link_step, unlink_step, remove_static_step, remove_template_step};
-ghost use Rattle.cedar_c_sets.specs.Sets.{AddsStatic, AddsTemplate, CopiesSet, Links, ListsIds, Makes, MergesSet, Takes, renaming_texts, taking};
+ghost use Rattle.cedar_c_sets.specs.Sets.{AddsStatic, AddsTemplate, CopiesSet, KeepsTexts, Links, ListsIds, Makes, MergesSet, Takes, renaming_texts, taking};
 ghost use Rattle.cedar_c_lists.specs.declared.reason.Reason.TheVariants as reasons;
 
 use crate::making::{bindings_of, effect_of, slots_of, static_policy, template};
@@ -107,6 +107,7 @@ impl KeptSet {
     // The text of a refusal is kept, and its reason told.
     fn refuse(&mut self, told: Result<Told, AllocError>) -> Reason
         ensures set { self.new.set ≡ self.old.set }
+        ensures answer { self.new.answer ≡ self.old.answer }
         ensures told { MatchResult told
             (λ t. (result ≡ t.reason) × (self.new.refusal.items ≡ t.text.items))
             (λ _. result ≡ reasons.NoMemory) }
@@ -122,7 +123,8 @@ impl KeptSet {
 
     // A static policy joins.
     fn join_static(&mut self, alloc: Global, policy: StaticPolicy) -> Result<(), Reason>
-        ensures { Makes (add_static_step self.old.set policy) result self.old self.new }
+        ensures makes { Makes (add_static_step self.old.set policy) result self.old self.new }
+        ensures texts { KeepsTexts result self.old self.new }
     {
         match self.set.add_static(alloc, policy) {
             Ok(()) => Ok(()),
@@ -132,7 +134,8 @@ impl KeptSet {
 
     // A template joins.
     fn join_template(&mut self, alloc: Global, template: Template) -> Result<(), Reason>
-        ensures { Makes (add_template_step self.old.set template) result self.old self.new }
+        ensures makes { Makes (add_template_step self.old.set template) result self.old self.new }
+        ensures texts { KeepsTexts result self.old self.new }
     {
         match self.set.add_template(alloc, template) {
             Ok(()) => Ok(()),
@@ -148,7 +151,8 @@ impl KeptSet {
         id: PolicyID,
         values: SlotEnv,
     ) -> Result<(), Reason>
-        ensures { Makes (link_step self.old.set template id (env_of values)) result self.old self.new }
+        ensures makes { Makes (link_step self.old.set template id (env_of values)) result self.old self.new }
+        ensures texts { KeepsTexts result self.old self.new }
     {
         match link(alloc, &mut self.set, template, id, values) {
             Ok(()) => Ok(()),
@@ -158,7 +162,8 @@ impl KeptSet {
 
     // A link goes.
     fn take_link(&mut self, alloc: Global, id: &PolicyID) -> Result<(), Reason>
-        ensures { Makes (taking self.old.set id.now (unlink_step self.old.set id.now)) result self.old self.new }
+        ensures makes { Makes (taking self.old.set id.now (unlink_step self.old.set id.now)) result self.old self.new }
+        ensures texts { KeepsTexts result self.old self.new }
     {
         match self.set.unlink(id) {
             Ok(_link) => Ok(()),
@@ -168,7 +173,8 @@ impl KeptSet {
 
     // A static policy goes.
     fn take_static(&mut self, alloc: Global, id: &PolicyID) -> Result<(), Reason>
-        ensures { Makes (taking self.old.set id.now (remove_static_step self.old.set id.now)) result self.old self.new }
+        ensures makes { Makes (taking self.old.set id.now (remove_static_step self.old.set id.now)) result self.old self.new }
+        ensures texts { KeepsTexts result self.old self.new }
     {
         match self.set.remove_static(id) {
             Ok(_policy) => Ok(()),
@@ -178,7 +184,8 @@ impl KeptSet {
 
     // A template goes.
     fn take_template(&mut self, alloc: Global, id: &PolicyID) -> Result<(), Reason>
-        ensures { Makes (taking self.old.set id.now (remove_template_step self.old.set id.now)) result self.old self.new }
+        ensures makes { Makes (taking self.old.set id.now (remove_template_step self.old.set id.now)) result self.old self.new }
+        ensures texts { KeepsTexts result self.old self.new }
     {
         match self.set.remove_template(id) {
             Ok(_template) => Ok(()),
@@ -275,8 +282,7 @@ impl KeptSet {
     /// The ids of the bodies, for 0, or of the policies, for 1, become the answer, in their order. Takes memory for the texts; a
     /// refusal leaves the answer as it was.
     pub fn ids(&mut self, alloc: Global, kind: u32) -> Result<(), Reason>
-        ensures same { self.new.set ≡ self.old.set }
-        ensures lists { ListsIds kind self.old.set result self.new.answer }
+        ensures { ListsIds kind result self.old self.new }
     {
         match kind {
             0 => {

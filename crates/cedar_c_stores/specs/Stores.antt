@@ -88,6 +88,10 @@ IsToldBy e w text = (w ≡ reasons.NoMemory) ⊎ ((w ≡ reason_of e) × IsRefus
 abbrev pub empty_store : StoreView
 empty_store = record { held = no_entities; partial = false }
 
+-- a call that lists nothing keeps the texts of the last answer, and that of the last refusal where it is not refused
+abbrev pub KeepsTexts : {A : Type 0} → Result A Reason → KeptStore → KeptStore → Type 0
+KeepsTexts r i j = (j.answer ≡ i.answer) × OnOk r (j.refusal.items ≡ i.refusal.items)
+
 -- what a call gave is kept: the store; or the error is told, and what is kept is the store without entities
 abbrev pub Settles : {A : Type 0} → Result StoreView EntitiesError → Result A Reason → KeptStore → Type 0
 Settles (Ok S) (Ok a) k = k.store ≡ S
@@ -140,23 +144,23 @@ Removes m U S r k = (given : Result StoreView EntitiesError) × RemoveGives m U 
 abbrev pub BuildsListed : {A : Type 0} → List ℕ → List Span → ℕ → List Edge → ℕ → Result A Reason → KeptStore → KeptStore → Type 0
 BuildsListed text spans n es mode r i j =
     IsStopped (λ w. IsNoMode mode w ⊎ IsUnlisted text spans n es w) r i j
-    ⊎ ((m : TCComputation) × (L : List EntityView) × IsMode mode m × AreListed text spans n es L × Adds m L empty_store r j)
+    ⊎ ((m : TCComputation) × (L : List EntityView) × IsMode mode m × AreListed text spans n es L × Adds m L empty_store r j × KeepsTexts r i j)
 
 abbrev pub AddsListed : {A : Type 0} → List ℕ → List Span → ℕ → List Edge → ℕ → Result A Reason → KeptStore → KeptStore → Type 0
 AddsListed text spans n es mode r i j =
     IsStopped (λ w. IsNoMode mode w ⊎ IsUnlisted text spans n es w) r i j
-    ⊎ ((m : TCComputation) × (L : List EntityView) × IsMode mode m × AreListed text spans n es L × Adds m L i.store r j)
+    ⊎ ((m : TCComputation) × (L : List EntityView) × IsMode mode m × AreListed text spans n es L × Adds m L i.store r j × KeepsTexts r i j)
 
 abbrev pub UpsertsListed : {A : Type 0} → List ℕ → List Span → ℕ → List Edge → ℕ → Result A Reason → KeptStore → KeptStore → Type 0
 UpsertsListed text spans n es mode r i j =
     IsStopped (λ w. IsNoMode mode w ⊎ IsUnlisted text spans n es w) r i j
-    ⊎ ((m : TCComputation) × (L : List EntityView) × IsMode mode m × AreListed text spans n es L × Upserts m L i.store r j)
+    ⊎ ((m : TCComputation) × (L : List EntityView) × IsMode mode m × AreListed text spans n es L × Upserts m L i.store r j × KeepsTexts r i j)
 
 -- the uids that parts of a text are are taken out, in the mode of a number; or that is not read
 abbrev pub RemovesListed : {A : Type 0} → List ℕ → List Span → ℕ → Result A Reason → KeptStore → KeptStore → Type 0
 RemovesListed text spans mode r i j =
     IsStopped (λ w. IsNoMode mode w ⊎ IsOneUnread text spans w) r i j
-    ⊎ ((m : TCComputation) × (U : List EntityUID) × IsMode mode m × AreReadAt text U spans × Removes m U i.store r j)
+    ⊎ ((m : TCComputation) × (U : List EntityUID) × IsMode mode m × AreReadAt text U spans × Removes m U i.store r j × KeepsTexts r i j)
 
 -- ---- asking a store
 
@@ -190,11 +194,12 @@ pub record ListsThose (test : EntityView → EntityUID → Bool) (Related : Worl
   pub plain : (W : World) → IsPlainStore W S → (q : EntityUID) → (is_member same_uid uids q ≡ true) ↔ Related W u q
   pub are_texts : AreTextsOf uids texts
 
--- those of the entity with the uid of a text are what is answered; or why they are not
-abbrev pub Listing : {A : Type 0} → (EntityView → EntityUID → Bool) → (World → EntityUID → EntityUID → Type 0) → StoreView → List ℕ → Result A Reason → List (List ℕ) → Type 0
-Listing test Related S text (Ok a) texts = (u : EntityUID) × IsReadOf u text × ListsThose test Related S u texts
-Listing test Related S text (Err w) texts =
-    (w ≡ reasons.NoMemory) ⊎ (IsUnread text w ⊎ ((w ≡ reasons.NoEntity) × ((u : EntityUID) × IsReadOf u text × (finmap.get S.held u ≡ None))))
+-- those of the entity with the uid of a text become the answer; or why they do not, and all is as it was
+abbrev pub Listing : {A : Type 0} → (EntityView → EntityUID → Bool) → (World → EntityUID → EntityUID → Type 0) → List ℕ → Result A Reason → KeptStore → KeptStore → Type 0
+Listing test Related text (Ok a) i j =
+    (j.store ≡ i.store) × (j.refusal.items ≡ i.refusal.items) × ((u : EntityUID) × IsReadOf u text × ListsThose test Related i.store u j.answer)
+Listing test Related text (Err w) i j =
+    (j ≡ i) × ((w ≡ reasons.NoMemory) ⊎ (IsUnread text w ⊎ ((w ≡ reasons.NoEntity) × ((u : EntityUID) × IsReadOf u text × (finmap.get i.store.held u ≡ None)))))
 
 -- whether a uid is a parent of an entity
 abbrev pub has_parent : EntityView → EntityUID → Bool
@@ -207,10 +212,12 @@ IsAbove W u q = Reach (graph W) u q
 abbrev pub IsParent : World → EntityUID → EntityUID → Type 0
 IsParent W u q = graph W u q ≡ true
 
--- a store is valid, or its first fault is told
-abbrev pub Validates : {A : Type 0} → StoreView → Result A Reason → List ℕ → Type 0
-Validates S (Ok a) text = IsValidStore S.held
-Validates S (Err w) text = (w ≡ reasons.NoMemory) ⊎ ((e : EntitiesError) × IsStoreFault S.held e × IsToldBy e w text)
+-- the store is valid, and all is as it was; or its first fault is told, and the store and the answer are as they were
+abbrev pub Validates : {A : Type 0} → Result A Reason → KeptStore → KeptStore → Type 0
+Validates (Ok a) i j = IsValidStore i.store.held × (j ≡ i)
+Validates (Err w) i j =
+    (j.store ≡ i.store) × (j.answer ≡ i.answer)
+    × ((w ≡ reasons.NoMemory) ⊎ ((e : EntitiesError) × IsStoreFault i.store.held e × IsToldBy e w j.refusal.items))
 
 -- the slice of a store at uids
 pub record IsSlice (U : List EntityUID) (S N : StoreView) : Type 0 where

@@ -3,7 +3,7 @@ ghost use Rattle.std.specs.Prelude.{◌≡◌, [], ◌∷◌, ◌++◌, ◌↔�
 ghost use Rattle.cedar_entities.specs.Answers.{AreDeepEqual};
 ghost use Rattle.cedar_entities.specs.Plain.{entities_in};
 ghost use Rattle.cedar_entity.specs.View.{has_ancestor};
-ghost use Rattle.cedar_c_stores.specs.Stores.{Adds, Asks, AsksFor, Copies, IsAbove, IsParent, IsSlice, IsToldBy, Listing, Removes, Settles, SlicesAt, Upserts, Validates, empty_store, has_parent};
+ghost use Rattle.cedar_c_stores.specs.Stores.{Adds, Asks, AsksFor, Copies, IsAbove, IsParent, IsSlice, IsToldBy, KeepsTexts, Listing, Removes, Settles, SlicesAt, Upserts, Validates, empty_store, has_parent};
 ghost use Rattle.cedar_c_lists.specs.Texts.{AreTextsOf, IsTextOf};
 ghost use Rattle.cedar_c_lists.specs.declared.reason.Reason.TheVariants as reasons;
 
@@ -81,6 +81,7 @@ impl KeptStore {
     // The text of an error is kept, and its reason told.
     fn refuse(&mut self, alloc: Global, error: EntitiesError) -> Reason
         ensures store { self.new.store ≡ self.old.store }
+        ensures answer { self.new.answer ≡ self.old.answer }
         ensures told { IsToldBy error result self.new.refusal.items }
     {
         match text_of(alloc, &error) {
@@ -98,7 +99,8 @@ impl KeptStore {
         alloc: Global,
         given: Result<Entities<KeyedState>, EntitiesError>,
     ) -> Result<(), Reason>
-        ensures { Settles given result self.new }
+        ensures settles { Settles given result self.new }
+        ensures texts { KeepsTexts result self.old self.new }
     {
         match given {
             Ok(store) => {
@@ -119,7 +121,8 @@ impl KeptStore {
         list: Vec<Rc<Entity>>,
         mode: TCComputation,
     ) -> Result<(), Reason>
-        ensures { Adds mode (entities_in list.items) self.old.store result self.new }
+        ensures adds { Adds mode (entities_in list.items) self.old.store result self.new }
+        ensures texts { KeepsTexts result self.old self.new }
     {
         let store = mem::replace(&mut self.store, Entities::with_hasher(alloc, self.hasher));
         let given = store.add_entities(alloc, list, mode);
@@ -134,7 +137,8 @@ impl KeptStore {
         list: Vec<Rc<Entity>>,
         mode: TCComputation,
     ) -> Result<(), Reason>
-        ensures { Adds mode (entities_in list.items) empty_store result self.new }
+        ensures adds { Adds mode (entities_in list.items) empty_store result self.new }
+        ensures texts { KeepsTexts result self.old self.new }
     {
         self.store = Entities::with_hasher(alloc, self.hasher);
         self.add_list(alloc, list, mode)
@@ -148,7 +152,8 @@ impl KeptStore {
         list: Vec<Rc<Entity>>,
         mode: TCComputation,
     ) -> Result<(), Reason>
-        ensures { Upserts mode (entities_in list.items) self.old.store result self.new }
+        ensures upserts { Upserts mode (entities_in list.items) self.old.store result self.new }
+        ensures texts { KeepsTexts result self.old self.new }
     {
         let store = mem::replace(&mut self.store, Entities::with_hasher(alloc, self.hasher));
         let given = store.upsert_entities(alloc, list, mode);
@@ -162,7 +167,8 @@ impl KeptStore {
         uids: Vec<EntityUID>,
         mode: TCComputation,
     ) -> Result<(), Reason>
-        ensures { Removes mode uids.items self.old.store result self.new }
+        ensures removes { Removes mode uids.items self.old.store result self.new }
+        ensures texts { KeepsTexts result self.old self.new }
     {
         let store = mem::replace(&mut self.store, Entities::with_hasher(alloc, self.hasher));
         let given = store.remove_entities(alloc, uids, mode);
@@ -198,8 +204,7 @@ impl KeptStore {
     /// The ancestors of an entity become the answer, in the order of uids. `NoEntity` comes where the store has no entity with
     /// the uid that a text is. Takes memory for the texts; a refusal leaves the answer as it was.
     pub fn ancestors(&mut self, alloc: Global, text: &[u8]) -> Result<(), Reason>
-        ensures same { self.new.store ≡ self.old.store }
-        ensures lists { Listing has_ancestor IsAbove self.old.store text.now result self.new.answer }
+        ensures { Listing has_ancestor IsAbove text.now result self.old self.new }
     {
         let uid = uid_of(alloc, text)?;
         let answer = match self.store.stored(&uid) {
@@ -212,8 +217,7 @@ impl KeptStore {
 
     /// The parents of an entity become the answer, in the order of uids, as its ancestors do.
     pub fn parents(&mut self, alloc: Global, text: &[u8]) -> Result<(), Reason>
-        ensures same { self.new.store ≡ self.old.store }
-        ensures lists { Listing has_parent IsParent self.old.store text.now result self.new.answer }
+        ensures { Listing has_parent IsParent text.now result self.old self.new }
     {
         let uid = uid_of(alloc, text)?;
         let answer = match self.store.stored(&uid) {
@@ -226,8 +230,7 @@ impl KeptStore {
 
     /// Looks for what is wrong with the store, as `Entities::try_validate` does, over a copy. Takes memory.
     pub fn validate(&mut self, alloc: Global) -> Result<(), Reason>
-        ensures same { self.new.store ≡ self.old.store }
-        ensures validates { Validates self.old.store result self.new.refusal.items }
+        ensures { Validates result self.old self.new }
     {
         let copy = self.store.clone()?;
         match copy.try_validate(alloc) {
