@@ -49,7 +49,7 @@ pub(crate) fn by_set(alloc: Global, error: &PolicySetError) -> Result<Told, Allo
 // The slots that bindings lack or have besides.
 fn arity_told(alloc: Global, slots: ArityText<'_>) -> Result<Told, AllocError>
     ensures { IfOk result (λ t. (t.reason ≡ reasons.Arity)
-        × (t.text.items ≡ words_of reasons.Arity ++ (32 ∷ arity_text slots.unbound.now.items slots.extra.now.items))) }
+        × (t.text.items ≡ words_of reasons.Arity ++ (32 ∷ arity_text slots.entry.unbound.now.items slots.entry.extra.now.items))) }
 {
     let name = slots.to_string(alloc)?;
     named(alloc, Reason::Arity, name.as_str())
