@@ -1,5 +1,5 @@
 -- Whether a text is a uid's, as a status.
-use Rattle.std.specs.Prelude.{◌≡◌, ℕ, List, Unit, Result}
+use Rattle.std.specs.Prelude.{◌≡◌, ℕ, List, Result}
 use Rattle.cedar_c_lists.specs.Reasons.{status_of}
 use Rattle.cedar_c_lists.specs.Texts.{ChecksUid}
 use Rattle.cedar_c_lists.specs.declared.reason.Reason.{Reason}

@@ -1,5 +1,5 @@
 -- What the calls on handles of policy sets do, by what the calls of `cedar_c_sets` do with what they hold.
-use Rattle.std.specs.Prelude.{◌≡◌, ◌↔◌, ◌⊎◌, ℕ, List, Bool, [], Unit, Option, Some, None, Result, Ok, Err}
+use Rattle.std.specs.Prelude.{◌≡◌, ◌↔◌, ◌⊎◌, ℕ, List, Bool, [], Option, Some, None, Result, Ok, Err}
 use Rattle.std.specs.Global.{Box}
 use Rattle.std.specs.List.{concat}
 use Rattle.std.specs.Option.{IsSomeAnd}

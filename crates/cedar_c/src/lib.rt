@@ -3,7 +3,7 @@
 //! A handle is 16 bytes that belong to the caller; zeroed memory is a closed one. No export asks anything of its caller but that
 //! pointers and lengths are those of arrays: a closed handle, a part out of range, a text that is no uid are answered by a status.
 //! What the calls do with what a handle holds stands in `cedar_c_stores` and `cedar_c_sets`.
-#![tactic(auto, using(cedar_ids::specs::laws::UidOfLaws::same_uid_decides))]
+#![tactic(auto)]
 
 mod copying;
 mod keys;
