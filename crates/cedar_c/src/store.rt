@@ -89,7 +89,11 @@ pub extern "C" fn cedar_store_new(alloc: Global, handle: &mut Store, seed: u64, 
     ensures new { result ≡ ok → HasWorld empty_world handle.new.held.value }
     ensures err { result ≢ ok → (result ≡ no_memory) × (handle.new.held.value ≡ handle.old.held.value) }
 {
-    fill(alloc, handle, Ok(KeptStore::new(alloc, hasher_of(seed, key))))
+    fill(
+        alloc,
+        handle,
+        Ok(KeptStore::new(alloc, hasher_of(seed, key))),
+    )
 }
 
 /// Frees what the handle holds, and closes it. A closed one stays closed.

@@ -1,7 +1,8 @@
 //! A store of entities with what its caller was answered last, and the calls on it.
 ghost use Rattle.std.specs.Prelude.{◌≡◌, [], ◌∷◌, ◌++◌, ◌↔◌, IfOk, MatchResult, IsTrue, List, ℕ};
 ghost use Rattle.cedar_entities.specs.Answers.{AreDeepEqual};
-ghost use Rattle.cedar_entities.specs.Plain.{entities_in};
+ghost use Rattle.cedar_entities.specs.Plain.{IsPlainStore, entities_in};
+ghost use Rattle.cedar_entities.specs.World.{empty_world};
 ghost use Rattle.cedar_entity.specs.View.{has_ancestor};
 ghost use Rattle.cedar_c_stores.specs.Stores.{Adds, Asks, AsksFor, Copies, IsAbove, IsParent, IsSlice, IsToldBy, KeepsTexts, Listing, Removes, Settles, SlicesAt, Upserts, Validates, empty_store, has_parent};
 ghost use Rattle.cedar_c_lists.specs.Texts.{AreTextsOf, IsTextOf};
@@ -72,6 +73,7 @@ impl KeptStore {
     /// The store without entities. Takes no memory.
     pub fn new(alloc: Global, hasher: KeyedState) -> KeptStore
         ensures store { result.store ≡ empty_store }
+        ensures plain { IsPlainStore empty_world result.store }
         ensures answer { result.answer ≡ [] }
         ensures refusal { result.refusal.items ≡ [] }
     {
