@@ -1,0 +1,129 @@
+//! Why a call was refused.
+use std::fmt;
+
+/// Why a call was refused, one for each status of `cedar.h`.
+#[derive(Clone, Copy, Debug, PartialEq, Eq, Hash)]
+#[non_exhaustive]
+pub enum Reason {
+    /// Memory was refused.
+    Memory,
+    /// A part, a place or a number is out of range, which this crate does not give.
+    BadArgument,
+    /// A text is no uid's.
+    NotAUid,
+    /// The store has no such entity.
+    NoEntity,
+    /// Two versions of an entity differ.
+    Duplicate,
+    /// A uid is among its own ancestors.
+    Cycle,
+    /// An ancestor of an ancestor is missing.
+    NotClosed,
+    /// An entity is among its own ancestors.
+    SelfAncestor,
+    /// An ancestor is a parent and an indirect ancestor.
+    DuplicateAncestor,
+    /// An action has an ancestor that is none.
+    ActionParentIsNotAction,
+    /// A key of a record is reserved.
+    ReservedKey,
+    /// An id is bound already.
+    Occupied,
+    /// There is no template of an id to link.
+    NoSuchTemplate,
+    /// The bindings are not those of the template's slots.
+    Arity,
+    /// The action's slot is bound to no action.
+    NotAnAction,
+    /// The id of a new link is bound already.
+    IdConflict,
+    /// Nothing is bound to an id to unlink.
+    NoLink,
+    /// Something else than a link is.
+    NotALink,
+    /// Nothing is bound to the id of a template to remove.
+    NoTemplate,
+    /// The template has links.
+    WithLinks,
+    /// Something else than a template is bound to it.
+    NotATemplate,
+    /// No policy has the id of a static policy to remove.
+    NoStatic,
+    /// It is a link's.
+    NotStatic,
+}
+
+impl Reason {
+    pub(crate) fn of(status: u32) -> Reason {
+        match status {
+            1 => Reason::Memory,
+            4 => Reason::NotAUid,
+            6 => Reason::NoEntity,
+            7 => Reason::Duplicate,
+            8 => Reason::Cycle,
+            9 => Reason::NotClosed,
+            10 => Reason::SelfAncestor,
+            11 => Reason::DuplicateAncestor,
+            12 => Reason::ActionParentIsNotAction,
+            13 => Reason::ReservedKey,
+            14 => Reason::Occupied,
+            15 => Reason::NoSuchTemplate,
+            16 => Reason::Arity,
+            17 => Reason::NotAnAction,
+            18 => Reason::IdConflict,
+            19 => Reason::NoLink,
+            20 => Reason::NotALink,
+            21 => Reason::NoTemplate,
+            22 => Reason::WithLinks,
+            23 => Reason::NotATemplate,
+            24 => Reason::NoStatic,
+            25 => Reason::NotStatic,
+            _ => Reason::BadArgument,
+        }
+    }
+}
+
+/// A refused call: the reason, and a text with the uids or the id that it names.
+///
+/// ```
+/// use cedar_store::{Policies, Effect, Reason};
+/// let mut set = Policies::new();
+/// set.add_static("p", Effect::Permit).unwrap();
+/// let refusal = set.add_static("p", Effect::Forbid).unwrap_err();
+/// assert_eq!(refusal.reason(), Reason::Occupied);
+/// assert_eq!(refusal.to_string(), "occupied p");
+/// ```
+#[derive(Clone, Debug, PartialEq, Eq)]
+pub struct Refusal {
+    reason: Reason,
+    text: String,
+}
+
+impl Refusal {
+    pub(crate) fn new(status: u32, text: impl FnOnce() -> Vec<u8>) -> Refusal {
+        let reason = Reason::of(status);
+        let text = match status {
+            0..=6 => String::from(match reason {
+                Reason::Memory => "out of memory",
+                Reason::NotAUid => "not a uid",
+                Reason::NoEntity => "no entity",
+                _ => "bad argument",
+            }),
+            _ => String::from_utf8_lossy(&text()).into_owned(),
+        };
+        Refusal { reason, text }
+    }
+
+    /// The reason.
+    pub fn reason(&self) -> Reason {
+        self.reason
+    }
+}
+
+impl fmt::Display for Refusal {
+    fn fmt(&self, f: &mut fmt::Formatter<'_>) -> fmt::Result {
+        f.write_str(&self.text)
+    }
+}
+
+impl std::error::Error for Refusal {}

@@ -1,0 +1,4 @@
+pub mod PoliciesAsBox
+pub mod PolicyChanges
+pub mod StoreAsBox
+pub mod StoreChanges

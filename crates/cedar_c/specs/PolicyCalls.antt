@@ -1,0 +1,70 @@
+-- What the calls on handles of policy sets do, by what the calls of `cedar_c_sets` do with what they hold.
+use Rattle.std.specs.Prelude.{◌≡◌, ◌↔◌, ◌⊎◌, ℕ, List, Bool, [], Option, Some, None, Result, Ok, Err}
+use Rattle.std.specs.Global.{Box}
+use Rattle.std.specs.List.{concat}
+use Rattle.std.specs.Option.{IsSomeAnd}
+use Rattle.cedar_policy_set.specs.BoardEquality.{same_board}
+use Rattle.cedar_policy_set.specs.Boards.{Board}
+use Rattle.cedar_c_lists.specs.Answers.{spans_from}
+use Rattle.cedar_c_lists.specs.Reasons.{status_of, Tells}
+use Rattle.cedar_c_sets.specs.declared.kept_set.KeptSet.{KeptSet}
+use Rattle.cedar_c_lists.specs.declared.layout.Span.{Span}
+use Rattle.cedar_c_lists.specs.declared.reason.Reason.{Reason}
+use Rattle.cedar_c_lists.specs.declared.reason.Reason.TheVariants.{NoMemory}
+use Rattle.cedar_c.specs.Copying.{CopiesOut}
+use Rattle.cedar_c.specs.Statuses.{ok, closed}
+use Rattle.cedar_c.specs.declared.policies_handle.Inner.{Inner}
+
+-- an open handle with the set of a board
+abbrev pub HasBoard : Board → Option Inner → Type 0
+HasBoard b o = IsSomeAnd o (λ i. i.kept.set ≡ b)
+
+-- a closed handle says so; an open one says what became of a call, and holds what that left
+abbrev pub Changes : (Result (Unit {0}) Reason → KeptSet → KeptSet → Type 0) → Option Inner → ℕ → Option Inner → Type 0
+Changes P None n new = (n ≡ closed) × (new ≡ None)
+Changes P (Some i) n new = (r : Result (Unit {0}) Reason) × (n ≡ status_of r) × ((j : Inner) × (new ≡ Some j) × P r i.kept j.kept)
+
+-- a handle holds what was made, or is as it was
+abbrev pub IsFilled : Result KeptSet Reason → Option Inner → Option Inner → Type 0
+IsFilled (Ok k) old new = (j : Inner) × (new ≡ Some j) × (j.kept ≡ k)
+IsFilled (Err w) old new = new ≡ old
+
+-- what was made goes into a handle, or want of memory is told in its place
+abbrev pub FillsBy : Result KeptSet Reason → Option Inner → ℕ → Option Inner → Type 0
+FillsBy made old n new = (r : Result KeptSet Reason) × (n ≡ status_of r) × IsFilled r old new × ((r ≡ made) ⊎ (r ≡ Err NoMemory))
+
+-- a closed handle says so; of an open one's policy set something is made, which goes into another handle
+abbrev pub Fills : (Board → Result KeptSet Reason → Type 0) → Option Inner → ℕ → Option Inner → Option Inner → Type 0
+Fills P None n old new = (n ≡ closed) × (new ≡ old)
+Fills P (Some i) n old new = (r : Result KeptSet Reason) × (n ≡ status_of r) × IsFilled r old new × P i.kept.set r
+
+-- a box of what was made, or why there is none: it was not made, or memory was refused
+abbrev pub Boxes : Result KeptSet Reason → Result (Box Inner) Reason → Type 0
+Boxes made (Ok b) = made ≡ Ok b.value.kept
+Boxes made (Err w) = (made ≡ Err w) ⊎ (w ≡ NoMemory)
+
+-- whether two open handles hold equal policy sets; where one is closed, that is said
+abbrev pub Compares : Option Inner → Option Inner → ℕ → Bool → Bool → Type 0
+Compares None other n old new = (n ≡ closed) × (new ≡ old)
+Compares (Some i) None n old new = (n ≡ closed) × (new ≡ old)
+Compares (Some i) (Some j) n old new = (n ≡ ok) × (new ≡ same_board i.kept.set j.kept.set)
+
+-- a call with the set of another handle; where one is closed, that is said
+abbrev pub ChangesBy : (Board → Result (Unit {0}) Reason → KeptSet → KeptSet → Type 0) → Option Inner → Option Inner → ℕ → Option Inner → Type 0
+ChangesBy P other None n new = (n ≡ closed) × (new ≡ None)
+ChangesBy P None (Some i) n new = (n ≡ closed) × (new ≡ Some i)
+ChangesBy P (Some o) (Some i) n new = Changes (P o.kept.set) (Some i) n new
+
+-- the bytes of the texts of the last answer, the places of those texts, and the text of the last refusal are copied out; a closed
+-- handle has none
+abbrev pub CopiesAnswer : Option Inner → ℕ → List ℕ → ℕ → List ℕ → Type 0
+CopiesAnswer None from old told new = (told ≡ 0) × (new ≡ old)
+CopiesAnswer (Some i) from old told new = CopiesOut (concat i.kept.answer) from old told new
+
+abbrev pub CopiesSpans : Option Inner → ℕ → List Span → ℕ → List Span → Type 0
+CopiesSpans None from old told new = (told ≡ 0) × (new ≡ old)
+CopiesSpans (Some i) from old told new = CopiesOut (spans_from 0 i.kept.answer) from old told new
+
+abbrev pub CopiesRefusal : Option Inner → List ℕ → ℕ → List ℕ → Type 0
+CopiesRefusal None old told new = (told ≡ 0) × (new ≡ old)
+CopiesRefusal (Some i) old told new = CopiesOut i.kept.refusal.items 0 old told new

@@ -1,0 +1,79 @@
+// A store of entities behind an address, which can cross to C.
+ghost use Rattle.std.specs.Prelude.{◌≡◌, Option, Some, None, IsSome};
+ghost use Rattle.cedar_c.specs.declared.store_handle.Inner.{Inner as Inside};
+ghost use Rattle.cedar_c.specs.StoreHeld.{held_owns, held_coded};
+
+use crate::parts::Parts;
+use cedar_c_stores::KeptStore;
+use std::alloc::Global;
+use std::boxed::Box;
+use std::marker::Model;
+use std::ptr;
+
+/// What a handle keeps for its caller.
+#[derive(Drop)]
+pub struct Inner {
+    /// A store, the last answer and the last refusal.
+    pub kept: KeptStore,
+}
+
+/// Nothing, or a box.
+#[repr(C)]
+#[derive(Drop)]
+pub struct Held {
+    at: *mut u8,
+    alloc: Global,
+    pub ghost value: { Option Inside } by { held_coded },
+}
+
+impl Model for Held {
+    ghost also_owns = { λ h. held_owns h.alloc h.at h.value };
+}
+
+impl Held {
+    // Nothing.
+    pub(crate) fn none(alloc: Global) -> Held
+        ensures { result.value ≡ None }
+    {
+        Held {
+            at: ptr::null_mut(),
+            alloc,
+        }
+    }
+
+    fn of_parts(parts: Parts<Inner, Global>) -> Held
+        ensures { result.value ≡ Some parts.value }
+    {
+        let Parts { ptr, alloc } = parts;
+        Held {
+            at: ptr as *mut u8,
+            alloc,
+        }
+    }
+
+    fn into_parts(self) -> Parts<Inner, Global>
+        requires { IsSome self.value }
+        ensures { Some result.value ≡ self.value }
+    {
+        let Held { at, alloc } = self;
+        Parts {
+            ptr: at as *mut Inner,
+            alloc,
+        }
+    }
+
+    // What is in a box.
+    pub(crate) fn of(inner: Box<Inner, Global>) -> Held
+        ensures { result.value ≡ Some inner.value }
+    {
+        Held::of_parts(Parts::of(inner))
+    }
+
+    // The box that it is.
+    pub(crate) fn into_box(self) -> Box<Inner, Global>
+        requires { IsSome self.value }
+        ensures { Some result.value ≡ self.value }
+    {
+        self.into_parts().into_box()
+    }
+}

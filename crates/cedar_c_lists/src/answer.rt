@@ -1,0 +1,74 @@
+//! Lists of texts that a caller is given: the bytes of all texts, one after another, and where each stands.
+ghost use Rattle.std.specs.Prelude.{◌≡◌, [], ◌∷◌, ◌++◌, IfOk, length};
+ghost use Rattle.std.specs.List.{concat};
+ghost use Rattle.cedar_c_lists.specs.Answers.{spans_from};
+
+use crate::layout::Span;
+use std::alloc::{AllocError, Global};
+use std::marker::Model;
+
+/// Some texts. Contracts see the list of them.
+#[derive(Drop)]
+pub struct Answer {
+    bytes: Vec<u8>,
+    spans: Vec<Span>,
+}
+
+impl Model for Answer {
+    ghost use Rattle.std.specs.Prelude.{List, ℕ};
+    ghost use Rattle.cedar_c_lists.specs.Answers.{texts_in, IsLaid};
+
+    ghost Value = { List (List ℕ) };
+
+    ghost view = { λ a. texts_in a.bytes.items a.spans.items };
+
+    ghost invariant = { λ a. IsLaid a.bytes.items a.spans.items (texts_in a.bytes.items a.spans.items) };
+}
+
+// The place behind the last byte.
+fn end_of(bytes: &Vec<u8>) -> usize
+    ensures { result ≡ length bytes.now.items }
+{
+    bytes.as_slice().len()
+}
+
+impl Answer {
+    /// No text. Takes no memory.
+    pub fn new(alloc: Global) -> Answer
+        ensures { result ≡ [] }
+    {
+        Answer {
+            bytes: Vec::new(alloc),
+            spans: Vec::new(alloc),
+        }
+    }
+
+    /// The texts, and one more behind them. Takes memory, and is refused only where that is; the texts are let go then.
+    pub fn with(self, text: &[u8]) -> Result<Answer, AllocError>
+        ensures { IfOk result (λ a. a ≡ self ++ text.now ∷ []) }
+    {
+        let Answer {
+            mut bytes,
+            mut spans,
+        } = self;
+        let start = end_of(&bytes);
+        bytes.extend_from_slice(text)?;
+        let end = end_of(&bytes);
+        spans.push(Span { start, end })?;
+        Ok(Answer { bytes, spans })
+    }
+
+    /// The bytes of all texts, one after another. Takes no memory.
+    pub fn bytes(&self) -> &[u8]
+        ensures { result.now ≡ concat self.now }
+    {
+        self.bytes.as_slice()
+    }
+
+    /// Where each text stands in the bytes. Takes no memory.
+    pub fn spans(&self) -> &[Span]
+        ensures { result.now ≡ spans_from 0 self.now }
+    {
+        self.spans.as_slice()
+    }
+}

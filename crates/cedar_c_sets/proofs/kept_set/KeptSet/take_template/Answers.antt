@@ -1,0 +1,12 @@
+use Rattle.std.proofs.Common.{◌∙◌}
+use Rattle.cedar_policy_set.specs.Refusals.{told_by_template_removal}
+use Rattle.cedar_policy_set.specs.Steps.{remove_template_step}
+use Rattle.cedar_c_sets.proofs.Refusing.{told_taking}
+use Rattle.cedar_c_sets.proofs.kept_set.KeptSet.take_template.Goals as goal
+
+pub returns-in-Err-clause-makes : goal.returns-in-Err-clause-makes
+returns-in-Err-clause-makes c = (
+  c.refuse.ensures.set ∙ c.in-Err.ensures.0,
+  told_taking (told_by_template_removal c.in-Err.error) (remove_template_step c.args.self.now.set c.args.id.now) c.args.self.now.set c.args.id.now c.by_template_removal.result c.refuse.result c.refuse.new.self.refusal.items
+      c.in-Err.ensures.1 c.by_template_removal.ensures c.refuse.ensures.told,
+)

@@ -1,0 +1,212 @@
+-- What the calls on a policy set give, and what is kept of it.
+use Rattle.std.specs.Prelude.{◌≡◌, ◌⊎◌, ◌+◌, ℕ, List, [], ◌∷◌, ◌++◌, Bool, true, false, IsTrue, OnOk, Option, Some, None, Result, Ok, Err, if◌then◌else◌}
+use Rattle.std.specs.List.{flat_map, list_any}
+use Rattle.std.specs.Map.{values_of}
+use Rattle.std.specs.Str.{IsUtf8}
+use Rattle.cedar_ids.specs.Escape.{is_ascii}
+use Rattle.cedar_ids.specs.Printed.{printed_uid}
+use Rattle.cedar_ids.specs.Uid.{UidParts}
+use Rattle.cedar_ids.specs.UidOf.{uid_parts}
+use Rattle.cedar_ids.specs.declared.entity.EntityUID.{EntityUID}
+use Rattle.cedar_terms.specs.declared.slot.SlotId.{SlotId}
+use Rattle.cedar_terms.specs.declared.slot.SlotId.TheVariants.{Principal, Action, Resource}
+use Rattle.cedar_binding.specs.Bindings.{EnvParts, no_env}
+use Rattle.cedar_binding.specs.BindingTexts.{arity_text}
+use Rattle.cedar_body.specs.Bodies.{BodyParts}
+use Rattle.cedar_body.specs.declared.effect.Effect.{Effect}
+use Rattle.cedar_body.specs.declared.effect.Effect.TheVariants.{Permit, Forbid}
+use Rattle.cedar_action.specs.Rules.{ActionRule}
+use Rattle.cedar_policy_set.specs.Boards.{Board, Binding, is_bound, without_id}
+use Rattle.cedar_policy_set.specs.Merge.{conflicts, merged, new_id, IsRenaming, body_ids, policy_ids}
+use Rattle.cedar_policy_set.specs.Steps.{Refusal, occupied, no_body, no_such_template, arity, not_an_action, id_conflict, no_link, not_a_link, no_template, with_links, not_a_template, no_static, not_static, add_static_step, add_template_step, link_step, unlink_step, remove_static_step, remove_template_step}
+use Rattle.cedar_policy_lines.specs.PolicyCommand.{bound_more}
+use Rattle.cedar_policy_lines.specs.PolicyOutput.{slot_constraint, slot_rule, static_body}
+use Rattle.cedar_c_lists.specs.Answers.{part}
+use Rattle.cedar_c_lists.specs.Reasons.{words_of}
+use Rattle.cedar_c_lists.specs.Stops.{IsStopped}
+use Rattle.cedar_c_lists.specs.Texts.{IsInside, IsNoId, IsReadAt, IsUnreadAt}
+use Rattle.cedar_c_sets.specs.declared.kept_set.KeptSet.{KeptSet}
+use Rattle.cedar_c_lists.specs.declared.layout.Span.{Span}
+use Rattle.cedar_c_sets.specs.declared.making.SlotsNamed.{SlotsNamed}
+use Rattle.cedar_c_lists.specs.declared.reason.Reason.{Reason}
+use Rattle.cedar_c_lists.specs.declared.reason.Reason.TheVariants as reasons
+
+-- ---- numbers and texts
+
+-- the number of each effect, and why a number is taken as none
+abbrev pub IsEffect : ℕ → Effect → Type 0
+IsEffect n Permit = n ≡ 0
+IsEffect n Forbid = n ≡ 1
+
+abbrev pub IsNoEffect : ℕ → Reason → Type 0
+IsNoEffect n w = (w ≡ reasons.BadArgument) × ((e : Effect) → IsEffect n e → ⊥)
+
+-- the number of some slots: 1 for the principal's, 2 for the action's and 4 for the resource's; why a number is taken as none
+abbrev pub IsSlots : ℕ → SlotsNamed → Type 0
+IsSlots n s = n ≡ (if s.principal then 1 else 0) + ((if s.action then 2 else 0) + (if s.resource then 4 else 0))
+
+abbrev pub IsNoSlots : ℕ → Reason → Type 0
+IsNoSlots n w = (w ≡ reasons.BadArgument) × ((s : SlotsNamed) → IsSlots n s → ⊥)
+
+-- a template with these slots, which constrains nothing else
+abbrev pub template_body : List ℕ → Effect → SlotsNamed → BodyParts
+template_body i e s = record {
+  id = i;
+  annotations = [];
+  effect = e;
+  principal = slot_constraint s.principal;
+  action = slot_rule s.action;
+  resource = slot_constraint s.resource;
+  clause = None;
+}
+
+-- what a part of a text says that a slot is bound to: nothing where the part is empty, else the uid that is read of it
+abbrev pub IsBoundAs : List ℕ → Span → Option EntityUID → Type 0
+IsBoundAs text s None = IsInside text s × (part text s ≡ [])
+IsBoundAs text s (Some u) = (part text s ≡ [] → ⊥) × IsReadAt text u s
+
+-- why that is not read
+abbrev pub IsUnboundAs : List ℕ → Span → Reason → Type 0
+IsUnboundAs text s w = IsUnreadAt text s w
+
+-- bindings with one slot bound, if something is given to bind it to
+abbrev pub bound_if : EnvParts → SlotId → Option EntityUID → EnvParts
+bound_if e s None = e
+bound_if e s (Some u) = bound_more e s (uid_parts u)
+
+-- a slot is bound to what a part of a text says
+abbrev pub Binds : List ℕ → Span → SlotId → EnvParts → EnvParts → Type 0
+Binds text at s old new = (o : Option EntityUID) × IsBoundAs text at o × (new ≡ bound_if old s o)
+
+-- three parts of a text say what the principal's, the action's and the resource's slot are bound to
+abbrev pub AreBindings : List ℕ → List Span → EnvParts → Type 0
+AreBindings text (p ∷ (a ∷ (r ∷ []))) e =
+    (x : Option EntityUID) × (y : Option EntityUID) × (z : Option EntityUID) × IsBoundAs text p x × IsBoundAs text a y × IsBoundAs text r z
+    × (e ≡ bound_if (bound_if (bound_if no_env Principal x) Action y) Resource z)
+AreBindings text parts e = ⊥
+
+-- why three parts are not read so
+abbrev pub IsUnboundBy : List ℕ → List Span → Reason → Type 0
+IsUnboundBy text (p ∷ (a ∷ (r ∷ []))) w = IsUnboundAs text p w ⊎ (IsUnboundAs text a w ⊎ IsUnboundAs text r w)
+IsUnboundBy text parts w = w ≡ reasons.BadArgument
+
+-- ---- refusals
+
+-- the reason that a refusal is
+abbrev pub reason_of : Refusal → Reason
+reason_of (occupied i) = reasons.Occupied
+reason_of (no_body i) = reasons.NoBody
+reason_of (no_such_template i) = reasons.NoSuchTemplate
+reason_of (arity u x) = reasons.Arity
+reason_of (not_an_action u) = reasons.NotAnAction
+reason_of (id_conflict i) = reasons.IdConflict
+reason_of (no_link i) = reasons.NoLink
+reason_of (not_a_link i) = reasons.NotALink
+reason_of (no_template i) = reasons.NoTemplate
+reason_of (with_links i) = reasons.WithLinks
+reason_of (not_a_template i) = reasons.NotATemplate
+reason_of (no_static i) = reasons.NoStatic
+reason_of (not_static i) = reasons.NotStatic
+
+-- what a refusal names: an id; slots; or a uid
+abbrev pub named_by : Refusal → List ℕ
+named_by (occupied i) = i
+named_by (no_body i) = i
+named_by (no_such_template i) = i
+named_by (arity u x) = arity_text u x
+named_by (not_an_action u) = printed_uid u
+named_by (id_conflict i) = i
+named_by (no_link i) = i
+named_by (not_a_link i) = i
+named_by (no_template i) = i
+named_by (with_links i) = i
+named_by (not_a_template i) = i
+named_by (no_static i) = i
+named_by (not_static i) = i
+
+-- no byte of the eid of a uid that it names is past ASCII
+abbrev pub NamesAscii : Refusal → Type 0
+NamesAscii (not_an_action u) = IsTrue (is_ascii u.eid)
+NamesAscii x = Unit {0}
+
+-- a reason and a text tell a refusal: the words of the reason, a blank, and what is named. Of a uid past ASCII nothing is said
+abbrev pub IsToldBy : Refusal → Reason → List ℕ → Type 0
+IsToldBy x w text = (w ≡ reason_of x) × (NamesAscii x → text ≡ words_of w ++ (32 ∷ named_by x))
+
+-- a reason and a text tell a refusal, if there is one
+abbrev pub IsToldFor : Option Refusal → Reason → List ℕ → Type 0
+IsToldFor None w text = ⊥
+IsToldFor (Some x) w text = IsToldBy x w text
+
+-- ---- steps
+
+-- a call that lists nothing keeps the texts of the last answer, and that of the last refusal where it is not refused
+abbrev pub KeepsTexts : {A : Type 0} → Result A Reason → KeptSet → KeptSet → Type 0
+KeepsTexts r i j = (j.answer ≡ i.answer) × OnOk r (j.refusal.items ≡ i.refusal.items)
+
+-- the set is that of the step; or it is as it was, and the step is refused as is told, or memory was
+abbrev pub Makes : {A : Type 0} → Result Board Refusal → Result A Reason → KeptSet → KeptSet → Type 0
+Makes step (Ok a) i j = step ≡ Ok j.set
+Makes step (Err w) i j = (j.set ≡ i.set) × ((w ≡ reasons.NoMemory) ⊎ ((x : Refusal) × (step ≡ Err x) × IsToldBy x w j.refusal.items))
+
+-- the board without what a step takes out, or why it is refused
+abbrev pub taking : Board → List ℕ → Result Binding Refusal → Result Board Refusal
+taking b i (Ok x) = Ok (without_id b i)
+taking b i (Err x) = Err x
+
+-- a static policy with these bytes as its id and the effect of a number joins, or that is not read
+abbrev pub AddsStatic : {A : Type 0} → List ℕ → ℕ → Result A Reason → KeptSet → KeptSet → Type 0
+AddsStatic id n r i j =
+    IsStopped (λ w. IsNoEffect n w ⊎ IsNoId id w) r i j
+    ⊎ ((e : Effect) × IsEffect n e × IsUtf8 id × Makes (add_static_step i.set (static_body id e)) r i j × KeepsTexts r i j)
+
+-- and so a template, with the slots of a number
+abbrev pub AddsTemplate : {A : Type 0} → List ℕ → ℕ → ℕ → Result A Reason → KeptSet → KeptSet → Type 0
+AddsTemplate id n m r i j =
+    IsStopped (λ w. IsNoEffect n w ⊎ (IsNoSlots m w ⊎ IsNoId id w)) r i j
+    ⊎ ((e : Effect) × (s : SlotsNamed) × IsEffect n e × IsSlots m s × IsUtf8 id × Makes (add_template_step i.set (template_body id e s)) r i j × KeepsTexts r i j)
+
+-- a link of the template with an id joins under another, with these bindings; or something of that is not read
+abbrev pub Links : {A : Type 0} → List ℕ → List ℕ → List ℕ → List Span → Result A Reason → KeptSet → KeptSet → Type 0
+Links template id text parts r i j =
+    IsStopped (λ w. IsNoId template w ⊎ (IsNoId id w ⊎ IsUnboundBy text parts w)) r i j
+    ⊎ ((e : EnvParts) × AreBindings text parts e × IsUtf8 template × IsUtf8 id × Makes (link_step i.set template id e) r i j × KeepsTexts r i j)
+
+-- what an id is bound to is taken out by a step; or the id is not read
+abbrev pub Takes : {A : Type 0} → (Board → List ℕ → Result Binding Refusal) → List ℕ → Result A Reason → KeptSet → KeptSet → Type 0
+Takes step id r i j = IsStopped (IsNoId id) r i j ⊎ (IsUtf8 id × Makes (taking i.set id (step i.set id)) r i j × KeepsTexts r i j)
+
+-- ---- merging
+
+-- a renaming as texts: each id that was renamed, and behind it its new one
+abbrev pub pair_of : List ℕ × List ℕ → List (List ℕ)
+pair_of p = p.0 ∷ p.1 ∷ []
+
+abbrev pub renaming_texts : List (List ℕ × List ℕ) → List (List ℕ)
+renaming_texts r = flat_map pair_of r
+
+-- another set is merged into this one, and the answer is the renaming; or the first id that conflicts is told, where ids keep
+-- theirs, or memory was refused, and the set is as it was
+abbrev pub MergesSet : {A : Type 0} → Board → Bool → Result A Reason → KeptSet → KeptSet → Type 0
+MergesSet other rename (Ok a) i j =
+    (r : List (List ℕ × List ℕ)) × IsRenaming i.set other r × (rename ≡ false → conflicts i.set other ≡ [])
+    × (j.set ≡ merged i.set other (new_id r)) × (j.answer ≡ renaming_texts r) × (j.refusal.items ≡ i.refusal.items)
+MergesSet other rename (Err w) i j =
+    (j.set ≡ i.set) × (j.answer ≡ i.answer) × ((w ≡ reasons.NoMemory)
+    ⊎ ((rename ≡ false) × ((id : List ℕ) × (rest : List (List ℕ)) × (conflicts i.set other ≡ id ∷ rest) × IsToldBy (occupied id) w j.refusal.items)))
+
+-- ---- ids
+
+-- the number of each order of a board, and the ids in it
+abbrev pub IsKind : ℕ → Board → List (List ℕ) → Type 0
+IsKind n b ids = ((n ≡ 0) × (ids ≡ body_ids b)) ⊎ ((n ≡ 1) × (ids ≡ policy_ids b))
+
+-- the ids of an order become the answer; or why they do not, and all is as it was
+abbrev pub ListsIds : {A : Type 0} → ℕ → Result A Reason → KeptSet → KeptSet → Type 0
+ListsIds n (Ok a) i j = (j.set ≡ i.set) × (j.refusal.items ≡ i.refusal.items) × IsKind n i.set j.answer
+ListsIds n (Err w) i j = (j ≡ i) × ((w ≡ reasons.NoMemory) ⊎ ((w ≡ reasons.BadArgument) × ((ids : List (List ℕ)) → IsKind n i.set ids → ⊥)))
+
+-- a copy of a set; or why it is not made
+abbrev pub CopiesSet : Board → Result KeptSet Reason → Type 0
+CopiesSet b (Ok k) = k.set ≡ b
+CopiesSet b (Err w) = w ≡ reasons.NoMemory

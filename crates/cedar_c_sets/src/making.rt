@@ -1,0 +1,200 @@
+//! The policies, templates and bindings that a caller describes by numbers and texts.
+ghost use Rattle.std.specs.Prelude.{◌≡◌, IfOk, MatchResult, OnOk};
+ghost use Rattle.cedar_ids.specs.UidOf.{uid_parts};
+ghost use Rattle.cedar_action.specs.Views.{rule_of};
+ghost use Rattle.cedar_binding.specs.Views.{env_of};
+ghost use Rattle.cedar_policy_lines.specs.PolicyCommand.{bound_more};
+ghost use Rattle.cedar_policy_lines.specs.PolicyOutput.{slot_constraint, slot_rule, static_body};
+ghost use Rattle.cedar_c_sets.specs.Sets.{AreBindings, Binds, IsBoundAs, IsEffect, IsNoEffect, IsNoSlots, IsSlots, IsUnboundAs, IsUnboundBy, template_body};
+
+use cedar_action::ActionConstraint;
+use cedar_annotation::Annotations;
+use cedar_binding::no_bindings;
+use cedar_body::Effect;
+use cedar_c_lists::{Reason, Span, text_at, uid_of};
+use cedar_ids::entity::EntityUID;
+use cedar_ids::policy_id::PolicyID;
+use cedar_policy::{SlotEnv, StaticPolicy, Template, UnexpectedSlotError};
+use cedar_scope::{PrincipalConstraint, ResourceConstraint};
+use cedar_terms::slot::SlotId;
+use std::alloc::{AllocError, Global};
+
+// The effect of a number. `BadArgument` comes where it is none's. Takes no memory.
+pub(crate) fn effect_of(number: u32) -> Result<Effect, Reason>
+    ensures { MatchResult result (IsEffect number) (IsNoEffect number) }
+{
+    match number {
+        0 => Ok(Effect::Permit),
+        1 => Ok(Effect::Forbid),
+        _ => Err(Reason::BadArgument),
+    }
+}
+
+/// The slots of a template.
+#[derive(Clone, Copy)]
+pub struct SlotsNamed {
+    /// Whether the principal's is one.
+    pub principal: bool,
+    /// Whether the action's is one.
+    pub action: bool,
+    /// Whether the resource's is one.
+    pub resource: bool,
+}
+
+// These slots.
+fn named(principal: bool, action: bool, resource: bool) -> SlotsNamed
+    ensures { result ≡ record { principal = principal; action = action; resource = resource } }
+{
+    SlotsNamed {
+        principal,
+        action,
+        resource,
+    }
+}
+
+// The slots of a number: 1 for the principal's, 2 for the action's and 4 for the resource's, added up. `BadArgument` comes
+// where it is no such sum. Takes no memory.
+pub(crate) fn slots_of(number: u32) -> Result<SlotsNamed, Reason>
+    ensures { MatchResult result (IsSlots number) (IsNoSlots number) }
+{
+    match number {
+        0 => Ok(named(false, false, false)),
+        1 => Ok(named(true, false, false)),
+        2 => Ok(named(false, true, false)),
+        3 => Ok(named(true, true, false)),
+        4 => Ok(named(false, false, true)),
+        5 => Ok(named(true, false, true)),
+        6 => Ok(named(false, true, true)),
+        7 => Ok(named(true, true, true)),
+        _ => Err(Reason::BadArgument),
+    }
+}
+
+// A static policy that constrains nothing. Takes memory.
+pub(crate) fn static_policy(
+    alloc: Global,
+    id: PolicyID,
+    effect: Effect,
+) -> Result<StaticPolicy, AllocError>
+    ensures { IfOk result (λ p. p ≡ static_body id effect) }
+{
+    let policy = StaticPolicy::new(
+        alloc,
+        id,
+        None,
+        Annotations::new(alloc),
+        effect,
+        PrincipalConstraint::any(),
+        ActionConstraint::any(),
+        ResourceConstraint::any(),
+        None,
+    );
+    match policy {
+        Ok(policy) => Ok(policy),
+        Err(UnexpectedSlotError::FoundSlot(_slot)) => unreachable!(),
+        Err(UnexpectedSlotError::Memory) => Err(AllocError),
+    }
+}
+
+// The principal is what its slot is bound to, where that is named.
+fn principal_of(named: bool) -> PrincipalConstraint
+    ensures { result ≡ slot_constraint named }
+{
+    if named {
+        return PrincipalConstraint::is_eq_slot();
+    }
+    PrincipalConstraint::any()
+}
+
+// The action is what its slot is bound to, where that is named.
+fn action_of(named: bool) -> ActionConstraint
+    ensures { rule_of result ≡ slot_rule named }
+{
+    if named {
+        return ActionConstraint::is_eq_slot();
+    }
+    ActionConstraint::any()
+}
+
+// The resource is what its slot is bound to, where that is named.
+fn resource_of(named: bool) -> ResourceConstraint
+    ensures { result ≡ slot_constraint named }
+{
+    if named {
+        return ResourceConstraint::is_eq_slot();
+    }
+    ResourceConstraint::any()
+}
+
+// A template with these slots, which constrains nothing else. Takes memory.
+pub(crate) fn template(
+    alloc: Global,
+    id: PolicyID,
+    effect: Effect,
+    slots: SlotsNamed,
+) -> Result<Template, AllocError>
+    ensures { IfOk result (λ t. t ≡ template_body id effect slots) }
+{
+    Template::new(
+        alloc,
+        id,
+        None,
+        Annotations::new(alloc),
+        effect,
+        principal_of(slots.principal),
+        action_of(slots.action),
+        resource_of(slots.resource),
+        None,
+    )
+}
+
+// Binds a slot.
+fn bind(values: &mut SlotEnv, slot: SlotId, uid: EntityUID) -> Result<(), AllocError>
+    ensures { OnOk result (env_of values.new ≡ bound_more (env_of values.old) slot (uid_parts uid)) }
+{
+    values.insert(slot, uid)?;
+    Ok(())
+}
+
+// The uid that a part of a text is, if the part is not empty.
+fn bound_at(alloc: Global, text: &[u8], at: Span) -> Result<Option<EntityUID>, Reason>
+    ensures { MatchResult result (IsBoundAs text.now at) (IsUnboundAs text.now at) }
+{
+    let text = text_at(text, at)?;
+    if text.is_empty() {
+        return Ok(None);
+    }
+    Ok(Some(uid_of(alloc, text)?))
+}
+
+// Binds a slot to the uid that a part of a text is, if the part is not empty.
+fn bind_at(
+    alloc: Global,
+    values: &mut SlotEnv,
+    slot: SlotId,
+    text: &[u8],
+    at: Span,
+) -> Result<(), Reason>
+    ensures { MatchResult result (λ _. Binds text.now at slot (env_of values.old) (env_of values.new)) (IsUnboundAs text.now at) }
+{
+    match bound_at(alloc, text, at)? {
+        None => Ok(()),
+        Some(uid) => Ok(bind(values, slot, uid)?),
+    }
+}
+
+// Bindings of the three slots, in the order of principal, action and resource: one part of a text for each, empty where the slot
+// is not bound. `BadArgument` comes where there are not three parts, or where one does not lie within the text; `NotAUid` where
+// one is no uid's text. Takes memory.
+pub(crate) fn bindings_of(alloc: Global, text: &[u8], parts: &[Span]) -> Result<SlotEnv, Reason>
+    ensures { MatchResult result (λ v. AreBindings text.now parts.now (env_of v)) (IsUnboundBy text.now parts.now) }
+{
+    if parts.len() != 3 {
+        return Err(Reason::BadArgument);
+    }
+    let mut values = no_bindings(alloc);
+    bind_at(alloc, &mut values, SlotId::Principal, text, parts[0])?;
+    bind_at(alloc, &mut values, SlotId::Action, text, parts[1])?;
+    bind_at(alloc, &mut values, SlotId::Resource, text, parts[2])?;
+    Ok(values)
+}

@@ -1,0 +1,142 @@
+//! The reasons and the texts of what a policy set refuses.
+ghost use Rattle.std.specs.Prelude.{◌≡◌, ◌∷◌, ◌++◌, IfOk};
+ghost use Rattle.cedar_policy_set.specs.Refusals.{told_by_linking, told_by_removal, told_by_set, told_by_template_removal, told_by_unlinking};
+ghost use Rattle.cedar_c_lists.specs.Reasons.{words_of};
+ghost use Rattle.cedar_binding.specs.BindingTexts.{arity_text};
+ghost use Rattle.cedar_c_sets.specs.Sets.{IsToldFor};
+ghost use Rattle.cedar_c_lists.specs.Texts.{IsAsciiUid, spaced};
+ghost use Rattle.cedar_c_lists.specs.declared.reason.Reason.TheVariants as reasons;
+
+use cedar_binding::err::ArityText;
+use cedar_c_lists::{Reason, push_uid};
+use cedar_ids::entity::EntityUID;
+use cedar_ids::policy_id::PolicyID;
+use cedar_policy::LinkingError;
+use cedar_policy_set::{
+    PolicySetError, PolicySetPolicyRemovalError, PolicySetTemplateRemovalError,
+    PolicySetUnlinkError,
+};
+use std::alloc::{AllocError, Global};
+
+// A reason, and the text of a refusal for it.
+#[derive(Drop)]
+pub(crate) struct Told {
+    pub(crate) reason: Reason,
+    pub(crate) text: Vec<u8>,
+}
+
+// A reason and what it names.
+fn named(alloc: Global, reason: Reason, name: &str) -> Result<Told, AllocError>
+    ensures { IfOk result (λ t. (t.reason ≡ reason) × (t.text.items ≡ words_of reason ++ (32 ∷ name.now))) }
+{
+    let mut text = Vec::new(alloc);
+    text.extend_from_slice(reason.words().as_bytes())?;
+    text.push(b' ')?;
+    text.extend_from_slice(name.as_bytes())?;
+    Ok(Told { reason, text })
+}
+
+// What joining was refused for.
+pub(crate) fn by_set(alloc: Global, error: &PolicySetError) -> Result<Told, AllocError>
+    ensures { IfOk result (λ t. IsToldFor (told_by_set error.now) t.reason t.text.items) }
+{
+    match error {
+        PolicySetError::Occupied { id } => named(alloc, Reason::Occupied, id.as_ref()),
+        PolicySetError::Memory => Err(AllocError),
+    }
+}
+
+// The slots that bindings lack or have besides.
+fn arity_told(alloc: Global, slots: ArityText<'_>) -> Result<Told, AllocError>
+    ensures { IfOk result (λ t. (t.reason ≡ reasons.Arity)
+        × (t.text.items ≡ words_of reasons.Arity ++ (32 ∷ arity_text slots.entry.unbound.now.items slots.entry.extra.now.items))) }
+{
+    let name = slots.to_string(alloc)?;
+    named(alloc, Reason::Arity, name.as_str())
+}
+
+// The uid that is no action.
+fn uid_told(alloc: Global, uid: &EntityUID) -> Result<Told, AllocError>
+    ensures { IfOk result (λ t. (t.reason ≡ reasons.NotAnAction)
+        × (IsAsciiUid uid.now → t.text.items ≡ words_of reasons.NotAnAction ++ spaced uid.now)) }
+{
+    let mut text = Vec::new(alloc);
+    text.extend_from_slice(Reason::NotAnAction.words().as_bytes())?;
+    push_uid(alloc, &mut text, uid)?;
+    Ok(Told {
+        reason: Reason::NotAnAction,
+        text,
+    })
+}
+
+// What linking was refused for.
+pub(crate) fn by_linking(alloc: Global, error: &LinkingError) -> Result<Told, AllocError>
+    ensures { IfOk result (λ t. IsToldFor (told_by_linking error.now) t.reason t.text.items) }
+{
+    match error {
+        LinkingError::ArityError {
+            unbound_values,
+            extra_values,
+        } => arity_told(
+            alloc,
+            ArityText {
+                unbound: unbound_values,
+                extra: extra_values,
+            },
+        ),
+        LinkingError::NotAnAction { uid } => uid_told(alloc, uid),
+        LinkingError::NoSuchTemplate { id } => named(alloc, Reason::NoSuchTemplate, id.as_ref()),
+        LinkingError::PolicyIdConflict { id } => named(alloc, Reason::IdConflict, id.as_ref()),
+        LinkingError::Memory => Err(AllocError),
+    }
+}
+
+// What unlinking was refused for.
+pub(crate) fn by_unlinking(alloc: Global, error: &PolicySetUnlinkError) -> Result<Told, AllocError>
+    ensures { IfOk result (λ t. IsToldFor (told_by_unlinking error.now) t.reason t.text.items) }
+{
+    match error {
+        PolicySetUnlinkError::UnlinkingError(id) => named(alloc, Reason::NoLink, id.as_ref()),
+        PolicySetUnlinkError::NotLinkError(id) => named(alloc, Reason::NotALink, id.as_ref()),
+        PolicySetUnlinkError::Memory => Err(AllocError),
+    }
+}
+
+// What taking a static policy out was refused for.
+pub(crate) fn by_removal(
+    alloc: Global,
+    error: &PolicySetPolicyRemovalError,
+) -> Result<Told, AllocError>
+    ensures { IfOk result (λ t. IsToldFor (told_by_removal error.now) t.reason t.text.items) }
+{
+    match error {
+        PolicySetPolicyRemovalError::RemovePolicyNoLinkError(id) => {
+            named(alloc, Reason::NoStatic, id.as_ref())
+        }
+        PolicySetPolicyRemovalError::RemovePolicyNoTemplateError(id) => {
+            named(alloc, Reason::NotStatic, id.as_ref())
+        }
+        PolicySetPolicyRemovalError::Memory => Err(AllocError),
+    }
+}
+
+// What taking a template out was refused for.
+pub(crate) fn by_template_removal(
+    alloc: Global,
+    error: &PolicySetTemplateRemovalError,
+) -> Result<Told, AllocError>
+    ensures { IfOk result (λ t. IsToldFor (told_by_template_removal error.now) t.reason t.text.items) }
+{
+    match error {
+        PolicySetTemplateRemovalError::RemovePolicyNoTemplateError(id) => {
+            named(alloc, Reason::NoTemplate, id.as_ref())
+        }
+        PolicySetTemplateRemovalError::RemoveTemplateWithLinksError(id) => {
+            named(alloc, Reason::WithLinks, id.as_ref())
+        }
+        PolicySetTemplateRemovalError::NotTemplateError(id) => {
+            named(alloc, Reason::NotATemplate, id.as_ref())
+        }
+        PolicySetTemplateRemovalError::Memory => Err(AllocError),
+    }
+}

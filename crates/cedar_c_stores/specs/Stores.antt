@@ -1,0 +1,235 @@
+-- What the calls on a store give, and what is kept of it. Each `Gives` has the public clauses of the call of `cedar_entities` or
+-- `cedar_slice` that is behind a call here.
+use Rattle.std.specs.Prelude.{◌≡◌, ◌↔◌, ◌⊎◌, ℕ, List, [], ◌∷◌, ◌++◌, Bool, true, false, IfOk, IfErr, OnOk, IsTrue, map, Option, Some, None, Result, Ok, Err, take}
+use Rattle.std.specs.FinMap as finmap
+use Rattle.std.specs.FinSet as set
+use Rattle.std.specs.List.{AllByRecursion, flat_map}
+use Rattle.std.specs.Set.{is_member}
+use Rattle.std.specs.String.{string_bytes}
+use Rattle.cedar_ids.specs.UidOf.{same_uid}
+use Rattle.cedar_ids.specs.declared.entity.EntityUID.{EntityUID}
+use Rattle.cedar_uid_sets.specs.UidSets.{Ascend}
+use Rattle.cedar_graph.specs.Graph.{Reach}
+use Rattle.cedar_graph.specs.Faults.{vertex_of}
+use Rattle.cedar_graph.specs.declared.err.TcError.{TcError}
+use Rattle.cedar_graph.specs.declared.err.TcError.TheVariants as tc
+use Rattle.cedar_entity.specs.View.{EntityView, has_ancestor}
+use Rattle.cedar_entity.specs.declared.err.EntitiesError.{EntitiesError}
+use Rattle.cedar_entity.specs.declared.err.EntitiesError.TheVariants as errors
+use Rattle.cedar_entities.specs.Answers.{AreDeepEqual}
+use Rattle.cedar_entities.specs.Edits.{put_over, taken_out, uids_of}
+use Rattle.cedar_entities.specs.Modes.{IsClosureRefused, WhereComputed}
+use Rattle.cedar_entities.specs.Plain.{StoreView, Held, no_entities, given_of, AreBare, IsPlainStore}
+use Rattle.cedar_entities.specs.Present.{with_first, AllMatch, FirstMismatch}
+use Rattle.cedar_entities.specs.Refusals.{MatchRefusal, NamesOneOf, IsAddingRefused, IsOverwritingRefused}
+use Rattle.cedar_entities.specs.StoreFaults.{IsStoreFault, IsValidStore}
+use Rattle.cedar_entities.specs.Touching.{IsMended, IsMendRefused, IsSettled, StaysUntouched, inserted_in, is_touched, removed_from}
+use Rattle.cedar_entities.specs.World.{World, graph, added, overwritten, deleted, AllAgree}
+use Rattle.cedar_entities.specs.declared.entities.TCComputation.{TCComputation}
+use Rattle.cedar_slice.specs.Slices.{sliced, IsPlainSlice}
+use Rattle.cedar_c_stores.specs.Lists.{AreListed, IsMode, IsNoMode, IsUnlisted}
+use Rattle.cedar_c_lists.specs.Reasons.{words_of}
+use Rattle.cedar_c_lists.specs.Stops.{IsStopped}
+use Rattle.cedar_c_lists.specs.Texts.{AreReadAt, AreTextsOf, IsAsciiUid, IsOneUnread, IsReadOf, IsUnread, spaced}
+use Rattle.cedar_c_lists.specs.declared.layout.Edge.{Edge}
+use Rattle.cedar_c_lists.specs.declared.layout.Span.{Span}
+use Rattle.cedar_c_lists.specs.declared.reason.Reason.{Reason}
+use Rattle.cedar_c_lists.specs.declared.reason.Reason.TheVariants as reasons
+use Rattle.cedar_c_stores.specs.declared.kept_store.KeptStore.{KeptStore}
+
+-- ---- refusals
+
+-- the reason that an error of the closure is, and the uids that it names
+abbrev pub closure_reason : TcError EntityUID → Reason
+closure_reason (tc.MissingTcEdge e) = reasons.NotClosed
+closure_reason (tc.HasCycle e) = reasons.Cycle
+closure_reason tc.Memory = reasons.NoMemory
+
+abbrev pub closure_names : TcError EntityUID → List EntityUID
+closure_names (tc.MissingTcEdge e) = e.child ∷ e.parent ∷ e.grandparent ∷ []
+closure_names (tc.HasCycle e) = vertex_of e ∷ []
+closure_names tc.Memory = []
+
+-- the reason that an error of a store is, and the uids that it names
+abbrev pub reason_of : EntitiesError → Reason
+reason_of (errors.Duplicate u) = reasons.Duplicate
+reason_of (errors.TransitiveClosureError t) = closure_reason t
+reason_of (errors.SelfAncestor u) = reasons.SelfAncestor
+reason_of (errors.DuplicateAncestor u a) = reasons.DuplicateAncestor
+reason_of (errors.ActionParentIsNotAction u p) = reasons.ActionParentIsNotAction
+reason_of (errors.ReservedKey k) = reasons.ReservedKey
+reason_of errors.Memory = reasons.NoMemory
+
+abbrev pub uids_named : EntitiesError → List EntityUID
+uids_named (errors.Duplicate u) = u ∷ []
+uids_named (errors.TransitiveClosureError t) = closure_names t
+uids_named (errors.SelfAncestor u) = u ∷ []
+uids_named (errors.DuplicateAncestor u a) = u ∷ a ∷ []
+uids_named (errors.ActionParentIsNotAction u p) = u ∷ p ∷ []
+uids_named (errors.ReservedKey k) = []
+uids_named errors.Memory = []
+
+-- the key that it names, behind a blank
+abbrev pub key_named : EntitiesError → List ℕ
+key_named (errors.ReservedKey k) = 32 ∷ string_bytes k
+key_named e = []
+
+-- the text of an error: the words of its reason, and what it names. Of uids past ASCII nothing is said
+abbrev pub IsRefusalText : EntitiesError → List ℕ → Type 0
+IsRefusalText e text = AllByRecursion IsAsciiUid (uids_named e) → text ≡ words_of (reason_of e) ++ (flat_map spaced (uids_named e) ++ key_named e)
+
+-- a reason and a text tell an error. Where memory is wanted for the text, that is told
+abbrev pub IsToldBy : EntitiesError → Reason → List ℕ → Type 0
+IsToldBy e w text = (w ≡ reasons.NoMemory) ⊎ ((w ≡ reason_of e) × IsRefusalText e text)
+
+-- ---- changing a store
+
+-- the store without entities
+abbrev pub empty_store : StoreView
+empty_store = record { held = no_entities; partial = false }
+
+-- a call that lists nothing keeps the texts of the last answer, and that of the last refusal where it is not refused
+abbrev pub KeepsTexts : {A : Type 0} → Result A Reason → KeptStore → KeptStore → Type 0
+KeepsTexts r i j = (j.answer ≡ i.answer) × OnOk r (j.refusal.items ≡ i.refusal.items)
+
+-- what a call gave is kept: the store; or the error is told, and what is kept is the store without entities
+abbrev pub Settles : {A : Type 0} → Result StoreView EntitiesError → Result A Reason → KeptStore → Type 0
+Settles (Ok S) (Ok a) k = k.store ≡ S
+Settles (Err e) (Err w) k = (k.store ≡ empty_store) × IsToldBy e w k.refusal.items
+Settles given answer k = ⊥
+
+-- what adding a list to a store gives
+pub record AddGives (m : TCComputation) (L : List EntityView) (S : StoreView) (given : Result StoreView EntitiesError) : Type 0 where
+  pub partial : IfOk given (λ N. N.partial ≡ S.partial)
+  pub agree : OnOk given (AllMatch (finmap.get S.held) L)
+  pub ok : IfOk given (λ N. IsSettled m (is_touched S.held (inserted_in S.held L)) (with_first S.held L) N.held)
+  pub untouched : IfOk given (λ N. StaysUntouched (inserted_in S.held L) S.held N.held)
+  pub err : IfErr given (λ e. MatchRefusal e (FirstMismatch (finmap.get S.held) L) (λ t. AllMatch (finmap.get S.held) L × IsClosureRefused m (with_first S.held L) t))
+  pub named : IfErr given (λ e. WhereComputed m (NamesOneOf (is_touched S.held (inserted_in S.held L)) e))
+  pub plain_agree : OnOk given ((W : World) → IsPlainStore W S → AreBare L → AllAgree W (map given_of L))
+  pub plain : IfOk given (λ N. (W : World) → IsPlainStore W S → AreBare L → WhereComputed m (IsPlainStore (added W (map given_of L)) N))
+  pub plain_err : IfErr given (λ e. (W : World) → IsPlainStore W S → AreBare L → WhereComputed m (IsAddingRefused W (map given_of L) e))
+
+-- what putting a list over a store gives
+pub record UpsertGives (m : TCComputation) (L : List EntityView) (S : StoreView) (given : Result StoreView EntitiesError) : Type 0 where
+  pub partial : IfOk given (λ N. N.partial ≡ S.partial)
+  pub ok : IfOk given (λ N. IsSettled m (is_touched S.held (uids_of L)) (put_over S.held L) N.held)
+  pub untouched : IfOk given (λ N. StaysUntouched (uids_of L) S.held N.held)
+  pub err : IfErr given (λ e. MatchRefusal e (λ _. ⊥) (IsClosureRefused m (put_over S.held L)))
+  pub named : IfErr given (λ e. WhereComputed m (NamesOneOf (is_touched S.held (uids_of L)) e))
+  pub plain : IfOk given (λ N. (W : World) → IsPlainStore W S → AreBare L → WhereComputed m (IsPlainStore (overwritten W (map given_of L)) N))
+  pub plain_err : IfErr given (λ e. (W : World) → IsPlainStore W S → AreBare L → WhereComputed m (IsOverwritingRefused W (map given_of L) e))
+
+-- what taking uids out of a store gives
+pub record RemoveGives (m : TCComputation) (U : List EntityUID) (S : StoreView) (given : Result StoreView EntitiesError) : Type 0 where
+  pub partial : IfOk given (λ N. N.partial ≡ S.partial)
+  pub ok : IfOk given (λ N. IsMended m (is_touched S.held (removed_from S.held U)) (taken_out S.held U) N.held)
+  pub untouched : IfOk given (λ N. StaysUntouched (removed_from S.held U) S.held N.held)
+  pub err : IfErr given (λ e. MatchRefusal e (λ _. ⊥) (IsMendRefused m (is_touched S.held (removed_from S.held U)) (taken_out S.held U)))
+  pub named : IfErr given (λ e. WhereComputed m (NamesOneOf (is_touched S.held (removed_from S.held U)) e))
+  pub plain : IfOk given (λ N. (W : World) → IsPlainStore W S → IsPlainStore (deleted W U) N)
+  pub plain_err : IfErr given (λ e. (W : World) → IsPlainStore W S → e ≡ errors.Memory)
+
+-- a list is added to a store, put over it, or uids are taken out of it, and what that gives is kept
+abbrev pub Adds : {A : Type 0} → TCComputation → List EntityView → StoreView → Result A Reason → KeptStore → Type 0
+Adds m L S r k = (given : Result StoreView EntitiesError) × AddGives m L S given × Settles given r k
+
+abbrev pub Upserts : {A : Type 0} → TCComputation → List EntityView → StoreView → Result A Reason → KeptStore → Type 0
+Upserts m L S r k = (given : Result StoreView EntitiesError) × UpsertGives m L S given × Settles given r k
+
+abbrev pub Removes : {A : Type 0} → TCComputation → List EntityUID → StoreView → Result A Reason → KeptStore → Type 0
+Removes m U S r k = (given : Result StoreView EntitiesError) × RemoveGives m U S given × Settles given r k
+
+-- entities that lists say become the store, are added to it or put over it, in the mode of a number; or that is not read
+abbrev pub BuildsListed : {A : Type 0} → List ℕ → List Span → ℕ → List Edge → ℕ → Result A Reason → KeptStore → KeptStore → Type 0
+BuildsListed text spans n es mode r i j =
+    IsStopped (λ w. IsNoMode mode w ⊎ IsUnlisted text spans n es w) r i j
+    ⊎ ((m : TCComputation) × (L : List EntityView) × IsMode mode m × AreListed text spans n es L × Adds m L empty_store r j × KeepsTexts r i j)
+
+abbrev pub AddsListed : {A : Type 0} → List ℕ → List Span → ℕ → List Edge → ℕ → Result A Reason → KeptStore → KeptStore → Type 0
+AddsListed text spans n es mode r i j =
+    IsStopped (λ w. IsNoMode mode w ⊎ IsUnlisted text spans n es w) r i j
+    ⊎ ((m : TCComputation) × (L : List EntityView) × IsMode mode m × AreListed text spans n es L × Adds m L i.store r j × KeepsTexts r i j)
+
+abbrev pub UpsertsListed : {A : Type 0} → List ℕ → List Span → ℕ → List Edge → ℕ → Result A Reason → KeptStore → KeptStore → Type 0
+UpsertsListed text spans n es mode r i j =
+    IsStopped (λ w. IsNoMode mode w ⊎ IsUnlisted text spans n es w) r i j
+    ⊎ ((m : TCComputation) × (L : List EntityView) × IsMode mode m × AreListed text spans n es L × Upserts m L i.store r j × KeepsTexts r i j)
+
+-- the uids that parts of a text are are taken out, in the mode of a number; or that is not read
+abbrev pub RemovesListed : {A : Type 0} → List ℕ → List Span → ℕ → Result A Reason → KeptStore → KeptStore → Type 0
+RemovesListed text spans mode r i j =
+    IsStopped (λ w. IsNoMode mode w ⊎ IsOneUnread text spans w) r i j
+    ⊎ ((m : TCComputation) × (U : List EntityUID) × IsMode mode m × AreReadAt text U spans × Removes m U i.store r j × KeepsTexts r i j)
+
+-- ---- asking a store
+
+-- whether v is an ancestor of the entity with u: as the store holds it, and over its parents where it is the plain store of a world
+pub record TellsWhether (S : StoreView) (u v : EntityUID) (answer : Bool) : Type 0 where
+  pub entity : EntityView
+  pub held : finmap.get S.held u ≡ Some entity
+  pub told : answer ≡ has_ancestor entity v
+  pub plain : (W : World) → IsPlainStore W S → (answer ≡ true) ↔ Reach (graph W) u v
+
+-- whether the uid of one text is a descendant of that of another; or why that is not told
+abbrev pub Asks : StoreView → List ℕ → List ℕ → Result Bool Reason → Type 0
+Asks S child ancestor (Ok b) =
+    (u : EntityUID) × (v : EntityUID) × IsReadOf u child × IsReadOf v ancestor × TellsWhether S u v b
+Asks S child ancestor (Err w) =
+    IsUnread child w ⊎ (IsUnread ancestor w ⊎ ((w ≡ reasons.NoEntity) × ((u : EntityUID) × IsReadOf u child × (finmap.get S.held u ≡ None))))
+
+-- whether a store has an entity with the uid of a text
+abbrev pub AsksFor : StoreView → List ℕ → Result Bool Reason → Type 0
+AsksFor S text (Ok b) = (u : EntityUID) × IsReadOf u text × (b ≡ finmap.contains_key S.held u)
+AsksFor S text (Err w) = IsUnread text w
+
+-- the uids ascend, and are those that pass a test of the entity: over the plain store of a world those in a relation; the texts
+-- are theirs
+pub record ListsThose (test : EntityView → EntityUID → Bool) (Related : World → EntityUID → EntityUID → Type 0) (S : StoreView) (u : EntityUID) (texts : List (List ℕ)) : Type 0 where
+  pub entity : EntityView
+  pub held : finmap.get S.held u ≡ Some entity
+  pub uids : List EntityUID
+  pub ascend : Ascend uids
+  pub members : (q : EntityUID) → is_member same_uid uids q ≡ test entity q
+  pub plain : (W : World) → IsPlainStore W S → (q : EntityUID) → (is_member same_uid uids q ≡ true) ↔ Related W u q
+  pub are_texts : AreTextsOf uids texts
+
+-- those of the entity with the uid of a text become the answer; or why they do not, and all is as it was
+abbrev pub Listing : {A : Type 0} → (EntityView → EntityUID → Bool) → (World → EntityUID → EntityUID → Type 0) → List ℕ → Result A Reason → KeptStore → KeptStore → Type 0
+Listing test Related text (Ok a) i j =
+    (j.store ≡ i.store) × (j.refusal.items ≡ i.refusal.items) × ((u : EntityUID) × IsReadOf u text × ListsThose test Related i.store u j.answer)
+Listing test Related text (Err w) i j =
+    (j ≡ i) × ((w ≡ reasons.NoMemory) ⊎ (IsUnread text w ⊎ ((w ≡ reasons.NoEntity) × ((u : EntityUID) × IsReadOf u text × (finmap.get i.store.held u ≡ None)))))
+
+-- whether a uid is a parent of an entity
+abbrev pub has_parent : EntityView → EntityUID → Bool
+has_parent e q = set.contains e.parents q
+
+-- a uid is reached from another over the parents of a world; or it is a parent there
+abbrev pub IsAbove : World → EntityUID → EntityUID → Type 0
+IsAbove W u q = Reach (graph W) u q
+
+abbrev pub IsParent : World → EntityUID → EntityUID → Type 0
+IsParent W u q = graph W u q ≡ true
+
+-- the store is valid, and all is as it was; or its first fault is told, and the store and the answer are as they were
+abbrev pub Validates : {A : Type 0} → Result A Reason → KeptStore → KeptStore → Type 0
+Validates (Ok a) i j = IsValidStore i.store.held × (j ≡ i)
+Validates (Err w) i j =
+    (j.store ≡ i.store) × (j.answer ≡ i.answer)
+    × ((w ≡ reasons.NoMemory) ⊎ ((e : EntitiesError) × IsStoreFault i.store.held e × IsToldBy e w j.refusal.items))
+
+-- the slice of a store at uids
+pub record IsSlice (U : List EntityUID) (S N : StoreView) : Type 0 where
+  pub held : N ≡ record { held = sliced S.held U; partial = false }
+  pub plain : (W : World) → IsPlainStore W S → IsPlainSlice W U N
+
+-- the slice of a store at the uids that parts of a text are; or why it is not made
+abbrev pub SlicesAt : List ℕ → List Span → StoreView → Result KeptStore Reason → Type 0
+SlicesAt text spans S (Ok k) = (U : List EntityUID) × AreReadAt text U spans × IsSlice U S k.store
+SlicesAt text spans S (Err w) = IsOneUnread text spans w
+
+-- a copy of a store; or why it is not made
+abbrev pub Copies : StoreView → Result KeptStore Reason → Type 0
+Copies S (Ok k) = k.store ≡ S
+Copies S (Err w) = w ≡ reasons.NoMemory

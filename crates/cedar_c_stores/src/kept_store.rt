@@ -1,0 +1,276 @@
+//! A store of entities with what its caller was answered last, and the calls on it.
+ghost use Rattle.std.specs.Prelude.{◌≡◌, [], ◌∷◌, ◌++◌, ◌↔◌, IfOk, MatchResult, IsTrue, List, ℕ};
+ghost use Rattle.cedar_entities.specs.Answers.{AreDeepEqual};
+ghost use Rattle.cedar_entities.specs.Plain.{IsPlainStore, entities_in};
+ghost use Rattle.cedar_entities.specs.World.{empty_world};
+ghost use Rattle.cedar_entity.specs.View.{has_ancestor};
+ghost use Rattle.cedar_c_stores.specs.Stores.{Adds, Asks, AsksFor, Copies, IsAbove, IsParent, IsSlice, IsToldBy, KeepsTexts, Listing, Removes, Settles, SlicesAt, Upserts, Validates, empty_store, has_parent};
+ghost use Rattle.cedar_c_lists.specs.Texts.{AreTextsOf, IsTextOf};
+ghost use Rattle.cedar_c_lists.specs.declared.reason.Reason.TheVariants as reasons;
+
+use crate::refusal::{reason_of, text_of};
+use cedar_c_lists::{Answer, Reason, Span, uid_of, uids_of, with_uid};
+use cedar_entities::{Entities, EntitiesError, Entity, TCComputation, Uids};
+use cedar_ids::entity::EntityUID;
+use cedar_keyed_hash::KeyedState;
+use cedar_slice::slice;
+use cedar_uid_sets::Union;
+use std::alloc::{AllocError, Global};
+use std::mem;
+use std::rc::Rc;
+
+/// A store of entities, the texts of the last answer, and the text of the last refusal.
+#[derive(Drop)]
+pub struct KeptStore {
+    /// The store, whose map hashes with the caller's key.
+    pub store: Entities<KeyedState>,
+    /// The texts that the last call that lists gave.
+    pub answer: Answer,
+    /// The text of the last refusal of a call on the store.
+    pub refusal: Vec<u8>,
+    // What builds the hashers of the next store.
+    hasher: KeyedState,
+}
+
+// The texts of ancestors.
+fn texts_of_union(alloc: Global, uids: Union<'_>) -> Result<Answer, AllocError>
+    ensures { IfOk result (AreTextsOf uids.entry) }
+{
+    let mut answer = Answer::new(alloc);
+    for uid in uids {
+        answer = with_uid(alloc, answer, uid)?;
+    }
+    Ok(answer)
+}
+
+// The texts of parents.
+fn texts_of_set(alloc: Global, uids: Uids<'_>) -> Result<Answer, AllocError>
+    ensures { IfOk result (AreTextsOf uids.entry) }
+{
+    let mut answer = Answer::new(alloc);
+    for uid in uids {
+        answer = with_uid(alloc, answer, uid)?;
+    }
+    Ok(answer)
+}
+
+impl KeptStore {
+    /// A store of which nothing was answered and nothing refused, and what builds the hashers of stores that take its place.
+    /// Takes no memory.
+    pub fn of(alloc: Global, hasher: KeyedState, store: Entities<KeyedState>) -> KeptStore
+        ensures store { result.store ≡ store }
+        ensures answer { result.answer ≡ [] }
+        ensures refusal { result.refusal.items ≡ [] }
+    {
+        KeptStore {
+            store,
+            answer: Answer::new(alloc),
+            refusal: Vec::new(alloc),
+            hasher,
+        }
+    }
+
+    /// The store without entities. Takes no memory.
+    pub fn new(alloc: Global, hasher: KeyedState) -> KeptStore
+        ensures store { result.store ≡ empty_store }
+        ensures plain { IsPlainStore empty_world result.store }
+        ensures answer { result.answer ≡ [] }
+        ensures refusal { result.refusal.items ≡ [] }
+    {
+        KeptStore::of(alloc, hasher, Entities::with_hasher(alloc, hasher))
+    }
+
+    // The text of an error is kept, and its reason told.
+    fn refuse(&mut self, alloc: Global, error: EntitiesError) -> Reason
+        ensures store { self.new.store ≡ self.old.store }
+        ensures answer { self.new.answer ≡ self.old.answer }
+        ensures told { IsToldBy error result self.new.refusal.items }
+    {
+        match text_of(alloc, &error) {
+            Ok(text) => {
+                self.refusal = text;
+                reason_of(&error)
+            }
+            Err(_want) => Reason::NoMemory,
+        }
+    }
+
+    // What a call gave is kept.
+    fn settle(
+        &mut self,
+        alloc: Global,
+        given: Result<Entities<KeyedState>, EntitiesError>,
+    ) -> Result<(), Reason>
+        ensures settles { Settles given result self.new }
+        ensures texts { KeepsTexts result self.old self.new }
+    {
+        match given {
+            Ok(store) => {
+                self.store = store;
+                Ok(())
+            }
+            Err(error) => {
+                self.store = Entities::with_hasher(alloc, self.hasher);
+                Err(self.refuse(alloc, error))
+            }
+        }
+    }
+
+    // Adds entities, as `Entities::add_entities` does. A refusal leaves the store without entities. Takes memory.
+    pub(crate) fn add_list(
+        &mut self,
+        alloc: Global,
+        list: Vec<Rc<Entity>>,
+        mode: TCComputation,
+    ) -> Result<(), Reason>
+        ensures adds { Adds mode (entities_in list.items) self.old.store result self.new }
+        ensures texts { KeepsTexts result self.old self.new }
+    {
+        let store = mem::replace(&mut self.store, Entities::with_hasher(alloc, self.hasher));
+        let given = store.add_entities(alloc, list, mode);
+        self.settle(alloc, given)
+    }
+
+    // Entities become the store: it is what adding them to the store without entities gives. A refusal leaves the store
+    // without entities. Takes memory.
+    pub(crate) fn build_list(
+        &mut self,
+        alloc: Global,
+        list: Vec<Rc<Entity>>,
+        mode: TCComputation,
+    ) -> Result<(), Reason>
+        ensures adds { Adds mode (entities_in list.items) empty_store result self.new }
+        ensures texts { KeepsTexts result self.old self.new }
+    {
+        self.store = Entities::with_hasher(alloc, self.hasher);
+        self.add_list(alloc, list, mode)
+    }
+
+    // Puts entities over what the store holds, as `Entities::upsert_entities` does. A refusal leaves the store without
+    // entities. Takes memory.
+    pub(crate) fn upsert_list(
+        &mut self,
+        alloc: Global,
+        list: Vec<Rc<Entity>>,
+        mode: TCComputation,
+    ) -> Result<(), Reason>
+        ensures upserts { Upserts mode (entities_in list.items) self.old.store result self.new }
+        ensures texts { KeepsTexts result self.old self.new }
+    {
+        let store = mem::replace(&mut self.store, Entities::with_hasher(alloc, self.hasher));
+        let given = store.upsert_entities(alloc, list, mode);
+        self.settle(alloc, given)
+    }
+
+    // Takes entities out, as `Entities::remove_entities` does. A refusal leaves the store without entities. Takes memory.
+    pub(crate) fn remove_uids(
+        &mut self,
+        alloc: Global,
+        uids: Vec<EntityUID>,
+        mode: TCComputation,
+    ) -> Result<(), Reason>
+        ensures removes { Removes mode uids.items self.old.store result self.new }
+        ensures texts { KeepsTexts result self.old self.new }
+    {
+        let store = mem::replace(&mut self.store, Entities::with_hasher(alloc, self.hasher));
+        let given = store.remove_entities(alloc, uids, mode);
+        self.settle(alloc, given)
+    }
+
+    /// Whether the store has an entity with the uid that a text is. Takes memory for the uid.
+    pub fn has(&self, alloc: Global, text: &[u8]) -> Result<bool, Reason>
+        ensures { AsksFor self.now.store text.now result }
+    {
+        let uid = uid_of(alloc, text)?;
+        Ok(self.store.stored(&uid).is_some())
+    }
+
+    /// Whether the entity with the uid that one text is is a descendant of the uid that another is. `NoEntity` comes where the
+    /// store has no such entity. Takes memory for the two uids.
+    pub fn is_descendant_of(
+        &self,
+        alloc: Global,
+        child: &[u8],
+        ancestor: &[u8],
+    ) -> Result<bool, Reason>
+        ensures { Asks self.now.store child.now ancestor.now result }
+    {
+        let child = uid_of(alloc, child)?;
+        let ancestor = uid_of(alloc, ancestor)?;
+        match self.store.stored(&child) {
+            None => Err(Reason::NoEntity),
+            Some(entity) => Ok(entity.is_descendant_of(&ancestor)),
+        }
+    }
+
+    /// The ancestors of an entity become the answer, in the order of uids. `NoEntity` comes where the store has no entity with
+    /// the uid that a text is. Takes memory for the texts; a refusal leaves the answer as it was.
+    pub fn ancestors(&mut self, alloc: Global, text: &[u8]) -> Result<(), Reason>
+        ensures { Listing has_ancestor IsAbove text.now result self.old self.new }
+    {
+        let uid = uid_of(alloc, text)?;
+        let answer = match self.store.stored(&uid) {
+            None => return Err(Reason::NoEntity),
+            Some(entity) => texts_of_union(alloc, entity.ancestors_in_order())?,
+        };
+        self.answer = answer;
+        Ok(())
+    }
+
+    /// The parents of an entity become the answer, in the order of uids, as its ancestors do.
+    pub fn parents(&mut self, alloc: Global, text: &[u8]) -> Result<(), Reason>
+        ensures { Listing has_parent IsParent text.now result self.old self.new }
+    {
+        let uid = uid_of(alloc, text)?;
+        let answer = match self.store.stored(&uid) {
+            None => return Err(Reason::NoEntity),
+            Some(entity) => texts_of_set(alloc, entity.parents())?,
+        };
+        self.answer = answer;
+        Ok(())
+    }
+
+    /// Looks for what is wrong with the store, as `Entities::try_validate` does, over a copy. Takes memory.
+    pub fn validate(&mut self, alloc: Global) -> Result<(), Reason>
+        ensures { Validates result self.old self.new }
+    {
+        let copy = self.store.clone()?;
+        match copy.try_validate(alloc) {
+            Ok(_valid) => Ok(()),
+            Err(error) => Err(self.refuse(alloc, error)),
+        }
+    }
+
+    // The slice of the store at some uids.
+    fn slice_of(&self, alloc: Global, uids: Vec<EntityUID>) -> Result<KeptStore, Reason>
+        ensures { MatchResult result (λ k. IsSlice uids.items self.now.store k.store) (λ w. w ≡ reasons.NoMemory) }
+    {
+        match slice(alloc, &self.store, &uids) {
+            Ok(store) => Ok(KeptStore::of(alloc, self.hasher, store)),
+            Err(_want) => Err(Reason::NoMemory),
+        }
+    }
+
+    /// The slice of the store at the uids that parts of a text are. Takes memory.
+    pub fn slice(&self, alloc: Global, text: &[u8], spans: &[Span]) -> Result<KeptStore, Reason>
+        ensures { SlicesAt text.now spans.now self.now.store result }
+    {
+        let uids = uids_of(alloc, text, spans)?;
+        self.slice_of(alloc, uids)
+    }
+
+    /// A copy, of which nothing was answered and nothing refused. Takes memory.
+    pub fn copy(&self, alloc: Global) -> Result<KeptStore, Reason>
+        ensures { Copies self.now.store result }
+    {
+        let store = self.store.clone()?;
+        Ok(KeptStore::of(alloc, self.hasher, store))
+    }
+
+    /// Whether both stores have deeply equal entities. Takes no memory.
+    pub fn is_equal(&self, other: &KeptStore) -> bool
+        ensures { IsTrue result ↔ AreDeepEqual self.now.store other.now.store }
+    {
+        self.store.deep_eq(&other.store)
+    }
+}
