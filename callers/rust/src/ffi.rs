@@ -19,12 +19,12 @@ struct Handle {
     is_open: bool,
 }
 
-type New = unsafe extern "C" fn(*mut Handle, u64, u64) -> u32;
-type Free = unsafe extern "C" fn(*mut Handle);
-type Copy = unsafe extern "C" fn(*mut Handle, *mut Handle) -> u32;
-type Equal = unsafe extern "C" fn(*mut Handle, *mut Handle, *mut bool) -> u32;
-type Answer = unsafe extern "C" fn(*mut Handle, usize, *mut u8, usize) -> usize;
-type Spans = unsafe extern "C" fn(*mut Handle, usize, *mut Span, usize) -> usize;
+type Opens = unsafe extern "C" fn(*mut Handle, u64, u64) -> u32;
+type Frees = unsafe extern "C" fn(*mut Handle);
+type Copies = unsafe extern "C" fn(*mut Handle, *mut Handle) -> u32;
+type Compares = unsafe extern "C" fn(*mut Handle, *mut Handle, *mut bool) -> u32;
+type Tells = unsafe extern "C" fn(*mut Handle, usize, *mut u8, usize) -> usize;
+type Places = unsafe extern "C" fn(*mut Handle, usize, *mut Span, usize) -> usize;
 type Words = unsafe extern "C" fn(*mut Handle, *mut u8, usize) -> usize;
 type ById = unsafe extern "C" fn(*mut Handle, *const u8, usize) -> u32;
 type Change = unsafe extern "C" fn(
@@ -188,12 +188,12 @@ pub(crate) fn run(input: &[u8], key: Key, out: &mut [u8]) -> Result<(usize, u32)
 
 /// The functions that both kinds of handles have.
 pub(crate) struct Calls {
-    new: New,
-    free: Free,
-    copy: Copy,
-    equal: Equal,
-    answer: Answer,
-    spans: Spans,
+    new: Opens,
+    free: Frees,
+    copy: Copies,
+    equal: Compares,
+    answer: Tells,
+    spans: Places,
     words: Words,
 }
 

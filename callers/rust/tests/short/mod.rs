@@ -37,9 +37,15 @@ fn names(uids: Vec<String>) -> String {
     uids.into_iter().map(name).collect()
 }
 
-/// The names of an entity's ancestors, in their order.
+/// The names of an entity's ancestors, in their order. It is a descendant of these, and not of the others of some.
 pub fn above(store: &Store, name: &str) -> String {
-    names(store.ancestors(&uid(name)).unwrap())
+    let ancestors = store.ancestors(&uid(name)).unwrap();
+    let others = uids("abcdefghxyz");
+    for other in ancestors.iter().chain(&others) {
+        let answer = store.is_descendant_of(&uid(name), other).unwrap();
+        assert_eq!(answer, ancestors.contains(other), "{name} below {other}");
+    }
+    names(ancestors)
 }
 
 /// The names of an entity's parents, in their order.
