@@ -1,4 +1,5 @@
 """The tests of the module. The last line is `N passed, M failed`."""
+import io
 import sys
 import threading
 import unittest
@@ -191,7 +192,10 @@ class Others(unittest.TestCase):
 
 if __name__ == "__main__":
     tests = unittest.defaultTestLoader.loadTestsFromModule(sys.modules["__main__"])
-    result = unittest.TextTestRunner(verbosity=0).run(tests)
+    told = io.StringIO()
+    result = unittest.TextTestRunner(stream=told, verbosity=0).run(tests)
     ill = len(result.failures) + len(result.errors)
+    if ill:
+        print(told.getvalue())
     print(f"{result.testsRun - ill} passed, {ill} failed")
     sys.exit(ill != 0)
