@@ -192,14 +192,14 @@ uint32_t cedar_store_equal(cedar_store *one, cedar_store *other, bool *answer);
 
 /* Copies out the bytes of the texts of the last answer, one after another, from byte `from` on, as many as there is
  * room for; and where each text starts and ends in them, from text `from` on. Both tell how many there are in all; a
- * closed handle has none. They are asked, in turn and as often as is wanted, before any other call on the handle. They
- * take no memory. */
+ * closed handle has none. The last answer is that of the last `cedar_store_ancestors` or `cedar_store_parents` at
+ * CEDAR_OK: other calls leave it, but those that put a store into the handle, which has none. They take no memory. */
 size_t cedar_store_answer(cedar_store *s, size_t from, uint8_t *out, size_t room);
 size_t cedar_store_answer_spans(cedar_store *s, size_t from, cedar_span *out, size_t room);
 
 /* Copies out the text of the last refusal of the store, from CEDAR_DUPLICATE to CEDAR_RESERVED_KEY, as much as there is
- * room for, and tells how long it is: words, and behind a blank each the uids that the refusal names. It is asked
- * before any other call on the handle. Takes no memory. */
+ * room for, and tells how long it is: words, and behind a blank each the uids that the refusal names. Calls at CEDAR_OK
+ * leave it, but those that put a store into the handle, which has none. Takes no memory. */
 size_t cedar_store_refusal(cedar_store *s, uint8_t *out, size_t room);
 
 /* ---- policy sets. A call that is refused, for memory too, leaves the set as it was. */
@@ -260,13 +260,14 @@ uint32_t cedar_policies_copy(cedar_policies *from, cedar_policies *to);
  * CEDAR_CLOSED. Takes no memory. */
 uint32_t cedar_policies_equal(cedar_policies *one, cedar_policies *other, bool *answer);
 
-/* Copy out the last answer, the bytes of its texts and where each starts and ends in them, as the two of a store do. */
+/* Copy out the last answer, the bytes of its texts and where each starts and ends in them, as the two of a store do. The
+ * last answer is that of the last `cedar_policies_ids` or `cedar_policies_merge` at CEDAR_OK. */
 size_t cedar_policies_answer(cedar_policies *p, size_t from, uint8_t *out, size_t room);
 size_t cedar_policies_answer_spans(cedar_policies *p, size_t from, cedar_span *out, size_t room);
 
 /* Copies out the text of the last refusal of the set, from CEDAR_OCCUPIED to CEDAR_NOT_STATIC, as much as there is room
- * for, and tells how long it is: words, a blank, and the id, the slots or the uid that the refusal names. It is asked
- * before any other call on the handle. Takes no memory. */
+ * for, and tells how long it is: words, a blank, and the id, the slots or the uid that the refusal names. Calls at
+ * CEDAR_OK leave it, but those that put a set into the handle, which has none. Takes no memory. */
 size_t cedar_policies_refusal(cedar_policies *p, uint8_t *out, size_t room);
 
 #ifdef __cplusplus
