@@ -134,6 +134,27 @@ static void copying_out(void) {
     cedar_store_free(&s);
 }
 
+/* What lists nothing leaves the last answer, and what is not refused the last refusal. */
+static void texts_stay(void) {
+    const char *above = "," U("b") "," U("c"), *words = "duplicate entity " U("a");
+    cedar_store s = {0}, t = {0};
+    CHECK(new_store(&s) == CEDAR_OK && build(&s, "a bc", CEDAR_COMPUTE) == CEDAR_OK &&
+          ancestors(&s, U("a")) == CEDAR_OK);
+    CHECK(build(&s, "a b;a c", CEDAR_COMPUTE) == CEDAR_DUPLICATE && IS(store_refusal(&s), words));
+    CHECK(IS(store_answer(&s), above));
+    CHECK(build(&s, "x y;y z", CEDAR_COMPUTE) == CEDAR_OK && add(&s, "v x", CEDAR_COMPUTE) == CEDAR_OK);
+    CHECK(upsert(&s, "v y", CEDAR_COMPUTE) == CEDAR_OK && removed(&s, "x", CEDAR_COMPUTE) == CEDAR_OK);
+    CHECK(has(&s, U("v")) == 1 && descends(&s, U("v"), U("z")) == 1 && cedar_store_validate(&s) == CEDAR_OK);
+    CHECK(sliced(&s, &t, "v") == CEDAR_OK && cedar_store_copy(&s, &t) == CEDAR_OK && equal(&s, &t) == 1);
+    CHECK(parents(&s, U("q")) == CEDAR_NO_ENTITY && build(&s, "a", 3) == CEDAR_BAD_ARGUMENT);
+    CHECK(IS(store_answer(&s), above) && IS(store_refusal(&s), words));
+    CHECK(IS(store_answer(&t), "") && IS(store_refusal(&t), ""));
+    CHECK(parents(&s, U("v")) == CEDAR_OK && IS(store_answer(&s), "," U("y")) && IS(store_refusal(&s), words));
+    CHECK(new_store(&s) == CEDAR_OK && IS(store_answer(&s), "") && IS(store_refusal(&s), ""));
+    cedar_store_free(&s);
+    cedar_store_free(&t);
+}
+
 /* A store with q alone. */
 static void only_q(cedar_store *s) { CHECK(new_store(s) == CEDAR_OK && build(s, "q", CEDAR_COMPUTE) == CEDAR_OK); }
 
@@ -467,6 +488,23 @@ static void merging(void) {
     cedar_policies_free(&r);
 }
 
+static void texts_of_sets_stay(void) {
+    cedar_policies p = {0}, q = {0};
+    some_policies(&p);
+    CHECK(new_set(&q) == CEDAR_OK && add_static(&q, "s", 1) == CEDAR_OK);
+    CHECK(cedar_policies_ids(&p, 0) == CEDAR_OK && unlink_id(&p, "x") == CEDAR_NO_LINK);
+    CHECK(add_static(&p, "new", 0) == CEDAR_OK && add_template(&p, "newer", 0) == CEDAR_OK);
+    CHECK(link_id(&p, "newer", "link", "", "", "") == CEDAR_OK && unlink_id(&p, "link") == CEDAR_OK);
+    CHECK(remove_template(&p, "newer") == CEDAR_OK && remove_static(&p, "new") == CEDAR_OK);
+    CHECK(IS(policies_answer(&p), ",s,t,u") && IS(policies_refusal(&p), "no link x"));
+    CHECK(cedar_policies_merge(&p, &q, false) == CEDAR_OCCUPIED && IS(policies_answer(&p), ",s,t,u"));
+    CHECK(cedar_policies_merge(&p, &q, true) == CEDAR_OK && IS(policies_answer(&p), ",s,policy0"));
+    CHECK(IS(policies_refusal(&p), "occupied s"));
+    CHECK(cedar_policies_copy(&p, &q) == CEDAR_OK && IS(policies_answer(&q), "") && IS(policies_refusal(&q), ""));
+    cedar_policies_free(&p);
+    cedar_policies_free(&q);
+}
+
 int main(void) {
     program();
     uid_texts();
@@ -476,6 +514,7 @@ int main(void) {
     building();
     listing();
     copying_out();
+    texts_stay();
     numbers_out_of_range();
     parts_out_of_range();
     parts_that_are_no_uids();
@@ -492,5 +531,6 @@ int main(void) {
     refused_to_join();
     refused_to_leave();
     merging();
+    texts_of_sets_stay();
     return counted();
 }

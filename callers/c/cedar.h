@@ -260,8 +260,8 @@ uint32_t cedar_policies_copy(cedar_policies *from, cedar_policies *to);
  * CEDAR_CLOSED. Takes no memory. */
 uint32_t cedar_policies_equal(cedar_policies *one, cedar_policies *other, bool *answer);
 
-/* Copy out the last answer, the bytes of its texts and where each starts and ends in them, as the two of a store do. The
- * last answer is that of the last `cedar_policies_ids` or `cedar_policies_merge` at CEDAR_OK. */
+/* Copy out the last answer, the bytes of its texts and where each starts and ends in them, as the two of a store do.
+ * The last answer is that of the last `cedar_policies_ids` or `cedar_policies_merge` at CEDAR_OK. */
 size_t cedar_policies_answer(cedar_policies *p, size_t from, uint8_t *out, size_t room);
 size_t cedar_policies_answer_spans(cedar_policies *p, size_t from, cedar_span *out, size_t room);
 

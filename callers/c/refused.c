@@ -211,12 +211,11 @@ static bool alike_beside(held *h, held *like) {
     return equal(&h->t, &like->t) == 1 && sets_equal(&h->p, &like->p) == 1 && sets_equal(&h->q, &like->q) == 1;
 }
 
-/* What want of memory leaves: a store that is as it was, with its answer, or is without entities; all else as it was.
+/* What want of memory leaves: a store that is as it was, or is without entities; all else, the answers too, as it was.
  */
 static bool left_well(held *h, held *before) {
-    if (!alike_beside(h, before)) return false;
-    if (h->s.is_open && cedar_store_len(&h->s) == 0) return true;
-    return equal(&h->s, &before->s) == 1 && answer_alike(h, before);
+    if (!alike_beside(h, before) || !answer_alike(h, before) || !h->s.is_open) return false;
+    return cedar_store_len(&h->s) == 0 || equal(&h->s, &before->s) == 1;
 }
 
 /* A store that was emptied is put back, with its answer. */
