@@ -1,7 +1,8 @@
 /* Makes each call of the library again and again, each time with a later request for memory refused, until none is. A
  * call whose request is refused answers CEDAR_NO_MEMORY, leaves what cedar.h says, and is then made once more, with all
- * memory that it wants, and answers what it had answered at once. Last come the calls that take no memory: they make no
- * request. Prints what fails, and ends with `N passed, M failed`. Built with `-Wl,--wrap=malloc -Wl,--wrap=realloc`. */
+ * memory that it wants, and answers and leaves what it would have at once. Or it does without that memory, and does so
+ * at once. Last come the calls that take no memory: they make no request. Prints what fails, and ends with `N passed, M
+ * failed`. Built with `-Wl,--wrap=malloc -Wl,--wrap=realloc`. */
 #include "short.h"
 
 /* ---- the refuser */
@@ -9,6 +10,9 @@
 static long due_in;  /* in how many requests one is refused; 0 for never */
 static long refused; /* how many were */
 static long asked;   /* how many were made */
+
+static long refusals;     /* how often a call answered CEDAR_NO_MEMORY */
+static long done_without; /* how often it did without the memory that was refused, and answered what was due */
 
 void *__real_malloc(size_t size);
 void *__real_realloc(void *at, size_t size);
@@ -237,13 +241,15 @@ static bool refused_at(size_t k, long n, uint32_t due, held *before, held *after
     uint32_t status = CALLS[k](&h);
     due_in = 0;
     bool was_refused = refused > 0;
-    if (was_refused) {
-        if (status != CEDAR_NO_MEMORY) printf("call %zu, request %ld: %u, not %u\n", k, n, status, CEDAR_NO_MEMORY);
-        CHECK(status == CEDAR_NO_MEMORY);
+    if (was_refused && status == CEDAR_NO_MEMORY) {
+        refusals++;
         CHECK(left_well(&h, before));
         put_back(&h, before);
         status = CALLS[k](&h);
+    } else if (was_refused) {
+        done_without++;
     }
+    if (status != due) printf("call %zu, request %ld: %u, not %u\n", k, n, status, due);
     CHECK(status == due);
     CHECK(ends_alike(&h, after));
     let_go(&h);
@@ -288,5 +294,6 @@ static void no_request(void) {
 int main(void) {
     for (size_t k = 0; k < sizeof CALLS / sizeof *CALLS; k++) in_turn(k);
     no_request();
+    printf("refused.c: %ld requests refused, of which %ld were done without\n", refusals + done_without, done_without);
     return counted();
 }

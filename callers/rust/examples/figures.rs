@@ -23,7 +23,7 @@ fn pairs() -> Vec<(String, String)> {
     let one = |ask: usize| {
         let child = 1 + ask * 7919 % (SIZE - 1);
         let above = parent(child).and_then(parent).unwrap_or(0);
-        let other = if ask % 2 == 0 {
+        let other = if ask & 1 == 0 {
             above
         } else {
             ask * 104_729 % SIZE
