@@ -1,22 +1,31 @@
 /* Stores of entities and policy sets of the Cedar authorization language, for callers in C.
  *
- * What is proved. Each function here has a contract over what is kept behind its handle, which the checker has proved of its
- * body: what a status says, what is written, what a handle holds afterwards, the comments below in short. It is proved for
- * callers that keep these rules, which no compiler checks:
+ * What is proved. Each function here has a contract over what is kept behind its handle, which the checker has proved
+ * of its body: what a status says, what is written, what a handle holds afterwards, the comments below in short. It is
+ * proved for callers that keep these rules, which no compiler checks:
  *
- * - A handle is zeroed before its first use (`cedar_store s = {0};`), is not copied or moved while it is open, and none of its
- *   bytes are written. Two handles that one call takes are two.
+ * - A handle is zeroed before its first use (`cedar_store s = {0};`), and none of its bytes are written. While it is
+ *   open it may be moved, if the old place is not used again, but is not copied. Two handles of one call are two.
  * - A handle stays on the thread that opened it. Handles of one thread share nothing with those of another.
- * - A pointer and a length are those of one array that is readable, or writable, whole, and initialised; the length is below
- *   2^63. The pointer is not null, also where the length is 0. What a call writes does not overlap what else it is given.
+ * - A pointer and a length are those of one array that is readable, or writable, whole, and initialised; the length is
+ *   below 2^63. The pointer is not null, also where the length is 0. What a call writes overlaps nothing else that it
+ *   is given.
  * - `malloc`, `realloc` and `free` are of one allocator and align to 16. No function is called from a signal handler.
  *
- * Who owns what. A handle owns what it holds: `cedar_store_free` and `cedar_policies_free` let go of it, once or any number of
- * times. All else that a call is given stays its caller's, and is not looked at once the call has answered. Answers are copied out.
+ * Who owns what. A handle owns what it holds: `cedar_store_free` and `cedar_policies_free` let go of it, once or any
+ * number of times. All else that a call is given stays its caller's, and is not looked at once the call has answered.
+ * Answers are copied out.
  *
- * Texts are bytes in UTF-8 without a zero at their end. A uid is written as the program writes it, as `A::B::"c"`: a type, which is
- * a name, and an eid in quotes, escaped. An id of a policy or a template is any text, the empty one too, and is not escaped.
- * A list of uids is one text and its parts: where each uid starts, and where it ends. Parts may overlap, and may come twice. */
+ * Texts are bytes in UTF-8 without a zero at their end. A uid is written as the program writes it, as `A::B::"c"`: a
+ * type, which is a name, and an eid in quotes, escaped. An id of a policy or a template is any text, the empty one too,
+ * and is not escaped. A list of uids is one text and its parts: where each uid starts, and where it ends. Parts may
+ * overlap, and may come twice.
+ *
+ * The key. Two numbers, `seed` and `key`, are the key by which the maps of a handle hash, of its copies and slices too.
+ * They keep whoever picks ids from picking such as collide, which makes each call slow. So they are to be numbers that
+ * whoever picks ids does not know, as `getrandom` gives. Zeros are a key as any other, but everybody's: they are for
+ * ids that no stranger picks. No answer depends on the key, but for which of several cycles or of several missing
+ * ancestors a refusal names. */
 #ifndef CEDAR_H
 #define CEDAR_H
 #include <stdbool.h>
@@ -50,23 +59,23 @@ typedef struct cedar_edge {
     size_t to;
 } cedar_edge;
 
-/* What a call answers. Each function names those that it gives; all may give CEDAR_NO_MEMORY but those that take no memory. */
+/* What a call answers. Each function names those that it gives. */
 typedef enum cedar_status {
     CEDAR_OK = 0,
-    CEDAR_NO_MEMORY = 1,    /* a request for memory was refused */
+    CEDAR_NO_MEMORY = 1,    /* a request for memory was refused; from each call but those that take no memory */
     CEDAR_CLOSED = 2,       /* a handle is closed */
-    CEDAR_BAD_ARGUMENT = 3, /* a part does not lie within its text; a place, a count, a mode, an effect or a number of slots is out of range */
+    CEDAR_BAD_ARGUMENT = 3, /* a part is not within its text, or a place, a mode or an effect is out of range */
     CEDAR_NOT_A_UID = 4,    /* a text is no uid's */
     CEDAR_NOT_UTF8 = 5,     /* the bytes of an id are not UTF-8 */
     CEDAR_NO_ENTITY = 6,    /* the store has no entity with this uid */
     /* The store refuses: the text of each is given by `cedar_store_refusal`, with the uids that it names. */
-    CEDAR_DUPLICATE = 7,          /* two versions of an entity differ; its uid */
-    CEDAR_CYCLE = 8,              /* a uid is among its own ancestors; that uid */
-    CEDAR_NOT_CLOSED = 9,         /* an ancestor of an ancestor is missing; the entity, its ancestor, and the one that is missing */
-    CEDAR_SELF_ANCESTOR = 10,     /* an entity is among its own ancestors; its uid */
-    CEDAR_DUPLICATE_ANCESTOR = 11,/* an ancestor is a parent and an indirect ancestor; the entity and the ancestor */
-    CEDAR_ACTION_PARENT = 12,     /* an action has an ancestor that is none; the action and the ancestor */
-    CEDAR_RESERVED_KEY = 13,      /* a key of a record is reserved; the key */
+    CEDAR_DUPLICATE = 7,      /* two versions of an entity differ; its uid */
+    CEDAR_CYCLE = 8,          /* a uid is among its own ancestors; that uid */
+    CEDAR_NOT_CLOSED = 9,     /* an ancestor of an ancestor is missing; the entity, its ancestor, the missing one */
+    CEDAR_SELF_ANCESTOR = 10, /* an entity is among its own ancestors; its uid */
+    CEDAR_DUPLICATE_ANCESTOR = 11, /* an ancestor is a parent and an indirect ancestor; the entity and the ancestor */
+    CEDAR_ACTION_PARENT = 12,      /* an action has an ancestor that is none; the action and the ancestor */
+    CEDAR_RESERVED_KEY = 13,       /* a key of a record is reserved; the key */
     /* The policy set refuses: the text of each is given by `cedar_policies_refusal`, with the id that it names. */
     CEDAR_OCCUPIED = 14,         /* an id is bound already */
     CEDAR_NO_SUCH_TEMPLATE = 15, /* there is no template of this id to link */
@@ -85,58 +94,63 @@ typedef enum cedar_status {
 /* How a call on a store sees to it that ancestors are closed. */
 typedef enum cedar_mode {
     CEDAR_COMPUTE = 0, /* the ancestors of what is touched are computed; a cycle is refused */
-    CEDAR_ENFORCE = 1, /* the whole store is checked, and refused where an ancestor is missing or an entity is its own */
+    CEDAR_ENFORCE = 1, /* the store is checked, and refused where an ancestor is missing or an entity is its own */
     CEDAR_ASSUME = 2   /* nothing is done */
 } cedar_mode;
 
 /* ---- the program and uids: no handle */
 
-/* Takes all lines of an input, as the program does, and writes as much of the output as there is room for. `told` has the length
- * of all of it and `ended` the status of the run, 0 or 2. CEDAR_OK, or CEDAR_NO_MEMORY, after which the three say nothing. */
-uint32_t cedar_run(const uint8_t *input, size_t input_len, uint8_t *out, size_t room, size_t *told, uint32_t *ended);
+/* Takes all lines of an input, as the program does, with `seed` and `key` as the key of its maps, and writes as much of
+ * the output as there is room for. `told` has the length of all of it and `ended` the status of the run, 0 or 2.
+ * Another call, with more room, makes the same output anew. CEDAR_OK, or CEDAR_NO_MEMORY, after which `out`, `told` and
+ * `ended` say nothing. Any thread may call it. */
+uint32_t cedar_run(const uint8_t *input, size_t input_len, uint64_t seed, uint64_t key, uint8_t *out, size_t room,
+                   size_t *told, uint32_t *ended);
 
-/* Whether a text is a uid's: CEDAR_OK or CEDAR_NOT_A_UID, or CEDAR_NO_MEMORY. */
+/* Whether a text is a uid's: CEDAR_OK or CEDAR_NOT_A_UID, or CEDAR_NO_MEMORY. Any thread may call it. */
 uint32_t cedar_uid_check(const uint8_t *text, size_t text_len);
 
 /* ---- stores */
 
-/* The store without entities goes into a handle; what it held before is freed. CEDAR_OK, or CEDAR_NO_MEMORY, which leaves the
- * handle as it was. */
-uint32_t cedar_store_new(cedar_store *s);
+/* The store without entities, whose map hashes by `seed` and `key`, goes into a handle; what that held before is freed.
+ * CEDAR_OK, or CEDAR_NO_MEMORY, which leaves the handle as it was. */
+uint32_t cedar_store_new(cedar_store *s, uint64_t seed, uint64_t key);
 
-/* Frees what a handle holds, and closes it. A closed one stays closed. */
+/* Frees what a handle holds, and closes it. A closed one stays closed. Takes no memory. */
 void cedar_store_free(cedar_store *s);
 
-/* The store of some entities, in the place of that which the handle holds. The first `count` of the uids are the entities'; an edge
- * says that the uid at `to` is a parent of the entity at `from`. An entity that comes twice is one, if both have the same parents.
- * No attributes and no tags.
+/* The store of some entities, in the place of that which the handle holds. The first `count` of the uids are the
+ * entities'; an edge says that the uid at `to` is a parent of the entity at `from`. An entity that comes twice is one,
+ * if both have the same parents. No attributes and no tags.
  *
  * CEDAR_OK: the ancestors of each entity are exactly the uids that it reaches over parents (in mode CEDAR_COMPUTE).
  * CEDAR_CLOSED.
- * CEDAR_BAD_ARGUMENT: a part is not within the text, `count` is more than there are parts, an edge comes from no entity or leads to
- *   no uid, or the mode is none. CEDAR_NOT_A_UID: a part is no uid's text. Both leave the store as it was.
- * CEDAR_DUPLICATE: an entity comes twice with other parents. CEDAR_CYCLE, and in mode CEDAR_ENFORCE CEDAR_NOT_CLOSED: as they
- *   say. THE STORE IS WITHOUT ENTITIES THEN: who wants the one before copies it first.
+ * CEDAR_BAD_ARGUMENT: a part is not within the text, `count` is more than there are parts, an edge comes from no entity
+ *   or leads to no uid, or the mode is none. CEDAR_NOT_A_UID: a part is no uid's text. Both leave the store as it was.
+ * CEDAR_DUPLICATE: an entity comes twice with other parents. CEDAR_CYCLE, and in mode CEDAR_ENFORCE CEDAR_NOT_CLOSED:
+ *   as they say. THE STORE IS WITHOUT ENTITIES THEN: who wants the one before copies it first.
  * CEDAR_NO_MEMORY: the store is as it was, or is without entities; `cedar_store_len` says which. */
-uint32_t cedar_store_build(cedar_store *s, const uint8_t *text, size_t text_len, const cedar_span *uids, size_t uids_len,
-                           size_t count, const cedar_edge *edges, size_t edges_len, uint32_t mode);
+uint32_t cedar_store_build(cedar_store *s, const uint8_t *text, size_t text_len, const cedar_span *uids,
+                           size_t uids_len, size_t count, const cedar_edge *edges, size_t edges_len, uint32_t mode);
 
-/* Adds entities, given as to `cedar_store_build`. One that the store has already has to have the same ancestors. The statuses, and
- * what they leave, are those of `cedar_store_build`: a CEDAR_DUPLICATE, CEDAR_CYCLE or CEDAR_NOT_CLOSED leaves the store without
- * entities. */
+/* Adds entities, given as to `cedar_store_build`. One that the store has already has to have the same ancestors. The
+ * statuses, and what they leave, are those of `cedar_store_build`: a CEDAR_DUPLICATE, CEDAR_CYCLE or CEDAR_NOT_CLOSED
+ * leaves the store without entities. */
 uint32_t cedar_store_add(cedar_store *s, const uint8_t *text, size_t text_len, const cedar_span *uids, size_t uids_len,
                          size_t count, const cedar_edge *edges, size_t edges_len, uint32_t mode);
 
-/* Puts entities, given as to `cedar_store_build`, into the store, each in the place of any with its uid; of several with one uid the
- * last counts. The statuses are those of `cedar_store_build` but for CEDAR_DUPLICATE, and leave what they leave there. */
-uint32_t cedar_store_upsert(cedar_store *s, const uint8_t *text, size_t text_len, const cedar_span *uids, size_t uids_len,
-                            size_t count, const cedar_edge *edges, size_t edges_len, uint32_t mode);
+/* Puts entities, given as to `cedar_store_build`, into the store, each in the place of any with its uid; of several
+ * with one uid the last counts. The statuses are those of `cedar_store_build` but for CEDAR_DUPLICATE, and leave what
+ * they leave there. */
+uint32_t cedar_store_upsert(cedar_store *s, const uint8_t *text, size_t text_len, const cedar_span *uids,
+                            size_t uids_len, size_t count, const cedar_edge *edges, size_t edges_len, uint32_t mode);
 
-/* Takes the entities with these uids out; they are no parents either then. Uids that the store lacks change nothing. CEDAR_OK,
- * CEDAR_CLOSED; CEDAR_BAD_ARGUMENT and CEDAR_NOT_A_UID leave the store as it was; CEDAR_CYCLE and CEDAR_NOT_CLOSED, which come
- * only over a store that was not computed, leave it without entities; CEDAR_NO_MEMORY leaves it as it was, or without entities. */
-uint32_t cedar_store_remove(cedar_store *s, const uint8_t *text, size_t text_len, const cedar_span *uids, size_t uids_len,
-                            uint32_t mode);
+/* Takes the entities with these uids out; they are no parents either then. Uids that the store lacks change nothing.
+ * CEDAR_OK, CEDAR_CLOSED; CEDAR_BAD_ARGUMENT and CEDAR_NOT_A_UID leave the store as it was; CEDAR_CYCLE and
+ * CEDAR_NOT_CLOSED, which come only over a store that was not computed, leave it without entities; CEDAR_NO_MEMORY
+ * leaves it as it was, or without entities. */
+uint32_t cedar_store_remove(cedar_store *s, const uint8_t *text, size_t text_len, const cedar_span *uids,
+                            size_t uids_len, uint32_t mode);
 
 /* How many entities there are; a closed handle has none. Takes no memory. */
 size_t cedar_store_len(cedar_store *s);
@@ -145,96 +159,115 @@ size_t cedar_store_len(cedar_store *s);
  * CEDAR_NOT_A_UID, CEDAR_NO_MEMORY. The store stays as it is, as it does in all calls below. */
 uint32_t cedar_store_has(cedar_store *s, const uint8_t *uid, size_t uid_len, bool *answer);
 
-/* Whether the entity with the first uid is a descendant of the second, over parents, however many, in `answer`, which is written at
- * CEDAR_OK alone. CEDAR_OK, CEDAR_CLOSED, CEDAR_NOT_A_UID where one of the texts is no uid's, CEDAR_NO_ENTITY where the store has
- * no entity with the first uid, CEDAR_NO_MEMORY. */
+/* Whether the entity with the first uid is a descendant of the second, over parents, however many, in `answer`, which
+ * is written at CEDAR_OK alone. CEDAR_OK, CEDAR_CLOSED, CEDAR_NOT_A_UID where one of the texts is no uid's,
+ * CEDAR_NO_ENTITY where the store has no entity with the first uid, CEDAR_NO_MEMORY. */
 uint32_t cedar_store_is_descendant_of(cedar_store *s, const uint8_t *child, size_t child_len, const uint8_t *ancestor,
                                       size_t ancestor_len, bool *answer);
 
-/* The ancestors, or the parents, of the entity with a uid become the answer of the handle: their texts, in the order of uids, each
- * once. CEDAR_OK, CEDAR_CLOSED, CEDAR_NOT_A_UID, CEDAR_NO_ENTITY, CEDAR_NO_MEMORY; any but the first leaves the answer. */
+/* The ancestors, or the parents, of the entity with a uid become the answer of the handle: their texts, in the order of
+ * uids, each once. CEDAR_OK, CEDAR_CLOSED, CEDAR_NOT_A_UID, CEDAR_NO_ENTITY, CEDAR_NO_MEMORY; any but the first leaves
+ * the answer. */
 uint32_t cedar_store_ancestors(cedar_store *s, const uint8_t *uid, size_t uid_len);
 uint32_t cedar_store_parents(cedar_store *s, const uint8_t *uid, size_t uid_len);
 
-/* Looks for what is wrong with the store: with its ancestors, as CEDAR_ENFORCE does, and then with the entity that has the least uid
- * of those with a fault. CEDAR_OK where nothing is; CEDAR_CLOSED, CEDAR_NO_MEMORY; else the status of the fault, from CEDAR_CYCLE
- * to CEDAR_RESERVED_KEY. */
+/* Looks for what is wrong with the store: with its ancestors, as CEDAR_ENFORCE does, and then with the entity that has
+ * the least uid of those with a fault. CEDAR_OK where nothing is; CEDAR_CLOSED, CEDAR_NO_MEMORY; else the status of the
+ * fault, from CEDAR_CYCLE to CEDAR_RESERVED_KEY. */
 uint32_t cedar_store_validate(cedar_store *s);
 
-/* The slice of a store at some uids goes into another handle, and what that held before is freed: the entities with these uids,
- * and those that the store has among the ancestors of one of these. CEDAR_OK, CEDAR_CLOSED where `from` is closed,
- * CEDAR_BAD_ARGUMENT, CEDAR_NOT_A_UID, CEDAR_NO_MEMORY; any but the first leaves `to` as it was. */
-uint32_t cedar_store_slice(cedar_store *from, cedar_store *to, const uint8_t *text, size_t text_len, const cedar_span *uids,
-                           size_t uids_len);
+/* The slice of a store at some uids goes into another handle, and what that held before is freed: the entities with
+ * these uids, and those that the store has among the ancestors of one of these. CEDAR_OK, CEDAR_CLOSED where `from` is
+ * closed, CEDAR_BAD_ARGUMENT, CEDAR_NOT_A_UID, CEDAR_NO_MEMORY; any but the first leaves `to` as it was. */
+uint32_t cedar_store_slice(cedar_store *from, cedar_store *to, const uint8_t *text, size_t text_len,
+                           const cedar_span *uids, size_t uids_len);
 
-/* A copy of a store, which shares its entities, goes into another handle of this thread, and what that held before is freed.
- * CEDAR_OK, CEDAR_CLOSED where `from` is closed, CEDAR_NO_MEMORY; any but the first leaves `to` as it was. */
+/* A copy of a store, which shares its entities, goes into another handle of this thread, and what that held before is
+ * freed. CEDAR_OK, CEDAR_CLOSED where `from` is closed, CEDAR_NO_MEMORY; any but the first leaves `to` as it was. */
 uint32_t cedar_store_copy(cedar_store *from, cedar_store *to);
 
-/* Whether two stores have the same uids and under each of them entities with the same ancestors, in `answer`, which is written at
- * CEDAR_OK alone. CEDAR_OK, CEDAR_CLOSED. Takes no memory. */
+/* Whether two stores have the same uids and under each of them entities with the same ancestors, in `answer`, which is
+ * written at CEDAR_OK alone. CEDAR_OK, CEDAR_CLOSED. Takes no memory. */
 uint32_t cedar_store_equal(cedar_store *one, cedar_store *other, bool *answer);
 
-/* Copies out the bytes of the texts of the last answer, one after another, from byte `from` on, as many as there is room for; and
- * where each text starts and ends in them, from text `from` on. Both tell how many there are in all; a closed handle has none. They
- * are asked, in turn and as often as is wanted, before any other call on the handle. They take no memory. */
+/* Copies out the bytes of the texts of the last answer, one after another, from byte `from` on, as many as there is
+ * room for; and where each text starts and ends in them, from text `from` on. Both tell how many there are in all; a
+ * closed handle has none. The last answer is that of the last `cedar_store_ancestors` or `cedar_store_parents` at
+ * CEDAR_OK: other calls leave it, but those that put a store into the handle, which has none. They take no memory. */
 size_t cedar_store_answer(cedar_store *s, size_t from, uint8_t *out, size_t room);
 size_t cedar_store_answer_spans(cedar_store *s, size_t from, cedar_span *out, size_t room);
 
-/* Copies out the text of the last refusal of the store, from CEDAR_DUPLICATE to CEDAR_RESERVED_KEY, as much as there is room for,
- * and tells how long it is: words, and behind a blank each the uids that the refusal names. It is asked before any other call on
- * the handle. Takes no memory. */
+/* Copies out the text of the last refusal of the store, from CEDAR_DUPLICATE to CEDAR_RESERVED_KEY, as much as there is
+ * room for, and tells how long it is: words, and behind a blank each the uids that the refusal names. Calls at CEDAR_OK
+ * leave it, but those that put a store into the handle, which has none. Takes no memory. */
 size_t cedar_store_refusal(cedar_store *s, uint8_t *out, size_t room);
 
 /* ---- policy sets. A call that is refused, for memory too, leaves the set as it was. */
 
-/* The set without policies, and letting go of a set: as of a store. */
-uint32_t cedar_policies_new(cedar_policies *p);
+/* The set without policies, whose maps hash by `seed` and `key`, goes into a handle; what that held before is freed.
+ * CEDAR_OK, or CEDAR_NO_MEMORY, which leaves the handle as it was. */
+uint32_t cedar_policies_new(cedar_policies *p, uint64_t seed, uint64_t key);
+
+/* Frees what a handle holds, and closes it. A closed one stays closed. Takes no memory. */
 void cedar_policies_free(cedar_policies *p);
 
-/* A static policy with an id and an effect (0 permits, 1 forbids), which constrains nothing, joins the set. CEDAR_OK, CEDAR_CLOSED,
- * CEDAR_BAD_ARGUMENT where the effect is none, CEDAR_NOT_UTF8, CEDAR_OCCUPIED, CEDAR_NO_MEMORY. */
+/* A static policy with an id and an effect (0 permits, 1 forbids), which constrains nothing, joins the set. CEDAR_OK,
+ * CEDAR_CLOSED, CEDAR_BAD_ARGUMENT where the effect is none, CEDAR_NOT_UTF8, CEDAR_OCCUPIED, CEDAR_NO_MEMORY. */
 uint32_t cedar_policies_add_static(cedar_policies *p, const uint8_t *id, size_t id_len, uint32_t effect);
 
-/* A template with an id, an effect and slots joins the set. The slots are a sum: 1 for the principal's, 2 for the action's, 4 for the
- * resource's. CEDAR_OK, CEDAR_CLOSED, CEDAR_BAD_ARGUMENT where the effect or the slots are none, CEDAR_NOT_UTF8, CEDAR_OCCUPIED,
- * CEDAR_NO_MEMORY. */
-uint32_t cedar_policies_add_template(cedar_policies *p, const uint8_t *id, size_t id_len, uint32_t effect, uint32_t slots);
+/* A template with an id, an effect and slots joins the set. The slots are a sum: 1 for the principal's, 2 for the
+ * action's, 4 for the resource's. CEDAR_OK, CEDAR_CLOSED, CEDAR_BAD_ARGUMENT where the effect or the slots are none,
+ * CEDAR_NOT_UTF8, CEDAR_OCCUPIED, CEDAR_NO_MEMORY. */
+uint32_t cedar_policies_add_template(cedar_policies *p, const uint8_t *id, size_t id_len, uint32_t effect,
+                                     uint32_t slots);
 
-/* A link of a template joins the set under an id. Three parts of a text say what the principal's, the action's and the resource's
- * slot are bound to; an empty part leaves its slot unbound. CEDAR_OK, CEDAR_CLOSED, CEDAR_BAD_ARGUMENT where there are not three
- * parts or one is not within the text, CEDAR_NOT_A_UID, CEDAR_NOT_UTF8, CEDAR_NO_MEMORY; and in this order
- * CEDAR_NO_SUCH_TEMPLATE, CEDAR_ARITY, CEDAR_NOT_AN_ACTION, CEDAR_ID_CONFLICT. */
-uint32_t cedar_policies_link(cedar_policies *p, const uint8_t *template_id, size_t template_id_len, const uint8_t *id, size_t id_len,
-                             const uint8_t *text, size_t text_len, const cedar_span *values, size_t values_len);
+/* A link of a template joins the set under an id. Three parts of a text say what the principal's, the action's and the
+ * resource's slot are bound to; an empty part leaves its slot unbound. CEDAR_OK, CEDAR_CLOSED, CEDAR_BAD_ARGUMENT where
+ * there are not three parts or one is not within the text, CEDAR_NOT_A_UID, CEDAR_NOT_UTF8, CEDAR_NO_MEMORY; and in
+ * this order CEDAR_NO_SUCH_TEMPLATE, CEDAR_ARITY, CEDAR_NOT_AN_ACTION, CEDAR_ID_CONFLICT. */
+uint32_t cedar_policies_link(cedar_policies *p, const uint8_t *template_id, size_t template_id_len, const uint8_t *id,
+                             size_t id_len, const uint8_t *text, size_t text_len, const cedar_span *values,
+                             size_t values_len);
 
-/* The link with an id goes. CEDAR_OK, CEDAR_CLOSED, CEDAR_NOT_UTF8, CEDAR_NO_LINK, CEDAR_NOT_A_LINK, CEDAR_NO_MEMORY. */
+/* The link with an id goes. CEDAR_OK, CEDAR_CLOSED, CEDAR_NOT_UTF8, CEDAR_NO_LINK, CEDAR_NOT_A_LINK, CEDAR_NO_MEMORY.
+ */
 uint32_t cedar_policies_unlink(cedar_policies *p, const uint8_t *id, size_t id_len);
 
-/* The static policy with an id goes. CEDAR_OK, CEDAR_CLOSED, CEDAR_NOT_UTF8, CEDAR_NO_STATIC, CEDAR_NOT_STATIC, CEDAR_NO_MEMORY. */
+/* The static policy with an id goes. CEDAR_OK, CEDAR_CLOSED, CEDAR_NOT_UTF8, CEDAR_NO_STATIC, CEDAR_NOT_STATIC,
+ * CEDAR_NO_MEMORY. */
 uint32_t cedar_policies_remove_static(cedar_policies *p, const uint8_t *id, size_t id_len);
 
 /* The template with an id goes. CEDAR_OK, CEDAR_CLOSED, CEDAR_NOT_UTF8, CEDAR_NO_TEMPLATE, CEDAR_WITH_LINKS,
  * CEDAR_NOT_A_TEMPLATE, CEDAR_NO_MEMORY. */
 uint32_t cedar_policies_remove_template(cedar_policies *p, const uint8_t *id, size_t id_len);
 
-/* What another set binds joins the set; the other stays as it is. An id that both bind to different things conflicts: with `rename`
- * it gets the next of policy0, policy1 and so on that neither binds, and else the first is refused. At CEDAR_OK the answer of the
- * handle is the renaming: each id that was renamed, and behind it its new one. CEDAR_OK, CEDAR_CLOSED where one of the two is
- * closed, CEDAR_OCCUPIED, CEDAR_NO_MEMORY. */
+/* What another set binds joins the set; the other stays as it is. An id that both bind to different things conflicts:
+ * with `rename` it gets the next of policy0, policy1 and so on that neither binds, and else the first is refused. At
+ * CEDAR_OK the answer of the handle is the renaming: each id that was renamed, and behind it its new one. CEDAR_OK,
+ * CEDAR_CLOSED where one of the two is closed, CEDAR_OCCUPIED, CEDAR_NO_MEMORY. */
 uint32_t cedar_policies_merge(cedar_policies *p, cedar_policies *other, bool rename);
 
-/* The ids of the bodies (static policies and templates), for 0, or of the policies (static policies and links), for 1, become the
- * answer of the handle, in the order in which they joined. CEDAR_OK, CEDAR_CLOSED, CEDAR_BAD_ARGUMENT, CEDAR_NO_MEMORY; any but
- * the first leaves the answer. */
+/* The ids of the bodies (static policies and templates), for 0, or of the policies (static policies and links), for 1,
+ * become the answer of the handle, in the order in which they joined. CEDAR_OK, CEDAR_CLOSED, CEDAR_BAD_ARGUMENT,
+ * CEDAR_NO_MEMORY; any but the first leaves the answer. */
 uint32_t cedar_policies_ids(cedar_policies *p, uint32_t kind);
 
-/* A copy; whether two sets bind equal things in equal orders; the last answer, its places, and the text of the last refusal, from
- * CEDAR_OCCUPIED on, which is words, a blank, and the id, the slots or the uid that it names: as of a store. */
+/* A copy of a set goes into another handle of this thread, and what that held before is freed. CEDAR_OK, CEDAR_CLOSED
+ * where `from` is closed, CEDAR_NO_MEMORY; any but the first leaves `to` as it was. */
 uint32_t cedar_policies_copy(cedar_policies *from, cedar_policies *to);
+
+/* Whether two sets bind equal things in equal orders, in `answer`, which is written at CEDAR_OK alone. CEDAR_OK,
+ * CEDAR_CLOSED. Takes no memory. */
 uint32_t cedar_policies_equal(cedar_policies *one, cedar_policies *other, bool *answer);
+
+/* Copy out the last answer, the bytes of its texts and where each starts and ends in them, as the two of a store do.
+ * The last answer is that of the last `cedar_policies_ids` or `cedar_policies_merge` at CEDAR_OK. */
 size_t cedar_policies_answer(cedar_policies *p, size_t from, uint8_t *out, size_t room);
 size_t cedar_policies_answer_spans(cedar_policies *p, size_t from, cedar_span *out, size_t room);
+
+/* Copies out the text of the last refusal of the set, from CEDAR_OCCUPIED to CEDAR_NOT_STATIC, as much as there is room
+ * for, and tells how long it is: words, a blank, and the id, the slots or the uid that the refusal names. Calls at
+ * CEDAR_OK leave it, but those that put a set into the handle, which has none. Takes no memory. */
 size_t cedar_policies_refusal(cedar_policies *p, uint8_t *out, size_t room);
 
 #ifdef __cplusplus

@@ -1,18 +1,25 @@
 """Stores of entities and policy sets of the Cedar authorization language.
 
-The calls are those of a static library whose functions are proved, up to the boundary that `cedar.h` describes; this module lays lists
-out for it, copies answers out of it, and lets go of what it holds. It is tested, not proved. The shared library is the one that
-CEDAR_LIBRARY names or, where nothing does, `libcedar.so` beside this file.
+The calls are those of a static library whose functions are proved, up to the boundary that `cedar.h` describes; this
+module lays lists out for it, copies answers out of it, and lets go of what it holds. It is tested, not proved. The
+shared library is the one that CEDAR_LIBRARY names or, where nothing does, `libcedar.so` beside this file.
 
-Uids are texts as `A::B::"c"`: a type, and an eid in quotes, escaped. Ids of policies are any text. A store or a set is of the thread
-that made it, and another thread's call raises `WrongThread`.
+Uids are texts as `A::B::"c"`: a type, and an eid in quotes, escaped. Ids of policies are any text. A store or a set is
+of the thread that made it, and another thread's call raises `WrongThread`; one that another thread lets go of last is
+not freed. Want of memory raises `MemoryError`.
+
+The maps of a store or a set hash by a key of 16 bytes, drawn by `os.urandom` where none is given, so that whoever picks
+ids cannot pick such as collide. No answer depends on it, but for which of several cycles or of several missing
+ancestors a refusal names.
 """
 from __future__ import annotations
 
 import ctypes
+import enum
 import os
+import struct
 import threading
-from typing import Iterable, Mapping, Optional
+from typing import Any, Callable, Iterable, Mapping, Optional, Union
 
 __all__ = ["Closed", "Effect", "Mode", "Policies", "Refused", "Store", "WrongThread", "is_uid", "run"]
 
@@ -30,6 +37,7 @@ class _Edge(ctypes.Structure):
 
 
 _H, _B, _N, _U = ctypes.POINTER(_Handle), ctypes.c_char_p, ctypes.c_size_t, ctypes.c_uint32
+_KEY = [ctypes.c_uint64, ctypes.c_uint64]
 _SPANS, _EDGES, _TRUTH = ctypes.POINTER(_Span), ctypes.POINTER(_Edge), ctypes.POINTER(ctypes.c_bool)
 _TEXT = [_B, _N]
 _LISTS = _TEXT + [_SPANS, _N, _N, _EDGES, _N, _U]
@@ -39,7 +47,7 @@ def _load() -> ctypes.CDLL:
     path = os.environ.get("CEDAR_LIBRARY") or os.path.join(os.path.dirname(os.path.abspath(__file__)), "libcedar.so")
     library = ctypes.CDLL(os.path.abspath(path))
     declared = {
-        "run": (_U, _TEXT + [_B, _N, ctypes.POINTER(_N), ctypes.POINTER(_U)]),
+        "run": (_U, _TEXT + _KEY + [_B, _N, ctypes.POINTER(_N), ctypes.POINTER(_U)]),
         "uid_check": (_U, _TEXT),
         "store_build": (_U, [_H] + _LISTS),
         "store_add": (_U, [_H] + _LISTS),
@@ -62,7 +70,7 @@ def _load() -> ctypes.CDLL:
         "policies_ids": (_U, [_H, _U]),
     }
     for kind in ("store", "policies"):
-        declared[kind + "_new"] = (_U, [_H])
+        declared[kind + "_new"] = (_U, [_H] + _KEY)
         declared[kind + "_free"] = (None, [_H])
         declared[kind + "_copy"] = (_U, [_H, _H])
         declared[kind + "_equal"] = (_U, [_H, _H, _TRUTH])
@@ -87,22 +95,30 @@ class WrongThread(Exception):
 
 
 class Refused(Exception):
-    """A refused call. `reason` is a word for the status of `cedar.h`; the text names the uids or the id that it is about."""
+    """A refused call. `reason` is a word for the status of `cedar.h`; the text names what it is about."""
 
     def __init__(self, reason: str, text: str) -> None:
         super().__init__(text)
         self.reason = reason
 
 
-_REASONS = {
-    3: "bad argument", 4: "not a uid", 5: "not UTF-8", 6: "no entity", 7: "duplicate", 8: "cycle", 9: "not closed",
-    10: "self ancestor", 11: "duplicate ancestor", 12: "action parent", 13: "reserved key", 14: "occupied", 15: "no such template",
-    16: "arity", 17: "not an action", 18: "id conflict", 19: "no link", 20: "not a link", 21: "no template", 22: "with links",
-    23: "not a template", 24: "no static", 25: "not static",
-}
+_REASONS = dict(
+    enumerate(
+        (
+            "bad argument, not a uid, not UTF-8, no entity, duplicate, cycle, not closed, self ancestor, "
+            "duplicate ancestor, action parent, reserved key, occupied, no such template, arity, not an action, "
+            "id conflict, no link, not a link, no template, with links, not a template, no static, not static"
+        ).split(", "),
+        3,
+    )
+)
 
 
-class Mode:
+# Entities as they are handed in: uids with their parents.
+Entities = Union[Mapping[str, Iterable[str]], Iterable[tuple[str, Iterable[str]]]]
+
+
+class Mode(enum.IntEnum):
     """How a call on a store sees to it that ancestors are closed."""
 
     COMPUTE = 0
@@ -110,11 +126,19 @@ class Mode:
     ASSUME = 2
 
 
-class Effect:
+class Effect(enum.IntEnum):
     """Whether a policy permits or forbids."""
 
     PERMIT = 0
     FORBID = 1
+
+
+def _halves(key: Optional[bytes]) -> tuple[int, int]:
+    """A key as the two numbers by which it crosses."""
+    drawn = os.urandom(16) if key is None else bytes(key)
+    if len(drawn) != 16:
+        raise ValueError("a key has 16 bytes")
+    return struct.unpack("<QQ", drawn)
 
 
 def _text(text: str) -> tuple[bytes, int]:
@@ -136,12 +160,13 @@ def _laid(uids: Iterable[str]) -> tuple[bytes, int, ctypes.Array, int]:
 class _Held:
     _kind = ""
 
-    def __init__(self) -> None:
+    def __init__(self, *, key: Optional[bytes] = None) -> None:
+        halves = _halves(key)
         self._handle = _Handle()
         self._thread = threading.get_ident()
-        self._judged(self._function("new")(self._handle))
+        self._judged(self._function("new")(self._handle, *halves))
 
-    def _function(self, name: str):
+    def _function(self, name: str) -> Callable[..., Any]:
         return getattr(_library, f"cedar_{self._kind}_{name}")
 
     def _here(self) -> _Handle:
@@ -174,7 +199,8 @@ class _Held:
         count = self._function("answer_spans")(self._handle, 0, (_Span * 1)(), 0)
         spans = (_Span * max(count, 1))()
         self._function("answer_spans")(self._handle, 0, spans, count)
-        return [out.raw[span.start : span.end].decode("utf-8", "replace") for span in spans[:count]]
+        texts = out.raw
+        return [texts[span.start : span.end].decode("utf-8", "replace") for span in spans[:count]]
 
     def _truth(self, name: str, *arguments) -> bool:
         answer = ctypes.c_bool(False)
@@ -217,15 +243,19 @@ class _Held:
 
 
 class Store(_Held):
-    """A store of entities: uids with their parents. Entities are handed in as a mapping from uids to parents, or as pairs."""
+    """A store of entities: uids with their parents, handed in as a mapping from uids to parents, or as pairs.
+
+    A refused `add`, `upsert` or `remove` leaves the store without entities, as its text says; `not a uid` and `bad
+    argument` leave it as it was, and `MemoryError` the one or the other. `copy` before keeps the old one.
+    """
 
     _kind = "store"
 
-    def __init__(self, entities: Mapping[str, Iterable[str]] | Iterable[tuple[str, Iterable[str]]] = (), mode: int = Mode.COMPUTE) -> None:
-        super().__init__()
+    def __init__(self, entities: Entities = (), mode: int = Mode.COMPUTE, *, key: Optional[bytes] = None) -> None:
+        super().__init__(key=key)
         self._changed("build", entities, mode)
 
-    def _changed(self, name: str, entities, mode: int) -> None:
+    def _changed(self, name: str, entities: Entities, mode: int) -> None:
         pairs = list(entities.items() if isinstance(entities, Mapping) else entities)
         uids = [uid for uid, _ in pairs]
         places: dict[str, int] = {}
@@ -241,16 +271,16 @@ class Store(_Held):
         laid = (_Edge * max(len(edges), 1))(*edges)
         self._call(name, *_laid(uids), len(pairs), laid, len(edges), mode)
 
-    def add(self, entities, mode: int = Mode.COMPUTE) -> None:
-        """Adds entities. One that is there already has to have the same ancestors; a refusal but `not a uid` empties the store."""
+    def add(self, entities: Entities, mode: int = Mode.COMPUTE) -> None:
+        """Adds entities. One that is there already has to have the same ancestors, and changes nothing."""
         self._changed("add", entities, mode)
 
-    def upsert(self, entities, mode: int = Mode.COMPUTE) -> None:
-        """Puts entities in the place of any with their uids; a refusal but `not a uid` empties the store."""
+    def upsert(self, entities: Entities, mode: int = Mode.COMPUTE) -> None:
+        """Puts entities in the place of any with their uids; of several with one uid the last counts."""
         self._changed("upsert", entities, mode)
 
     def remove(self, uids: Iterable[str], mode: int = Mode.COMPUTE) -> None:
-        """Takes entities out; they are no parents either then."""
+        """Takes entities out; they are no parents either then. Uids that the store lacks change nothing."""
         self._call("remove", *_laid(uids), mode)
 
     def __len__(self) -> int:
@@ -293,14 +323,32 @@ class Policies(_Held):
         """A static policy, which constrains nothing, joins."""
         self._call("add_static", *_text(id), effect)
 
-    def add_template(self, id: str, effect: int = Effect.PERMIT, *, principal: bool = False, action: bool = False, resource: bool = False) -> None:
+    def add_template(
+        self,
+        id: str,
+        effect: int = Effect.PERMIT,
+        *,
+        principal: bool = False,
+        action: bool = False,
+        resource: bool = False,
+    ) -> None:
         """A template with these slots joins."""
         self._call("add_template", *_text(id), effect, principal + 2 * action + 4 * resource)
 
-    def link(self, template: str, id: str, *, principal: Optional[str] = None, action: Optional[str] = None, resource: Optional[str] = None) -> None:
+    def link(
+        self,
+        template: str,
+        id: str,
+        *,
+        principal: Optional[str] = None,
+        action: Optional[str] = None,
+        resource: Optional[str] = None,
+    ) -> None:
         """A link of a template joins, with these uids in its slots."""
-        values = _laid([principal or "", action or "", resource or ""])
-        self._call("link", *_text(template), *_text(id), *values)
+        values = (principal, action, resource)
+        if "" in values:
+            raise Refused(_REASONS[4], _REASONS[4])
+        self._call("link", *_text(template), *_text(id), *_laid(value or "" for value in values))
 
     def unlink(self, id: str) -> None:
         """The link goes."""
@@ -339,12 +387,12 @@ def is_uid(text: str) -> bool:
     return status == 0
 
 
-def run(lines: bytes) -> tuple[bytes, int]:
+def run(lines: bytes, *, key: Optional[bytes] = None) -> tuple[bytes, int]:
     """What the program writes for all lines of an input, and the status of its run, 0 or 2."""
-    room = max(len(lines), 4096)
+    halves, room = _halves(key), max(len(lines), 4096)
     while True:
         out, told, ended = ctypes.create_string_buffer(room), _N(0), _U(0)
-        if _library.cedar_run(lines, len(lines), out, room, ctypes.byref(told), ctypes.byref(ended)):
+        if _library.cedar_run(lines, len(lines), *halves, out, room, ctypes.byref(told), ctypes.byref(ended)):
             raise MemoryError("out of memory")
         if told.value <= room:
             return out.raw[: told.value], ended.value

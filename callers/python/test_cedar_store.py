@@ -1,9 +1,12 @@
 """The tests of the module. The last line is `N passed, M failed`."""
+import io
 import sys
 import threading
 import unittest
 
 from cedar_store import Closed, Effect, Mode, Policies, Refused, Store, WrongThread, is_uid, run
+
+ZEROS = bytes(16)
 
 
 def uid(name):
@@ -60,6 +63,40 @@ class Stores(unittest.TestCase):
             store.ancestors("a")
         self.assertEqual(caught.exception.reason, "not a uid")
 
+    def test_modes(self):
+        store = Store(made(("a", "b"), ("b", "c")), Mode.ASSUME)
+        self.assertEqual(store.ancestors(uid("a")), [uid("b")])
+        with self.assertRaises(Refused) as caught:
+            store.validate()
+        self.assertEqual((caught.exception.reason, len(store)), ("not closed", 2))
+        self.assertTrue(Store(made(("a", "bc"), ("b", "c")), Mode.ENFORCE) == Store(made(("a", "b"), ("b", "c"))))
+        with self.assertRaises(Refused) as caught:
+            Store(made(("a", "b")), 3)
+        self.assertEqual(caught.exception.reason, "bad argument")
+
+    def test_takes_a_key(self):
+        drawn, given = Store(made(("a", "b"))), Store(made(("a", "b")), key=ZEROS)
+        self.assertTrue(drawn == given and given.copy() == drawn)
+        self.assertEqual(given.slice([uid("a")]).ancestors(uid("a")), [uid("b")])
+        for key in (b"", bytes(15), bytes(17)):
+            with self.assertRaises(ValueError):
+                Store(key=key)
+
+    def test_takes_any_text(self):
+        for text in ("", "a", "A::\"a", 'A::"\ud800"', 'A::"a"\0'):
+            with self.assertRaises(Refused) as caught:
+                Store([(text, [])])
+            self.assertEqual(caught.exception.reason, "not a uid")
+        store = Store({'A::"é"': ['A::"\\0"']})
+        self.assertEqual(store.parents('A::"é"'), ['A::"\\0"'])
+
+    def test_lists_many(self):
+        names = [f"n{k:05}" for k in range(5000)]
+        store = Store({uid("a"): [uid(name) for name in names]})
+        self.assertEqual(store.ancestors(uid("a")), [uid(name) for name in names])
+        store.remove([uid("a")])
+        self.assertEqual(len(store), 0)
+
     def test_closes(self):
         store = Store()
         store.close()
@@ -113,6 +150,20 @@ class Sets(unittest.TestCase):
             self.assertEqual(str(caught.exception), text)
         self.assertEqual((policies.bodies(), policies.policies()), (["t"], ["l"]))
 
+    def test_takes_any_id(self):
+        policies = Policies(key=ZEROS)
+        for id in ("", "it's", "\0", "é"):
+            policies.add_static(id)
+        self.assertEqual(policies.policies(), ["", "it's", "\0", "é"])
+        with self.assertRaises(Refused) as caught:
+            policies.add_static("\ud800")
+        self.assertEqual(caught.exception.reason, "not UTF-8")
+        policies.add_template("t", principal=True)
+        for value, reason in (("", "not a uid"), ("a", "not a uid"), (None, "arity")):
+            with self.assertRaises(Refused) as caught:
+                policies.link("t", "l", principal=value)
+            self.assertEqual(caught.exception.reason, reason)
+
     def test_merges(self):
         one, other = Policies(), Policies()
         one.add_static("p")
@@ -131,11 +182,20 @@ class Others(unittest.TestCase):
         self.assertFalse(is_uid("A::a"))
 
     def test_runs(self):
-        self.assertEqual(run(b'ent\tA::"a"\tA::"b"\nbuild\nanc\tA::"a"\n'), (b'ok 1\nanc\tA::"b"\n', 0))
+        lines, due = b'ent\tA::"a"\tA::"b"\nbuild\nanc\tA::"a"\n', b'ok 1\nanc\tA::"b"\n'
+        self.assertEqual(run(lines), (due, 0))
+        self.assertEqual(run(lines + b"frob", key=ZEROS), (due + b"line 4: not a command\n", 2))
+        many = b'anc\tA::"a"\n' * 1000
+        self.assertEqual(run(many), (b"no entity\n" * 1000, 0))
+        self.assertEqual(run(b"ids\n" * 1000), (b"bodies\npolicies\n" * 1000, 0))
 
 
 if __name__ == "__main__":
-    result = unittest.TextTestRunner(verbosity=0).run(unittest.defaultTestLoader.loadTestsFromModule(sys.modules["__main__"]))
+    tests = unittest.defaultTestLoader.loadTestsFromModule(sys.modules["__main__"])
+    told = io.StringIO()
+    result = unittest.TextTestRunner(stream=told, verbosity=0).run(tests)
     ill = len(result.failures) + len(result.errors)
+    if ill:
+        print(told.getvalue())
     print(f"{result.testsRun - ill} passed, {ill} failed")
     sys.exit(ill != 0)

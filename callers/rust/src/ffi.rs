@@ -1,41 +1,33 @@
-//! The functions of `cedar.h`, as they stand there.
+//! The functions of `cedar.h`, as they stand there, and handles over them whose calls are safe. What is unsafe in this crate stands
+//! here alone, and keeps the rules of that header so:
+//!
+//! - A handle starts as zeroes, its bytes are written by the library alone, and it is neither copied nor, for the pointer in it,
+//!   sent to another thread or shared with one. The library keeps no address of a handle, so a handle may be moved.
+//! - Pointers and lengths are those of slices, whose pointers are never null and whose lengths are below 2^63.
+//! - A call runs nothing of its caller's, so no two calls on one handle are made at a time, and a shared borrow may make one.
+//! - Two handles of one call are two: one is new, or is borrowed where the other is borrowed alone, or they are compared first.
+use crate::key::Key;
+use crate::lists::{Edge, Lists, Span};
+use std::cell::UnsafeCell;
+use std::marker::PhantomData;
 use std::os::raw::c_void;
 
-/// A handle: zeroed memory is a closed one.
+/// What the library has of a store or a set. Zeroes are a closed one.
 #[repr(C)]
-pub struct Handle {
+struct Handle {
     at: *mut c_void,
     is_open: bool,
 }
 
-impl Handle {
-    /// A closed one.
-    pub const fn closed() -> Handle {
-        Handle {
-            at: std::ptr::null_mut(),
-            is_open: false,
-        }
-    }
-}
-
-/// A part of a text.
-#[repr(C)]
-#[derive(Clone, Copy)]
-pub struct Span {
-    pub start: usize,
-    pub end: usize,
-}
-
-/// An edge from an entity of a list to a parent.
-#[repr(C)]
-#[derive(Clone, Copy)]
-pub struct Edge {
-    pub from: usize,
-    pub to: usize,
-}
-
-/// The calls on a store that take entities.
-pub type Change = unsafe extern "C" fn(
+type Opens = unsafe extern "C" fn(*mut Handle, u64, u64) -> u32;
+type Frees = unsafe extern "C" fn(*mut Handle);
+type Copies = unsafe extern "C" fn(*mut Handle, *mut Handle) -> u32;
+type Compares = unsafe extern "C" fn(*mut Handle, *mut Handle, *mut bool) -> u32;
+type Tells = unsafe extern "C" fn(*mut Handle, usize, *mut u8, usize) -> usize;
+type Places = unsafe extern "C" fn(*mut Handle, usize, *mut Span, usize) -> usize;
+type Words = unsafe extern "C" fn(*mut Handle, *mut u8, usize) -> usize;
+type ById = unsafe extern "C" fn(*mut Handle, *const u8, usize) -> u32;
+type Change = unsafe extern "C" fn(
     *mut Handle,
     *const u8,
     usize,
@@ -48,19 +40,21 @@ pub type Change = unsafe extern "C" fn(
 ) -> u32;
 
 extern "C" {
-    pub fn cedar_run(
+    fn cedar_run(
         input: *const u8,
         input_len: usize,
+        seed: u64,
+        key: u64,
         out: *mut u8,
         room: usize,
         told: *mut usize,
         ended: *mut u32,
     ) -> u32;
-    pub fn cedar_uid_check(text: *const u8, len: usize) -> u32;
+    fn cedar_uid_check(text: *const u8, len: usize) -> u32;
 
-    pub fn cedar_store_new(s: *mut Handle) -> u32;
-    pub fn cedar_store_free(s: *mut Handle);
-    pub fn cedar_store_build(
+    fn cedar_store_new(s: *mut Handle, seed: u64, key: u64) -> u32;
+    fn cedar_store_free(s: *mut Handle);
+    fn cedar_store_build(
         s: *mut Handle,
         text: *const u8,
         text_len: usize,
@@ -71,7 +65,7 @@ extern "C" {
         edges_len: usize,
         mode: u32,
     ) -> u32;
-    pub fn cedar_store_add(
+    fn cedar_store_add(
         s: *mut Handle,
         text: *const u8,
         text_len: usize,
@@ -82,7 +76,7 @@ extern "C" {
         edges_len: usize,
         mode: u32,
     ) -> u32;
-    pub fn cedar_store_upsert(
+    fn cedar_store_upsert(
         s: *mut Handle,
         text: *const u8,
         text_len: usize,
@@ -93,7 +87,7 @@ extern "C" {
         edges_len: usize,
         mode: u32,
     ) -> u32;
-    pub fn cedar_store_remove(
+    fn cedar_store_remove(
         s: *mut Handle,
         text: *const u8,
         text_len: usize,
@@ -101,9 +95,9 @@ extern "C" {
         uids_len: usize,
         mode: u32,
     ) -> u32;
-    pub fn cedar_store_len(s: *mut Handle) -> usize;
-    pub fn cedar_store_has(s: *mut Handle, uid: *const u8, len: usize, answer: *mut bool) -> u32;
-    pub fn cedar_store_is_descendant_of(
+    fn cedar_store_len(s: *mut Handle) -> usize;
+    fn cedar_store_has(s: *mut Handle, uid: *const u8, len: usize, answer: *mut bool) -> u32;
+    fn cedar_store_is_descendant_of(
         s: *mut Handle,
         child: *const u8,
         child_len: usize,
@@ -111,10 +105,10 @@ extern "C" {
         ancestor_len: usize,
         answer: *mut bool,
     ) -> u32;
-    pub fn cedar_store_ancestors(s: *mut Handle, uid: *const u8, len: usize) -> u32;
-    pub fn cedar_store_parents(s: *mut Handle, uid: *const u8, len: usize) -> u32;
-    pub fn cedar_store_validate(s: *mut Handle) -> u32;
-    pub fn cedar_store_slice(
+    fn cedar_store_ancestors(s: *mut Handle, uid: *const u8, len: usize) -> u32;
+    fn cedar_store_parents(s: *mut Handle, uid: *const u8, len: usize) -> u32;
+    fn cedar_store_validate(s: *mut Handle) -> u32;
+    fn cedar_store_slice(
         from: *mut Handle,
         to: *mut Handle,
         text: *const u8,
@@ -122,23 +116,23 @@ extern "C" {
         uids: *const Span,
         uids_len: usize,
     ) -> u32;
-    pub fn cedar_store_copy(from: *mut Handle, to: *mut Handle) -> u32;
-    pub fn cedar_store_equal(one: *mut Handle, other: *mut Handle, answer: *mut bool) -> u32;
-    pub fn cedar_store_answer(s: *mut Handle, from: usize, out: *mut u8, room: usize) -> usize;
-    pub fn cedar_store_answer_spans(s: *mut Handle, from: usize, out: *mut Span, room: usize) -> usize;
-    pub fn cedar_store_refusal(s: *mut Handle, out: *mut u8, room: usize) -> usize;
+    fn cedar_store_copy(from: *mut Handle, to: *mut Handle) -> u32;
+    fn cedar_store_equal(one: *mut Handle, other: *mut Handle, answer: *mut bool) -> u32;
+    fn cedar_store_answer(s: *mut Handle, from: usize, out: *mut u8, room: usize) -> usize;
+    fn cedar_store_answer_spans(s: *mut Handle, from: usize, out: *mut Span, room: usize) -> usize;
+    fn cedar_store_refusal(s: *mut Handle, out: *mut u8, room: usize) -> usize;
 
-    pub fn cedar_policies_new(p: *mut Handle) -> u32;
-    pub fn cedar_policies_free(p: *mut Handle);
-    pub fn cedar_policies_add_static(p: *mut Handle, id: *const u8, len: usize, effect: u32) -> u32;
-    pub fn cedar_policies_add_template(
+    fn cedar_policies_new(p: *mut Handle, seed: u64, key: u64) -> u32;
+    fn cedar_policies_free(p: *mut Handle);
+    fn cedar_policies_add_static(p: *mut Handle, id: *const u8, len: usize, effect: u32) -> u32;
+    fn cedar_policies_add_template(
         p: *mut Handle,
         id: *const u8,
         len: usize,
         effect: u32,
         slots: u32,
     ) -> u32;
-    pub fn cedar_policies_link(
+    fn cedar_policies_link(
         p: *mut Handle,
         template: *const u8,
         template_len: usize,
@@ -149,31 +143,338 @@ extern "C" {
         values: *const Span,
         values_len: usize,
     ) -> u32;
-    pub fn cedar_policies_unlink(p: *mut Handle, id: *const u8, len: usize) -> u32;
-    pub fn cedar_policies_remove_static(p: *mut Handle, id: *const u8, len: usize) -> u32;
-    pub fn cedar_policies_remove_template(p: *mut Handle, id: *const u8, len: usize) -> u32;
-    pub fn cedar_policies_merge(p: *mut Handle, other: *mut Handle, rename: bool) -> u32;
-    pub fn cedar_policies_ids(p: *mut Handle, kind: u32) -> u32;
-    pub fn cedar_policies_copy(from: *mut Handle, to: *mut Handle) -> u32;
-    pub fn cedar_policies_equal(one: *mut Handle, other: *mut Handle, answer: *mut bool) -> u32;
-    pub fn cedar_policies_answer(p: *mut Handle, from: usize, out: *mut u8, room: usize) -> usize;
-    pub fn cedar_policies_answer_spans(p: *mut Handle, from: usize, out: *mut Span, room: usize)
-        -> usize;
-    pub fn cedar_policies_refusal(p: *mut Handle, out: *mut u8, room: usize) -> usize;
+    fn cedar_policies_unlink(p: *mut Handle, id: *const u8, len: usize) -> u32;
+    fn cedar_policies_remove_static(p: *mut Handle, id: *const u8, len: usize) -> u32;
+    fn cedar_policies_remove_template(p: *mut Handle, id: *const u8, len: usize) -> u32;
+    fn cedar_policies_merge(p: *mut Handle, other: *mut Handle, rename: bool) -> u32;
+    fn cedar_policies_ids(p: *mut Handle, kind: u32) -> u32;
+    fn cedar_policies_copy(from: *mut Handle, to: *mut Handle) -> u32;
+    fn cedar_policies_equal(one: *mut Handle, other: *mut Handle, answer: *mut bool) -> u32;
+    fn cedar_policies_answer(p: *mut Handle, from: usize, out: *mut u8, room: usize) -> usize;
+    fn cedar_policies_answer_spans(
+        p: *mut Handle,
+        from: usize,
+        out: *mut Span,
+        room: usize,
+    ) -> usize;
+    fn cedar_policies_refusal(p: *mut Handle, out: *mut u8, room: usize) -> usize;
 }
 
-/// Makes room for what a call copies out, and has it copied.
-pub fn copied<T: Copy>(nothing: T, call: impl Fn(*mut T, usize) -> usize) -> Vec<T> {
-    let len = call(std::ptr::NonNull::dangling().as_ptr(), 0);
-    let mut out = vec![nothing; len];
-    call(out.as_mut_ptr(), len);
+/// Whether a text is a uid's, as a status.
+pub(crate) fn check_uid(text: &str) -> u32 {
+    unsafe { cedar_uid_check(text.as_ptr(), text.len()) }
+}
+
+/// The program on an input, into some room: the length of all that it writes and the status of its run, or the status of the call.
+pub(crate) fn run(input: &[u8], key: Key, out: &mut [u8]) -> Result<(usize, u32), u32> {
+    let (mut told, mut ended) = (0, 0);
+    let status = unsafe {
+        cedar_run(
+            input.as_ptr(),
+            input.len(),
+            key.seed,
+            key.key,
+            out.as_mut_ptr(),
+            out.len(),
+            &mut told,
+            &mut ended,
+        )
+    };
+    match status {
+        0 => Ok((told, ended)),
+        refused => Err(refused),
+    }
+}
+
+/// The functions that both kinds of handles have.
+pub(crate) struct Calls {
+    new: Opens,
+    free: Frees,
+    copy: Copies,
+    equal: Compares,
+    answer: Tells,
+    spans: Places,
+    words: Words,
+}
+
+/// A kind of handles.
+pub(crate) trait Kind {
+    const CALLS: Calls;
+}
+
+/// Handles of stores.
+pub(crate) struct Stores;
+
+impl Kind for Stores {
+    const CALLS: Calls = Calls {
+        new: cedar_store_new,
+        free: cedar_store_free,
+        copy: cedar_store_copy,
+        equal: cedar_store_equal,
+        answer: cedar_store_answer,
+        spans: cedar_store_answer_spans,
+        words: cedar_store_refusal,
+    };
+}
+
+/// Handles of policy sets.
+pub(crate) struct Sets;
+
+impl Kind for Sets {
+    const CALLS: Calls = Calls {
+        new: cedar_policies_new,
+        free: cedar_policies_free,
+        copy: cedar_policies_copy,
+        equal: cedar_policies_equal,
+        answer: cedar_policies_answer,
+        spans: cedar_policies_answer_spans,
+        words: cedar_policies_refusal,
+    };
+}
+
+/// A handle of a kind. It is freed when it goes. Its calls answer statuses.
+pub(crate) struct Held<K: Kind> {
+    handle: UnsafeCell<Handle>,
+    kind: PhantomData<K>,
+}
+
+// Makes room for what a call copies out, and has it copied.
+fn copied<T: Clone>(nothing: T, call: impl Fn(&mut [T]) -> usize) -> Vec<T> {
+    let mut out = vec![nothing; call(&mut [])];
+    call(&mut out);
     out
 }
 
-/// The texts of an answer.
-pub fn texts(bytes: Vec<u8>, spans: Vec<Span>) -> Vec<String> {
-    spans
-        .iter()
-        .map(|span| String::from_utf8_lossy(&bytes[span.start..span.end]).into_owned())
-        .collect()
+impl<K: Kind> Held<K> {
+    // A closed one.
+    fn closed() -> Held<K> {
+        Held {
+            handle: UnsafeCell::new(Handle {
+                at: std::ptr::null_mut(),
+                is_open: false,
+            }),
+            kind: PhantomData,
+        }
+    }
+
+    fn at(&self) -> *mut Handle {
+        self.handle.get()
+    }
+
+    // A new one, which a call opens.
+    fn made(call: impl FnOnce(*mut Handle) -> u32) -> Result<Held<K>, u32> {
+        let made = Held::closed();
+        match call(made.at()) {
+            0 => Ok(made),
+            refused => Err(refused),
+        }
+    }
+
+    /// One without entities, or without policies.
+    pub(crate) fn new(key: Key) -> Result<Held<K>, u32> {
+        Held::made(|to| unsafe { (K::CALLS.new)(to, key.seed, key.key) })
+    }
+
+    /// A copy.
+    pub(crate) fn copy(&self) -> Result<Held<K>, u32> {
+        Held::made(|to| unsafe { (K::CALLS.copy)(self.at(), to) })
+    }
+
+    /// Whether both hold the same. One is the same as itself.
+    pub(crate) fn is_equal(&self, other: &Held<K>) -> bool {
+        let mut answer = std::ptr::eq(self, other);
+        if !answer {
+            unsafe { (K::CALLS.equal)(self.at(), other.at(), &mut answer) };
+        }
+        answer
+    }
+
+    /// The texts of the last answer.
+    pub(crate) fn answer(&self) -> Vec<String> {
+        let bytes = copied(0, |out| unsafe {
+            (K::CALLS.answer)(self.at(), 0, out.as_mut_ptr(), out.len())
+        });
+        let spans = copied(Span { start: 0, end: 0 }, |out| unsafe {
+            (K::CALLS.spans)(self.at(), 0, out.as_mut_ptr(), out.len())
+        });
+        spans
+            .iter()
+            .map(|span| String::from_utf8_lossy(&bytes[span.start..span.end]).into_owned())
+            .collect()
+    }
+
+    /// The text of the last refusal.
+    pub(crate) fn words(&self) -> Vec<u8> {
+        copied(0, |out| unsafe {
+            (K::CALLS.words)(self.at(), out.as_mut_ptr(), out.len())
+        })
+    }
+}
+
+impl<K: Kind> Drop for Held<K> {
+    fn drop(&mut self) {
+        unsafe { (K::CALLS.free)(self.at()) }
+    }
+}
+
+impl Held<Stores> {
+    fn changed(&mut self, change: Change, lists: &Lists, mode: u32) -> u32 {
+        unsafe {
+            change(
+                self.at(),
+                lists.text.as_ptr(),
+                lists.text.len(),
+                lists.uids.as_ptr(),
+                lists.uids.len(),
+                lists.count,
+                lists.edges.as_ptr(),
+                lists.edges.len(),
+                mode,
+            )
+        }
+    }
+
+    /// Entities become the store.
+    pub(crate) fn build(&mut self, lists: &Lists, mode: u32) -> u32 {
+        self.changed(cedar_store_build, lists, mode)
+    }
+
+    /// Entities are added.
+    pub(crate) fn add(&mut self, lists: &Lists, mode: u32) -> u32 {
+        self.changed(cedar_store_add, lists, mode)
+    }
+
+    /// Entities are put over the store.
+    pub(crate) fn upsert(&mut self, lists: &Lists, mode: u32) -> u32 {
+        self.changed(cedar_store_upsert, lists, mode)
+    }
+
+    /// The entities with some uids go.
+    pub(crate) fn remove(&mut self, lists: &Lists, mode: u32) -> u32 {
+        unsafe {
+            cedar_store_remove(
+                self.at(),
+                lists.text.as_ptr(),
+                lists.text.len(),
+                lists.uids.as_ptr(),
+                lists.uids.len(),
+                mode,
+            )
+        }
+    }
+
+    /// How many entities there are.
+    pub(crate) fn len(&self) -> usize {
+        unsafe { cedar_store_len(self.at()) }
+    }
+
+    /// Whether there is an entity with a uid.
+    pub(crate) fn has(&self, uid: &str) -> (u32, bool) {
+        let mut answer = false;
+        let status = unsafe { cedar_store_has(self.at(), uid.as_ptr(), uid.len(), &mut answer) };
+        (status, answer)
+    }
+
+    /// Whether an entity is a descendant of a uid.
+    pub(crate) fn is_descendant_of(&self, child: &str, ancestor: &str) -> (u32, bool) {
+        let mut answer = false;
+        let status = unsafe {
+            cedar_store_is_descendant_of(
+                self.at(),
+                child.as_ptr(),
+                child.len(),
+                ancestor.as_ptr(),
+                ancestor.len(),
+                &mut answer,
+            )
+        };
+        (status, answer)
+    }
+
+    /// The ancestors of an entity become the answer.
+    pub(crate) fn ancestors(&self, uid: &str) -> u32 {
+        unsafe { cedar_store_ancestors(self.at(), uid.as_ptr(), uid.len()) }
+    }
+
+    /// The parents of an entity become the answer.
+    pub(crate) fn parents(&self, uid: &str) -> u32 {
+        unsafe { cedar_store_parents(self.at(), uid.as_ptr(), uid.len()) }
+    }
+
+    /// The status of the first fault.
+    pub(crate) fn validate(&self) -> u32 {
+        unsafe { cedar_store_validate(self.at()) }
+    }
+
+    /// The slice at some uids.
+    pub(crate) fn slice(&self, lists: &Lists) -> Result<Held<Stores>, u32> {
+        Held::made(|to| unsafe {
+            cedar_store_slice(
+                self.at(),
+                to,
+                lists.text.as_ptr(),
+                lists.text.len(),
+                lists.uids.as_ptr(),
+                lists.uids.len(),
+            )
+        })
+    }
+}
+
+impl Held<Sets> {
+    /// A static policy joins.
+    pub(crate) fn add_static(&mut self, id: &str, effect: u32) -> u32 {
+        unsafe { cedar_policies_add_static(self.at(), id.as_ptr(), id.len(), effect) }
+    }
+
+    /// A template joins.
+    pub(crate) fn add_template(&mut self, id: &str, effect: u32, slots: u32) -> u32 {
+        unsafe { cedar_policies_add_template(self.at(), id.as_ptr(), id.len(), effect, slots) }
+    }
+
+    /// A link joins, with what three texts bind, each empty where it binds nothing.
+    pub(crate) fn link(&mut self, template: &str, id: &str, values: &Lists) -> u32 {
+        unsafe {
+            cedar_policies_link(
+                self.at(),
+                template.as_ptr(),
+                template.len(),
+                id.as_ptr(),
+                id.len(),
+                values.text.as_ptr(),
+                values.text.len(),
+                values.uids.as_ptr(),
+                values.uids.len(),
+            )
+        }
+    }
+
+    fn by_id(&mut self, call: ById, id: &str) -> u32 {
+        unsafe { call(self.at(), id.as_ptr(), id.len()) }
+    }
+
+    /// A link goes.
+    pub(crate) fn unlink(&mut self, id: &str) -> u32 {
+        self.by_id(cedar_policies_unlink, id)
+    }
+
+    /// A static policy goes.
+    pub(crate) fn remove_static(&mut self, id: &str) -> u32 {
+        self.by_id(cedar_policies_remove_static, id)
+    }
+
+    /// A template goes.
+    pub(crate) fn remove_template(&mut self, id: &str) -> u32 {
+        self.by_id(cedar_policies_remove_template, id)
+    }
+
+    /// What another set binds joins, and the renaming becomes the answer.
+    pub(crate) fn merge(&mut self, other: &Held<Sets>, rename: bool) -> u32 {
+        unsafe { cedar_policies_merge(self.at(), other.at(), rename) }
+    }
+
+    /// The ids of a kind become the answer.
+    pub(crate) fn ids(&self, kind: u32) -> u32 {
+        unsafe { cedar_policies_ids(self.at(), kind) }
+    }
 }

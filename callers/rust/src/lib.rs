@@ -5,58 +5,56 @@
 //!
 //! Uids are texts as `A::B::"c"`: a type, and an eid in quotes, escaped. Ids of policies are any text.
 #![warn(missing_docs)]
+#![deny(unsafe_code)]
 
-#[allow(missing_docs)]
+#[allow(unsafe_code)]
 mod ffi;
+mod key;
+mod lists;
 mod policies;
 mod refusal;
 mod store;
 
+pub use key::Key;
 pub use policies::{Effect, Policies, SlotEnv, Slots};
 pub use refusal::{Reason, Refusal};
-pub use store::{Entity, Store, TCComputation};
+pub use store::{Entity, Store, StoredEntity, TCComputation};
 
-/// Whether a text is a uid's; or want of memory.
+/// Whether a text is a uid's. Refused by `Memory`.
 ///
 /// ```
 /// assert!(cedar_store::is_uid("A::\"a\"").unwrap());
 /// assert!(!cedar_store::is_uid("A::a").unwrap());
 /// ```
 pub fn is_uid(text: &str) -> Result<bool, Refusal> {
-    match unsafe { ffi::cedar_uid_check(text.as_ptr(), text.len()) } {
+    match ffi::check_uid(text) {
         0 => Ok(true),
         4 => Ok(false),
         status => Err(Refusal::new(status, Vec::new)),
     }
 }
 
-/// What the program writes for all lines of an input, and the status of its run, 0 or 2; or want of memory.
+/// What the program writes for all lines of an input, and the status of its run, 0 or 2, with a key that is drawn. Refused by
+/// `Memory`.
 ///
 /// ```
 /// let (out, status) = cedar_store::run(b"ent\tA::\"a\"\nbuild\n").unwrap();
 /// assert_eq!((out.as_slice(), status), (b"ok 1\n".as_slice(), 0));
 /// ```
 pub fn run(input: &[u8]) -> Result<(Vec<u8>, u32), Refusal> {
+    run_with_key(input, Key::drawn())
+}
+
+/// The same with this key. Where the first room for what is written does not do, the program is run once more.
+pub fn run_with_key(input: &[u8], key: Key) -> Result<(Vec<u8>, u32), Refusal> {
     let mut out = vec![0; input.len().max(4096)];
     loop {
-        let (mut told, mut ended) = (0, 0);
-        let status = unsafe {
-            ffi::cedar_run(
-                input.as_ptr(),
-                input.len(),
-                out.as_mut_ptr(),
-                out.len(),
-                &mut told,
-                &mut ended,
-            )
-        };
-        if status != 0 {
-            return Err(Refusal::new(status, Vec::new));
-        }
+        let given = ffi::run(input, key, &mut out);
+        let (told, ended) = given.map_err(|status| Refusal::new(status, Vec::new))?;
         if told <= out.len() {
             out.truncate(told);
             return Ok((out, ended));
         }
-        out = vec![0; told];
+        out.resize(told, 0);
     }
 }

@@ -1,8 +1,8 @@
 //! Policy sets.
-use crate::ffi::{self, Handle, Span};
+use crate::ffi::{Held, Sets};
+use crate::key::Key;
+use crate::lists::Lists;
 use crate::refusal::Refusal;
-use std::cell::UnsafeCell;
-use std::marker::PhantomData;
 
 /// Whether a policy permits or forbids.
 #[derive(Clone, Copy, Debug, PartialEq, Eq, Hash)]
@@ -24,6 +24,55 @@ pub struct Slots {
     pub resource: bool,
 }
 
+impl Slots {
+    /// No slot.
+    pub const fn none() -> Slots {
+        Slots {
+            principal: false,
+            action: false,
+            resource: false,
+        }
+    }
+
+    /// All three.
+    pub const fn all() -> Slots {
+        Slots {
+            principal: true,
+            action: true,
+            resource: true,
+        }
+    }
+
+    /// The principal's alone.
+    pub const fn principal() -> Slots {
+        Slots {
+            principal: true,
+            ..Slots::none()
+        }
+    }
+
+    /// The action's alone.
+    pub const fn action() -> Slots {
+        Slots {
+            action: true,
+            ..Slots::none()
+        }
+    }
+
+    /// The resource's alone.
+    pub const fn resource() -> Slots {
+        Slots {
+            resource: true,
+            ..Slots::none()
+        }
+    }
+
+    // The sum by which they cross.
+    fn number(self) -> u32 {
+        u32::from(self.principal) + 2 * u32::from(self.action) + 4 * u32::from(self.resource)
+    }
+}
+
 /// What the slots of a template are bound to: a uid, or nothing.
 #[derive(Clone, Copy, Debug, Default, PartialEq, Eq, Hash)]
 pub struct SlotEnv<'a> {
@@ -35,115 +84,131 @@ pub struct SlotEnv<'a> {
     pub resource: Option<&'a str>,
 }
 
+impl<'a> SlotEnv<'a> {
+    /// The principal's slot is bound to a uid, and no other.
+    pub fn principal(uid: &'a str) -> SlotEnv<'a> {
+        SlotEnv {
+            principal: Some(uid),
+            ..SlotEnv::default()
+        }
+    }
+
+    /// The action's slot is bound to a uid, and no other.
+    pub fn action(uid: &'a str) -> SlotEnv<'a> {
+        SlotEnv {
+            action: Some(uid),
+            ..SlotEnv::default()
+        }
+    }
+
+    /// The resource's slot is bound to a uid, and no other.
+    pub fn resource(uid: &'a str) -> SlotEnv<'a> {
+        SlotEnv {
+            resource: Some(uid),
+            ..SlotEnv::default()
+        }
+    }
+}
+
 /// A policy set, near the original's `PolicySet`: ids are bound to static policies, to templates, and to links of templates. A
 /// call that is refused, for memory too, leaves the set as it was.
 ///
 /// It is of the thread that made it: neither `Send` nor `Sync`.
 ///
+/// ```compile_fail
+/// fn sends<T: Send>(_: T) {}
+/// sends(cedar_store::Policies::new());
+/// ```
+///
+/// ```compile_fail
+/// fn shares<T: Sync>(_: T) {}
+/// shares(cedar_store::Policies::new());
+/// ```
+///
 /// ```
 /// use cedar_store::{Effect, Policies, SlotEnv, Slots};
 /// let mut set = Policies::new();
-/// set.add_template("t", Effect::Permit, Slots { principal: true, ..Slots::default() }).unwrap();
-/// set.link("t", "l", SlotEnv { principal: Some("User::\"alice\""), ..SlotEnv::default() }).unwrap();
+/// set.add_template("t", Effect::Permit, Slots::principal()).unwrap();
+/// set.link("t", "l", SlotEnv::principal("User::\"alice\"")).unwrap();
 /// assert_eq!(set.policies().unwrap(), ["l"]);
 /// assert_eq!(set.bodies().unwrap(), ["t"]);
 /// ```
 pub struct Policies {
-    handle: UnsafeCell<Handle>,
-    one_thread: PhantomData<*mut ()>,
+    held: Held<Sets>,
 }
 
 impl Policies {
-    fn closed() -> Policies {
-        Policies {
-            handle: UnsafeCell::new(Handle::closed()),
-            one_thread: PhantomData,
+    fn of(held: Result<Held<Sets>, u32>) -> Result<Policies, Refusal> {
+        match held {
+            Ok(held) => Ok(Policies { held }),
+            Err(status) => Err(Refusal::new(status, Vec::new)),
         }
-    }
-
-    fn at(&self) -> *mut Handle {
-        self.handle.get()
     }
 
     fn judged(&self, status: u32) -> Result<(), Refusal> {
-        if status == 0 {
-            return Ok(());
-        }
-        Err(Refusal::new(status, || {
-            ffi::copied(0, |out, room| unsafe { ffi::cedar_policies_refusal(self.at(), out, room) })
-        }))
+        Refusal::judged(status, || self.held.words())
     }
 
-    fn answered(&self) -> Vec<String> {
-        let bytes = ffi::copied(0, |out, room| unsafe { ffi::cedar_policies_answer(self.at(), 0, out, room) });
-        let spans = ffi::copied(Span { start: 0, end: 0 }, |out, room| unsafe {
-            ffi::cedar_policies_answer_spans(self.at(), 0, out, room)
-        });
-        ffi::texts(bytes, spans)
-    }
-
-    /// The set without policies. Ends the program where its few bytes of memory are refused; [`Policies::try_new`] does not.
+    /// The set without policies, with a key that is drawn. Ends the program where its few bytes of memory are refused;
+    /// [`Policies::with_key`] does not.
     pub fn new() -> Policies {
-        Policies::try_new().expect("memory for an empty set")
+        Policies::with_key(Key::drawn()).expect("memory for an empty set")
     }
 
-    /// The set without policies, or want of memory.
-    pub fn try_new() -> Result<Policies, Refusal> {
-        let set = Policies::closed();
-        set.judged(unsafe { ffi::cedar_policies_new(set.at()) })?;
-        Ok(set)
+    /// The set without policies, whose maps, and those of its copies, hash by this key. Refused by `Memory`.
+    pub fn with_key(key: Key) -> Result<Policies, Refusal> {
+        Policies::of(Held::new(key))
     }
 
     /// A static policy, which constrains nothing, joins the set. Refused by `Occupied` and `Memory`.
     pub fn add_static(&mut self, id: &str, effect: Effect) -> Result<(), Refusal> {
-        self.judged(unsafe { ffi::cedar_policies_add_static(self.at(), id.as_ptr(), id.len(), effect as u32) })
+        let status = self.held.add_static(id, effect as u32);
+        self.judged(status)
     }
 
     /// A template with these slots, which constrains nothing else, joins the set. Refused by `Occupied` and `Memory`.
     pub fn add_template(&mut self, id: &str, effect: Effect, slots: Slots) -> Result<(), Refusal> {
-        let slots = u32::from(slots.principal) + 2 * u32::from(slots.action) + 4 * u32::from(slots.resource);
-        self.judged(unsafe { ffi::cedar_policies_add_template(self.at(), id.as_ptr(), id.len(), effect as u32, slots) })
+        let status = self.held.add_template(id, effect as u32, slots.number());
+        self.judged(status)
     }
 
     /// A link of a template joins the set under an id. Refused by `NotAUid`, `NoSuchTemplate`, `Arity`, `NotAnAction`,
-    /// `IdConflict` and `Memory`. An empty text binds nothing.
+    /// `IdConflict` and `Memory`.
+    ///
+    /// ```
+    /// use cedar_store::{Effect, Policies, Reason, SlotEnv, Slots};
+    /// let mut set = Policies::new();
+    /// set.add_template("t", Effect::Permit, Slots::principal()).unwrap();
+    /// let refusal = set.link("t", "l", SlotEnv::default()).unwrap_err();
+    /// assert_eq!(refusal.reason(), Reason::Arity);
+    /// assert!(set.policies().unwrap().is_empty());
+    /// ```
     pub fn link(&mut self, template: &str, id: &str, values: SlotEnv<'_>) -> Result<(), Refusal> {
-        let mut text = String::new();
-        let mut spans = [Span { start: 0, end: 0 }; 3];
         let uids = [values.principal, values.action, values.resource];
-        for (span, uid) in spans.iter_mut().zip(uids) {
-            span.start = text.len();
-            text.push_str(uid.unwrap_or(""));
-            span.end = text.len();
+        if uids.contains(&Some("")) {
+            return Err(Refusal::new(4, Vec::new));
         }
-        self.judged(unsafe {
-            ffi::cedar_policies_link(
-                self.at(),
-                template.as_ptr(),
-                template.len(),
-                id.as_ptr(),
-                id.len(),
-                text.as_ptr(),
-                text.len(),
-                spans.as_ptr(),
-                spans.len(),
-            )
-        })
+        let values = Lists::of_texts(uids.map(Option::unwrap_or_default));
+        let status = self.held.link(template, id, &values);
+        self.judged(status)
     }
 
     /// The link with an id goes. Refused by `NoLink`, `NotALink` and `Memory`.
     pub fn unlink(&mut self, id: &str) -> Result<(), Refusal> {
-        self.judged(unsafe { ffi::cedar_policies_unlink(self.at(), id.as_ptr(), id.len()) })
+        let status = self.held.unlink(id);
+        self.judged(status)
     }
 
     /// The static policy with an id goes. Refused by `NoStatic`, `NotStatic` and `Memory`.
     pub fn remove_static(&mut self, id: &str) -> Result<(), Refusal> {
-        self.judged(unsafe { ffi::cedar_policies_remove_static(self.at(), id.as_ptr(), id.len()) })
+        let status = self.held.remove_static(id);
+        self.judged(status)
     }
 
     /// The template with an id goes. Refused by `NoTemplate`, `WithLinks`, `NotATemplate` and `Memory`.
     pub fn remove_template(&mut self, id: &str) -> Result<(), Refusal> {
-        self.judged(unsafe { ffi::cedar_policies_remove_template(self.at(), id.as_ptr(), id.len()) })
+        let status = self.held.remove_template(id);
+        self.judged(status)
     }
 
     /// What another set binds joins the set, and each id that was renamed is answered, with its new one. Without `rename` the first
@@ -157,9 +222,14 @@ impl Policies {
     /// assert!(one.merge_policyset(&other, false).is_err());
     /// assert_eq!(one.merge_policyset(&other, true).unwrap(), [("p".into(), "policy0".into())]);
     /// ```
-    pub fn merge_policyset(&mut self, other: &Policies, rename: bool) -> Result<Vec<(String, String)>, Refusal> {
-        self.judged(unsafe { ffi::cedar_policies_merge(self.at(), other.at(), rename) })?;
-        let mut texts = self.answered().into_iter();
+    pub fn merge_policyset(
+        &mut self,
+        other: &Policies,
+        rename: bool,
+    ) -> Result<Vec<(String, String)>, Refusal> {
+        let status = self.held.merge(&other.held, rename);
+        self.judged(status)?;
+        let mut texts = self.held.answer().into_iter();
         let mut pairs = Vec::new();
         while let (Some(old), Some(new)) = (texts.next(), texts.next()) {
             pairs.push((old, new));
@@ -168,8 +238,8 @@ impl Policies {
     }
 
     fn listed(&self, kind: u32) -> Result<Vec<String>, Refusal> {
-        self.judged(unsafe { ffi::cedar_policies_ids(self.at(), kind) })?;
-        Ok(self.answered())
+        self.judged(self.held.ids(kind))?;
+        Ok(self.held.answer())
     }
 
     /// The ids of static policies and templates, in the order in which they joined. Refused by `Memory` alone.
@@ -182,22 +252,15 @@ impl Policies {
         self.listed(1)
     }
 
-    /// A copy, or want of memory.
+    /// A copy. Refused by `Memory`.
     pub fn try_clone(&self) -> Result<Policies, Refusal> {
-        let copy = Policies::closed();
-        self.judged(unsafe { ffi::cedar_policies_copy(self.at(), copy.at()) })?;
-        Ok(copy)
+        Policies::of(self.held.copy())
     }
 }
 
 impl PartialEq for Policies {
     fn eq(&self, other: &Policies) -> bool {
-        if std::ptr::eq(self, other) {
-            return true;
-        }
-        let mut answer = false;
-        unsafe { ffi::cedar_policies_equal(self.at(), other.at(), &mut answer) };
-        answer
+        self.held.is_equal(&other.held)
     }
 }
 
@@ -209,8 +272,8 @@ impl Default for Policies {
     }
 }
 
-impl Drop for Policies {
-    fn drop(&mut self) {
-        unsafe { ffi::cedar_policies_free(self.at()) }
+impl std::fmt::Debug for Policies {
+    fn fmt(&self, f: &mut std::fmt::Formatter<'_>) -> std::fmt::Result {
+        f.debug_struct("Policies").finish_non_exhaustive()
     }
 }

@@ -100,15 +100,22 @@ pub struct Refusal {
 }
 
 impl Refusal {
+    /// What a status says; the text is asked for where the library has one.
+    pub(crate) fn judged(status: u32, text: impl FnOnce() -> Vec<u8>) -> Result<(), Refusal> {
+        match status {
+            0 => Ok(()),
+            refused => Err(Refusal::new(refused, text)),
+        }
+    }
+
+    /// The refusal of a status that is not 0.
     pub(crate) fn new(status: u32, text: impl FnOnce() -> Vec<u8>) -> Refusal {
         let reason = Reason::of(status);
-        let text = match status {
-            0..=6 => String::from(match reason {
-                Reason::Memory => "out of memory",
-                Reason::NotAUid => "not a uid",
-                Reason::NoEntity => "no entity",
-                _ => "bad argument",
-            }),
+        let text = match reason {
+            Reason::Memory => String::from("out of memory"),
+            Reason::BadArgument => String::from("bad argument"),
+            Reason::NotAUid => String::from("not a uid"),
+            Reason::NoEntity => String::from("no entity"),
             _ => String::from_utf8_lossy(&text()).into_owned(),
         };
         Refusal { reason, text }

@@ -1,9 +1,8 @@
 //! Stores of entities.
-use crate::ffi::{self, Change, Edge, Handle, Span};
+use crate::ffi::{Held, Stores};
+use crate::key::Key;
+use crate::lists::Lists;
 use crate::refusal::Refusal;
-use std::cell::UnsafeCell;
-use std::collections::HashMap;
-use std::marker::PhantomData;
 
 /// How a call sees to it that ancestors are closed.
 #[derive(Clone, Copy, Debug, Default, PartialEq, Eq, Hash)]
@@ -23,6 +22,7 @@ pub enum TCComputation {
 /// use cedar_store::Entity;
 /// let entity = Entity::new("User::\"alice\"").with_parent("Group::\"staff\"");
 /// assert_eq!(entity.uid(), "User::\"alice\"");
+/// assert_eq!(entity.parents().collect::<Vec<_>>(), ["Group::\"staff\""]);
 /// ```
 #[derive(Clone, Debug, PartialEq, Eq)]
 pub struct Entity {
@@ -55,57 +55,10 @@ impl Entity {
     pub fn uid(&self) -> &str {
         &self.uid
     }
-}
 
-/// Uids and edges, laid out for the library: one text, the part of it that is each uid, and the edges to parents. A parent that
-/// comes often is written once.
-#[derive(Default)]
-struct Lists<'a> {
-    text: String,
-    uids: Vec<Span>,
-    edges: Vec<Edge>,
-    known: HashMap<&'a str, usize>,
-}
-
-impl<'a> Lists<'a> {
-    fn put(&mut self, uid: &str) -> usize {
-        let start = self.text.len();
-        self.text.push_str(uid);
-        self.uids.push(Span {
-            start,
-            end: self.text.len(),
-        });
-        self.uids.len() - 1
-    }
-
-    fn of_entities(entities: &'a [Entity]) -> Lists<'a> {
-        let mut lists = Lists::default();
-        for entity in entities {
-            let place = lists.put(&entity.uid);
-            lists.known.entry(&entity.uid).or_insert(place);
-        }
-        for (from, entity) in entities.iter().enumerate() {
-            for parent in &entity.parents {
-                let to = match lists.known.get(parent.as_str()) {
-                    Some(to) => *to,
-                    None => {
-                        let to = lists.put(parent);
-                        lists.known.insert(parent, to);
-                        to
-                    }
-                };
-                lists.edges.push(Edge { from, to });
-            }
-        }
-        lists
-    }
-
-    fn of_uids<U: AsRef<str>>(uids: impl IntoIterator<Item = U>) -> Lists<'static> {
-        let mut lists = Lists::default();
-        for uid in uids {
-            lists.put(uid.as_ref());
-        }
-        lists
+    /// The parents, in the order in which they were given.
+    pub fn parents(&self) -> impl Iterator<Item = &str> {
+        self.parents.iter().map(String::as_str)
     }
 }
 
@@ -118,6 +71,11 @@ impl<'a> Lists<'a> {
 /// sends(cedar_store::Store::new());
 /// ```
 ///
+/// ```compile_fail
+/// fn shares<T: Sync>(_: T) {}
+/// shares(cedar_store::Store::new());
+/// ```
+///
 /// ```
 /// use cedar_store::{Entity, Store, TCComputation};
 /// let alice = Entity::new("User::\"alice\"").with_parent("Group::\"staff\"");
@@ -126,127 +84,122 @@ impl<'a> Lists<'a> {
 /// assert!(store.is_descendant_of("User::\"alice\"", "Group::\"all\"").unwrap());
 /// ```
 pub struct Store {
-    handle: UnsafeCell<Handle>,
-    one_thread: PhantomData<*mut ()>,
+    held: Held<Stores>,
 }
 
 impl Store {
-    fn closed() -> Store {
-        Store {
-            handle: UnsafeCell::new(Handle::closed()),
-            one_thread: PhantomData,
+    fn of(held: Result<Held<Stores>, u32>) -> Result<Store, Refusal> {
+        match held {
+            Ok(held) => Ok(Store { held }),
+            Err(status) => Err(Refusal::new(status, Vec::new)),
         }
-    }
-
-    // Refusals of handles and calls: a call takes what is kept out of the handle and puts it back before it answers, so that a
-    // shared borrow may make one, as no two calls on one handle are made at a time.
-    fn at(&self) -> *mut Handle {
-        self.handle.get()
     }
 
     fn judged(&self, status: u32) -> Result<(), Refusal> {
-        if status == 0 {
-            return Ok(());
-        }
-        Err(Refusal::new(status, || {
-            ffi::copied(0, |out, room| unsafe { ffi::cedar_store_refusal(self.at(), out, room) })
-        }))
+        Refusal::judged(status, || self.held.words())
     }
 
-    fn answered(&self) -> Vec<String> {
-        let bytes = ffi::copied(0, |out, room| unsafe { ffi::cedar_store_answer(self.at(), 0, out, room) });
-        let spans = ffi::copied(Span { start: 0, end: 0 }, |out, room| unsafe {
-            ffi::cedar_store_answer_spans(self.at(), 0, out, room)
-        });
-        ffi::texts(bytes, spans)
-    }
-
-    fn changed(&mut self, change: Change, entities: &[Entity], mode: TCComputation) -> Result<(), Refusal> {
-        let lists = Lists::of_entities(entities);
-        let status = unsafe {
-            change(
-                self.at(),
-                lists.text.as_ptr(),
-                lists.text.len(),
-                lists.uids.as_ptr(),
-                lists.uids.len(),
-                entities.len(),
-                lists.edges.as_ptr(),
-                lists.edges.len(),
-                mode as u32,
-            )
-        };
-        self.judged(status)
-    }
-
-    /// The store without entities. Ends the program where its few bytes of memory are refused; [`Store::try_new`] does not.
+    /// The store without entities, with a key that is drawn. Ends the program where its few bytes of memory are refused;
+    /// [`Store::with_key`] does not.
     pub fn new() -> Store {
-        Store::try_new().expect("memory for an empty store")
+        Store::with_key(Key::drawn()).expect("memory for an empty store")
     }
 
-    /// The store without entities, or want of memory.
-    pub fn try_new() -> Result<Store, Refusal> {
-        let store = Store::closed();
-        store.judged(unsafe { ffi::cedar_store_new(store.at()) })?;
-        Ok(store)
+    /// The store without entities, whose map, and those of its copies and slices, hash by this key. Refused by `Memory`.
+    ///
+    /// ```
+    /// use cedar_store::{Key, Store};
+    /// let store = Store::with_key(Key { seed: 17, key: 4 }).unwrap();
+    /// assert!(store.is_empty());
+    /// ```
+    pub fn with_key(key: Key) -> Result<Store, Refusal> {
+        Store::of(Held::new(key))
     }
 
-    /// A store of these entities. An entity that comes twice is one, if both have the same parents.
+    /// A store of these entities, with a key that is drawn. An entity that comes twice is one, if both have the same parents.
     ///
     /// Refused by `Duplicate`, by `Cycle`, by `NotClosed` where that is enforced, by `NotAUid` and `Memory`.
+    ///
+    /// ```
+    /// use cedar_store::{Entity, Reason, Store, TCComputation};
+    /// let entities = [Entity::new("A::\"a\""), Entity::new("A::\"a\"").with_parent("A::\"b\"")];
+    /// let refusal = Store::from_entities(&entities, TCComputation::ComputeNow).err().unwrap();
+    /// assert_eq!(refusal.reason(), Reason::Duplicate);
+    /// assert_eq!(refusal.to_string(), "duplicate entity A::\"a\"");
+    /// ```
     pub fn from_entities(entities: &[Entity], mode: TCComputation) -> Result<Store, Refusal> {
-        let mut store = Store::try_new()?;
-        store.changed(ffi::cedar_store_build, entities, mode)?;
+        let mut store = Store::with_key(Key::drawn())?;
+        let status = store.held.build(&Lists::of_entities(entities), mode as u32);
+        store.judged(status)?;
         Ok(store)
     }
 
-    /// Adds entities. One that the store has already has to have the same ancestors.
+    /// Adds entities. One that the store has already has to have the same ancestors, and changes nothing.
     ///
     /// Refused as [`Store::from_entities`] is. `NotAUid` leaves the store as it was; `Memory` does, or leaves it without entities;
     /// any other refusal leaves it without entities: who wants it copies it first ([`Store::try_clone`]).
     ///
     /// ```
     /// use cedar_store::{Entity, Reason, Store, TCComputation};
-    /// let mut store = Store::from_entities(&[Entity::new("A::\"a\"").with_parent("A::\"b\"")], TCComputation::ComputeNow).unwrap();
-    /// let refusal = store.add_entities(&[Entity::new("A::\"b\"").with_parent("A::\"a\"")], TCComputation::ComputeNow).unwrap_err();
+    /// let child = Entity::new("A::\"a\"").with_parent("A::\"b\"");
+    /// let mut store = Store::from_entities(&[child], TCComputation::ComputeNow).unwrap();
+    /// let above = Entity::new("A::\"b\"").with_parent("A::\"a\"");
+    /// let refusal = store.add_entities(&[above], TCComputation::ComputeNow).unwrap_err();
     /// assert_eq!(refusal.reason(), Reason::Cycle);
     /// assert!(store.is_empty());
     /// ```
-    pub fn add_entities(&mut self, entities: &[Entity], mode: TCComputation) -> Result<(), Refusal> {
-        self.changed(ffi::cedar_store_add, entities, mode)
+    pub fn add_entities(
+        &mut self,
+        entities: &[Entity],
+        mode: TCComputation,
+    ) -> Result<(), Refusal> {
+        let status = self.held.add(&Lists::of_entities(entities), mode as u32);
+        self.judged(status)
     }
 
     /// Puts entities into the store, each in the place of any with its uid; of several with one uid the last counts.
     ///
     /// Refused as [`Store::add_entities`] is, but for `Duplicate`.
-    pub fn upsert_entities(&mut self, entities: &[Entity], mode: TCComputation) -> Result<(), Refusal> {
-        self.changed(ffi::cedar_store_upsert, entities, mode)
+    ///
+    /// ```
+    /// use cedar_store::{Entity, Store, TCComputation};
+    /// let child = Entity::new("A::\"a\"").with_parent("A::\"b\"");
+    /// let mut store = Store::from_entities(&[child], TCComputation::ComputeNow).unwrap();
+    /// store.upsert_entities(&[Entity::new("A::\"a\"")], TCComputation::ComputeNow).unwrap();
+    /// assert!(store.ancestors("A::\"a\"").unwrap().is_empty());
+    /// ```
+    pub fn upsert_entities(
+        &mut self,
+        entities: &[Entity],
+        mode: TCComputation,
+    ) -> Result<(), Refusal> {
+        let status = self.held.upsert(&Lists::of_entities(entities), mode as u32);
+        self.judged(status)
     }
 
     /// Takes the entities with these uids out; they are no parents either then. Uids that the store lacks change nothing.
     ///
     /// Refused as [`Store::add_entities`] is, but for `Duplicate`; over a computed store by `NotAUid` and `Memory` alone.
+    ///
+    /// ```
+    /// use cedar_store::{Entity, Store, TCComputation};
+    /// let entities = [Entity::new("A::\"a\"").with_parent("A::\"b\""), Entity::new("A::\"b\"")];
+    /// let mut store = Store::from_entities(&entities, TCComputation::ComputeNow).unwrap();
+    /// store.remove_entities(["A::\"b\""], TCComputation::ComputeNow).unwrap();
+    /// assert!(!store.is_descendant_of("A::\"a\"", "A::\"b\"").unwrap());
+    /// ```
     pub fn remove_entities<U: AsRef<str>>(
         &mut self,
         uids: impl IntoIterator<Item = U>,
         mode: TCComputation,
     ) -> Result<(), Refusal> {
-        let lists = Lists::of_uids(uids);
-        self.judged(unsafe {
-            ffi::cedar_store_remove(
-                self.at(),
-                lists.text.as_ptr(),
-                lists.text.len(),
-                lists.uids.as_ptr(),
-                lists.uids.len(),
-                mode as u32,
-            )
-        })
+        let status = self.held.remove(&Lists::of_texts(uids), mode as u32);
+        self.judged(status)
     }
 
     /// How many entities there are.
     pub fn len(&self) -> usize {
-        unsafe { ffi::cedar_store_len(self.at()) }
+        self.held.len()
     }
 
     /// Whether there is none.
@@ -256,82 +209,84 @@ impl Store {
 
     /// Whether there is an entity with a uid. Refused by `NotAUid` and `Memory`.
     pub fn contains(&self, uid: &str) -> Result<bool, Refusal> {
-        let mut answer = false;
-        self.judged(unsafe { ffi::cedar_store_has(self.at(), uid.as_ptr(), uid.len(), &mut answer) })?;
+        let (status, answer) = self.held.has(uid);
+        self.judged(status)?;
         Ok(answer)
+    }
+
+    /// The entity with a uid, if there is one. Refused by `NotAUid` and `Memory`.
+    ///
+    /// ```
+    /// use cedar_store::{Entity, Store, TCComputation};
+    /// let entities = [Entity::new("A::\"a\"").with_parent("A::\"b\"")];
+    /// let store = Store::from_entities(&entities, TCComputation::ComputeNow).unwrap();
+    /// let entity = store.entity("A::\"a\"").unwrap().unwrap();
+    /// assert!(entity.is_descendant_of("A::\"b\"").unwrap());
+    /// assert!(store.entity("A::\"b\"").unwrap().is_none());
+    /// ```
+    pub fn entity<'a>(&'a self, uid: &'a str) -> Result<Option<StoredEntity<'a>>, Refusal> {
+        let held = self.contains(uid)?;
+        Ok(held.then_some(StoredEntity { store: self, uid }))
     }
 
     /// Whether an entity is a descendant of a uid, over parents, however many. Refused by `NoEntity` where the store has no entity
     /// with the first uid, by `NotAUid` and `Memory`.
     pub fn is_descendant_of(&self, child: &str, ancestor: &str) -> Result<bool, Refusal> {
-        let mut answer = false;
-        self.judged(unsafe {
-            ffi::cedar_store_is_descendant_of(
-                self.at(),
-                child.as_ptr(),
-                child.len(),
-                ancestor.as_ptr(),
-                ancestor.len(),
-                &mut answer,
-            )
-        })?;
-        Ok(answer)
-    }
-
-    fn listed(&self, status: u32) -> Result<Vec<String>, Refusal> {
+        let (status, answer) = self.held.is_descendant_of(child, ancestor);
         self.judged(status)?;
-        Ok(self.answered())
+        Ok(answer)
     }
 
     /// The ancestors of an entity, in the order of uids. Refused as [`Store::is_descendant_of`] is.
     pub fn ancestors(&self, uid: &str) -> Result<Vec<String>, Refusal> {
-        self.listed(unsafe { ffi::cedar_store_ancestors(self.at(), uid.as_ptr(), uid.len()) })
+        self.judged(self.held.ancestors(uid))?;
+        Ok(self.held.answer())
     }
 
     /// The parents of an entity, in the order of uids. Refused as [`Store::is_descendant_of`] is.
     pub fn parents(&self, uid: &str) -> Result<Vec<String>, Refusal> {
-        self.listed(unsafe { ffi::cedar_store_parents(self.at(), uid.as_ptr(), uid.len()) })
+        self.judged(self.held.parents(uid))?;
+        Ok(self.held.answer())
     }
 
     /// Looks for what is wrong with the store: with its ancestors, and then with the entity that has the least uid of those with a
-    /// fault.
-    pub fn validate(&self) -> Result<(), Refusal> {
-        self.judged(unsafe { ffi::cedar_store_validate(self.at()) })
+    /// fault. Refused by that, from `Cycle` to `ReservedKey`, and by `Memory`; the store stays.
+    ///
+    /// ```
+    /// use cedar_store::{Entity, Reason, Store, TCComputation};
+    /// let entities = [Entity::new("Action::\"go\"").with_parent("A::\"a\"")];
+    /// let store = Store::from_entities(&entities, TCComputation::ComputeNow).unwrap();
+    /// assert_eq!(store.try_validate().unwrap_err().reason(), Reason::ActionParentIsNotAction);
+    /// ```
+    pub fn try_validate(&self) -> Result<(), Refusal> {
+        self.judged(self.held.validate())
     }
 
-    /// The slice of the store at some uids: the entities with these, and those among their ancestors. Refused by `NotAUid` and
-    /// `Memory`.
-    pub fn slice<U: AsRef<str>>(&self, uids: impl IntoIterator<Item = U>) -> Result<Store, Refusal> {
-        let lists = Lists::of_uids(uids);
-        let slice = Store::closed();
-        self.judged(unsafe {
-            ffi::cedar_store_slice(
-                self.at(),
-                slice.at(),
-                lists.text.as_ptr(),
-                lists.text.len(),
-                lists.uids.as_ptr(),
-                lists.uids.len(),
-            )
-        })?;
-        Ok(slice)
+    /// The slice of the store at some uids: the entities with these, and those that it has among their ancestors. Refused by
+    /// `NotAUid` and `Memory`.
+    ///
+    /// ```
+    /// use cedar_store::{Entity, Store, TCComputation};
+    /// let entities = [Entity::new("A::\"a\"").with_parent("A::\"b\""), Entity::new("A::\"b\""), Entity::new("A::\"c\"")];
+    /// let store = Store::from_entities(&entities, TCComputation::ComputeNow).unwrap();
+    /// let slice = store.slice(["A::\"a\""]).unwrap();
+    /// assert_eq!(slice.len(), 2);
+    /// ```
+    pub fn slice<U: AsRef<str>>(
+        &self,
+        uids: impl IntoIterator<Item = U>,
+    ) -> Result<Store, Refusal> {
+        Store::of(self.held.slice(&Lists::of_texts(uids)))
     }
 
-    /// A copy, which shares the entities; or want of memory.
+    /// A copy, which shares the entities. Refused by `Memory`.
     pub fn try_clone(&self) -> Result<Store, Refusal> {
-        let copy = Store::closed();
-        self.judged(unsafe { ffi::cedar_store_copy(self.at(), copy.at()) })?;
-        Ok(copy)
+        Store::of(self.held.copy())
     }
 
     /// Whether both have the same uids and under each of them entities with the same ancestors.
     pub fn deep_eq(&self, other: &Store) -> bool {
-        if std::ptr::eq(self, other) {
-            return true;
-        }
-        let mut answer = false;
-        unsafe { ffi::cedar_store_equal(self.at(), other.at(), &mut answer) };
-        answer
+        self.held.is_equal(&other.held)
     }
 }
 
@@ -341,8 +296,39 @@ impl Default for Store {
     }
 }
 
-impl Drop for Store {
-    fn drop(&mut self) {
-        unsafe { ffi::cedar_store_free(self.at()) }
+impl std::fmt::Debug for Store {
+    fn fmt(&self, f: &mut std::fmt::Formatter<'_>) -> std::fmt::Result {
+        f.debug_struct("Store")
+            .field("len", &self.len())
+            .finish_non_exhaustive()
+    }
+}
+
+/// An entity that a store has.
+#[derive(Clone, Copy, Debug)]
+pub struct StoredEntity<'a> {
+    store: &'a Store,
+    uid: &'a str,
+}
+
+impl<'a> StoredEntity<'a> {
+    /// The uid.
+    pub fn uid(&self) -> &'a str {
+        self.uid
+    }
+
+    /// Whether it is a descendant of a uid, over parents, however many. Refused by `NotAUid` and `Memory`.
+    pub fn is_descendant_of(&self, ancestor: &str) -> Result<bool, Refusal> {
+        self.store.is_descendant_of(self.uid, ancestor)
+    }
+
+    /// The ancestors, in the order of uids. Refused by `Memory` alone.
+    pub fn ancestors(&self) -> Result<Vec<String>, Refusal> {
+        self.store.ancestors(self.uid)
+    }
+
+    /// The parents, in the order of uids. Refused by `Memory` alone.
+    pub fn parents(&self) -> Result<Vec<String>, Refusal> {
+        self.store.parents(self.uid)
     }
 }

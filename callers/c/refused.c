@@ -1,0 +1,299 @@
+/* Makes each call of the library again and again, each time with a later request for memory refused, until none is. A
+ * call whose request is refused answers CEDAR_NO_MEMORY, leaves what cedar.h says, and is then made once more, with all
+ * memory that it wants, and answers and leaves what it would have at once. Or it does without that memory, and does so
+ * at once. Last come the calls that take no memory: they make no request. Prints what fails, and ends with `N passed, M
+ * failed`. Built with `-Wl,--wrap=malloc -Wl,--wrap=realloc`. */
+#include "short.h"
+
+/* ---- the refuser */
+
+static long due_in;  /* in how many requests one is refused; 0 for never */
+static long refused; /* how many were */
+static long asked;   /* how many were made */
+
+static long refusals;     /* how often a call answered CEDAR_NO_MEMORY */
+static long done_without; /* how often it did without the memory that was refused, and answered what was due */
+
+void *__real_malloc(size_t size);
+void *__real_realloc(void *at, size_t size);
+void *__wrap_malloc(size_t size);
+void *__wrap_realloc(void *at, size_t size);
+
+static bool refuses(void) {
+    asked++;
+    if (due_in == 0 || --due_in > 0) return false;
+    refused++;
+    return true;
+}
+
+void *__wrap_malloc(size_t size) { return refuses() ? NULL : __real_malloc(size); }
+void *__wrap_realloc(void *at, size_t size) { return refuses() ? NULL : __real_realloc(at, size); }
+
+/* ---- what the calls are made on */
+
+typedef struct held {
+    cedar_store s, t;
+    cedar_policies p, q;
+} held;
+
+/* Each handle is open and has an answer. */
+static void set_up(held *h) {
+    memset(h, 0, sizeof *h);
+    CHECK(new_store(&h->s) == CEDAR_OK && build(&h->s, "a b;b c;x c", CEDAR_COMPUTE) == CEDAR_OK);
+    CHECK(new_store(&h->t) == CEDAR_OK && build(&h->t, "y z", CEDAR_COMPUTE) == CEDAR_OK);
+    CHECK(ancestors(&h->s, U("a")) == CEDAR_OK && parents(&h->t, U("y")) == CEDAR_OK);
+    CHECK(new_set(&h->p) == CEDAR_OK && add_static(&h->p, "a", 0) == CEDAR_OK);
+    CHECK(add_template(&h->p, "t", 5) == CEDAR_OK && add_template(&h->p, "u", 2) == CEDAR_OK);
+    CHECK(link_id(&h->p, "t", "l", U("a"), "", "B::\"b\"") == CEDAR_OK && cedar_policies_ids(&h->p, 0) == CEDAR_OK);
+    CHECK(new_set(&h->q) == CEDAR_OK && add_static(&h->q, "a", 1) == CEDAR_OK &&
+          add_template(&h->q, "t2", 5) == CEDAR_OK);
+    CHECK(link_id(&h->q, "t2", "m", U("a"), "", "B::\"b\"") == CEDAR_OK && cedar_policies_ids(&h->q, 1) == CEDAR_OK);
+}
+
+static void let_go(held *h) {
+    cedar_store_free(&h->s);
+    cedar_store_free(&h->t);
+    cedar_policies_free(&h->p);
+    cedar_policies_free(&h->q);
+}
+
+/* ---- the calls that take memory */
+
+#define CALL(name, made)            \
+    static uint32_t name(held *h) { \
+        (void)h;                    \
+        return made;                \
+    }
+
+/* 99 where an answer that was not due was written, or another than the due one. */
+static uint32_t truth(uint32_t status, bool answer, bool want) { return answer == (!status && want) ? status : 99; }
+
+static uint32_t runs(held *h) {
+    const char *want = "ok 1\nanc\t" U("b") "\nok\nok\nok\nbodies\tt\npolicies\tl\n";
+    const char *input =
+        "ent\t" U("a") "\t" U("b") "\nbuild\nanc\t" U("a") "\ntemplate\tt\tprincipal\n"
+                                                           "link\tt\tl\tprincipal=" U("a") "\nmerge\tkeep\nids\n";
+    uint8_t out[128];
+    size_t length = 0;
+    uint32_t ended = 9;
+    (void)h;
+    uint32_t status = cedar_run(TEXT(input), 1, 2, out, sizeof out, &length, &ended);
+    if (status == CEDAR_OK && (length != strlen(want) || memcmp(out, want, length) || ended != 0)) return 99;
+    return status;
+}
+
+static uint32_t asks_has(held *h) {
+    bool answer = false;
+    uint32_t status = cedar_store_has(&h->s, TEXT(U("a")), &answer);
+    return truth(status, answer, true);
+}
+
+static uint32_t asks_above(held *h) {
+    bool answer = false;
+    uint32_t status = cedar_store_is_descendant_of(&h->s, TEXT(U("a")), TEXT(U("c")), &answer);
+    return truth(status, answer, true);
+}
+
+CALL(checks_uid, cedar_uid_check(TEXT("A::B::\"a\"")))
+CALL(checks_no_uid, cedar_uid_check(TEXT("A::B::\"\\n\\q\"")))
+CALL(news, new_store(&h->s))
+CALL(builds, build(&h->s, "a b;b c;c de;f", CEDAR_COMPUTE))
+CALL(builds_enforced, build(&h->s, "a bc;b c", CEDAR_ENFORCE))
+CALL(builds_assumed, build(&h->s, "a b;b a", CEDAR_ASSUME))
+CALL(builds_twice, build(&h->s, "a b;a c", CEDAR_COMPUTE))
+CALL(builds_cycle, build(&h->s, "a b;b a", CEDAR_COMPUTE))
+CALL(builds_open, build(&h->s, "a b;b c", CEDAR_ENFORCE))
+CALL(adds, add(&h->s, "y x;z y", CEDAR_COMPUTE))
+CALL(adds_differing, add(&h->s, "a q", CEDAR_COMPUTE))
+CALL(adds_assumed, add(&h->s, "y x;z y", CEDAR_ASSUME))
+CALL(upserts, upsert(&h->s, "b d;y b", CEDAR_COMPUTE))
+CALL(upserts_cycle, upsert(&h->s, "c a", CEDAR_COMPUTE))
+CALL(upserts_enforced, upsert(&h->s, "b c", CEDAR_ENFORCE))
+CALL(removes, removed(&h->s, "bz", CEDAR_COMPUTE))
+CALL(removes_enforced, removed(&h->s, "bz", CEDAR_ENFORCE))
+CALL(lists_ancestors, ancestors(&h->s, U("a")))
+CALL(lists_parents, parents(&h->s, U("b")))
+CALL(lists_nothing, ancestors(&h->s, U("q")))
+CALL(validates, cedar_store_validate(&h->s))
+CALL(slices, sliced(&h->s, &h->t, "ax"))
+CALL(copies, cedar_store_copy(&h->s, &h->t))
+CALL(news_set, new_set(&h->p))
+CALL(adds_static, add_static(&h->p, "new", 1))
+CALL(adds_static_twice, add_static(&h->p, "a", 1))
+CALL(adds_template, add_template(&h->p, "new", 7))
+CALL(adds_template_twice, add_template(&h->p, "l", 7))
+CALL(links, link_id(&h->p, "t", "new", U("b"), "", "B::\"c\""))
+CALL(links_few, link_id(&h->p, "t", "new", U("b"), "", ""))
+CALL(links_none, link_id(&h->p, "none", "new", U("b"), "", ""))
+CALL(links_no_action, link_id(&h->p, "u", "new", "", U("b"), ""))
+CALL(links_twice, link_id(&h->p, "u", "a", "", "Action::\"go\"", ""))
+CALL(unlinks, unlink_id(&h->p, "l"))
+CALL(unlinks_static, unlink_id(&h->p, "a"))
+CALL(removes_static, remove_static(&h->p, "a"))
+CALL(removes_no_static, remove_static(&h->p, "none"))
+CALL(removes_template, remove_template(&h->p, "u"))
+CALL(removes_linked, remove_template(&h->p, "t"))
+CALL(merges, cedar_policies_merge(&h->p, &h->q, true))
+CALL(merges_keeping, cedar_policies_merge(&h->p, &h->q, false))
+CALL(lists_bodies, cedar_policies_ids(&h->p, 0))
+CALL(lists_policies, cedar_policies_ids(&h->p, 1))
+CALL(copies_set, cedar_policies_copy(&h->p, &h->q))
+
+typedef uint32_t (*call)(held *);
+
+static const call CALLS[] = {
+    runs,
+    checks_uid,
+    checks_no_uid,
+    news,
+    builds,
+    builds_enforced,
+    builds_assumed,
+    builds_twice,
+    builds_cycle,
+    builds_open,
+    adds,
+    adds_differing,
+    adds_assumed,
+    upserts,
+    upserts_cycle,
+    upserts_enforced,
+    removes,
+    removes_enforced,
+    asks_has,
+    asks_above,
+    lists_ancestors,
+    lists_parents,
+    lists_nothing,
+    validates,
+    slices,
+    copies,
+    news_set,
+    adds_static,
+    adds_static_twice,
+    adds_template,
+    adds_template_twice,
+    links,
+    links_few,
+    links_none,
+    links_no_action,
+    links_twice,
+    unlinks,
+    unlinks_static,
+    removes_static,
+    removes_no_static,
+    removes_template,
+    removes_linked,
+    merges,
+    merges_keeping,
+    lists_bodies,
+    lists_policies,
+    copies_set,
+};
+
+/* ---- each with its requests refused in turn */
+
+/* Whether two handles tell the same answer. */
+static bool answer_alike(held *h, held *like) {
+    char kept[ROOM];
+    snprintf(kept, sizeof kept, "%s", store_answer(&h->s));
+    bool stores = IS(store_answer(&like->s), kept);
+    snprintf(kept, sizeof kept, "%s", policies_answer(&h->p));
+    return stores && IS(policies_answer(&like->p), kept);
+}
+
+static bool refuse_alike(held *h, held *like) {
+    char kept[ROOM];
+    snprintf(kept, sizeof kept, "%s", store_refusal(&h->s));
+    bool stores = IS(store_refusal(&like->s), kept);
+    snprintf(kept, sizeof kept, "%s", policies_refusal(&h->p));
+    return stores && IS(policies_refusal(&like->p), kept);
+}
+
+/* Whether the handles beside the store that is called are alike. */
+static bool alike_beside(held *h, held *like) {
+    return equal(&h->t, &like->t) == 1 && sets_equal(&h->p, &like->p) == 1 && sets_equal(&h->q, &like->q) == 1;
+}
+
+/* What want of memory leaves: a store that is as it was, or is without entities; all else, the answers too, as it was.
+ */
+static bool left_well(held *h, held *before) {
+    if (!alike_beside(h, before) || !answer_alike(h, before) || !h->s.is_open) return false;
+    return cedar_store_len(&h->s) == 0 || equal(&h->s, &before->s) == 1;
+}
+
+/* A store that was emptied is put back, with its answer. */
+static void put_back(held *h, held *before) {
+    if (cedar_store_len(&h->s) > 0) return;
+    CHECK(cedar_store_copy(&before->s, &h->s) == CEDAR_OK && ancestors(&h->s, U("a")) == CEDAR_OK);
+}
+
+static bool ends_alike(held *h, held *after) {
+    return equal(&h->s, &after->s) == 1 && alike_beside(h, after) && answer_alike(h, after) && refuse_alike(h, after);
+}
+
+/* A call with its n-th request refused. Whether there was one. */
+static bool refused_at(size_t k, long n, uint32_t due, held *before, held *after) {
+    held h;
+    set_up(&h);
+    due_in = n;
+    refused = 0;
+    uint32_t status = CALLS[k](&h);
+    due_in = 0;
+    bool was_refused = refused > 0;
+    if (was_refused && status == CEDAR_NO_MEMORY) {
+        refusals++;
+        CHECK(left_well(&h, before));
+        put_back(&h, before);
+        status = CALLS[k](&h);
+    } else if (was_refused) {
+        done_without++;
+    }
+    if (status != due) printf("call %zu, request %ld: %u, not %u\n", k, n, status, due);
+    CHECK(status == due);
+    CHECK(ends_alike(&h, after));
+    let_go(&h);
+    return was_refused;
+}
+
+static void in_turn(size_t k) {
+    held before, after;
+    set_up(&before);
+    set_up(&after);
+    uint32_t due = CALLS[k](&after);
+    CHECK(due != CEDAR_NO_MEMORY && due != 99);
+    long n = 1;
+    while (refused_at(k, n, due, &before, &after)) n++;
+    if (n == 1) printf("call %zu makes no request\n", k);
+    CHECK(n > 1);
+    let_go(&before);
+    let_go(&after);
+}
+
+/* ---- the calls that take no memory */
+
+static void no_request(void) {
+    held h;
+    uint8_t out[64];
+    cedar_span spans[8];
+    set_up(&h);
+    CHECK(add_static(&h.p, "a", 1) == CEDAR_OCCUPIED && build(&h.t, "y y", CEDAR_COMPUTE) == CEDAR_CYCLE);
+    due_in = 1;
+    asked = 0;
+    CHECK(cedar_store_len(&h.s) == 3 && equal(&h.s, &h.t) == 0);
+    CHECK(cedar_store_answer(&h.s, 0, out, sizeof out) == 12 && cedar_store_answer_spans(&h.s, 0, spans, 8) == 2);
+    CHECK(cedar_store_refusal(&h.t, out, sizeof out) == strlen("cycle at " U("y")));
+    CHECK(sets_equal(&h.p, &h.q) == 0);
+    CHECK(cedar_policies_answer(&h.p, 0, out, sizeof out) == 3 && cedar_policies_answer_spans(&h.p, 0, spans, 8) == 3);
+    CHECK(cedar_policies_refusal(&h.p, out, sizeof out) == strlen("occupied a"));
+    let_go(&h);
+    CHECK(asked == 0);
+    due_in = 0;
+}
+
+int main(void) {
+    for (size_t k = 0; k < sizeof CALLS / sizeof *CALLS; k++) in_turn(k);
+    no_request();
+    printf("refused.c: %ld requests refused, of which %ld were done without\n", refusals + done_without, done_without);
+    return counted();
+}

@@ -1,0 +1,223 @@
+/* What both tests in C share: counting, lists as a caller lays them out, and calls in short. */
+#ifndef CEDAR_SHORT_H
+#define CEDAR_SHORT_H
+#include "cedar.h"
+#include <stdio.h>
+#include <stdlib.h>
+#include <string.h>
+
+static int passed, failed;
+
+#define CHECK(what)                                                                                                    \
+    do {                                                                                                               \
+        if (what) {                                                                                                    \
+            passed++;                                                                                                  \
+        } else {                                                                                                       \
+            failed++;                                                                                                  \
+            printf("%s:%d: not so: %s\n", __FILE__, __LINE__, #what);                                                  \
+        }                                                                                                              \
+    } while (0)
+
+/* Ends a test: prints what was counted. */
+static inline int counted(void) {
+    printf("%d passed, %d failed\n", passed, failed);
+    return failed != 0;
+}
+
+/* The uid with a name. */
+#define U(name) "A::\"" name "\""
+
+static inline const uint8_t *bytes(const char *text) { return (const uint8_t *)text; }
+
+#define TEXT(text) bytes(text), strlen(text)
+
+/* ---- lists as a caller lays them out */
+
+#define MOST 32
+
+typedef struct list {
+    uint8_t text[1024];
+    size_t text_len;
+    cedar_span uids[MOST];
+    size_t uids_len;
+    size_t count;
+    cedar_edge edges[MOST];
+    size_t edges_len;
+} list;
+
+static inline size_t put_text(list *l, const char *text) {
+    size_t len = strlen(text);
+    memcpy(l->text + l->text_len, text, len);
+    l->uids[l->uids_len] = (cedar_span){l->text_len, l->text_len + len};
+    l->text_len += len;
+    return l->uids_len++;
+}
+
+static inline size_t put_name(list *l, char name) {
+    char uid[16];
+    snprintf(uid, sizeof uid, U("%c"), name);
+    return put_text(l, uid);
+}
+
+/* Uids by their names: `ab` is two. */
+static inline list uids(const char *names) {
+    list l;
+    memset(&l, 0, sizeof l);
+    for (; *names; names++) put_name(&l, *names);
+    return l;
+}
+
+/* Entities by their names, each with those of its parents behind it: `a bc;b` is a with the parents b and c, and b. */
+static inline list listed(const char *spec) {
+    list l = uids("");
+    for (const char *p = spec; *p; p++) {
+        if (p == spec || p[-1] == ';') put_name(&l, *p);
+    }
+    l.count = l.uids_len;
+    size_t from = 0;
+    for (const char *p = spec; *p; p++) {
+        if (*p == ';') from++;
+        if (p == spec || p[-1] == ';' || *p == ';' || *p == ' ') continue;
+        l.edges[l.edges_len++] = (cedar_edge){from, put_name(&l, *p)};
+    }
+    return l;
+}
+
+/* ---- calls in short */
+
+#define LISTED(l) (l).text, (l).text_len, (l).uids, (l).uids_len
+#define ENTITIES(l) LISTED(l), (l).count, (l).edges, (l).edges_len
+
+static inline uint32_t new_store(cedar_store *s) { return cedar_store_new(s, 0x5eed, 0x6b6579); }
+
+static inline uint32_t build(cedar_store *s, const char *spec, uint32_t mode) {
+    list l = listed(spec);
+    return cedar_store_build(s, ENTITIES(l), mode);
+}
+
+static inline uint32_t add(cedar_store *s, const char *spec, uint32_t mode) {
+    list l = listed(spec);
+    return cedar_store_add(s, ENTITIES(l), mode);
+}
+
+static inline uint32_t upsert(cedar_store *s, const char *spec, uint32_t mode) {
+    list l = listed(spec);
+    return cedar_store_upsert(s, ENTITIES(l), mode);
+}
+
+static inline uint32_t removed(cedar_store *s, const char *names, uint32_t mode) {
+    list l = uids(names);
+    return cedar_store_remove(s, LISTED(l), mode);
+}
+
+static inline uint32_t sliced(cedar_store *from, cedar_store *to, const char *names) {
+    list l = uids(names);
+    return cedar_store_slice(from, to, LISTED(l));
+}
+
+static inline uint32_t ancestors(cedar_store *s, const char *uid) { return cedar_store_ancestors(s, TEXT(uid)); }
+
+static inline uint32_t parents(cedar_store *s, const char *uid) { return cedar_store_parents(s, TEXT(uid)); }
+
+/* What follows answers 0 or 1, or 100 and the status. */
+static inline unsigned told(uint32_t status, bool answer) { return status ? 100 + status : answer; }
+
+static inline unsigned has(cedar_store *s, const char *uid) {
+    bool answer = false;
+    uint32_t status = cedar_store_has(s, TEXT(uid), &answer);
+    return told(status, answer);
+}
+
+static inline unsigned descends(cedar_store *s, const char *child, const char *ancestor) {
+    bool answer = false;
+    uint32_t status = cedar_store_is_descendant_of(s, TEXT(child), TEXT(ancestor), &answer);
+    return told(status, answer);
+}
+
+static inline unsigned equal(cedar_store *one, cedar_store *other) {
+    bool answer = false;
+    uint32_t status = cedar_store_equal(one, other, &answer);
+    return told(status, answer);
+}
+
+static inline unsigned sets_equal(cedar_policies *one, cedar_policies *other) {
+    bool answer = false;
+    uint32_t status = cedar_policies_equal(one, other, &answer);
+    return told(status, answer);
+}
+
+static inline uint32_t new_set(cedar_policies *p) { return cedar_policies_new(p, 0x5eed, 0x6b6579); }
+
+static inline uint32_t add_static(cedar_policies *p, const char *id, uint32_t effect) {
+    return cedar_policies_add_static(p, TEXT(id), effect);
+}
+
+static inline uint32_t add_template(cedar_policies *p, const char *id, uint32_t slots) {
+    return cedar_policies_add_template(p, TEXT(id), 0, slots);
+}
+
+static inline uint32_t link_id(cedar_policies *p, const char *template_id, const char *id, const char *principal,
+                               const char *action, const char *resource) {
+    list l = uids("");
+    put_text(&l, principal);
+    put_text(&l, action);
+    put_text(&l, resource);
+    return cedar_policies_link(p, TEXT(template_id), TEXT(id), LISTED(l));
+}
+
+static inline uint32_t unlink_id(cedar_policies *p, const char *id) { return cedar_policies_unlink(p, TEXT(id)); }
+
+static inline uint32_t remove_static(cedar_policies *p, const char *id) {
+    return cedar_policies_remove_static(p, TEXT(id));
+}
+
+static inline uint32_t remove_template(cedar_policies *p, const char *id) {
+    return cedar_policies_remove_template(p, TEXT(id));
+}
+
+/* ---- what a handle tells: the texts of its answer, each behind a comma, and its last refusal */
+
+#define ROOM 1024
+
+static inline const char *joined(const uint8_t *text, const cedar_span *spans, size_t count) {
+    static char out[ROOM];
+    size_t at = 0;
+    for (size_t k = 0; k < count; k++) {
+        size_t len = spans[k].end - spans[k].start;
+        out[at++] = ',';
+        memcpy(out + at, text + spans[k].start, len);
+        at += len;
+    }
+    out[at] = 0;
+    return out;
+}
+
+static inline const char *store_answer(cedar_store *s) {
+    uint8_t text[ROOM / 2];
+    cedar_span spans[MOST];
+    cedar_store_answer(s, 0, text, sizeof text);
+    return joined(text, spans, cedar_store_answer_spans(s, 0, spans, MOST));
+}
+
+static inline const char *policies_answer(cedar_policies *p) {
+    uint8_t text[ROOM / 2];
+    cedar_span spans[MOST];
+    cedar_policies_answer(p, 0, text, sizeof text);
+    return joined(text, spans, cedar_policies_answer_spans(p, 0, spans, MOST));
+}
+
+static inline const char *store_refusal(cedar_store *s) {
+    static char out[ROOM];
+    out[cedar_store_refusal(s, (uint8_t *)out, sizeof out - 1)] = 0;
+    return out;
+}
+
+static inline const char *policies_refusal(cedar_policies *p) {
+    static char out[ROOM];
+    out[cedar_policies_refusal(p, (uint8_t *)out, sizeof out - 1)] = 0;
+    return out;
+}
+
+#define IS(text, want) (!strcmp((text), (want)))
+
+#endif

@@ -1,0 +1,136 @@
+//! What a tree of 100,000 entities costs through this crate, and what the same costs in plain hash maps of Rust and by the program of
+//! the library in one call. Prints the least of three runs, in seconds: `cargo run --release --example figures`.
+use cedar_store::TCComputation::ComputeNow;
+use cedar_store::{run, Entity, Store};
+use std::collections::{HashMap, HashSet};
+use std::hint::black_box;
+use std::time::Instant;
+
+const SIZE: usize = 100_000;
+const CHILDREN: usize = 8;
+const ASKED: usize = 100_000;
+
+fn uid(place: usize) -> String {
+    format!("A::\"n{place}\"")
+}
+
+fn parent(place: usize) -> Option<usize> {
+    (place > 0).then(|| (place - 1) / CHILDREN)
+}
+
+// Pairs to ask for: every other one is an entity and one above it.
+fn pairs() -> Vec<(String, String)> {
+    let one = |ask: usize| {
+        let child = 1 + ask * 7919 % (SIZE - 1);
+        let above = parent(child).and_then(parent).unwrap_or(0);
+        let other = if ask & 1 == 0 {
+            above
+        } else {
+            ask * 104_729 % SIZE
+        };
+        (uid(child), uid(other))
+    };
+    (0..ASKED).map(one).collect()
+}
+
+// The least time of three, and what was made last.
+fn least<T>(make: impl Fn() -> T) -> (f64, T) {
+    let timed = || {
+        let start = Instant::now();
+        let made = make();
+        (start.elapsed().as_secs_f64(), made)
+    };
+    let (first, second, (third, made)) = (timed().0, timed().0, timed());
+    (first.min(second).min(third), made)
+}
+
+fn print(what: &str, seconds: f64) {
+    println!("{what:<58} {seconds:8.4} s");
+}
+
+fn through_the_crate(pairs: &[(String, String)]) -> usize {
+    let entity = |place| Entity::new(uid(place)).with_parents(parent(place).map(uid));
+    let entities: Vec<Entity> = (0..SIZE).map(entity).collect();
+    let (seconds, store) = least(|| Store::from_entities(&entities, ComputeNow).unwrap());
+    print("from_entities through this crate", seconds);
+    let asks = || {
+        pairs
+            .iter()
+            .filter(|(child, other)| store.is_descendant_of(child, other).unwrap())
+            .count()
+    };
+    let (seconds, count) = least(asks);
+    print("is_descendant_of through this crate", seconds);
+    let lists = || {
+        pairs
+            .iter()
+            .map(|(child, _)| store.ancestors(child).unwrap().len())
+            .sum::<usize>()
+    };
+    print("ancestors through this crate", least(lists).0);
+    count
+}
+
+type Above = HashMap<String, HashSet<String>>;
+
+// The ancestors of each entity, whose parents stand before it.
+fn closed() -> Above {
+    let mut above: Above = HashMap::new();
+    for place in 0..SIZE {
+        let mut own = HashSet::new();
+        if let Some(parent) = parent(place).map(uid) {
+            own.extend(above[&parent].iter().cloned());
+            own.insert(parent);
+        }
+        above.insert(uid(place), own);
+    }
+    above
+}
+
+fn in_hash_maps(pairs: &[(String, String)]) -> usize {
+    let (seconds, above) = least(closed);
+    print("the same tree in hash maps of Rust, parents first", seconds);
+    let asks = || {
+        pairs
+            .iter()
+            .filter(|(child, other)| above[child].contains(other))
+            .count()
+    };
+    let (seconds, count) = least(asks);
+    print("is_descendant_of in hash maps of Rust", seconds);
+    let lists = || {
+        let sorted = |child| {
+            let mut list: Vec<String> = above[child].iter().cloned().collect();
+            list.sort();
+            list.len()
+        };
+        pairs.iter().map(|(child, _)| sorted(child)).sum::<usize>()
+    };
+    print("ancestors in hash maps of Rust, sorted", least(lists).0);
+    count
+}
+
+fn by_the_program(pairs: &[(String, String)]) {
+    let line = |place| match parent(place) {
+        Some(parent) => format!("ent\t{}\t{}\n", uid(place), uid(parent)),
+        None => format!("ent\t{}\n", uid(place)),
+    };
+    let build: String = (0..SIZE).map(line).collect::<String>() + "build\n";
+    let (seconds, _) = least(|| black_box(run(build.as_bytes()).unwrap()));
+    print("the same tree by the program in one call", seconds);
+    let asks: String = pairs
+        .iter()
+        .map(|(child, _)| format!("anc\t{child}\n"))
+        .collect();
+    let whole = build + &asks;
+    let (both, _) = least(|| black_box(run(whole.as_bytes()).unwrap()));
+    print("ancestors by the program, beside that", both - seconds);
+}
+
+fn main() {
+    println!("a tree of {SIZE}, each with {CHILDREN} children; {ASKED} questions");
+    let pairs = pairs();
+    let count = through_the_crate(&pairs);
+    assert_eq!(count, in_hash_maps(&pairs));
+    by_the_program(&pairs);
+}

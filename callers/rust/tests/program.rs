@@ -1,0 +1,226 @@
+//! Worked inputs of the program: what it writes, and the status of its run.
+use cedar_store::{run, run_with_key, Key};
+
+// Lines with `~` for a tab, and what is due for them.
+fn writes(lines: &[&str], due: &[&str], status: u32) {
+    let text = |lines: &[&str]| {
+        lines
+            .iter()
+            .map(|line| line.replace('~', "\t") + "\n")
+            .collect::<String>()
+    };
+    let (out, ended) = run(text(lines).as_bytes()).unwrap();
+    assert_eq!(
+        (String::from_utf8(out).unwrap(), ended),
+        (text(due), status),
+        "{lines:?}"
+    );
+}
+
+#[test]
+fn stores_are_built_and_asked() {
+    let two = [
+        "ent~A::\"a\"~A::\"b\"",
+        "ent~A::\"b\"~A::\"c\"",
+        "build",
+        "anc~A::\"a\"",
+        "anc~A::\"c\"",
+    ];
+    writes(&two, &["ok 2", "anc~A::\"b\"~A::\"c\"", "no entity"], 0);
+    writes(
+        &["build", "ent~A::\"a\"", "build", "anc~A::\"a\""],
+        &["ok 0", "ok 1", "anc"],
+        0,
+    );
+    let same = "ent~A::\"a\"~A::\"b\"";
+    writes(
+        &[same, same, "build", "anc~A::\"a\""],
+        &["ok 1", "anc~A::\"b\""],
+        0,
+    );
+    writes(&[], &[], 0);
+}
+
+#[test]
+fn stores_are_refused() {
+    let differing = [
+        "ent~A::\"a\"~A::\"b\"",
+        "ent~A::\"a\"~A::\"c\"",
+        "build",
+        "anc~A::\"a\"",
+    ];
+    writes(&differing, &["refused: duplicate A::\"a\"", "no entity"], 0);
+    writes(&["ent~A::\"a\"~A::\"a\"", "build"], &["refused: cycle"], 0);
+    let cyclic = [
+        "ent~A::\"a\"~A::\"b\"",
+        "build",
+        "ent~A::\"b\"~A::\"a\"",
+        "add",
+        "anc~A::\"a\"",
+        "ent~A::a",
+    ];
+    writes(
+        &cyclic,
+        &[
+            "ok 1",
+            "refused: cycle",
+            "no entity",
+            "line 6: not a command",
+        ],
+        2,
+    );
+}
+
+#[test]
+fn stores_are_sliced() {
+    let lines = [
+        "ent~A::\"a\"~A::\"b\"",
+        "ent~A::\"b\"~A::\"c\"",
+        "ent~A::\"d\"~A::\"b\"",
+        "build",
+        "slice~A::\"a\"~A::\"z\"~A::\"a\"",
+        "anc~A::\"a\"",
+        "anc~A::\"d\"",
+        "slice~A::\"z\"",
+    ];
+    writes(
+        &lines,
+        &["ok 3", "ok 2", "anc~A::\"b\"~A::\"c\"", "no entity", "ok 0"],
+        0,
+    );
+}
+
+#[test]
+fn sets_are_merged() {
+    let lines = [
+        "static~policy0~permit",
+        "static~policy1~permit",
+        "other",
+        "static~policy1~forbid",
+        "static~policy2~permit",
+        "other",
+        "merge~keep",
+        "merge~rename",
+        "ids",
+    ];
+    let due = [
+        "ok",
+        "ok",
+        "ok",
+        "ok",
+        "ok",
+        "ok",
+        "refused: occupied policy1",
+        "ok~policy1~policy3",
+        "bodies~policy0~policy1~policy3~policy2",
+        "policies~policy0~policy1~policy3~policy2",
+    ];
+    writes(&lines, &due, 0);
+}
+
+#[test]
+fn templates_are_linked() {
+    let lines = [
+        "template~t~both",
+        "link~t~l~principal=A::\"x\"",
+        "link~t~l~resource=A::\"y\"~principal=A::\"x\"",
+        "unlink~t",
+        "unlink~l",
+        "unlink~l",
+        "ids",
+    ];
+    let due = [
+        "ok",
+        "refused: arity",
+        "ok",
+        "refused: not a link t",
+        "ok",
+        "refused: no link l",
+        "bodies~t",
+        "policies",
+    ];
+    writes(&lines, &due, 0);
+    let lines = [
+        "template~t~all",
+        "link~t~l~action=A::\"x\"",
+        "template~u~action",
+        "link~u~l~action=A::\"x\"",
+        "link~u~l~action=N::Action::\"v\"",
+        "ids",
+    ];
+    let due = [
+        "ok",
+        "refused: arity",
+        "ok",
+        "refused: not an action A::\"x\"",
+        "ok",
+        "bodies~t~u",
+        "policies~l",
+    ];
+    writes(&lines, &due, 0);
+}
+
+#[test]
+fn ids_collide_in_each_way() {
+    let lines = [
+        "static~a~permit",
+        "template~t~principal",
+        "link~t~b~principal=A::\"x\"",
+        "link~t~c~principal=A::\"x\"",
+        "other",
+        "template~u~principal",
+        "link~u~t~principal=A::\"x\"",
+        "template~b~resource",
+        "static~c~permit",
+        "static~a~forbid",
+        "other",
+        "merge~keep",
+        "merge~rename",
+        "ids",
+    ];
+    let mut due = vec!["ok"; 11];
+    due.push("refused: occupied a");
+    due.push("ok~a~policy0~c~policy1~b~policy2~t~policy3");
+    due.push("bodies~a~t~u~policy2~policy1~policy0");
+    due.push("policies~a~b~c~policy3~policy1~policy0");
+    writes(&lines, &due, 0);
+}
+
+#[test]
+fn what_is_no_command_ends_the_run() {
+    let link = "link~t~l~principal=A::\"x\"~principal=A::\"x\"";
+    for line in [
+        "frob",
+        "build\r",
+        "build~",
+        "remove",
+        "anc~A::\"a\"~A::\"b\"",
+        "anc~A::\"\\u{80}\"",
+        "anc~A::\"\u{80}\"",
+        link,
+    ] {
+        writes(&[line], &["line 1: not a command"], 2);
+    }
+    writes(&["", "frob"], &["line 2: not a command"], 2);
+    assert_eq!(
+        run(b"frob").unwrap(),
+        (b"line 1: not a command\n".to_vec(), 2)
+    );
+    assert_eq!(
+        run(b"build\n\x80").unwrap(),
+        (b"ok 0\nline 2: not a command\n".to_vec(), 2)
+    );
+}
+
+#[test]
+fn what_is_longer_than_its_input_comes_whole() {
+    let mut input = String::from("ent\tA::\"a\"");
+    (0..100).for_each(|k| input += &format!("\tA::\"parent{k:03}\""));
+    input += "\nbuild\n";
+    (0..100).for_each(|_| input += "anc\tA::\"a\"\n");
+    for key in [Key::drawn(), Key { seed: 0, key: 0 }] {
+        let (out, status) = run_with_key(input.as_bytes(), key).unwrap();
+        let line = out.split(|byte| *byte == b'\n').nth(100).unwrap();
+        assert_eq!((out.len(), line.len(), status), (5 + 100 * 1504, 1503, 0));
+    }
+}

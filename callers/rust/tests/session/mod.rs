@@ -1,0 +1,386 @@
+//! Lines of the program, drawn; and the same lines taken one by one through the crate.
+use cedar_store::{
+    Effect, Entity, Policies, Reason, Refusal, SlotEnv, Slots, Store, TCComputation,
+};
+use std::fmt;
+
+/// Numbers that look drawn, and are the same for the same seed.
+pub struct Dice(u64);
+
+impl Dice {
+    pub fn new(seed: u64) -> Dice {
+        Dice(seed)
+    }
+
+    fn next(&mut self) -> u64 {
+        self.0 = self.0.wrapping_add(0x9E37_79B9_7F4A_7C15);
+        let mixed = (self.0 ^ (self.0 >> 30)).wrapping_mul(0xBF58_476D_1CE4_E5B9);
+        let mixed = (mixed ^ (mixed >> 27)).wrapping_mul(0x94D0_49BB_1331_11EB);
+        mixed ^ (mixed >> 31)
+    }
+
+    /// A number below another.
+    pub fn below(&mut self, end: usize) -> usize {
+        (self.next() % end as u64) as usize
+    }
+
+    fn one<T: Copy>(&mut self, of: &[T]) -> T {
+        of[self.below(of.len())]
+    }
+
+    fn some<T: Copy>(&mut self, of: &[T], least: usize, most: usize) -> Vec<T> {
+        let count = least + self.below(most + 1 - least);
+        (0..count).map(|_| self.one(of)).collect()
+    }
+}
+
+/// The uids that are drawn.
+pub const UIDS: [&str; 8] = [
+    "A::\"a\"",
+    "A::\"b\"",
+    "A::\"c\"",
+    "B::\"a\"",
+    "N::A::\"it\\'s\"",
+    "A::\"\"",
+    "Action::\"go\"",
+    "N::Action::\"go\"",
+];
+
+const IDS: [&str; 8] = ["a", "b", "t", "u", "policy0", "policy1", "it's", ""];
+
+const TEMPLATES: [(&str, Slots); 6] = [
+    ("none", Slots::none()),
+    ("principal", Slots::principal()),
+    ("action", Slots::action()),
+    ("resource", Slots::resource()),
+    (
+        "both",
+        Slots {
+            action: false,
+            ..Slots::all()
+        },
+    ),
+    ("all", Slots::all()),
+];
+
+const MODES: [TCComputation; 3] = [
+    TCComputation::ComputeNow,
+    TCComputation::EnforceAlreadyComputed,
+    TCComputation::AssumeAlreadyComputed,
+];
+
+type Uid = &'static str;
+
+/// A line of the program.
+pub enum Line {
+    Ent(Uid, Vec<Uid>),
+    Build,
+    Add,
+    Upsert,
+    Remove(Vec<Uid>, TCComputation),
+    Slice(Vec<Uid>),
+    Anc(Uid),
+    Static(&'static str, bool),
+    Template(&'static str, &'static str, Slots),
+    Link(&'static str, &'static str, [Option<Uid>; 3]),
+    Unlink(&'static str),
+    Other,
+    Merge(bool),
+    Ids,
+    Empty,
+    None(&'static str),
+}
+
+const NO_LINES: [&str; 6] = [
+    "frob",
+    "build\t",
+    "remove",
+    "anc\tA::a",
+    "template\tt\tsome",
+    " ",
+];
+
+fn bindings(dice: &mut Dice) -> [Option<Uid>; 3] {
+    let bound = dice.one(&[0, 1, 2, 4, 5, 7]);
+    let mut slot = |bit: usize| (bound & bit != 0).then(|| dice.one(&UIDS));
+    [slot(1), slot(2), slot(4)]
+}
+
+// An entity whose parents mostly stand behind it, so that cycles are seldom.
+fn entity(dice: &mut Dice) -> Line {
+    let at = dice.below(UIDS.len());
+    let above = match dice.below(12) {
+        0 => &UIDS[..],
+        _ if at + 1 < UIDS.len() => &UIDS[at + 1..],
+        _ => return Line::Ent(UIDS[at], Vec::new()),
+    };
+    Line::Ent(UIDS[at], dice.some(above, 0, 2))
+}
+
+impl Line {
+    /// A line on a store.
+    fn of_store(dice: &mut Dice) -> Line {
+        match dice.below(24) {
+            0..=11 => entity(dice),
+            12 => Line::Build,
+            13..=14 => Line::Add,
+            15..=17 => Line::Upsert,
+            18 => Line::Remove(dice.some(&UIDS, 1, 3), dice.one(&MODES)),
+            19 => Line::Slice(dice.some(&UIDS, 2, 4)),
+            _ => Line::Anc(dice.one(&UIDS)),
+        }
+    }
+
+    /// A line on policy sets.
+    fn of_sets(dice: &mut Dice) -> Line {
+        let id = dice.one(&IDS);
+        match dice.below(14) {
+            0..=1 => Line::Static(id, dice.below(2) == 0),
+            2..=4 => {
+                let (word, slots) = dice.one(&TEMPLATES);
+                Line::Template(dice.one(&IDS[1..5]), word, slots)
+            }
+            5..=8 => Line::Link(dice.one(&IDS[1..5]), id, bindings(dice)),
+            9 => Line::Unlink(id),
+            10 => Line::Other,
+            11..=12 => Line::Merge(dice.below(2) == 0),
+            _ => Line::Ids,
+        }
+    }
+
+    /// Any line; seldom one that is empty, and more seldom one that is no command.
+    pub fn drawn(dice: &mut Dice) -> Line {
+        match dice.below(400) {
+            0..=7 => Line::Empty,
+            8 => Line::None(dice.one(&NO_LINES)),
+            9..=220 => Line::of_store(dice),
+            _ => Line::of_sets(dice),
+        }
+    }
+}
+
+impl fmt::Display for Line {
+    fn fmt(&self, f: &mut fmt::Formatter<'_>) -> fmt::Result {
+        let tabbed = |uids: &[Uid]| {
+            uids.iter()
+                .map(|uid| format!("\t{uid}"))
+                .collect::<String>()
+        };
+        match self {
+            Line::Ent(uid, parents) => write!(f, "ent\t{uid}{}", tabbed(parents)),
+            Line::Build => f.write_str("build"),
+            Line::Add => f.write_str("add"),
+            Line::Upsert => f.write_str("upsert"),
+            Line::Remove(uids, _) => write!(f, "remove{}", tabbed(uids)),
+            Line::Slice(uids) => write!(f, "slice{}", tabbed(uids)),
+            Line::Anc(uid) => write!(f, "anc\t{uid}"),
+            Line::Static(id, true) => write!(f, "static\t{id}\tpermit"),
+            Line::Static(id, false) => write!(f, "static\t{id}\tforbid"),
+            Line::Template(id, word, _) => write!(f, "template\t{id}\t{word}"),
+            Line::Link(template, id, values) => {
+                write!(f, "link\t{template}\t{id}")?;
+                let named = ["principal", "action", "resource"].into_iter().zip(values);
+                let bound =
+                    named.filter_map(|(slot, uid)| uid.map(|uid| format!("\t{slot}={uid}")));
+                f.write_str(&bound.collect::<String>())
+            }
+            Line::Unlink(id) => write!(f, "unlink\t{id}"),
+            Line::Other => f.write_str("other"),
+            Line::Merge(true) => f.write_str("merge\trename"),
+            Line::Merge(false) => f.write_str("merge\tkeep"),
+            Line::Ids => f.write_str("ids"),
+            Line::Empty => Ok(()),
+            Line::None(text) => f.write_str(text),
+        }
+    }
+}
+
+/// A session that is taken line by line through the crate.
+#[derive(Default)]
+pub struct Session {
+    waiting: Vec<Entity>,
+    store: Store,
+    set: Policies,
+    aside: Policies,
+}
+
+// An id as the program writes it.
+fn escaped(id: &str) -> String {
+    id.escape_debug().to_string()
+}
+
+// A refusal as the program writes it.
+fn told(refusal: Refusal) -> String {
+    let text = refusal.to_string();
+    let named = |words: &str| {
+        text.strip_prefix(words)
+            .expect("the words of a reason")
+            .to_string()
+    };
+    match refusal.reason() {
+        Reason::Duplicate => format!("refused: duplicate {}\n", named("duplicate entity ")),
+        Reason::Cycle => String::from("refused: cycle\n"),
+        Reason::Occupied | Reason::IdConflict => {
+            format!("refused: occupied {}\n", escaped(&named("occupied ")))
+        }
+        Reason::NoSuchTemplate => format!(
+            "refused: no template {}\n",
+            escaped(&named("no template to link "))
+        ),
+        Reason::Arity => String::from("refused: arity\n"),
+        Reason::NotAnAction => format!("refused: not an action {}\n", named("not an action ")),
+        Reason::NoLink => format!("refused: no link {}\n", escaped(&named("no link "))),
+        Reason::NotALink => format!("refused: not a link {}\n", escaped(&named("not a link "))),
+        _ => panic!("{refusal:?}"),
+    }
+}
+
+fn well(given: Result<(), Refusal>) -> String {
+    given.map_or_else(told, |()| String::from("ok\n"))
+}
+
+fn tabbed(word: &str, fields: impl IntoIterator<Item = String>) -> String {
+    let fields = fields.into_iter().map(|field| format!("\t{field}"));
+    format!("{word}{}\n", fields.collect::<String>())
+}
+
+impl Session {
+    // What a call on the store gave, as it is written. The store is what other modes make of all its ancestors.
+    fn counted(&mut self, given: Result<(), Refusal>) -> String {
+        match given {
+            Ok(()) => {
+                self.check_modes();
+                format!("ok {}\n", self.store.len())
+            }
+            Err(refusal) => {
+                assert!(self.store.is_empty());
+                told(refusal)
+            }
+        }
+    }
+
+    fn check_modes(&self) {
+        let rows: Vec<Entity> = UIDS
+            .into_iter()
+            .filter_map(|uid| Some(Entity::new(uid).with_parents(self.store.ancestors(uid).ok()?)))
+            .collect();
+        for mode in MODES {
+            let again = Store::from_entities(&rows, mode).unwrap();
+            assert!(again.deep_eq(&self.store) && self.store.deep_eq(&again));
+        }
+    }
+
+    fn built(&mut self) -> Result<(), Refusal> {
+        let waiting = std::mem::take(&mut self.waiting);
+        self.store = Store::new();
+        self.store = Store::from_entities(&waiting, TCComputation::ComputeNow)?;
+        Ok(())
+    }
+
+    // A removal leaves the same in each mode.
+    fn removed(&mut self, uids: &[Uid], mode: TCComputation) -> Result<(), Refusal> {
+        let mut computed = self.store.try_clone()?;
+        computed.remove_entities(uids, TCComputation::ComputeNow)?;
+        self.store.remove_entities(uids, mode)?;
+        assert!(computed.deep_eq(&self.store));
+        Ok(())
+    }
+
+    // The ancestors of an entity are those that it is a descendant of, and its parents are among them.
+    fn asked(&self, uid: Uid) -> String {
+        let Some(entity) = self.store.entity(uid).unwrap() else {
+            assert_eq!(
+                self.store.ancestors(uid).unwrap_err().reason(),
+                Reason::NoEntity
+            );
+            return String::from("no entity\n");
+        };
+        let ancestors = entity.ancestors().unwrap();
+        for other in UIDS {
+            let above = ancestors.iter().any(|one| one == other);
+            assert_eq!(entity.is_descendant_of(other).unwrap(), above);
+        }
+        assert!(entity
+            .parents()
+            .unwrap()
+            .iter()
+            .all(|parent| ancestors.contains(parent)));
+        tabbed("anc", ancestors)
+    }
+
+    fn entities(&mut self, line: &Line) -> Option<String> {
+        let now = TCComputation::ComputeNow;
+        let given = match line {
+            Line::Ent(uid, parents) => {
+                self.waiting
+                    .push(Entity::new(*uid).with_parents(parents.iter().copied()));
+                return Some(String::new());
+            }
+            Line::Anc(uid) => return Some(self.asked(uid)),
+            Line::Build => self.built(),
+            Line::Add => self
+                .store
+                .add_entities(&std::mem::take(&mut self.waiting), now),
+            Line::Upsert => self
+                .store
+                .upsert_entities(&std::mem::take(&mut self.waiting), now),
+            Line::Remove(uids, mode) => self.removed(uids, *mode),
+            Line::Slice(uids) => self.store.slice(uids).map(|slice| self.store = slice),
+            _ => return None,
+        };
+        Some(self.counted(given))
+    }
+
+    fn merged(&mut self, rename: bool) -> String {
+        let before = self.set.try_clone().unwrap();
+        match self.set.merge_policyset(&self.aside, rename) {
+            Ok(renaming) => {
+                let ids = renaming
+                    .iter()
+                    .flat_map(|(old, new)| [escaped(old), escaped(new)]);
+                tabbed("ok", ids)
+            }
+            Err(refusal) => {
+                assert!(self.set == before);
+                told(refusal)
+            }
+        }
+    }
+
+    fn policies(&mut self, line: &Line) -> Option<String> {
+        let ids = |ids: Vec<String>| ids.into_iter().map(|id| escaped(&id)).collect::<Vec<_>>();
+        Some(match line {
+            Line::Static(id, true) => well(self.set.add_static(id, Effect::Permit)),
+            Line::Static(id, false) => well(self.set.add_static(id, Effect::Forbid)),
+            Line::Template(id, _, slots) => well(self.set.add_template(id, Effect::Permit, *slots)),
+            Line::Link(template, id, [principal, action, resource]) => {
+                let values = SlotEnv {
+                    principal: *principal,
+                    action: *action,
+                    resource: *resource,
+                };
+                well(self.set.link(template, id, values))
+            }
+            Line::Unlink(id) => well(self.set.unlink(id)),
+            Line::Other => {
+                std::mem::swap(&mut self.set, &mut self.aside);
+                String::from("ok\n")
+            }
+            Line::Merge(rename) => self.merged(*rename),
+            Line::Ids => {
+                let bodies = tabbed("bodies", ids(self.set.bodies().unwrap()));
+                bodies + &tabbed("policies", ids(self.set.policies().unwrap()))
+            }
+            Line::Empty => String::new(),
+            _ => return None,
+        })
+    }
+
+    /// What is written for a line, or nothing where it is no command.
+    pub fn taken(&mut self, line: &Line) -> Option<String> {
+        match self.entities(line) {
+            Some(written) => Some(written),
+            None => self.policies(line),
+        }
+    }
+}

@@ -1,0 +1,378 @@
+//! Worked cases of policy sets: joining, linking, taking out, and merging with and without renaming.
+mod short;
+use cedar_store::{Effect, Policies, Reason, Slots};
+use short::*;
+
+const LACKS: &str = "the following slots were not provided as arguments: ";
+const HAS: &str =
+    "he following slots were provided as arguments, but did not exist in the template: ";
+
+#[test]
+fn links_bind_exactly_the_slots() {
+    let mut held = set(&[
+        "template both pr",
+        "template p p",
+        "template none -",
+        "template all par",
+    ]);
+    let mut arity = |word: &str, text: &str| {
+        refused(
+            join(&mut held, word),
+            Reason::Arity,
+            &format!("arity: {text}"),
+        )
+    };
+    arity("link both l -", &format!("{LACKS}?resource,?principal"));
+    arity("link p l r", &format!("{LACKS}?principal. T{HAS}?resource"));
+    arity("link p l pr", &format!("t{HAS}?resource"));
+    arity(
+        "link all l -",
+        &format!("{LACKS}?resource,?action,?principal"),
+    );
+    arity(
+        "link none l par",
+        &format!("t{HAS}?principal,?action,?resource"),
+    );
+    assert_eq!(ids(&held), ("both p none all".into(), "".into()));
+    for word in [
+        "link both a pr",
+        "link p b p",
+        "link none c -",
+        "link all d par",
+    ] {
+        join(&mut held, word).unwrap();
+    }
+    assert_eq!(ids(&held).1, "a b c d");
+}
+
+#[test]
+fn the_actions_slot_takes_actions_alone() {
+    let mut held = set(&["template t par", "template u a"]);
+    let bound = |uid| cedar_store::SlotEnv::action(uid);
+    assert_eq!(
+        held.link("t", "l", bound("A::\"x\"")).unwrap_err().reason(),
+        Reason::Arity
+    );
+    refused(
+        held.link("u", "l", bound("A::\"x\"")),
+        Reason::NotAnAction,
+        "not an action A::\"x\"",
+    );
+    held.link("u", "l", bound("N::Action::\"v\"")).unwrap();
+    assert_eq!(ids(&held), ("t u".into(), "l".into()));
+}
+
+#[test]
+fn what_is_no_template_is_not_linked() {
+    let mut held = set(&["permit id", "template t -", "link t l -"]);
+    for (word, id) in [
+        ("link id m -", "id"),
+        ("link x m p", "x"),
+        ("link l m -", "l"),
+        ("link x id pr", "x"),
+    ] {
+        refused(
+            join(&mut held, word),
+            Reason::NoSuchTemplate,
+            &format!("no template to link {id}"),
+        );
+    }
+    assert_eq!(ids(&held), ("id t".into(), "id l".into()));
+}
+
+#[test]
+fn refusals_of_a_link_come_in_an_order() {
+    let mut held = set(&["template u a", "permit s"]);
+    let action = |uid| cedar_store::SlotEnv::action(uid);
+    refused(
+        held.link("none", "s", action("A::\"x\"")),
+        Reason::NoSuchTemplate,
+        "no template to link none",
+    );
+    assert_eq!(
+        join(&mut held, "link u s p").unwrap_err().reason(),
+        Reason::Arity
+    );
+    refused(
+        held.link("u", "s", action("A::\"x\"")),
+        Reason::NotAnAction,
+        "not an action A::\"x\"",
+    );
+    refused(
+        held.link("u", "s", action("Action::\"x\"")),
+        Reason::IdConflict,
+        "occupied s",
+    );
+    refused(
+        held.link("u", "u", action("Action::\"x\"")),
+        Reason::IdConflict,
+        "occupied u",
+    );
+    refused(
+        held.link("u", "new", action("x")),
+        Reason::NotAUid,
+        "not a uid",
+    );
+    refused(
+        held.link("u", "new", action("")),
+        Reason::NotAUid,
+        "not a uid",
+    );
+}
+
+#[test]
+fn an_id_is_bound_once() {
+    let mut held = set(&["permit s", "template t p", "link t l p"]);
+    for id in ["s", "t", "l"] {
+        for word in [format!("permit {id}"), format!("template {id} p")] {
+            refused(
+                join(&mut held, &word),
+                Reason::Occupied,
+                &format!("occupied {id}"),
+            );
+        }
+        refused(
+            join(&mut held, &format!("link t {id} p")),
+            Reason::IdConflict,
+            &format!("occupied {id}"),
+        );
+    }
+    assert_eq!(ids(&held), ("s t".into(), "s l".into()));
+}
+
+#[test]
+fn what_leaves_closes_up() {
+    let mut held = set(&["template t p", "link t l p", "link t m p"]);
+    refused(
+        held.remove_static("l"),
+        Reason::NotStatic,
+        "not a static policy l",
+    );
+    assert_eq!(ids(&held).1, "l m");
+    refused(
+        held.remove_template("t"),
+        Reason::WithLinks,
+        "template with links t",
+    );
+    held.unlink("l").unwrap();
+    assert_eq!(ids(&held), ("t".into(), "m".into()));
+    refused(held.unlink("l"), Reason::NoLink, "no link l");
+    refused(held.unlink("t"), Reason::NotALink, "not a link t");
+    held.unlink("m").unwrap();
+    held.remove_template("t").unwrap();
+    refused(
+        held.remove_template("t"),
+        Reason::NoTemplate,
+        "no template t",
+    );
+    assert!(held == Policies::new());
+}
+
+#[test]
+fn each_call_takes_out_its_kind_alone() {
+    let mut held = set(&["permit s", "template t p", "link t l p"]);
+    refused(
+        held.remove_static("t"),
+        Reason::NoStatic,
+        "no static policy t",
+    );
+    refused(
+        held.remove_static("x"),
+        Reason::NoStatic,
+        "no static policy x",
+    );
+    refused(
+        held.remove_template("s"),
+        Reason::NotATemplate,
+        "not a template s",
+    );
+    refused(
+        held.remove_template("l"),
+        Reason::NotATemplate,
+        "not a template l",
+    );
+    refused(held.unlink("s"), Reason::NotALink, "not a link s");
+    held.remove_static("s").unwrap();
+    assert_eq!(ids(&held), ("t".into(), "l".into()));
+}
+
+#[test]
+fn linking_and_unlinking_leaves_the_set() {
+    let mut held = set(&["permit s", "template t pr", "link t l pr", "forbid f"]);
+    let before = held.try_clone().unwrap();
+    join(&mut held, "link t m pr").unwrap();
+    assert!(held != before);
+    held.unlink("m").unwrap();
+    assert!(held == before);
+    held.unlink("l").unwrap();
+    join(&mut held, "link t l pr").unwrap();
+    assert!(held != before, "the link is the last now");
+}
+
+#[test]
+fn equal_sets_bind_equal_things_in_equal_orders() {
+    let of = ["permit a", "template t p", "link t l p"];
+    assert!(set(&of) == set(&of));
+    assert!(set(&of) != set(&["template t p", "permit a", "link t l p"]));
+    assert!(set(&of) != set(&["forbid a", "template t p", "link t l p"]));
+    assert!(set(&of) != set(&["permit a", "template t r", "link t l r"]));
+    let mut bound_to_another = set(&["permit a", "template t p"]);
+    bound_to_another
+        .link("t", "l", cedar_store::SlotEnv::principal("A::\"z\""))
+        .unwrap();
+    assert!(set(&of) != bound_to_another);
+    let mut forbids = Policies::new();
+    forbids
+        .add_template("t", Effect::Forbid, Slots::principal())
+        .unwrap();
+    assert!(forbids != set(&["template t p"]));
+}
+
+#[test]
+fn a_conflict_is_renamed_past_all_ids_of_both() {
+    let mut here = set(&["permit policy0", "permit policy1"]);
+    let other = set(&["forbid policy1", "permit policy2"]);
+    let before = here.try_clone().unwrap();
+    refused(
+        here.merge_policyset(&other, false),
+        Reason::Occupied,
+        "occupied policy1",
+    );
+    assert!(here == before);
+    assert_eq!(
+        renamed(here.merge_policyset(&other, true)),
+        "policy1>policy3"
+    );
+    let due = "policy0 policy1 policy3 policy2";
+    assert_eq!(ids(&here), (due.into(), due.into()));
+    assert_eq!(ids(&other).0, "policy1 policy2");
+}
+
+#[test]
+fn a_renamed_template_takes_its_links_along() {
+    let mut here = set(&["template t p"]);
+    let other = set(&["template t r", "link t l r"]);
+    assert_eq!(renamed(here.merge_policyset(&other, true)), "t>policy0");
+    assert_eq!(ids(&here), ("t policy0".into(), "l".into()));
+    refused(
+        here.remove_template("policy0"),
+        Reason::WithLinks,
+        "template with links policy0",
+    );
+    here.remove_template("t").unwrap();
+    let mut here = set(&["template t p", "link t x p"]);
+    assert_eq!(
+        renamed(here.merge_policyset(&set(&["template x -"]), true)),
+        "x>policy0"
+    );
+}
+
+#[test]
+fn what_both_bind_alike_is_bound_once() {
+    let mut here = set(&["template t p", "link t l p"]);
+    let mut other = set(&["template t p", "link t l p"]);
+    other
+        .link("t", "m", cedar_store::SlotEnv::principal("A::\"y\""))
+        .unwrap();
+    assert_eq!(renamed(here.merge_policyset(&other, false)), "");
+    assert_eq!(ids(&here), ("t".into(), "l m".into()));
+    assert!(here == other);
+}
+
+#[test]
+fn a_static_and_an_equal_template_conflict() {
+    let mut here = set(&["permit x"]);
+    let other = set(&["template x -"]);
+    refused(
+        here.merge_policyset(&other, false),
+        Reason::Occupied,
+        "occupied x",
+    );
+    assert_eq!(renamed(here.merge_policyset(&other, true)), "x>policy0");
+    assert_eq!(ids(&here), ("x policy0".into(), "x".into()));
+}
+
+#[test]
+fn each_pair_of_kinds_under_one_id() {
+    let kinds: [&[&str]; 5] = [
+        &["permit x"],
+        &["forbid x"],
+        &["template x p"],
+        &["template u p", "link u x p"],
+        &["template x r"],
+    ];
+    for (one, here) in kinds.iter().enumerate() {
+        for (two, other) in kinds.iter().enumerate() {
+            let (mut merged, other) = (set(here), set(other));
+            match merged.merge_policyset(&other, false) {
+                Ok(renaming) => assert!(one == two && renaming.is_empty() && merged == set(here)),
+                Err(refusal) => assert!(
+                    one != two && refusal.to_string() == "occupied x" && merged == set(here)
+                ),
+            }
+            let due = if one == two { "" } else { "x>policy0" };
+            assert_eq!(renamed(merged.merge_policyset(&other, true)), due);
+        }
+    }
+}
+
+#[test]
+fn a_hundred_conflicts() {
+    let hundred =
+        |effect: &str| -> Vec<String> { (0..100).map(|k| format!("{effect} policy{k}")).collect() };
+    let of = |words: &[String]| set(&words.iter().map(String::as_str).collect::<Vec<_>>());
+    for further in [0, 1] {
+        let mut words = hundred("forbid");
+        words.extend((0..further).map(|_| String::from("permit policy100")));
+        let mut here = of(&hundred("permit"));
+        let renaming = here.merge_policyset(&of(&words), true).unwrap();
+        let due = |k: usize| (format!("policy{k}"), format!("policy{}", 100 + further + k));
+        assert_eq!(renaming, (0..100).map(due).collect::<Vec<_>>());
+        assert_eq!(here.policies().unwrap().len(), 200 + further);
+    }
+}
+
+#[test]
+fn conflicts_are_found_in_four_passes() {
+    let mut here = set(&["permit a", "template t p", "link t b p", "link t c p"]);
+    let other = set(&[
+        "template u p",
+        "link u t p",
+        "template b r",
+        "permit c",
+        "forbid a",
+    ]);
+    refused(
+        here.merge_policyset(&other, false),
+        Reason::Occupied,
+        "occupied a",
+    );
+    assert_eq!(
+        renamed(here.merge_policyset(&other, true)),
+        "a>policy0 c>policy1 b>policy2 t>policy3"
+    );
+    assert_eq!(
+        ids(&here),
+        (
+            "a t u policy2 policy1 policy0".into(),
+            "a b c policy3 policy1 policy0".into()
+        )
+    );
+}
+
+#[test]
+fn any_text_is_an_id() {
+    let mut held = Policies::new();
+    for id in ["", " ", "it's \"x\"\n", "é", "\0"] {
+        held.add_static(id, Effect::Permit).unwrap();
+        refused(
+            held.add_static(id, Effect::Permit),
+            Reason::Occupied,
+            &format!("occupied {id}"),
+        );
+    }
+    assert_eq!(
+        held.policies().unwrap(),
+        ["", " ", "it's \"x\"\n", "é", "\0"]
+    );
+}
