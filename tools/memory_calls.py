@@ -20,7 +20,7 @@ LIST = 'calls-that-take-memory.txt'
 def crates():
     for line in open('crates.txt', encoding='utf-8'):
         name = line.split('#')[0].split(':')[0].strip()
-        if name and not name.endswith('_tests') and name not in ('cedar_test_helpers', 'cedar_store_texts', 'cedar_refusals'):
+        if name and not name.endswith('_tests') and name not in ('cedar_uses', 'cedar_test_helpers', 'cedar_store_texts', 'cedar_refusals'):
             yield name.split()[0]
 
 
