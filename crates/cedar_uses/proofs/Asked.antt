@@ -1,0 +1,16 @@
+-- What a look-up in the plain store of a world says of what is reached there.
+use Rattle.std.specs.Prelude.{◌≡◌, ◌↔◌, true, Option}
+use Rattle.std.proofs.Common.{subst}
+use Rattle.std.specs.FinMap as finmap
+use Rattle.cedar_graph.specs.Graph.{Reach}
+use Rattle.cedar_ids.specs.declared.entity.EntityUID.{EntityUID}
+use Rattle.cedar_entity.specs.View.{EntityView}
+use Rattle.cedar_entities.specs.Modes.{is_ancestor_in}
+use Rattle.cedar_entities.specs.Plain.{StoreView, IsPlainStore}
+use Rattle.cedar_entities.specs.World.{World, graph}
+use Rattle.cedar_entities.specs.laws.PlainAncestors.{ancestry_plain}
+
+-- whether what is held of a uid has another among its ancestors is whether that is reached
+pub reached_where_held : (W : World) (S : StoreView) (a b : EntityUID) (o : Option EntityView) → finmap.get S.held a ≡ o →
+    IsPlainStore W S → (is_ancestor_in o b ≡ true) ↔ Reach (graph W) a b
+reached_where_held W S a b o is plain = subst (λ p. (is_ancestor_in p b ≡ true) ↔ Reach (graph W) a b) is (ancestry_plain W S plain a b)
