@@ -7,7 +7,8 @@ use Rattle.cedar_binding.specs.Bindings.{EnvParts, BindsExactly, unbound, extra,
 use Rattle.cedar_binding.specs.laws.Fits.{fits}
 use Rattle.cedar_body.specs.Bodies.{BodyParts, body_slots}
 use Rattle.cedar_policy_set.specs.Boards.{Board, Binding, Static, Template, Link, bound_at}
-use Rattle.cedar_policy_set.specs.Steps.{Refusal, fitting, link_at, link_step, unlinked_at, UnlinksTo}
+use Rattle.cedar_policy_set.specs.Steps.{Refusal, fitting, link_at, link_step, unlinked_at}
+use Rattle.cedar_policy_set.specs.laws.LinkLaws.{link_undone}
 
 -- what fits leaves nothing unbound and nothing extra
 none_left : (us xs : List SlotId) (o : Option UidParts) (r : Result Board Refusal) (c : Board) → fitting us xs o r ≡ Ok c → (us ≡ []) × (xs ≡ [])
@@ -25,9 +26,10 @@ bound_link (Some (Template t)) l x h = absurd (cc)
 bound_link (Some (Link k t e)) l x h = cc
 
 -- the id of a link is bound to a link of the template that was named, and its slots are those that are bound
-pub granted : (b c : Board) (i l : List ℕ) (e : EnvParts) → link_step b i l e ≡ Ok c → UnlinksTo b i l e c →
+pub granted : (b c : Board) (i l : List ℕ) (e : EnvParts) → link_step b i l e ≡ Ok c →
     (t : BodyParts) × (bound_at b i ≡ Some (Template t)) × (bound_at c l ≡ Some (Link l t e)) × BindsExactly (body_slots t) e
-granted b c i l e step undone =
+granted b c i l e step =
+    let undone = link_undone b c i l e step in
     let t = undone.0 in
     let at : link_at (Some (Template t)) b i l e ≡ Ok c = subst (λ o. link_at o b i l e ≡ Ok c) undone.1 step in
     let none = none_left (unbound (body_slots t) e) (extra (body_slots t) e) (wrong_action e) _ c at in

@@ -1,2 +1,4 @@
 pub mod Asked
+pub mod Bare
+pub mod Edited
 pub mod Granted

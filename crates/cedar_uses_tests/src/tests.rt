@@ -40,7 +40,7 @@ moved: alice staff, staff all; alice guests, staff => Team::\"alice\":¶  attrs:
 # a log is asked at its end\n\
 was: alice staff, staff all; alice all => true\n\
 was: alice staff, staff all, -staff; alice all => false\n\
-was: alice staff, staff alice; alice all => 1 input graph has a cycle containing vertex `Team::\"alice\"`\n\
+was: alice staff, staff alice; alice all => 1 input graph has a cycle containing vertex `Team::\"staff\"`\n\
 # a template's principal is bound; a static policy is no template\n\
 grant: set; t l alice => Template Instance of t, slots: [?principal -> Team::\"alice\"]\n\
 grant: set; s l alice => failed to find a template with id `s`\n\
