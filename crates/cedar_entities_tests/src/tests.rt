@@ -1,4 +1,3 @@
-mod store_batches;
 mod store_beside;
 mod store_edits;
 mod store_faults;

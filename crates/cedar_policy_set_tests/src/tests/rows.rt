@@ -240,10 +240,10 @@ fn of_sets<S: BuildHasher + Copy>(
         "made" => made_text(alloc, keys.0, one),
         "single" => is_added(alloc, one, two),
         "lent" => is_lent_of(alloc, keys.0, one),
-        "raw" => is_raw(alloc, keys.0, one, two),
-        "on raw" => told_raw(alloc, keys.0, one, two),
-        "crossed" => is_crossed(alloc, keys.0, one),
-        "on crossed" => told_crossed(alloc, keys.0, one),
+        "raw" => is_raw(alloc, one, two),
+        "on raw" => told_raw(alloc, one, two),
+        "crossed" => is_crossed(alloc, one),
+        "on crossed" => told_crossed(alloc, one),
         _ => of_readers(alloc, keys.0, word, one, two),
     }
 }

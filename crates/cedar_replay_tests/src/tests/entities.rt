@@ -6,13 +6,11 @@ ghost use Rattle.cedar_replay.specs.CallsOf.{HasBareEntities};
 
 use cedar_entities::entities::Entities;
 use cedar_entity::entity::Entity;
-use cedar_keyed_hash::KeyedState;
-use cedar_replay::{EntityCall, replay_entities, replay_entities_with_hasher};
+use cedar_replay::{EntityCall, replay_entities};
 use cedar_store_texts::calls::{is_one_of, parts_of};
 use cedar_store_texts::made::{entity_of, shared, uids_of};
 use cedar_store_texts::written::{refusal_of, texts_of};
 use std::alloc::Global;
-use std::hash::{BuildHasher, BuildHasherDefault, FoldHasher};
 use std::rc::Rc;
 use std::test::Fail;
 
@@ -98,7 +96,7 @@ fn calls_of(alloc: Global, texts: &str) -> Result<Vec<EntityCall>, Fail>
 }
 
 // The entities of a store, behind a word where it is partial.
-fn shown<S: BuildHasher + Copy>(alloc: Global, store: &Entities<S>) -> Result<String, Fail> {
+fn shown(alloc: Global, store: &Entities) -> Result<String, Fail> {
     let texts = texts_of(alloc, store)?;
     if !store.is_partial() {
         return Ok(texts);
@@ -117,8 +115,8 @@ fn numbered(alloc: Global, number: usize, text: Result<String, Fail>) -> Result<
 }
 
 // What calls leave, or the number of those before the refused one and why it is.
-fn left<S: BuildHasher + Copy>(alloc: Global, hasher: S, calls: &str) -> Result<String, Fail> {
-    match replay_entities_with_hasher(alloc, hasher, calls_of(alloc, calls)?) {
+fn left(alloc: Global, calls: &str) -> Result<String, Fail> {
+    match replay_entities(alloc, calls_of(alloc, calls)?) {
         Ok(store) => {
             let text = shown(alloc, &store);
             drop(store);
@@ -132,15 +130,10 @@ fn left<S: BuildHasher + Copy>(alloc: Global, hasher: S, calls: &str) -> Result<
     }
 }
 
-// The first of the calls that leaves something else than what is beside it, and what it leaves, in a store that hashes by what
-// `hasher` builds.
-fn wrong_by<S: BuildHasher + Copy>(
-    alloc: Global,
-    hasher: S,
-    table: &[(&str, &str)],
-) -> Result<String, Fail> {
+// The first of the calls that leaves something else than what is beside it, and what it leaves.
+fn wrong(alloc: Global, table: &[(&str, &str)]) -> Result<String, Fail> {
     for (calls, due) in table {
-        let found = left(alloc, hasher, calls)?;
+        let found = left(alloc, calls)?;
         let is_due = is_one_of(&found, due);
         if !is_due {
             let text = format!(in alloc; "{calls} leaves {found}");
@@ -150,22 +143,6 @@ fn wrong_by<S: BuildHasher + Copy>(
         drop(found);
     }
     Ok(String::new(alloc))
-}
-
-// The same by the builder of a store that is given none, and then by two with keys.
-fn wrong(alloc: Global, table: &[(&str, &str)]) -> Result<String, Fail> {
-    let fixed: BuildHasherDefault<FoldHasher> = BuildHasherDefault::new();
-    let found = wrong_by(alloc, fixed, table)?;
-    if !found.is_empty() {
-        return Ok(found);
-    }
-    drop(found);
-    let found = wrong_by(alloc, KeyedState::with_keys(1, 2), table)?;
-    if !found.is_empty() {
-        return Ok(found);
-    }
-    drop(found);
-    wrong_by(alloc, KeyedState::with_keys(u64::MAX, 3), table)
 }
 
 #[test]

@@ -9,7 +9,6 @@ use cedar_action::ActionConstraint;
 use cedar_annotation::Annotations;
 use cedar_ids::entity::EntityUID;
 use cedar_ids::policy_id::PolicyID;
-use cedar_keyed_hash::KeyedState;
 use cedar_policy::{Effect, Policy, SlotEnv, StaticPolicy, Template};
 use cedar_policy_set::PolicySet;
 use cedar_replay::{Answer, PolicyCall, replay_policies};
@@ -19,7 +18,6 @@ use indexmap::IndexMap;
 use std::alloc::Global;
 use std::collections::HashMap;
 use std::fmt::Display;
-use std::hash::{BuildHasher, BuildHasherDefault, FoldHasher};
 use std::mem;
 use std::test::Fail;
 
@@ -104,19 +102,11 @@ fn values_of(alloc: Global, slot: SlotId, text: &str) -> Result<SlotEnv, Fail> {
     kept(values, done)
 }
 
-fn static_call<S: BuildHasher + Copy>(
-    alloc: Global,
-    text: &str,
-    effect: Effect,
-) -> Result<PolicyCall<S>, Fail> {
+fn static_call(alloc: Global, text: &str, effect: Effect) -> Result<PolicyCall, Fail> {
     Ok(PolicyCall::AddStatic(static_of(alloc, text, effect)?))
 }
 
-fn link_call<S: BuildHasher + Copy>(
-    alloc: Global,
-    slot: SlotId,
-    text: &str,
-) -> Result<PolicyCall<S>, Fail> {
+fn link_call(alloc: Global, slot: SlotId, text: &str) -> Result<PolicyCall, Fail> {
     let (template, rest) = text.split_once(' ').unwrap_or((text, ""));
     let (id, value) = rest.split_once(' ').unwrap_or((rest, ""));
     let named = beside(id_of(alloc, template)?, id_of(alloc, id))?;
@@ -124,17 +114,13 @@ fn link_call<S: BuildHasher + Copy>(
     Ok(PolicyCall::Link(template, id, values))
 }
 
-fn add_call<S: BuildHasher + Copy>(alloc: Global, text: &str) -> Result<PolicyCall<S>, Fail> {
+fn add_call(alloc: Global, text: &str) -> Result<PolicyCall, Fail> {
     let policy = static_of(alloc, text, Effect::Permit)?;
     Ok(PolicyCall::Add(Policy::from_static(alloc, policy)?))
 }
 
 // The adding of a template on the action's slot, or on the principal's.
-fn template_call<S: BuildHasher + Copy>(
-    alloc: Global,
-    text: &str,
-    on_action: bool,
-) -> Result<PolicyCall<S>, Fail> {
+fn template_call(alloc: Global, text: &str, on_action: bool) -> Result<PolicyCall, Fail> {
     let (principal, action) = if on_action {
         (PrincipalConstraint::any(), ActionConstraint::is_eq_slot())
     } else {
@@ -145,25 +131,12 @@ fn template_call<S: BuildHasher + Copy>(
 }
 
 // The merge of the other set, for which an empty one is left.
-fn merge_call<S: BuildHasher + Copy>(
-    alloc: Global,
-    hasher: S,
-    other: &mut PolicySet<S>,
-    rename: bool,
-) -> PolicyCall<S> {
-    PolicyCall::Merge(
-        mem::replace(other, PolicySet::with_hasher(alloc, hasher)),
-        rename,
-    )
+fn merge_call(alloc: Global, other: &mut PolicySet, rename: bool) -> PolicyCall {
+    PolicyCall::Merge(mem::replace(other, PolicySet::new(alloc)), rename)
 }
 
 // The call with a text. The other set goes into a merge.
-fn call_of<S: BuildHasher + Copy>(
-    alloc: Global,
-    hasher: S,
-    text: &str,
-    other: &mut PolicySet<S>,
-) -> Result<PolicyCall<S>, Fail> {
+fn call_of(alloc: Global, text: &str, other: &mut PolicySet) -> Result<PolicyCall, Fail> {
     let (word, rest) = text.split_once(' ').unwrap_or((text, ""));
     match word {
         "static" => static_call(alloc, rest, Effect::Permit),
@@ -176,34 +149,28 @@ fn call_of<S: BuildHasher + Copy>(
         "unlink" => Ok(PolicyCall::Unlink(id_of(alloc, rest)?)),
         "remove_static" => Ok(PolicyCall::RemoveStatic(id_of(alloc, rest)?)),
         "remove_template" => Ok(PolicyCall::RemoveTemplate(id_of(alloc, rest)?)),
-        _ => Ok(merge_call(alloc, hasher, other, word == "rename")),
+        _ => Ok(merge_call(alloc, other, word == "rename")),
     }
 }
 
-fn put_calls<S: BuildHasher + Copy>(
+fn put_calls(
     alloc: Global,
-    hasher: S,
-    calls: &mut Vec<PolicyCall<S>>,
+    calls: &mut Vec<PolicyCall>,
     texts: &str,
-    other: &mut PolicySet<S>,
+    other: &mut PolicySet,
 ) -> Result<(), Fail> {
     for text in texts.split(';') {
         if !text.trim().is_empty() {
-            put(calls, call_of(alloc, hasher, text.trim(), other))?;
+            put(calls, call_of(alloc, text.trim(), other))?;
         }
     }
     Ok(())
 }
 
 // The calls with these texts. The other set, which goes into a merge, is let go if there is none.
-fn calls_of<S: BuildHasher + Copy>(
-    alloc: Global,
-    hasher: S,
-    texts: &str,
-    mut other: PolicySet<S>,
-) -> Result<Vec<PolicyCall<S>>, Fail> {
+fn calls_of(alloc: Global, texts: &str, mut other: PolicySet) -> Result<Vec<PolicyCall>, Fail> {
     let mut calls = Vec::new(alloc);
-    let done = put_calls(alloc, hasher, &mut calls, texts, &mut other);
+    let done = put_calls(alloc, &mut calls, texts, &mut other);
     drop(other);
     kept(calls, done)
 }
@@ -240,10 +207,10 @@ fn put_pair(
 }
 
 // Writes what merging answered: the ids that were renamed.
-fn put_renamed<S: BuildHasher + Copy>(
+fn put_renamed(
     alloc: Global,
     text: &mut String,
-    renaming: &IndexMap<PolicyID, PolicyID, S>,
+    renaming: &IndexMap<PolicyID, PolicyID>,
 ) -> Result<(), Fail> {
     if renaming.is_empty() {
         return put_word(text, "merged");
@@ -281,11 +248,7 @@ fn put_policy<E: Display>(
 }
 
 // Writes what a call answered.
-fn put_answer<S: BuildHasher + Copy>(
-    alloc: Global,
-    text: &mut String,
-    answer: &Answer<S>,
-) -> Result<(), Fail> {
+fn put_answer(alloc: Global, text: &mut String, answer: &Answer) -> Result<(), Fail> {
     match answer {
         Answer::AddStatic(done) => put_done(alloc, text, done),
         Answer::AddTemplate(done) => put_done(alloc, text, done),
@@ -301,11 +264,7 @@ fn put_answer<S: BuildHasher + Copy>(
 }
 
 // Writes what the calls answered, parted by semicolons.
-fn put_answers<S: BuildHasher + Copy>(
-    alloc: Global,
-    text: &mut String,
-    answers: &[Answer<S>],
-) -> Result<(), Fail> {
+fn put_answers(alloc: Global, text: &mut String, answers: &[Answer]) -> Result<(), Fail> {
     for answer in answers {
         if !text.is_empty() {
             put_word(text, "; ")?;
@@ -316,7 +275,7 @@ fn put_answers<S: BuildHasher + Copy>(
 }
 
 // Writes the ids of bodies, each behind a blank.
-fn put_bodies<S: BuildHasher + Copy>(text: &mut String, set: &PolicySet<S>) -> Result<(), Fail> {
+fn put_bodies(text: &mut String, set: &PolicySet) -> Result<(), Fail> {
     for template in set.all_templates() {
         put_word(text, " ")?;
         put_word(text, template.id().as_ref())?;
@@ -325,7 +284,7 @@ fn put_bodies<S: BuildHasher + Copy>(text: &mut String, set: &PolicySet<S>) -> R
 }
 
 // Writes the ids of policies, each behind a blank.
-fn put_policies<S: BuildHasher + Copy>(text: &mut String, set: &PolicySet<S>) -> Result<(), Fail> {
+fn put_policies(text: &mut String, set: &PolicySet) -> Result<(), Fail> {
     for policy in set.policies() {
         put_word(text, " ")?;
         put_word(text, policy.id().as_ref())?;
@@ -334,11 +293,11 @@ fn put_policies<S: BuildHasher + Copy>(text: &mut String, set: &PolicySet<S>) ->
 }
 
 // Writes what calls answered, and both orders of the set that they left.
-fn put_told<S: BuildHasher + Copy>(
+fn put_told(
     alloc: Global,
     text: &mut String,
-    set: &PolicySet<S>,
-    answers: &[Answer<S>],
+    set: &PolicySet,
+    answers: &[Answer],
 ) -> Result<(), Fail> {
     put_answers(alloc, text, answers)?;
     put_word(text, " |")?;
@@ -348,22 +307,14 @@ fn put_told<S: BuildHasher + Copy>(
 }
 
 // That as a text.
-fn told_text<S: BuildHasher + Copy>(
-    alloc: Global,
-    set: &PolicySet<S>,
-    answers: &[Answer<S>],
-) -> Result<String, Fail> {
+fn told_text(alloc: Global, set: &PolicySet, answers: &[Answer]) -> Result<String, Fail> {
     let mut text = String::new(alloc);
     let done = put_told(alloc, &mut text, set, answers);
     kept(text, done)
 }
 
 // What the calls answer on a set, and both orders after them.
-fn told_on<S: BuildHasher + Copy>(
-    alloc: Global,
-    set: &mut PolicySet<S>,
-    calls: Vec<PolicyCall<S>>,
-) -> Result<String, Fail> {
+fn told_on(alloc: Global, set: &mut PolicySet, calls: Vec<PolicyCall>) -> Result<String, Fail> {
     let answers = replay_policies(alloc, set, calls)?;
     let told = told_text(alloc, set, &answers);
     drop(answers);
@@ -371,37 +322,24 @@ fn told_on<S: BuildHasher + Copy>(
 }
 
 // What the calls answer on the empty set, and both orders after them.
-fn told<S: BuildHasher + Copy>(
-    alloc: Global,
-    hasher: S,
-    other: PolicySet<S>,
-    texts: &str,
-) -> Result<String, Fail> {
-    let calls = calls_of(alloc, hasher, texts, other)?;
-    let mut set = PolicySet::with_hasher(alloc, hasher);
+fn told(alloc: Global, other: PolicySet, texts: &str) -> Result<String, Fail> {
+    let calls = calls_of(alloc, texts, other)?;
+    let mut set = PolicySet::new(alloc);
     let told = told_on(alloc, &mut set, calls);
     drop(set);
     told
 }
 
 // Makes calls on a set.
-fn run<S: BuildHasher + Copy>(
-    alloc: Global,
-    set: &mut PolicySet<S>,
-    calls: Vec<PolicyCall<S>>,
-) -> Result<(), Fail> {
+fn run(alloc: Global, set: &mut PolicySet, calls: Vec<PolicyCall>) -> Result<(), Fail> {
     drop(replay_policies(alloc, set, calls)?);
     Ok(())
 }
 
 // The set that some calls leave.
-fn set_of<S: BuildHasher + Copy>(
-    alloc: Global,
-    hasher: S,
-    texts: &str,
-) -> Result<PolicySet<S>, Fail> {
-    let calls = calls_of(alloc, hasher, texts, PolicySet::with_hasher(alloc, hasher))?;
-    let mut set = PolicySet::with_hasher(alloc, hasher);
+fn set_of(alloc: Global, texts: &str) -> Result<PolicySet, Fail> {
+    let calls = calls_of(alloc, texts, PolicySet::new(alloc))?;
+    let mut set = PolicySet::new(alloc);
     let done = run(alloc, &mut set, calls);
     kept(set, done)
 }
@@ -416,23 +354,11 @@ fn is_told(calls: &str, told: Result<String, Fail>, want: &str) -> Result<(), Fa
 }
 
 // Fails with the first of these lists of calls, each beside the set that it merges in, of which another thing is told
-// than stands beside it, by sets that hash by what `hasher` builds.
-fn tells_by<S: BuildHasher + Copy>(
-    alloc: Global,
-    hasher: S,
-    table: &[(&str, &str, &str)],
-) -> Result<(), Fail> {
+// than stands beside it.
+pub(super) fn tells(alloc: Global, table: &[(&str, &str, &str)]) -> Result<(), Fail> {
     for (other, calls, want) in table {
-        let other = set_of(alloc, hasher, other)?;
-        is_told(calls, told(alloc, hasher, other, calls), want)?;
+        let other = set_of(alloc, other)?;
+        is_told(calls, told(alloc, other, calls), want)?;
     }
     Ok(())
-}
-
-// The same by the builder of a set that is given none, and by two with keys.
-pub(super) fn tells(alloc: Global, table: &[(&str, &str, &str)]) -> Result<(), Fail> {
-    let fixed: BuildHasherDefault<FoldHasher> = BuildHasherDefault::new();
-    tells_by(alloc, fixed, table)?;
-    tells_by(alloc, KeyedState::with_keys(1, 2), table)?;
-    tells_by(alloc, KeyedState::with_keys(u64::MAX, 3), table)
 }
