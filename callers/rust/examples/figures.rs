@@ -2,7 +2,7 @@
 //! the library in one call. Prints the least of three runs, in seconds of the processor where Linux tells them, and else by the clock:
 //! `cargo run --release --example figures`.
 use cedar_store::TCComputation::ComputeNow;
-use cedar_store::{run, Entity, Store};
+use cedar_store::{is_uid, run, Entity, Store};
 use std::collections::{HashMap, HashSet};
 use std::hint::black_box;
 use std::time::Instant;
@@ -74,6 +74,12 @@ fn through_the_crate(pairs: &[(String, String)]) -> usize {
     };
     let (seconds, count) = least(asks);
     print("is_descendant_of through this crate", seconds);
+    let read = || {
+        let are_uids =
+            |(child, other): &&(String, String)| is_uid(child).unwrap() && is_uid(other).unwrap();
+        pairs.iter().filter(are_uids).count()
+    };
+    print("is_uid of both of its uids", least(read).0);
     let lists = || {
         pairs
             .iter()
