@@ -108,16 +108,34 @@ pub(super) fn told_of_members(alloc: Global, given: &str, asked: &str) -> Result
     }
 }
 
-// What is answered of a log.
-pub(super) fn told_of_log(alloc: Global, given: &str, asked: &str) -> Result<String, Fail> {
-    let log = log_of(alloc, given)?;
-    let (log, (user, group)) = beside(log, pair_of(alloc, asked))?;
+// What is answered of a log of two uids, which are let go.
+fn asked_of_log(
+    alloc: Global,
+    log: Vec<EntityCall>,
+    user: EntityUID,
+    group: EntityUID,
+) -> Result<bool, (usize, EntitiesError)>
+    requires { AllByRecursion HasBareEntities log.items }
+{
     let told = was_member(alloc, log, &user, &group);
     drop(user);
     drop(group);
-    match told {
-        Ok(answer) => written(alloc, answer),
-        Err((done, error)) => numbered(alloc, done, error),
+    told
+}
+
+// What is answered of a log.
+pub(super) fn told_of_log(alloc: Global, given: &str, asked: &str) -> Result<String, Fail> {
+    let (user, group) = pair_of(alloc, asked)?;
+    match log_of(alloc, given) {
+        Ok(log) => match asked_of_log(alloc, log, user, group) {
+            Ok(answer) => written(alloc, answer),
+            Err((done, error)) => numbered(alloc, done, error),
+        },
+        Err(fail) => {
+            drop(user);
+            drop(group);
+            Err(fail)
+        }
     }
 }
 
