@@ -7,7 +7,7 @@ pub loop-i-init : goal.loop-i-init
 loop-i-init g c =
     let lines = sym c.in_ok-lines.ensures in (
       start,
-      c.with_hasher.ensures,
+      c.with_hasher-session.ensures,
       λ w r.
           rw (c.new-out.ensures.items, lines) (rw c.deref-line-items.ensures.value at r),
     )
