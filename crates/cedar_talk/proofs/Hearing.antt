@@ -160,6 +160,11 @@ last_closes true k v n after answered count some = λ xs out h. last_comes k v n
 last_closes false k v n after answered count some =
     λ xs out h. line_ends k v n xs xs out out [] after [] answered count (sym (append-nil out)) h (heard_parts xs h.heard h.is_heard)
 
+-- no byte is there
+pub none_there : (xs : List ℕ) → length xs ≡ 0 → xs ≡ []
+none_there [] e = refl
+none_there (x ∷ xs) e = absurd (omega (arith, e))
+
 -- no last line
 pub none_comes : {S H : Type 0} (k : Conversation S H) (xs out after : List ℕ) → k.part.items ≡ [] → after ≡ [] → Has k xs out → AnswersAll k.manner xs (out ++ after)
 none_comes k xs out after none e h = (

@@ -1,4 +1,4 @@
 pub mod Answering
 pub mod Hearing
 pub mod Parting
-pub mod Talking
+pub mod Pieces

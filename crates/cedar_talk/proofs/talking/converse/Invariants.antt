@@ -1,6 +1,6 @@
 use Rattle.std.proofs.Common.{◌≡◌, ◌*◌, ◌≤◌, [], length}
 use Rattle.cedar_talk.specs.laws.Hearing.{Has}
-use Rattle.cedar_talk.proofs.Talking.{SoFar}
+use Rattle.cedar_talk.proofs.Pieces.{SoFar}
 use Rattle.cedar_talk.proofs.talking.converse.Given as goal
 
 abbrev pub invariant-loop-turn : goal.invariant-loop-turn
