@@ -24,9 +24,10 @@ loop-turn-preserved g c =
     let r = g.R.Read.remaining in let w = g.W.Write.contents in let i = c.loop-turn.invariant in
     let hears = rw c.if-not-on.false at c.in_ok-out.ensures.hears in
     let room : length c.read_some.new.buffer ≡ 4096 = search rules in
+    let bound : c.in_ok-count.count ≤ length c.read_some.new.buffer = c.in_ok-count.ensures.bound in
     let count : c.hear_all.new.self.ended ≤ c.loop-turn.conversation.ended + length (take c.in_ok-count.count c.read_some.new.buffer) = c.in_ok-out.ensures.count in (
       room,
-      omega (arith, i.1, count, length-take-le c.in_ok-count.count c.read_some.new.buffer, room),
+      omega (arith, i.1, count, length-take-le c.in_ok-count.count c.read_some.new.buffer bound, bound, room),
       hears.0 ∙ i.2,
       λ has. one_more (r c.args.reader.now) (r c.loop-turn.reader) (r c.read_some.new.reader) (w c.args.writer.now) (w c.loop-turn.writer) (w c.send.new.writer)
           c.loop-turn.conversation c.hear_all.new.self (take c.in_ok-count.count c.read_some.new.buffer) c.in_ok-out.out.items (i.3 has) c.in_ok-count.ensures.bytes hears

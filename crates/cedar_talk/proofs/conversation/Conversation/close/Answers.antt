@@ -1,10 +1,13 @@
-use Rattle.std.proofs.Common.{◌+◌, [], refl, subst, rules, arith}
+use Rattle.std.proofs.Common.{◌≡◌, ◌+◌, [], refl, sym, ◌∙◌, subst, vec_len, eqb-true, rules, arith}
 use Rattle.cedar_talk.specs.laws.Hearing.{IsAnswered}
 use Rattle.cedar_talk.proofs.Hearing.{last_closes, none_comes, none_there}
 use Rattle.cedar_talk.proofs.conversation.Conversation.close.Goals as goal
 
 pub returns-then-is_empty : goal.returns-then-is_empty
-returns-then-is_empty g c xs out h = none_comes c.args.self.now xs out c.new-out.result.items (none_there c.args.self.now.part.items (omega (arith, c.if-is_empty.true, c.args.self.now.part.ok.0))) c.new-out.ensures.items h
+returns-then-is_empty g c xs out h =
+    let part = c.args.self.now.part in
+    let none : vec_len part ≡ 0 = eqb-true (vec_len part) 0 (sym c.is_empty.ensures ∙ c.if-is_empty.true) in
+    none_comes c.args.self.now xs out c.new-out.result.items (none_there part.items (omega (arith, none, part.ok.0))) c.new-out.ensures.items h
 
 pub returns : goal.returns
 returns g c =
