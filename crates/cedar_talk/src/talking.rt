@@ -91,11 +91,17 @@ fn converse<S: BuildHasher + Copy, R: Read, W: Write>(
 {
     let mut buffer = [0u8; ROOM];
     for turn in 0..READS {
-        let count = read_some(reader, &mut buffer)?;
+        let count = match read_some(reader, &mut buffer) {
+            Ok(count) => count,
+            Err(error) => return Err(error),
+        };
         if count == 0 {
             return finish(alloc, conversation, writer);
         }
-        let (out, on) = conversation.hear_all(alloc, &buffer[..count])?;
+        let (out, on) = match conversation.hear_all(alloc, &buffer[..count]) {
+            Ok((out, on)) => (out, on),
+            Err(_want) => return Err(TalkError::Memory),
+        };
         send(writer, &out)?;
         if !on {
             return Ok(2);
