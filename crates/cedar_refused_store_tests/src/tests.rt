@@ -3,3 +3,4 @@ mod lines;
 mod replays;
 mod runs;
 mod stores;
+mod talks;

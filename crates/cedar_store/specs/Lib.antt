@@ -1,4 +1,6 @@
+pub mod Codes
 pub mod Command
 pub mod Faults
 pub mod Output
+pub mod Sessions
 pub mod laws

@@ -1,2 +1,2 @@
 pub mod CommandOf
-pub mod Machines
+pub mod Sessions

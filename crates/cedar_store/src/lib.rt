@@ -5,12 +5,13 @@
 //! and their sets, [`entities`] the store, [`transitive_closure`] the closure calls. Beside them are this project's own:
 //! [`replay_entities`] makes a list of calls on a store and [`replay_policies`] one on a policy set, and their contracts
 //! say what that leaves; [`run`] reads lines and writes their answers, and its contract says that what is written is the
-//! output of what was read, by `specs/Output.antt`, and that each input has exactly one.
+//! output of what was read, by `specs/Output.antt`, and that each input has exactly one; a [`Session`] takes such lines one by
+//! one.
 #![tactic(auto, using(cedar_ids::specs::laws::UidOfLaws::same_uid_decides))]
 
 mod line;
-mod machine;
 mod program;
+mod session;
 
 pub use cedar_action::{ActionConstraint, ActionTypesError, EntityIterator};
 pub use cedar_annotation::{Annotation, Annotations};
@@ -49,6 +50,7 @@ pub use cedar_terms::{
 };
 pub use cedar_uid_sets::Union;
 pub use program::{RunError, run, run_and_leave, run_and_leave_with, run_with};
+pub use session::{Session, push_not_command};
 
 /// What is done with bindings, and the texts of refusals.
 pub mod bindings {

@@ -5,7 +5,7 @@ ghost use Rattle.std.specs.Io.KnownBytes.{IsAtEnd, Appends};
 ghost use Rattle.cedar_store.specs.Output.{IsOutput, HasOneOutput};
 ghost use Rattle.cedar_store.specs.Faults.{Leaves};
 
-use crate::machine::{Machine, push_fault};
+use crate::session::{Session, push_not_command};
 use std::alloc::{AllocError, Global};
 use std::hash::{BuildHasher, BuildHasherDefault, FoldHasher};
 use std::io::{Read, Write};
@@ -52,25 +52,25 @@ fn lines_of(alloc: Global, input: &[u8]) -> Result<Vec<&[u8]>, AllocError>
     input.split(|b| *b == b'\n').collect(alloc)
 }
 
-// What is written for an input, the status, and the machine as it stands then.
+// What is written for an input, the status, and the session as it stands then.
 fn answer<S: BuildHasher + Copy>(
     alloc: Global,
     hasher: S,
     input: &[u8],
-) -> Result<(Vec<u8>, u8, Machine<S>), AllocError>
+) -> Result<(Vec<u8>, u8, Session<S>), AllocError>
     ensures { IfOk result (λ r. IsOutput input.now (record { bytes = r.0.items; status = r.1 })) }
 {
     let lines = lines_of(alloc, input)?;
-    let mut machine = Machine::new(alloc, hasher);
+    let mut session = Session::with_hasher(alloc, hasher);
     let mut fields = Vec::new(alloc);
     let mut out = Vec::new(alloc);
     for (i, line) in lines.iter().enumerate() {
-        if !machine.line(alloc, &mut fields, line, &mut out)? {
-            push_fault(alloc, &mut out, i + 1)?;
-            return Ok((out, 2, machine));
+        if !session.take_fields_of(alloc, &mut fields, line, &mut out)? {
+            push_not_command(alloc, &mut out, i + 1)?;
+            return Ok((out, 2, session));
         }
     }
-    Ok((out, 0, machine))
+    Ok((out, 0, session))
 }
 
 // Writes all of these bytes, and flushes.
@@ -82,13 +82,13 @@ fn send<W: Write>(writer: &mut W, bytes: &[u8]) -> Result<(), RunError>
     writer.flush().map_err(|_| RunError::Write)
 }
 
-// Reads the input to its end, writes its output, and answers the status and the machine as it stands then.
+// Reads the input to its end, writes its output, and answers the status and the session as it stands then.
 fn run_by<S: BuildHasher + Copy, R: Read, W: Write>(
     alloc: Global,
     hasher: S,
     reader: &mut R,
     writer: &mut W,
-) -> Result<(u8, Machine<S>), RunError>
+) -> Result<(u8, Session<S>), RunError>
     ensures written { IfOk result (λ r. IfSome (R.remaining reader.old) (λ input.
         (bytes : List ℕ) × IsOutput input (record { bytes = bytes; status = r.0 })
         × Appends (W.contents writer.old) (W.contents writer.new) bytes)) }
@@ -96,11 +96,11 @@ fn run_by<S: BuildHasher + Copy, R: Read, W: Write>(
     ensures err { IfErr result (λ e. Leaves e (writer.new ≡ writer.old)) }
 {
     let input = read_all(alloc, reader)?;
-    let (out, status, machine) = answer(alloc, hasher, &input).map_err(|_| RunError::Memory)?;
+    let (out, status, session) = answer(alloc, hasher, &input).map_err(|_| RunError::Memory)?;
     match send(writer, &out) {
-        Ok(()) => Ok((status, machine)),
+        Ok(()) => Ok((status, session)),
         Err(error) => {
-            drop(machine);
+            drop(session);
             Err(error)
         }
     }
@@ -161,8 +161,8 @@ pub fn run_with<S: BuildHasher + Copy, R: Read, W: Write>(
     // After a read fault, or where memory ran out, nothing was written.
     ensures err { IfErr result (λ e. Leaves e (writer.new ≡ writer.old)) }
 {
-    let (status, machine) = run_by(alloc, hasher, reader, writer)?;
-    drop(machine);
+    let (status, session) = run_by(alloc, hasher, reader, writer)?;
+    drop(session);
     Ok(status)
 }
 
@@ -215,7 +215,7 @@ pub fn run_and_leave_with<S: BuildHasher + Copy, R: Read, W: Write>(
     // After a read fault, or where memory ran out, nothing was written.
     ensures err { IfErr result (λ e. Leaves e (writer.new ≡ writer.old)) }
 {
-    let (status, machine) = run_by(alloc, hasher, reader, writer)?;
-    mem::forget(machine);
+    let (status, session) = run_by(alloc, hasher, reader, writer)?;
+    mem::forget(session);
     Ok(status)
 }

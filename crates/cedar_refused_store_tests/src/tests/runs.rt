@@ -19,7 +19,7 @@ fn byte_of(byte: u8) -> u8 {
 }
 
 // The bytes that a text of a row stands for.
-fn bytes_of(alloc: Global, text: &str) -> Option<Vec<u8>> {
+pub(super) fn bytes_of(alloc: Global, text: &str) -> Option<Vec<u8>> {
     let mut bytes = Vec::new(alloc);
     for byte in text.as_bytes() {
         match bytes.push(byte_of(*byte)) {
@@ -35,9 +35,9 @@ fn bytes_of(alloc: Global, text: &str) -> Option<Vec<u8>> {
 
 // A reader that gives a few bytes at a time, and where it is to fail does so at its end.
 #[derive(Drop)]
-struct Parts<'a> {
-    left: &'a [u8],
-    fails: bool,
+pub(super) struct Parts<'a> {
+    pub(super) left: &'a [u8],
+    pub(super) fails: bool,
 }
 
 impl Read for Parts<'_> {
@@ -54,8 +54,8 @@ impl Read for Parts<'_> {
 
 // A writer that has room for all, and so asks for no memory, and may fail at the flush.
 #[derive(Drop)]
-struct Kept {
-    bytes: Vec<u8>,
+pub(super) struct Kept {
+    pub(super) bytes: Vec<u8>,
     fails: bool,
 }
 
@@ -77,7 +77,7 @@ impl Write for Kept {
 }
 
 // A writer with room.
-fn writer(alloc: Global, fails: bool) -> Option<Kept> {
+pub(super) fn writer(alloc: Global, fails: bool) -> Option<Kept> {
     match Vec::with_capacity(alloc, 4096) {
         Ok(bytes) => Some(Kept { bytes, fails }),
         Err(_) => None,
@@ -117,7 +117,7 @@ fn tried(alloc: Global, number: usize, input: &[u8], out: Kept, due: &[u8], row:
 }
 
 // The output that is wanted, behind the status.
-fn output_of(want: &str) -> &str {
+pub(super) fn output_of(want: &str) -> &str {
     want.split_once(' ').unwrap_or((want, "")).1
 }
 

@@ -16,7 +16,7 @@ kept P Q (Err e) m x h v p is = absurd (cc (ap is_ok is, v))
 pub returns-in-Ok-clause-written : goal.returns-in-Ok-clause-written
 returns-in-Ok-clause-written g c =
     let out = kept (λ r. IsOutput c.deref.result.now (record { bytes = r.0.items; status = r.1 })) _ c.answer.result c.map_err.result
-    (c.in_ok-out.out, c.in_ok-out.status, c.in_ok-out.machine) c.map_err.ensures.cases c.map_err.ensures.variant c.answer.ensures c.in_ok-out.was
+    (c.in_ok-out.out, c.in_ok-out.status, c.in_ok-out.session) c.map_err.ensures.cases c.map_err.ensures.variant c.answer.ensures c.in_ok-out.was
     in
     IfSome_then (g.R.Read.remaining c.args.reader.now) c.in_ok-input.ensures.bytes
     (λ xs e. (

@@ -1,0 +1,5 @@
+use Rattle.std.proofs.Common.{refl}
+use Rattle.cedar_store.proofs.session.Session.with_hasher.Goals as goal
+
+pub returns : goal.returns
+returns g c = record { entities = c.with_hasher.ensures; boards = c.with_hasher-2.ensures; whole = refl }

@@ -1,0 +1,14 @@
+-- How a proof tells sessions apart.
+use Rattle.std.specs.Prelude.{Bool, refl}
+use Rattle.std.specs.Coded.{Coded, code_by, coded×, coded_bool}
+use Rattle.cedar_entity_lines.specs.Codes.{waiting_code}
+use Rattle.cedar_entity_lines.specs.Holding.{StoreAndWaiting}
+use Rattle.cedar_policy_lines.specs.Boards.{Boards}
+use Rattle.cedar_policy_lines.specs.Codes.{boards_code}
+use Rattle.cedar_store.specs.Sessions.{SessionView}
+
+-- the store with what waits, the boards, and whether memory was refused
+abbrev pub session_code : Coded SessionView
+session_code =
+    code_by (StoreAndWaiting × (Boards × Bool)) (coded× waiting_code (coded× boards_code coded_bool)) (λ v. (v.entities, (v.boards, v.is_lost)))
+    (λ r. record { entities = r.0; boards = r.1.0; is_lost = r.1.1 }) (λ _. refl)

@@ -1,0 +1,83 @@
+// A session that takes lines one by one. A row has a line and, behind an arrow, whether it is a command and what is
+// added for it.
+use cedar_keyed_hash::KeyedState;
+use cedar_store::{Session, push_not_command};
+use std::alloc::{AllocError, Global};
+use std::hash::BuildHasher;
+
+// The word for what a line is.
+fn word_of(known: Result<bool, AllocError>) -> &'static str {
+    match known {
+        Ok(true) => "yes",
+        Ok(false) => "no",
+        Err(_) => "memory",
+    }
+}
+
+// Whether bytes are a text, in which `;` stands for the end of a line and `>` for a tab.
+fn are_spelled(bytes: &[u8], want: &str) -> bool {
+    bytes.len() == want.len()
+        && bytes.iter().zip(want.as_bytes()).all(|(one, other)| match *other {
+            b';' => *one == b'\n',
+            b'>' => *one == b'\t',
+            _ => *one == *other,
+        })
+}
+
+// Whether a session takes the line of a row so.
+fn is_taken<S: BuildHasher + Copy>(alloc: Global, session: &mut Session<S>, row: &str) -> bool {
+    let (line, told) = row.split_once(" => ").unwrap_or((row, ""));
+    let (known, due) = told.split_once(' ').unwrap_or((told, ""));
+    let mut out = Vec::new(alloc);
+    let taken = session.take_line(alloc, line.as_bytes(), &mut out);
+    let well = word_of(taken) == known && are_spelled(out.as_slice(), due);
+    drop(out);
+    well
+}
+
+// Whether a session takes the lines of all rows so.
+fn are_taken<S: BuildHasher + Copy>(alloc: Global, session: Session<S>, rows: &str) -> bool {
+    let mut session = session;
+    let mut well = true;
+    for row in rows.lines() {
+        well = well && is_taken(alloc, &mut session, row);
+    }
+    drop(session);
+    well
+}
+
+const ROWS: &str = "ent\tA::\"a\"\tA::\"b\" => yes
+build => yes ok 1;
+anc\tA::\"a\" => yes anc>A::\"b\";
+ => yes
+build\r => no
+frob => no
+help => no
+anc\tA::\"a\" => yes anc>A::\"b\";
+static\tp\tpermit => yes ok;
+ids => yes bodies>p;policies>p;";
+
+#[test]
+fn a_session_takes_lines_one_by_one(rt: HostRuntime) {
+    let alloc = rt.alloc();
+    assert!(rt; are_taken(alloc, Session::new(alloc), ROWS));
+    assert!(rt;
+        are_taken(
+            alloc,
+            Session::with_hasher(alloc, KeyedState::with_keys(1, 2)),
+            ROWS
+        )
+    );
+}
+
+#[test]
+fn what_is_added_comes_behind_what_stands(rt: HostRuntime) {
+    let mut out = Vec::new(rt.alloc());
+    let mut session = Session::new(rt.alloc());
+    let told = session.take_line(rt.alloc(), b"build", &mut out).is_ok()
+        && push_not_command(rt.alloc(), &mut out, 7).is_ok();
+    let well = told && are_spelled(out.as_slice(), "ok 0;line 7: not a command;");
+    drop(session);
+    drop(out);
+    assert!(rt; well);
+}

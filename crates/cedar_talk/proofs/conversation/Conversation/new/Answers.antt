@@ -1,0 +1,7 @@
+use Rattle.std.proofs.Common.{refl, ap, []}
+use Rattle.cedar_store.specs.Output.{start}
+use Rattle.cedar_talk.proofs.Hearing.{begins}
+use Rattle.cedar_talk.proofs.conversation.Conversation.new.Goals as goal
+
+pub returns-clause-has : goal.returns-clause-has
+returns-clause-has g c = begins _ c.with_hasher.ensures c.new.ensures.items refl

@@ -1,0 +1,153 @@
+//! A conversation: the bytes of an input in, the answers to the lines that they end out.
+ghost use Rattle.std.specs.Prelude.{◌≡◌, ◌++◌, ◌+◌, ◌^◌, ◌<◌, ◌≤◌, ◌∷◌, [], List, ℕ, IfOk, OnOk, length};
+ghost use Rattle.cedar_store.specs.Output.{State};
+ghost use Rattle.cedar_store.specs.Sessions.{StandsAt};
+ghost use Rattle.cedar_talk.specs.Conversation.{Says};
+ghost use Rattle.cedar_talk.specs.laws.Hearing.{IsRefused, IsAnswered, Has, Hears, Closes};
+
+use crate::help::HELP;
+use crate::manner::Manner;
+use cedar_store::{Session, push_not_command};
+use std::alloc::{AllocError, Global};
+use std::hash::BuildHasher;
+
+// What has been heard of an input: the session that took the lines that have ended, how many these are, and what has
+// come of the next one.
+#[derive(Drop)]
+pub(crate) struct Conversation<S: BuildHasher> {
+    session: Session<S>,
+    manner: Manner,
+    part: Vec<u8>,
+    ended: usize,
+}
+
+// Adds what is said of a line that is no command, where the conversation goes on.
+fn say(alloc: Global, number: usize, line: &[u8], out: &mut Vec<u8>) -> Result<(), AllocError>
+    ensures { OnOk result ((said : List ℕ) × Says number line.now said × (out.new.items ≡ out.old.items ++ said)) }
+{
+    if line == b"help".as_slice() {
+        out.extend_from_slice(HELP.as_bytes())
+    } else {
+        push_not_command(alloc, out, number)
+    }
+}
+
+// Adds the answer to a line that is no command, and says whether the conversation goes on.
+fn refuse(
+    alloc: Global,
+    manner: Manner,
+    number: usize,
+    line: &[u8],
+    out: &mut Vec<u8>,
+) -> Result<bool, AllocError>
+    ensures { IfOk result (λ on. IsRefused on manner number line.now out.old.items out.new.items) }
+{
+    match manner {
+        Manner::Lenient => {
+            say(alloc, number, line, out)?;
+            Ok(true)
+        }
+        Manner::Strict => {
+            push_not_command(alloc, out, number)?;
+            Ok(false)
+        }
+    }
+}
+
+// Adds the answer to a line, and says whether the conversation goes on.
+fn answer<S: BuildHasher + Copy>(
+    alloc: Global,
+    session: &mut Session<S>,
+    manner: Manner,
+    number: usize,
+    line: &[u8],
+    out: &mut Vec<u8>,
+) -> Result<bool, AllocError>
+    ensures { IfOk result (λ on. (s : State) → StandsAt session.old s →
+        IsAnswered on manner number s line.now session.new out.old.items out.new.items) }
+{
+    if session.take_line(alloc, line, out)? {
+        return Ok(true);
+    }
+    refuse(alloc, manner, number, line, out)
+}
+
+impl<S: BuildHasher + Copy> Conversation<S> {
+    // Nothing has been heard.
+    pub(crate) fn new(alloc: Global, hasher: S, manner: Manner) -> Conversation<S>
+        ensures manner { result.manner ≡ manner }
+        ensures count { result.ended ≡ 0 }
+        ensures has { Has result [] [] }
+    {
+        Conversation {
+            session: Session::with_hasher(alloc, hasher),
+            manner,
+            part: Vec::new(alloc),
+            ended: 0,
+        }
+    }
+
+    // Hears a byte, adds the answer to the line that it ends, if it ends one, and says whether the conversation goes
+    // on.
+    fn hear(&mut self, alloc: Global, byte: u8, out: &mut Vec<u8>) -> Result<bool, AllocError>
+        requires { self.old.ended + 1 < 2 ^ 64 }
+        ensures count { OnOk result (self.new.ended ≤ self.old.ended + 1) }
+        ensures hears { IfOk result (λ on. Hears on self.old (byte ∷ []) self.new out.old.items out.new.items) }
+    {
+        if byte != b'\n' {
+            self.part.push(byte)?;
+            return Ok(true);
+        }
+        self.ended += 1;
+        let on = answer(
+            alloc,
+            &mut self.session,
+            self.manner,
+            self.ended,
+            &self.part,
+            out,
+        )?;
+        self.part.clear();
+        Ok(on)
+    }
+
+    // Hears bytes: the answers to the lines that they end, and whether the conversation goes on.
+    pub(crate) fn hear_all(
+        &mut self,
+        alloc: Global,
+        bytes: &[u8],
+    ) -> Result<(Vec<u8>, bool), AllocError>
+        requires { self.old.ended + length bytes.now < 2 ^ 64 }
+        ensures count { OnOk result (self.new.ended ≤ self.old.ended + length bytes.now) }
+        ensures hears { IfOk result (λ r. Hears r.1 self.old bytes.now self.new [] r.0.items) }
+    {
+        let mut out = Vec::new(alloc);
+        for byte in bytes {
+            if !self.hear(alloc, *byte, &mut out)? {
+                return Ok((out, false));
+            }
+        }
+        Ok((out, true))
+    }
+
+    // The input ends: the answer to what has come of a last line, unless that is empty, and whether it is a command.
+    pub(crate) fn close(&mut self, alloc: Global) -> Result<(Vec<u8>, bool), AllocError>
+        requires { self.old.ended + 1 < 2 ^ 64 }
+        ensures { IfOk result (λ r. Closes r.1 self.old r.0.items) }
+    {
+        let mut out = Vec::new(alloc);
+        if self.part.is_empty() {
+            return Ok((out, true));
+        }
+        let number = self.ended + 1;
+        let on = answer(
+            alloc,
+            &mut self.session,
+            self.manner,
+            number,
+            &self.part,
+            &mut out,
+        )?;
+        Ok((out, on))
+    }
+}

@@ -1,0 +1,178 @@
+// Readers and writers that fail at each of their calls.
+use super::{due_of, lines_of};
+use cedar_keyed_hash::KeyedState;
+use cedar_talk::{Manner, TalkError, talk};
+use std::alloc::Global;
+use std::io;
+use std::io::{ErrorKind, Read, Write};
+
+// A reader that gives at most so many bytes at a time, and fails at one of its reads.
+#[derive(Drop)]
+struct Failing<'a> {
+    left: &'a [u8],
+    most: usize,
+    good: usize,
+}
+
+impl Read for Failing<'_> {
+    fn read(&mut self, buf: &mut [u8]) -> io::Result<usize> {
+        if self.good == 0 {
+            return Err(io::Error::from(ErrorKind::Other));
+        }
+        self.good -= 1;
+        let count = self.left.len().min(buf.len()).min(self.most);
+        buf[..count].copy_from_slice(&self.left[..count]);
+        self.left = &self.left[count..];
+        Ok(count)
+    }
+}
+
+// What came of a conversation: its status, or 8 after a read fault and 9 after any other.
+fn status_of(answer: Result<u8, TalkError>) -> u8 {
+    match answer {
+        Ok(status) => status,
+        Err(TalkError::Read) => 8,
+        Err(TalkError::Write) => 9,
+        Err(TalkError::Memory) => 9,
+    }
+}
+
+// Whether a conversation over a reader that fails after so many good reads wrote what is due for all lines that these
+// brought to their line feed; strictly it ends with the last row, which is no command, and else at the end of the
+// input.
+fn is_due(alloc: Global, manner: Manner, rows: &str, most: usize, good: usize) -> bool {
+    let input = lines_of(alloc, rows);
+    let all = input.len();
+    let read = good.saturating_mul(most).min(all);
+    let due = due_of(alloc, rows, read);
+    let mut reader = Failing {
+        left: input.as_slice(),
+        most,
+        good,
+    };
+    let mut out = Vec::new(alloc);
+    let hasher = KeyedState::with_keys(1, 2);
+    let status = status_of(talk(alloc, hasher, manner, &mut reader, &mut out));
+    let ended = match manner {
+        Manner::Lenient if good.saturating_sub(1).saturating_mul(most) >= all => 0,
+        Manner::Strict if read == all => 2,
+        _ => 8,
+    };
+    let told = status == ended && out.as_slice() == due.as_slice() && all > 0;
+    drop(input);
+    drop(due);
+    drop(out);
+    told
+}
+
+// Whether that is so after any number of good reads.
+fn are_due(alloc: Global, manner: Manner, rows: &str, most: usize) -> bool {
+    for good in 0..140 {
+        if !is_due(alloc, manner, rows, most, good) {
+            return false;
+        }
+    }
+    true
+}
+
+const LENIENT: &str = "ent>A::\"a\">A::\"b\" =>
+build => ok 1;
+anc A::\"a\" => line 3: not a command;
+anc>A::\"a\" => anc>A::\"b\";
+ =>
+ids~ => line 6: not a command;
+help => HELP
+frob => line 8: not a command;
+static>p>permit => ok;
+ids => bodies>p;policies>p;";
+
+const STRICT: &str = "ent>A::\"a\">A::\"b\" =>
+build => ok 1;
+ =>
+anc>A::\"a\" => anc>A::\"b\";
+static>p>permit => ok;
+ids => bodies>p;policies>p;
+help => line 7: not a command;";
+
+#[test]
+fn where_a_read_fails_all_lines_before_were_answered(rt: HostRuntime) {
+    for most in 1..10 {
+        assert!(rt;
+            are_due(rt.alloc(), Manner::Lenient, LENIENT, most),
+            "leniently, {most} bytes at a time"
+        );
+        assert!(rt;
+            are_due(rt.alloc(), Manner::Strict, STRICT, most),
+            "strictly, {most} bytes at a time"
+        );
+    }
+}
+
+// A writer that takes at most so many bytes at a time, and fails at one of its writes or at the flush.
+#[derive(Drop)]
+struct Full {
+    taken: usize,
+    most: usize,
+    good: usize,
+    flushes: bool,
+}
+
+impl Write for Full {
+    fn write(&mut self, buf: &[u8]) -> io::Result<usize> {
+        if self.good == 0 {
+            return Err(io::Error::from(ErrorKind::Other));
+        }
+        self.good -= 1;
+        let count = buf.len().min(self.most);
+        self.taken = self.taken.saturating_add(count);
+        Ok(count)
+    }
+
+    fn flush(&mut self) -> io::Result<()> {
+        if self.flushes {
+            Ok(())
+        } else {
+            Err(io::Error::from(ErrorKind::Other))
+        }
+    }
+}
+
+// Whether a conversation of nine written bytes, whose writer takes so many at a time and so many good writes, and
+// flushes or not, is refused for it where it needs more.
+fn is_written_whole(alloc: Global, most: usize, good: usize, flushes: bool) -> bool {
+    let mut reader = b"ent\tA::\"a\"\nbuild\nanc\tA::\"a\"\n".as_slice();
+    let mut writer = Full {
+        taken: 0,
+        most,
+        good,
+        flushes,
+    };
+    let hasher = KeyedState::with_keys(1, 2);
+    let status = status_of(talk(alloc, hasher, Manner::Strict, &mut reader, &mut writer));
+    if good.saturating_mul(most) >= 9 && flushes {
+        status == 0 && writer.taken == 9
+    } else {
+        status == 9
+    }
+}
+
+// Whether that is so after any number of good writes.
+fn is_refused_for_writes(alloc: Global, most: usize) -> bool {
+    for good in 0..11 {
+        let flushed = is_written_whole(alloc, most, good, true);
+        if !flushed || !is_written_whole(alloc, most, good, false) {
+            return false;
+        }
+    }
+    true
+}
+
+#[test]
+fn a_failed_write_or_flush_is_a_write_fault(rt: HostRuntime) {
+    for most in 1..10 {
+        assert!(rt;
+            is_refused_for_writes(rt.alloc(), most),
+            "{most} bytes at a time"
+        );
+    }
+}

@@ -1,0 +1,147 @@
+// What a conversation writes for an input, beside what a run writes.
+use super::{due_of, lines_of, push_bytes};
+use cedar_store::run;
+use cedar_talk::{Manner, TalkError, help_text, talk};
+use std::alloc::Global;
+use std::hash::{BuildHasherDefault, FoldHasher};
+use std::test::Fail;
+
+// What a conversation over these bytes answers and writes.
+fn held(alloc: Global, manner: Manner, input: &[u8], out: &mut Vec<u8>) -> Option<u8> {
+    let hasher: BuildHasherDefault<FoldHasher> = BuildHasherDefault::new();
+    let mut reader = input;
+    talk(alloc, hasher, manner, &mut reader, out).ok()
+}
+
+// Whether a lenient conversation over bytes writes these, with status 0.
+fn is_answered(alloc: Global, input: &[u8], due: &[u8]) -> bool {
+    let mut out = Vec::new(alloc);
+    let status = held(alloc, Manner::Lenient, input, &mut out);
+    let told = status == Some(0) && out.as_slice() == due;
+    drop(out);
+    told
+}
+
+// Whether a strict conversation over bytes writes what a run does, with the same status.
+fn is_run(alloc: Global, input: &[u8]) -> bool {
+    let mut out = Vec::new(alloc);
+    let status = held(alloc, Manner::Strict, input, &mut out);
+    let mut due = Vec::new(alloc);
+    let mut reader = input;
+    let same = status == run(alloc, &mut reader, &mut due).ok() && out.as_slice() == due.as_slice();
+    drop(out);
+    drop(due);
+    same && status.is_some()
+}
+
+// The bytes that a text stands for; none where there is no memory.
+fn bytes_of(alloc: Global, text: &str) -> Vec<u8> {
+    let mut bytes = Vec::new(alloc);
+    if push_bytes(&mut bytes, text).is_err() {
+        bytes.clear();
+    }
+    bytes
+}
+
+// Whether that is so of the bytes that a text stands for.
+fn is_run_of(alloc: Global, text: &str) -> bool {
+    let input = bytes_of(alloc, text);
+    let told = is_run(alloc, input.as_slice());
+    drop(input);
+    told
+}
+
+#[test]
+fn strictly_it_writes_what_a_run_writes(rt: HostRuntime) {
+    for text in [
+        "",
+        ";",
+        ";;build;;",
+        "build",
+        "frob",
+        ";frob;build",
+        "help;",
+        "build;help",
+        "ent>A::\"a\">A::\"b\";build;anc>A::\"a\";anc>A::\"b\"",
+        "ent>A::\"a\">A::\"a\";build;ent>A::\"b\";add;anc>A::\"b\";",
+        "static>p>permit;other;static>p>forbid;merge>rename;ids;merge>keep",
+        "ent>A::\"a\";build~;anc>A::\"a\"",
+    ] {
+        assert!(rt; is_run_of(rt.alloc(), text), "{text}");
+    }
+}
+
+// Whether a lenient conversation over the lines of rows writes what is due for them, and over the same lines of which
+// the last has no line feed.
+fn are_answered(alloc: Global, rows: &str) -> bool {
+    let input = lines_of(alloc, rows);
+    let due = due_of(alloc, rows, usize::MAX);
+    let cut = input.len().saturating_sub(1);
+    let told = is_answered(alloc, input.as_slice(), due.as_slice())
+        && is_answered(alloc, &input.as_slice()[..cut], due.as_slice());
+    drop(input);
+    drop(due);
+    told && cut > 0
+}
+
+const GOES_ON: &str = "help => HELP
+help> => line 2: not a command;
+Help => line 3: not a command;
+>help => line 4: not a command;
+ =>
+ent>A::\"a\">A::\"b\" =>
+ent A::\"c\" => line 7: not a command;
+build => ok 1;
+build~ => line 9: not a command;
+help => HELP
+anc>A::\"a\" => anc>A::\"b\";
+ent>A::\"x\">A::\"x\" =>
+frob => line 13: not a command;
+build => refused: cycle;
+anc>A::\"a\" => no entity;
+help => HELP";
+
+#[test]
+fn leniently_it_goes_on(rt: HostRuntime) {
+    assert!(rt; are_answered(rt.alloc(), GOES_ON));
+}
+
+#[test]
+fn help_tells_lines_of_the_program(rt: HostRuntime) {
+    let text = help_text();
+    for word in [
+        "ent ",
+        "build ",
+        "add ",
+        "upsert ",
+        "remove ",
+        "slice ",
+        "anc ",
+        "static ",
+        "template ",
+        "link ",
+        "unlink ",
+        "other ",
+        "merge ",
+        "ids ",
+    ] {
+        assert!(rt; text.lines().any(|line| line.starts_with(word)), "{word}");
+    }
+}
+
+// Whether a fault has this text.
+fn says(alloc: Global, fault: TalkError, want: &str) -> Result<bool, Fail> {
+    let text = fault.to_string(alloc)?;
+    let told = text.as_str() == want;
+    drop(text);
+    Ok(told)
+}
+
+#[test]
+fn faults_have_their_texts(rt: HostRuntime) -> Result<(), Fail> {
+    let alloc = rt.alloc();
+    assert!(rt; says(alloc, TalkError::Read, "read fault")?);
+    assert!(rt; says(alloc, TalkError::Write, "write fault")?);
+    assert!(rt; says(alloc, TalkError::Memory, "out of memory")?);
+    Ok(())
+}
