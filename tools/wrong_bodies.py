@@ -1,6 +1,7 @@
 #!/usr/bin/env python3
-"""Tries wrong bodies, many in one check: `./wrong-bodies` says what for. Run at the top of the repository, with names of crates;
-`--jobs N` before them gives each check N jobs, where rt's own choice is too much beside other work.
+"""Tries wrong bodies, many in one check: `./wrong-bodies` says what for. Run at the top of the repository, with names of crates, and before
+them, where wanted: `--jobs N` gives each check N jobs, where rt's own choice is too much beside other work; `--beside` leaves out those
+that the gate tries; `--part K/N` tries the Kth of N parts, so that N runs side by side try all.
 
 A contract stands between a function and its callers, so whether a body is proved does not hang on what other bodies do. So one
 check can try one wrong body of each of several functions at once, and costs little more than a check that tries one: most of
@@ -111,14 +112,27 @@ def link_or_copy(one, other):
     return os.link(one, other) if one.endswith('.oantt') else shutil.copy2(one, other)
 
 
+def copy_of_repository(room):
+    """Copies what a check reads, and what checks kept: of a built library, whose files are replaced and never written, a second name."""
+
+    def copy(one, other):
+        try:
+            return os.link(one, other) if '/out/rlib/' in one else shutil.copy2(one, other)
+        except OSError:
+            return shutil.copy2(one, other)
+
+    for name in ('crates.txt', 'HANDLES'):
+        shutil.copy2(name, room)
+    shutil.copytree('crates', f'{room}/crates', symlinks=True, copy_function=copy)
+
+
 class Crate:
     """A crate in a copy of the repository, and its wrong bodies."""
 
-    def __init__(self, room, name, jobs):
-        self.name, self.folder, self.jobs = name, f'{room}/crates/{name}', jobs
+    def __init__(self, room, name, options):
+        self.name, self.folder, self.jobs = name, f'{room}/crates/{name}', options.jobs
         self.kept = f'{room}/kept-{name}'
-        edits = sorted(glob.glob(f'{self.folder}/must-fail/*.edit') + glob.glob(f'{self.folder}/wrong-bodies/*.edit'))
-        self.edits = [WrongBody(path, self.folder) for path in edits]
+        self.edits = [WrongBody(path, self.folder) for path in options.edits_of(self.folder)]
         self.room, self.before, self.counts = room, time.time(), {'refused': 0, 'not': 0, 'not tried': 0}
 
     def say(self, text):
@@ -227,19 +241,40 @@ class Crate:
         self.counts['not tried'] += max(0, lost)
 
 
-def main(names):
-    jobs = []
-    if names[:1] == ['--jobs']:
-        jobs, names = names[:2], names[2:]
-    if not names:
-        names = sorted({path.split('/')[1] for path in glob.glob('crates/*/must-fail/*.edit') + glob.glob('crates/*/wrong-bodies/*.edit')})
+class Options:
+    """What stands before the names of crates: the jobs of a check, and which wrong bodies are tried."""
+
+    def __init__(self, words):
+        self.jobs, self.folders, self.part = [], ['must-fail', 'wrong-bodies'], (1, 1)
+        while words[:1] and words[0].startswith('--'):
+            if words[0] == '--beside':
+                self.folders, words = ['wrong-bodies'], words[1:]
+            elif words[0] == '--jobs' and re.fullmatch('[1-9][0-9]*', ''.join(words[1:2])):
+                self.jobs, words = words[:2], words[2:]
+            elif words[0] == '--part' and re.fullmatch('[1-9][0-9]*/[1-9][0-9]*', ''.join(words[1:2])):
+                first, many = words[1].split('/')
+                self.part, words = (int(first), int(many)), words[2:]
+            else:
+                sys.exit(f'wrong-bodies: {words[0]}: no such option; --beside, --jobs N and --part K/N stand before the names of crates')
+        self.names = words
+
+    def edits_of(self, folder):
+        """The wrong bodies of a crate's folder that are tried, in the order of their names."""
+        found = sorted(path for it in self.folders for path in glob.glob(f'{folder}/{it}/*.edit'))
+        first, many = self.part
+        return found[first - 1::many]
+
+
+def main(words):
+    options = Options(words)
+    names = options.names or sorted(path.split('/')[1] for path in glob.glob('crates/*') if options.edits_of(path))
     for name in names:
         if not os.path.isdir(f'crates/{name}'):
             sys.exit(f'wrong-bodies: there is no crate {name}')
     counts = {'refused': 0, 'not': 0, 'not tried': 0}
     with tempfile.TemporaryDirectory() as room:
-        subprocess.run(['cp', '-a', 'crates.txt', 'HANDLES', 'crates', room], check=True)
-        crates = [Crate(room, name, jobs) for name in names]
+        copy_of_repository(room)
+        crates = [Crate(room, name, options) for name in names]
         total = sum(len(crate.edits) for crate in crates)
         print(f'{total} wrong bodies of {len(crates)} crates: some 20 seconds of a processor each, {total * 20 / 3600:.1f} hours by the mean', flush=True)
         print('before them a check of each crate, and of those below it, that is not proved here yet: a whole proof (docs/GATE.md)', flush=True)
