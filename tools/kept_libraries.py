@@ -48,6 +48,8 @@ def take(kept, crate):
         return False
     os.makedirs(f'{crate.folder}/out', exist_ok=True)
     if not crate.is_built():
+        # What stands there may be the kept files themselves, by other names, and is in the way.
+        shutil.rmtree(f'{crate.folder}/out/rlib', ignore_errors=True)
         if not kept.give(crate, False, kept.key(crate)):
             return False
         with open(f'{crate.folder}/out/rlib/stamp', 'w', encoding='utf-8') as stamp:
