@@ -501,6 +501,7 @@ static void texts_of_sets_stay(void) {
     CHECK(cedar_policies_merge(&p, &q, true) == CEDAR_OK && IS(policies_answer(&p), ",s,policy0"));
     CHECK(IS(policies_refusal(&p), "occupied s"));
     CHECK(cedar_policies_copy(&p, &q) == CEDAR_OK && IS(policies_answer(&q), "") && IS(policies_refusal(&q), ""));
+    CHECK(new_set(&p) == CEDAR_OK && IS(policies_answer(&p), "") && IS(policies_refusal(&p), ""));
     cedar_policies_free(&p);
     cedar_policies_free(&q);
 }

@@ -1,8 +1,11 @@
 /* Stores of entities and policy sets of the Cedar authorization language, for callers in C.
  *
  * What is proved. Each function here has a contract over what is kept behind its handle, which the checker has proved
- * of its body: what a status says, what is written, what a handle holds afterwards, the comments below in short. It is
- * proved for callers that keep these rules, which no compiler checks:
+ * of its body: what a status says, what is written, what a handle holds afterwards, the comments below in short. Not
+ * proved but tested is that CEDAR_NO_MEMORY comes only where memory is refused, that all memory is freed, what becomes
+ * of a text that is not that of a uid with an ASCII eid, how a uid with another is written, that `cedar_run` answers no
+ * third status, and that a handle into which a store or a set is put has no last answer and no last refusal. No
+ * contract sees the key. It is proved for callers that keep these rules, which no compiler checks:
  *
  * - A handle is zeroed before its first use (`cedar_store s = {0};`), and none of its bytes are written. While it is
  *   open it may be moved, if the old place is not used again, but is not copied. Two handles of one call are two.
@@ -193,13 +196,15 @@ uint32_t cedar_store_equal(cedar_store *one, cedar_store *other, bool *answer);
 /* Copies out the bytes of the texts of the last answer, one after another, from byte `from` on, as many as there is
  * room for; and where each text starts and ends in them, from text `from` on. Both tell how many there are in all; a
  * closed handle has none. The last answer is that of the last `cedar_store_ancestors` or `cedar_store_parents` at
- * CEDAR_OK: other calls leave it, but those that put a store into the handle, which has none. They take no memory. */
+ * CEDAR_OK: other calls leave it, `cedar_store_build` too, but behind `cedar_store_new`, and a `cedar_store_slice` or
+ * `cedar_store_copy` into this handle, there is none. They take no memory. */
 size_t cedar_store_answer(cedar_store *s, size_t from, uint8_t *out, size_t room);
 size_t cedar_store_answer_spans(cedar_store *s, size_t from, cedar_span *out, size_t room);
 
 /* Copies out the text of the last refusal of the store, from CEDAR_DUPLICATE to CEDAR_RESERVED_KEY, as much as there is
  * room for, and tells how long it is: words, and behind a blank each the uids that the refusal names. Calls at CEDAR_OK
- * leave it, but those that put a store into the handle, which has none. Takes no memory. */
+ * leave it, but behind the calls that leave no last answer there is none. What CEDAR_NO_MEMORY leaves there is not
+ * said: it may be `out of memory`. Takes no memory. */
 size_t cedar_store_refusal(cedar_store *s, uint8_t *out, size_t room);
 
 /* ---- policy sets. A call that is refused, for memory too, leaves the set as it was. */
@@ -244,7 +249,7 @@ uint32_t cedar_policies_remove_template(cedar_policies *p, const uint8_t *id, si
 /* What another set binds joins the set; the other stays as it is. An id that both bind to different things conflicts:
  * with `rename` it gets the next of policy0, policy1 and so on that neither binds, and else the first is refused. At
  * CEDAR_OK the answer of the handle is the renaming: each id that was renamed, and behind it its new one. CEDAR_OK,
- * CEDAR_CLOSED where one of the two is closed, CEDAR_OCCUPIED, CEDAR_NO_MEMORY. */
+ * CEDAR_CLOSED where one of the two is closed, CEDAR_OCCUPIED, CEDAR_NO_MEMORY; any but the first leaves the answer. */
 uint32_t cedar_policies_merge(cedar_policies *p, cedar_policies *other, bool rename);
 
 /* The ids of the bodies (static policies and templates), for 0, or of the policies (static policies and links), for 1,
@@ -261,13 +266,15 @@ uint32_t cedar_policies_copy(cedar_policies *from, cedar_policies *to);
 uint32_t cedar_policies_equal(cedar_policies *one, cedar_policies *other, bool *answer);
 
 /* Copy out the last answer, the bytes of its texts and where each starts and ends in them, as the two of a store do.
- * The last answer is that of the last `cedar_policies_ids` or `cedar_policies_merge` at CEDAR_OK. */
+ * The last answer is that of the last `cedar_policies_ids` or `cedar_policies_merge` at CEDAR_OK; behind
+ * `cedar_policies_new`, and a `cedar_policies_copy` into this handle, there is none. They take no memory. */
 size_t cedar_policies_answer(cedar_policies *p, size_t from, uint8_t *out, size_t room);
 size_t cedar_policies_answer_spans(cedar_policies *p, size_t from, cedar_span *out, size_t room);
 
 /* Copies out the text of the last refusal of the set, from CEDAR_OCCUPIED to CEDAR_NOT_STATIC, as much as there is room
  * for, and tells how long it is: words, a blank, and the id, the slots or the uid that the refusal names. Calls at
- * CEDAR_OK leave it, but those that put a set into the handle, which has none. Takes no memory. */
+ * CEDAR_OK leave it, but behind the calls that leave no last answer there is none. What CEDAR_NO_MEMORY leaves there is
+ * not said. Takes no memory. */
 size_t cedar_policies_refusal(cedar_policies *p, uint8_t *out, size_t room);
 
 #ifdef __cplusplus

@@ -4,9 +4,10 @@ The calls are those of a static library whose functions are proved, up to the bo
 module lays lists out for it, copies answers out of it, and lets go of what it holds. It is tested, not proved. The
 shared library is the one that CEDAR_LIBRARY names or, where nothing does, `libcedar.so` beside this file.
 
-Uids are texts as `A::B::"c"`: a type, and an eid in quotes, escaped. Ids of policies are any text. A store or a set is
-of the thread that made it, and another thread's call raises `WrongThread`; one that another thread lets go of last is
-not freed. Want of memory raises `MemoryError`.
+Uids are texts as `A::B::"c"`: a type, and an eid in quotes, escaped. Ids of policies are any text. A refused call
+raises `Refused`, and one on what was let go of `Closed`. A store or a set is of the thread that made it, and another
+thread's call raises `WrongThread`; one that another thread lets go of last is not freed. Want of memory raises
+`MemoryError`.
 
 The maps of a store or a set hash by a key of 16 bytes, drawn by `os.urandom` where none is given, so that whoever picks
 ids cannot pick such as collide. No answer depends on it, but for which of several cycles or of several missing
@@ -19,7 +20,7 @@ import enum
 import os
 import struct
 import threading
-from typing import Any, Callable, Iterable, Mapping, Optional, Union
+from typing import Any, Callable, Iterable, Mapping, Optional, TypeVar, Union
 
 __all__ = ["Closed", "Effect", "Mode", "Policies", "Refused", "Store", "WrongThread", "is_uid", "run"]
 
@@ -157,6 +158,9 @@ def _laid(uids: Iterable[str]) -> tuple[bytes, int, ctypes.Array, int]:
     return b"".join(parts), at, spans, len(parts)
 
 
+_Kind = TypeVar("_Kind", bound="_Held")
+
+
 class _Held:
     _kind = ""
 
@@ -174,7 +178,7 @@ class _Held:
             raise WrongThread(self._kind)
         return self._handle
 
-    def _call(self, name: str, *arguments) -> None:
+    def _call(self, name: str, *arguments: Any) -> None:
         self._judged(self._function(name)(self._here(), *arguments))
 
     def _judged(self, status: int) -> None:
@@ -202,18 +206,18 @@ class _Held:
         texts = out.raw
         return [texts[span.start : span.end].decode("utf-8", "replace") for span in spans[:count]]
 
-    def _truth(self, name: str, *arguments) -> bool:
+    def _truth(self, name: str, *arguments: Any) -> bool:
         answer = ctypes.c_bool(False)
         self._call(name, *arguments, ctypes.byref(answer))
         return answer.value
 
-    def _fresh(self):
+    def _fresh(self: _Kind) -> _Kind:
         fresh = self.__class__.__new__(self.__class__)
         fresh._handle, fresh._thread = _Handle(), self._thread
         return fresh
 
-    def copy(self):
-        """A copy."""
+    def copy(self: _Kind) -> _Kind:
+        """A copy, with the same key."""
         fresh = self._fresh()
         self._call("copy", fresh._handle)
         return fresh
@@ -228,13 +232,16 @@ class _Held:
     __hash__ = None
 
     def close(self) -> None:
-        """Lets go of what is held, once or any number of times. Later calls raise `Closed`."""
+        """Lets go of what is held, once or any number of times.
+
+        Later calls raise `Closed`, but for the `len` of a store, which is 0.
+        """
         self._function("free")(self._here())
 
-    def __enter__(self):
+    def __enter__(self: _Kind) -> _Kind:
         return self
 
-    def __exit__(self, *_) -> None:
+    def __exit__(self, *_: object) -> None:
         self.close()
 
     def __del__(self) -> None:
@@ -290,7 +297,10 @@ class Store(_Held):
         return self._truth("has", *_text(uid))
 
     def is_descendant_of(self, child: str, ancestor: str) -> bool:
-        """Whether an entity is a descendant of a uid, over parents, however many."""
+        """Whether an entity is a descendant of a uid, over parents, however many.
+
+        Refused as `no entity` where the store has none with the first uid, as `ancestors` and `parents` are.
+        """
         return self._truth("is_descendant_of", *_text(child), *_text(ancestor))
 
     def ancestors(self, uid: str) -> list[str]:
@@ -308,7 +318,7 @@ class Store(_Held):
         self._call("validate")
 
     def slice(self, uids: Iterable[str]) -> Store:
-        """The entities with these uids, and those among their ancestors."""
+        """A store of the entities with these uids, and of those that this one has among their ancestors."""
         fresh = self._fresh()
         self._call("slice", fresh._handle, *_laid(uids))
         return fresh
@@ -363,7 +373,10 @@ class Policies(_Held):
         self._call("remove_template", *_text(id))
 
     def merge(self, other: Policies, rename: bool = False) -> dict[str, str]:
-        """What another set binds joins; the ids that were renamed, with their new ones."""
+        """What another set binds joins; the ids that were renamed, with their new ones.
+
+        Without `rename` the first id that both bind to different things is refused as `occupied`.
+        """
         self._call("merge", other._here(), rename)
         texts = self._answered()
         return dict(zip(texts[::2], texts[1::2]))
