@@ -150,7 +150,11 @@ fn closed(store: &Masks, reach: &Sets) -> Masks {
     for uid in 0..28_u8 {
         let row = row_at(store, uid);
         let both = row.parents & row.indirect;
-        put(&mut next.indirect, uid, at(reach, uid) & !row.parents | both);
+        put(
+            &mut next.indirect,
+            uid,
+            at(reach, uid) & !row.parents | both,
+        );
     }
     next
 }
@@ -203,7 +207,7 @@ fn touched(store: &Masks, applied: u32) -> u32 {
 }
 
 // What an edit is that leaves this and touches these.
-fn edited(left: Masks, touched: u32) -> Edited {
+fn before_closure(left: Masks, touched: u32) -> Edited {
     let edges = all_edges(&left);
     let reach = reached(edges);
     Edited {
@@ -223,7 +227,7 @@ pub(super) fn overwriting(store: &Masks, list: &[Row]) -> Edited {
     for row in list {
         put_in(&mut next, row);
     }
-    edited(next, touched(store, applied))
+    before_closure(next, touched(store, applied))
 }
 
 // A removal of some uids, of which those count that are held.
@@ -235,10 +239,17 @@ pub(super) fn removal(store: &Masks, uids: u32) -> Edited {
         if has(store.held & !gone, uid) {
             let parents = at(&store.parents, uid) & !gone;
             let indirect = at(&left, uid);
-            put_in(&mut next, &Row { uid, parents, indirect });
+            put_in(
+                &mut next,
+                &Row {
+                    uid,
+                    parents,
+                    indirect,
+                },
+            );
         }
     }
-    edited(next, touched(store, gone))
+    before_closure(next, touched(store, gone))
 }
 
 // What a check of the closure answers.
