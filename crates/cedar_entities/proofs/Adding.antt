@@ -25,7 +25,7 @@ use Rattle.cedar_entities.specs.laws.Closures.{IsClosureOf}
 use Rattle.cedar_entities.specs.Edits.{uids_of}
 use Rattle.cedar_entities.specs.Touching.{inserted_in, is_touched, IsSettled, StaysUntouched}
 use Rattle.cedar_entities.proofs.Reaching.{untouched}
-use Rattle.cedar_entities.proofs.Readings.{any_member, is_none}
+use Rattle.cedar_entities.proofs.AnyOf.{any_member, is_none}
 use Rattle.cedar_entities.specs.laws.PlainAncestors.{ancestry_plain}
 use Rattle.cedar_entities.proofs.Repaired.{repaired}
 use Rattle.cedar_entities.specs.declared.entities.TCComputation.{TCComputation}

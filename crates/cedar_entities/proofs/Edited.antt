@@ -1,7 +1,7 @@
 -- From what the steps of an edit leave of the map to what the edit makes of what is held.
-use Rattle.std.specs.Prelude.{◌≡◌, Bool, true, false, cond, not, ◌&&◌, ◌||◌, List, [], Option, Some, None, map, filter}
+use Rattle.std.specs.Prelude.{◌≡◌, Bool, true, false, cond, not, ◌&&◌, ◌||◌, List, Option, Some, None, filter}
 use Rattle.std.proofs.Common.{ap, sym, refl, subst, ◌∙◌}
-use Rattle.std.proofs.lemmas.Bool.{or_left}
+use Rattle.std.proofs.lemmas.Bool.{false≢true, or_left}
 use Rattle.std.specs.Option.{option_map, option_or, is_some}
 use Rattle.std.specs.HashMap.{HashMap}
 use Rattle.std.specs.HashSet.{HashSet, contains}
@@ -12,7 +12,8 @@ use Rattle.std.specs.FinMap as finmap
 use Rattle.cedar_ids.specs.UidOf.{same_uid}
 use Rattle.cedar_ids.specs.laws.UidOfLaws.{uid_order_total}
 use Rattle.cedar_ids.specs.declared.entity.EntityUID.{EntityUID}
-use Rattle.cedar_uid_sets.specs.laws.Sets.{one_equal}
+use Rattle.cedar_uid_sets.specs.UidSets.{UidValues}
+use Rattle.cedar_uid_sets.specs.laws.Sets.{contains_listed, one_equal}
 use Rattle.cedar_entity.specs.laws.UidSets.{kept_in}
 use Rattle.cedar_entity.specs.View.{EntityView, has_ancestor}
 use Rattle.cedar_entity.specs.declared.node.SharedEntity.{SharedEntity}
@@ -22,107 +23,123 @@ use Rattle.cedar_entities.specs.Modes.{ancestry, is_ancestor_in}
 use Rattle.cedar_entities.specs.Plain.{Held}
 use Rattle.cedar_entities.specs.Present.{with_first}
 use Rattle.cedar_entities.specs.Touching.{inserted_in, is_touched, removed_from}
-use Rattle.cedar_entities.specs.declared.touching.Applied.{Applied}
+use Rattle.cedar_entities.specs.declared.touching.Loss.{Loss}
 use Rattle.cedar_entities.specs.laws.Held.{held, held_map}
-use Rattle.cedar_entities.specs.laws.Readings.{IsReadingOf, goes_from, is_below, notes}
+use Rattle.cedar_entities.specs.laws.Losses.{IsLossOf, is_stripped, loses, loses_uid}
 use Rattle.cedar_entities.proofs.Adding.{touched_alike}
 use Rattle.cedar_entities.proofs.Adds.{stored}
-use Rattle.cedar_entities.proofs.Overwriting.{get_put_over}
-use Rattle.cedar_entities.proofs.Readings.{any_alike, any_filter, any_member, none_retained, read_below, read_goes, read_notes}
+use Rattle.cedar_entities.proofs.AnyOf.{any_alike, any_filter, any_member}
+use Rattle.cedar_entities.proofs.Losses.{goes_by_loss, lessened_alike, loses_below, stripped_at, within}
+use Rattle.cedar_entities.proofs.Overwriting.{get_put_over, last_some}
 use Rattle.cedar_entities.proofs.Removing.{get_taken_out, remains, removed_members}
 use Rattle.cedar_entities.proofs.StoreMaps.{seen_as}
 
-and_off : (b : Bool) → (b && false) ≡ false
-and_off true = refl
-and_off false = refl
+covered : (o x y : Option EntityView) → is_some o ≡ true → option_or o x ≡ option_or o y
+covered None x y h = absurd (false≢true h)
+covered (Some e) x y h = refl
 
-module _ (D : Held) (A : List EntityUID) (R : List Applied) (uids : map (λ a. a.uid) R ≡ A) (read : AllByRecursion (IsReadingOf (finmap.get D)) R) (q : EntityUID) where
-  goes_all : (e : EntityView) → finmap.get D q ≡ Some e → (w : EntityUID) → goes_from R q w ≡ list_any (goes_with D e w) A
-  goes_all e is w = read_goes D q e is R read w ∙ ap (list_any (goes_with D e w)) uids
+module _ (D : Held) (L : List EntityView) (A : List EntityUID) (none : UidValues) (R : List Loss) (same : (q : EntityUID) → is_member same_uid A q ≡ is_member same_uid (uids_of L) q) (empty : none ≡ set.empty)
+    (who : (q : EntityUID) → loses R q ≡ is_stripped A q (ancestry D q)) (lost : AllByRecursion (IsLossOf (finmap.get D) A) R) (q : EntityUID) where
+  -- the last of the list covers what is not stripped
+  laid_at : (b : Bool) → is_member same_uid (uids_of L) q ≡ b → option_or (last_entity L q) (option_map (stripped (λ p. loses R q && set.contains none p) (loses_uid R q)) (finmap.get D q)) ≡ option_or (last_entity L q) (option_map (lessened D (uids_of L)) (finmap.get D q))
+  laid_at true t = covered (last_entity L q) (option_map (stripped (λ p. loses R q && set.contains none p) (loses_uid R q)) (finmap.get D q)) (option_map (lessened D (uids_of L)) (finmap.get D q)) (last_some L q ∙ t)
+  laid_at false t = ap (option_or (last_entity L q)) (stripped_at D A R who lost q (same q ∙ t) none empty (finmap.get D q) refl ∙ lessened_alike D A (uids_of L) same (finmap.get D q))
 
-  pub notes_all : notes R q ≡ is_touched D A q
-  notes_all = read_notes D q R read ∙ ap (λ l. is_touched D l q) uids
-
-  laid_at : (o : Option EntityView) → finmap.get D q ≡ o → option_map (stripped (λ p. is_below R q && is_member same_uid [] p) (goes_from R q)) o ≡ option_map (lessened D A) o
-  laid_at None is = refl
-  laid_at (Some e) is = λ i. Some (record e {
-    parents = none_retained e.parents (λ p. is_below R q && is_member same_uid [] p) (λ x t. and_off (is_below R q)) i;
-    indirect = set.retain e.indirect (λ w. not (goes_all e is w i));
-  })
-
-pub laid_over : {S : Type 0} (l m n : HashMap EntityUID SharedEntity S) (D : Held) (L : List EntityView) (R : List Applied) → held_map l ≡ D
-    → map (λ a. a.uid) R ≡ uids_of L → AllByRecursion (IsReadingOf (held l)) R
-    → ((q : EntityUID) → held m q ≡ option_map (stripped (λ p. is_below R q && is_member same_uid [] p) (goes_from R q)) (held l q))
+pub laid_over : {S : Type 0} (l m n : HashMap EntityUID SharedEntity S) (D : Held) (L : List EntityView) (A : List EntityUID) (none : UidValues) (R : List Loss) → held_map l ≡ D
+    → ((q : EntityUID) → is_member same_uid A q ≡ is_member same_uid (uids_of L) q) → none ≡ set.empty
+    → ((q : EntityUID) → loses R q ≡ is_stripped A q (is_ancestor_in (held l q))) → AllByRecursion (IsLossOf (held l) A) R
+    → ((q : EntityUID) → held m q ≡ option_map (stripped (λ p. loses R q && set.contains none p) (loses_uid R q)) (held l q))
     → ((q : EntityUID) → held n q ≡ option_or (last_entity L q) (held m q)) → held_map n ≡ put_over D L
-laid_over l m n D L R is uids read strip over =
+laid_over l m n D L A none R is same empty who lost strip over =
     let f : held l ≡ finmap.get D = stored l D is in
     seen_as n (put_over D L) (λ q.
     over q ∙ ap (option_or (last_entity L q))
-    (strip q ∙ ap (λ g. option_map (stripped (λ p. is_below R q && is_member same_uid [] p) (goes_from R q)) (g q)) f
-    ∙ laid_at D (uids_of L) R uids (subst (λ g. AllByRecursion (IsReadingOf g) R) f read) q (finmap.get D q) refl)
+    (strip q ∙ ap (λ g. option_map (stripped (λ p. loses R q && set.contains none p) (loses_uid R q)) (g q)) f)
+    ∙ laid_at D L A none R same empty (λ p. who p ∙ ap (λ g. is_stripped A p (is_ancestor_in (g p))) f) (subst (λ g. AllByRecursion (IsLossOf g A) R) f lost) q (is_member same_uid (uids_of L) q) refl
     ∙ sym (get_put_over D L q))
 
 absorbed : (k x y : Bool) → (k && ((k && x) && y)) ≡ ((k && x) && y)
 absorbed true x y = refl
 absorbed false x y = refl
 
-within : (b l : Bool) → (l ≡ true → b ≡ true) → (b && l) ≡ l
-within b true h = ap (λ c. c && true) (h refl)
-within b false h = and_off b
+module _ (D : Held) (U A : List EntityUID) (gone : UidValues) (R : List Loss) (all : (q : EntityUID) → set.contains gone q ≡ leaves D U q) (keys : (q : EntityUID) → is_member same_uid A q ≡ set.contains gone q)
+    (who : (q : EntityUID) → loses R q ≡ is_stripped A q (ancestry D q)) (lost : AllByRecursion (IsLossOf (finmap.get D) A) R) (q : EntityUID) (out : leaves D U q ≡ false) where
+  none_of : is_member same_uid A q ≡ false
+  none_of = keys q ∙ all q ∙ out
 
-module _ (D : Held) (U : List EntityUID) (R : List Applied) (uids : map (λ a. a.uid) R ≡ removed_from D U) (read : AllByRecursion (IsReadingOf (finmap.get D)) R) (q : EntityUID) where
-  goes_removed : (e : EntityView) → finmap.get D q ≡ Some e → (w : EntityUID) → goes_from R q w ≡ list_any (goes_with D e w) U
+  goes_removed : (e : EntityView) → finmap.get D q ≡ Some e → (w : EntityUID) → loses_uid R q w ≡ list_any (goes_with D e w) U
   goes_removed e is w =
-      goes_all D (removed_from D U) R uids read q e is w ∙ any_filter (finmap.contains_key D) (goes_with D e w) U
+      goes_by_loss D A R who lost q none_of e is w
+      ∙ any_alike (goes_with D e w) A (removed_from D U) (λ u. keys u ∙ all u ∙ sym (removed_members D U u)) ∙ any_filter (finmap.contains_key D) (goes_with D e w) U
       ∙ ap (λ f. list_any f U) (λ i u. absorbed (finmap.contains_key D u) (has_ancestor e u) (same_uid u w || ancestry D u w) i)
 
   -- a parent that leaves is an ancestor
-  parents_gone : (e : EntityView) → finmap.get D q ≡ Some e → set.retain e.parents (λ p. not (is_below R q && is_member same_uid (removed_from D U) p)) ≡ set.retain e.parents (λ p. not (leaves D U p))
+  parents_gone : (e : EntityView) → finmap.get D q ≡ Some e → set.retain e.parents (λ p. not (loses R q && set.contains gone p)) ≡ set.retain e.parents (λ p. not (leaves D U p))
   parents_gone e is = set.same_set uid_order_total one_equal _ _ (λ x.
-      kept_in e.parents (λ p. is_below R q && is_member same_uid (removed_from D U) p) x
+      kept_in e.parents (λ p. loses R q && set.contains gone p) x
       ∙ at x (set.contains e.parents x) refl
       ∙ sym (kept_in e.parents (leaves D U) x))
     where
-      below : (x : EntityUID) → set.contains e.parents x ≡ true → leaves D U x ≡ true → is_below R q ≡ true
+      below : (x : EntityUID) → set.contains e.parents x ≡ true → leaves D U x ≡ true → loses R q ≡ true
       below x t l =
-          read_below D q R read ∙ ap (list_any (ancestry D q)) uids
-          ∙ any_member (ancestry D q) (removed_from D U) x (removed_members D U x ∙ l) (ap (λ o. is_ancestor_in o x) is ∙ or_left (set.contains e.parents x) (set.contains e.indirect x) t)
+          loses_below D A R who lost q none_of
+          ∙ any_member (ancestry D q) A x (keys x ∙ all x ∙ l) (ap (λ o. is_ancestor_in o x) is ∙ or_left (set.contains e.parents x) (set.contains e.indirect x) t)
 
-      at : (x : EntityUID) (b : Bool) → set.contains e.parents x ≡ b → (b && not (is_below R q && is_member same_uid (removed_from D U) x)) ≡ (b && not (leaves D U x))
+      at : (x : EntityUID) (b : Bool) → set.contains e.parents x ≡ b → (b && not (loses R q && set.contains gone x)) ≡ (b && not (leaves D U x))
       at x false t = refl
-      at x true t = ap (λ m. not (is_below R q && m)) (removed_members D U x) ∙ ap not (within (is_below R q) (leaves D U x) (below x t))
+      at x true t = ap (λ m. not (loses R q && m)) (all x) ∙ ap not (within (loses R q) (leaves D U x) (below x t))
 
-  taken_at : (d : Bool) (o : Option EntityView) → finmap.get D q ≡ o
-      → cond d None (option_map (stripped (λ p. is_below R q && is_member same_uid (removed_from D U) p) (goes_from R q)) o) ≡ option_map (remains D U) (cond (not d) o None)
-  taken_at true o is = refl
-  taken_at false None is = refl
-  taken_at false (Some e) is = λ i. Some (record e {
+  left_at : (o : Option EntityView) → finmap.get D q ≡ o → option_map (stripped (λ p. loses R q && set.contains gone p) (loses_uid R q)) o ≡ option_map (remains D U) o
+  left_at None is = refl
+  left_at (Some e) is = λ i. Some (record e {
     parents = parents_gone e is i;
     indirect = set.retain e.indirect (λ w. not (goes_removed e is w i));
   })
 
+module _ (D : Held) (U A : List EntityUID) (gone : UidValues) (R : List Loss) (all : (q : EntityUID) → set.contains gone q ≡ leaves D U q) (keys : (q : EntityUID) → is_member same_uid A q ≡ set.contains gone q)
+    (who : (q : EntityUID) → loses R q ≡ is_stripped A q (ancestry D q)) (lost : AllByRecursion (IsLossOf (finmap.get D) A) R) (q : EntityUID) where
+  taken_at : (d : Bool) → leaves D U q ≡ d → cond d None (option_map (stripped (λ p. loses R q && set.contains gone p) (loses_uid R q)) (finmap.get D q)) ≡ option_map (remains D U) (cond (not d) (finmap.get D q) None)
+  taken_at true t = refl
+  taken_at false t = left_at D U A gone R all keys who lost q t (finmap.get D q) refl
+
 pub gone_all : {S : Type 0} (l : HashMap EntityUID SharedEntity S) (D : Held) (U : List EntityUID) → held_map l ≡ D → filter (λ u. is_some (held l u)) U ≡ removed_from D U
 gone_all l D U is = ap (λ g. filter (λ u. is_some (g u)) U) (stored l D is)
 
-pub taken_from : {S : Type 0} (l m n : HashMap EntityUID SharedEntity S) (D : Held) (U gone : List EntityUID) (R : List Applied) → held_map l ≡ D
-    → gone ≡ filter (λ u. is_some (held l u)) U
-    → map (λ a. a.uid) R ≡ gone → AllByRecursion (IsReadingOf (held l)) R
-    → ((q : EntityUID) → held m q ≡ option_map (stripped (λ p. is_below R q && is_member same_uid gone p) (goes_from R q)) (held l q))
-    → ((q : EntityUID) → held n q ≡ cond (is_member same_uid gone q) None (held m q)) → held_map n ≡ taken_out D U
-taken_from l m n D U gone R is all uids read strip take =
+-- the set of the listed uids that the map has is that of those that leave
+pub gone_leaves : {S : Type 0} (l : HashMap EntityUID SharedEntity S) (D : Held) (U listed : List EntityUID) (gone : UidValues) → held_map l ≡ D
+    → listed ≡ filter (λ u. is_some (held l u)) U → gone ≡ set.from_list listed → (q : EntityUID) → set.contains gone q ≡ leaves D U q
+gone_leaves l D U listed gone is all made q =
+    ap (λ s. set.contains s q) made ∙ contains_listed listed q ∙ ap (λ us. is_member same_uid us q) (all ∙ gone_all l D U is) ∙ removed_members D U q
+
+pub taken_from : {S : Type 0} (l m n : HashMap EntityUID SharedEntity S) (D : Held) (U A out : List EntityUID) (gone : UidValues) (R : List Loss) → held_map l ≡ D
+    → ((q : EntityUID) → set.contains gone q ≡ leaves D U q)
+    → ((q : EntityUID) → is_member same_uid A q ≡ set.contains gone q)
+    → ((q : EntityUID) → is_member same_uid out q ≡ set.contains gone q)
+    → ((q : EntityUID) → loses R q ≡ is_stripped A q (is_ancestor_in (held l q))) → AllByRecursion (IsLossOf (held l) A) R
+    → ((q : EntityUID) → held m q ≡ option_map (stripped (λ p. loses R q && set.contains gone p) (loses_uid R q)) (held l q))
+    → ((q : EntityUID) → held n q ≡ cond (is_member same_uid out q) None (held m q)) → held_map n ≡ taken_out D U
+taken_from l m n D U A out gone R is all keys outs who lost strip take =
     let f : held l ≡ finmap.get D = stored l D is in
-    let g : gone ≡ removed_from D U = all ∙ gone_all l D U is in
     seen_as n (taken_out D U) (λ q.
-    take q ∙ ap (cond (is_member same_uid gone q) None) (strip q ∙ ap (λ h. option_map (stripped (λ p. is_below R q && is_member same_uid gone p) (goes_from R q)) (h q)) f)
-    ∙ ap (λ k. cond (is_member same_uid k q) None (option_map (stripped (λ p. is_below R q && is_member same_uid k p) (goes_from R q)) (finmap.get D q))) g
-    ∙ ap (λ d. cond d None (option_map (stripped (λ p. is_below R q && is_member same_uid (removed_from D U) p) (goes_from R q)) (finmap.get D q))) (removed_members D U q)
-    ∙ taken_at D U R (uids ∙ g) (subst (λ h. AllByRecursion (IsReadingOf h) R) f read) q (leaves D U q) (finmap.get D q) refl
+    take q ∙ ap (cond (is_member same_uid out q) None) (strip q ∙ ap (λ h. option_map (stripped (λ p. loses R q && set.contains gone p) (loses_uid R q)) (h q)) f)
+    ∙ ap (λ d. cond d None (option_map (stripped (λ p. loses R q && set.contains gone p) (loses_uid R q)) (finmap.get D q))) (outs q ∙ all q)
+    ∙ taken_at D U A gone R all keys (λ p. who p ∙ ap (λ g. is_stripped A p (is_ancestor_in (g p))) f) (subst (λ g. AllByRecursion (IsLossOf g A) R) f lost) q (leaves D U q) refl
     ∙ sym (get_taken_out D U q))
 
+or_not : (m l : Bool) → (m || (not m && l)) ≡ (m || l)
+or_not true l = refl
+or_not false l = refl
+
 -- what was noted is what is touched
-pub noted_touched : {S : Type 0} (l : HashMap EntityUID SharedEntity S) (D : Held) (A : List EntityUID) (R : List Applied) (f : EntityUID → Bool) → held_map l ≡ D
-    → map (λ a. a.uid) R ≡ A → AllByRecursion (IsReadingOf (held l)) R → ((q : EntityUID) → f q ≡ notes R q) → f ≡ is_touched D A
-noted_touched l D A R f is uids read noted = λ i q. (noted q ∙ notes_all D A R uids (subst (λ g. AllByRecursion (IsReadingOf g) R) (stored l D is) read) q) i
+pub noted_touched : {S : Type 0} (l : HashMap EntityUID SharedEntity S) (D : Held) (A B : List EntityUID) (R : List Loss) (f : EntityUID → Bool) → held_map l ≡ D
+    → ((q : EntityUID) → is_member same_uid A q ≡ is_member same_uid B q)
+    → ((q : EntityUID) → loses R q ≡ is_stripped A q (is_ancestor_in (held l q)))
+    → ((q : EntityUID) → f q ≡ (is_member same_uid A q || loses R q)) → f ≡ is_touched D B
+noted_touched l D A B R f is same who noted = λ i q. (
+    noted q ∙ ap (λ b. is_member same_uid A q || b) (who q) ∙ or_not (is_member same_uid A q) (list_any (is_ancestor_in (held l q)) A)
+    ∙ ap (λ b. is_member same_uid A q || b) (any_alike (is_ancestor_in (held l q)) A B same)
+    ∙ ap (λ b. b || list_any (is_ancestor_in (held l q)) B) (same q)
+    ∙ ap (λ g. is_member same_uid B q || list_any (is_ancestor_in (g q)) B) (stored l D is)) i
 
 -- the same of an adding
 pub added_touched : {S T : Type 0} (l m : HashMap EntityUID SharedEntity S) (one two : HashSet EntityUID T) (D : Held) (L : List EntityView) (fresh by : List EntityUID) → held_map l ≡ D → held_map m ≡ with_first D L

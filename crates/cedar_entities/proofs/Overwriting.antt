@@ -31,7 +31,7 @@ use Rattle.cedar_entities.specs.laws.Lists.{all_push}
 use Rattle.cedar_entities.specs.laws.Worlds.{get_joined, find-append, find-mapped, get_overwritten}
 use Rattle.cedar_entities.proofs.PlainStores.{plain_from, cycle_in, found_parts, map_or, if_or, first_all, first_keyed, bare_apart, bare_leads}
 use Rattle.cedar_entities.proofs.Reaching.{first_edge, kept_over, untouched}
-use Rattle.cedar_entities.proofs.Readings.{any_member, any_found, is_none, untouched_at}
+use Rattle.cedar_entities.proofs.AnyOf.{any_member, any_found, is_none, untouched_at}
 use Rattle.cedar_entities.specs.laws.PlainAncestors.{ancestry_plain}
 use Rattle.cedar_entities.proofs.Repaired.{repaired}
 
@@ -73,7 +73,7 @@ some_if true x = refl
 some_if false x = refl
 
 -- there is a last with a uid where the list has the uid
-last_some : (L : List EntityView) (q : EntityUID) → is_some (last_entity L q) ≡ is_member same_uid (uids_of L) q
+pub last_some : (L : List EntityView) (q : EntityUID) → is_some (last_entity L q) ≡ is_member same_uid (uids_of L) q
 last_some [] q = refl
 last_some (e ∷ L) q =
     ap is_some (find-append (reversed (map keyed L)) (keyed e ∷ []) q)

@@ -33,7 +33,7 @@ use Rattle.cedar_entities.proofs.Adding.{reach_stays}
 use Rattle.cedar_entities.proofs.Overwriting.{map_keyed, held_alike, goes_between}
 use Rattle.cedar_entities.proofs.PlainStores.{plain_from}
 use Rattle.cedar_entities.proofs.Reaching.{kept_between}
-use Rattle.cedar_entities.proofs.Readings.{any_filter, any_less, any_member, none_retained}
+use Rattle.cedar_entities.proofs.AnyOf.{any_filter, any_less, any_member, none_retained}
 use Rattle.cedar_entities.specs.laws.PlainAncestors.{ancestry_plain}
 use Rattle.cedar_entities.proofs.Repaired.{repaired}
 

@@ -1,8 +1,9 @@
--- What is noted, read and stripped of the map, one uid after another.
+-- What is noted of the map, listed and stripped, one uid or one entity after another.
 use Rattle.std.specs.Prelude.{◌≡◌, Bool, true, false, cond, ◌&&◌, ◌||◌, List, [], ◌∷◌, ◌++◌, Option, Some, None}
 use Rattle.std.proofs.Common.{ap, sym, refl, ◌∙◌}
 use Rattle.std.proofs.lemmas.Bool.{false≢true}
 use Rattle.std.proofs.lemmas.List.Folds.{list_any-append}
+use Rattle.std.specs.FinSet as set
 use Rattle.std.specs.List.{list_any}
 use Rattle.std.specs.Map.{lookup}
 use Rattle.std.specs.Option.{option_map, is_some}
@@ -15,8 +16,8 @@ use Rattle.cedar_entity.specs.declared.node.SharedEntity.{SharedEntity}
 use Rattle.cedar_entities.specs.laws.Edits.{stripped}
 use Rattle.cedar_entities.specs.Modes.{is_ancestor_in}
 use Rattle.cedar_entities.specs.laws.Held.{shared}
-use Rattle.cedar_entities.specs.laws.Readings.{goes_from, is_below, notes}
-use Rattle.cedar_entities.specs.declared.touching.Applied.{Applied}
+use Rattle.cedar_entities.specs.laws.Losses.{loses, loses_uid}
+use Rattle.cedar_entities.specs.declared.touching.Loss.{Loss}
 use Rattle.cedar_entities.proofs.Editing.{member_push, stripped_both}
 
 pub or_off : (b : Bool) → b ≡ (b || false)
@@ -32,10 +33,6 @@ or_both true true = refl
 or_both true false = refl
 or_both false true = refl
 or_both false false = refl
-
-pub or_turn : (a b c : Bool) → ((a || b) || c) ≡ (a || (b || c))
-or_turn true b c = refl
-or_turn false b c = refl
 
 added : (o d k : Bool) → cond k true (o || d) ≡ (o || (d || k))
 added true d true = refl
@@ -67,24 +64,42 @@ grow G L l D false None = refl
 grow G L l D true (Some e) = ap Some (stripped_both e (λ p. D && G p) L G l ∙ λ i. stripped (λ p. grown D (G p) i) (λ w. L w || or_off (l w) i) e)
 grow G L l D false (Some e) = λ i. Some (stripped (λ p. or_off D i && G p) (λ w. or_off (L w) i) e)
 
--- one more reading is applied
-pub applied_push : (G : EntityUID → Bool) (done : List Applied) (a : Applied) (first now new : Option EntityView) (q : EntityUID)
-    → now ≡ option_map (stripped (λ p. is_below done q && G p) (goes_from done q)) first
-    → new ≡ cond (is_member same_uid a.by.items q) (option_map (stripped G (is_member same_uid a.lost.items)) now) now
-    → new ≡ option_map (stripped (λ p. is_below (done ++ a ∷ []) q && G p) (goes_from (done ++ a ∷ []) q)) first
-applied_push G done a first now new q so step =
-    step ∙ ap (λ o. cond (is_member same_uid a.by.items q) (option_map (stripped G (is_member same_uid a.lost.items)) o) o) so
-    ∙ grow G (goes_from done q) (is_member same_uid a.lost.items) (is_below done q) (is_member same_uid a.by.items q) first
-    ∙ λ i. option_map (stripped
-    (λ p. sym (list_any-append (λ (x : Applied). is_member same_uid x.by.items q) done (a ∷ [])) i && G p)
-    (λ w. sym (list_any-append (λ (x : Applied). is_member same_uid x.by.items q && is_member same_uid x.lost.items w) done (a ∷ [])) i)) first
+loses_push : (done : List Loss) (a : Loss) (q : EntityUID) → loses (done ++ a ∷ []) q ≡ (loses done q || same_uid a.uid q)
+loses_push done a q =
+    list_any-append (λ (x : Loss). same_uid q x.uid) done (a ∷ [])
+    ∙ ap (λ b. loses done q || b) (sym (or_off (same_uid q a.uid)) ∙ sym (same_uid_equiv.symm a.uid q))
 
-pub notes_push : (first now new : Bool) (done : List Applied) (a : Applied) (q : EntityUID) → now ≡ (first || notes done q)
-    → new ≡ (now || (same_uid q a.uid || is_member same_uid a.by.items q)) → new ≡ (first || notes (done ++ a ∷ []) q)
-notes_push first now new done a q so step =
-    let x = same_uid q a.uid || is_member same_uid a.by.items q in
-    step ∙ ap (λ b. b || x) so ∙ or_turn first (notes done q) x ∙ ap (λ b. first || (notes done q || b)) (or_off x)
-    ∙ ap (λ b. first || b) (sym (list_any-append (λ (y : Applied). same_uid q y.uid || is_member same_uid y.by.items q) done (a ∷ [])))
+-- one more entity is stripped
+pub loss_push : (G : EntityUID → Bool) (done : List Loss) (a : Loss) (first now new : Option EntityView) (q : EntityUID)
+    → now ≡ option_map (stripped (λ p. loses done q && G p) (loses_uid done q)) first
+    → new ≡ cond (same_uid a.uid q) (option_map (stripped G (set.contains a.lost)) now) now
+    → new ≡ option_map (stripped (λ p. loses (done ++ a ∷ []) q && G p) (loses_uid (done ++ a ∷ []) q)) first
+loss_push G done a first now new q so step =
+    step ∙ ap (λ b. cond b (option_map (stripped G (set.contains a.lost)) now) now) (same_uid_equiv.symm a.uid q)
+    ∙ ap (λ o. cond (same_uid q a.uid) (option_map (stripped G (set.contains a.lost)) o) o) so
+    ∙ grow G (loses_uid done q) (set.contains a.lost) (loses done q) (same_uid q a.uid) first
+    ∙ λ i. option_map (stripped
+    (λ p. sym (list_any-append (λ (x : Loss). same_uid q x.uid) done (a ∷ [])) i && G p)
+    (λ w. sym (list_any-append (λ (x : Loss). same_uid q x.uid && set.contains x.lost w) done (a ∷ [])) i)) first
+
+-- and noted
+pub noted_loss : (first now new : Bool) (done : List Loss) (a : Loss) (q : EntityUID) → now ≡ (first || loses done q) → new ≡ cond (same_uid a.uid q) true now → new ≡ (first || loses (done ++ a ∷ []) q)
+noted_loss first now new done a q so step =
+    step ∙ ap (cond (same_uid a.uid q) true) so ∙ added first (loses done q) (same_uid a.uid q) ∙ ap (λ b. first || b) (sym (loses_push done a q))
+
+-- one more loss is listed, or none
+pub listed_loss : (done : List Loss) (a : Loss) (key q : EntityUID) (b : Bool) → a.uid ≡ key → b ≡ true → loses (done ++ a ∷ []) q ≡ (loses done q || (same_uid key q && b))
+listed_loss done a key q b is h =
+    loses_push done a q ∙ ap (λ k. loses done q || same_uid k q) is ∙ ap (λ c. loses done q || c) (sym (ap (λ c. same_uid key q && c) h ∙ and_on (same_uid key q)))
+  where
+    and_on : (c : Bool) → (c && true) ≡ c
+    and_on true = refl
+    and_on false = refl
+
+pub unlisted_loss : (o k b : Bool) → b ≡ false → o ≡ (o || (k && b))
+unlisted_loss true k b h = refl
+unlisted_loss false true b h = sym h
+unlisted_loss false false b h = refl
 
 -- a key is found among entries with one more
 pub seen_key : (es : List (EntityUID × SharedEntity)) (k : EntityUID) (n : SharedEntity) (q : EntityUID) → is_some (lookup (same_uid q) (es ++ (k, n) ∷ [])) ≡ (is_some (lookup (same_uid q) es) || same_uid k q)
@@ -139,11 +154,34 @@ module _ (f : EntityUID → Bool) (es : List (EntityUID × SharedEntity)) (k : E
       so ∙ out_of (is_some (lookup (same_uid q) es)) (f q) (same_uid k q) (λ t. sym (ap f ((same_uid_decides k q).0 t)) ∙ misses)
       ∙ ap (λ b. b && f q) (sym (seen_key es k n q))
 
--- only what is there has ancestors
-pub there_only : (o : Option SharedEntity) (u : EntityUID) → (is_some o && is_ancestor_in (option_map shared o) u) ≡ is_ancestor_in (option_map shared o) u
-there_only None u = refl
-there_only (Some n) u = refl
+-- one more key of the map, which is stripped or not
+key_case : (d f b h : Bool) → (b ≡ true → h ≡ f) → ((d && f) || (b && h)) ≡ ((d || b) && f)
+key_case true true b h k = refl
+key_case true false true h k = k refl
+key_case true false false h k = refl
+key_case false f true h k = k refl
+key_case false f false h k = refl
 
+pub seen_loss : (F : EntityUID → Bool) (es : List (EntityUID × SharedEntity)) (k : EntityUID) (n : SharedEntity) (q : EntityUID) (now new hit : Bool)
+    → now ≡ (is_some (lookup (same_uid q) es) && F q) → new ≡ (now || (same_uid k q && hit)) → hit ≡ F k → new ≡ (is_some (lookup (same_uid q) (es ++ (k, n) ∷ [])) && F q)
+seen_loss F es k n q now new hit so step is =
+    step ∙ ap (λ b. b || (same_uid k q && hit)) so
+    ∙ key_case (is_some (lookup (same_uid q) es)) (F q) (same_uid k q) hit (λ t. is ∙ ap F ((same_uid_decides k q).0 t))
+    ∙ ap (λ b. b && F q) (sym (seen_key es k n q))
+
+-- one more uid that is hit, and one that is not
+pub push_hit : (h : EntityUID → Bool) (done hits : List EntityUID) (k c q : EntityUID) → is_member same_uid hits q ≡ (is_member same_uid done q && h q) → c ≡ k → h k ≡ true → is_member same_uid (hits ++ c ∷ []) q ≡ (is_member same_uid (done ++ k ∷ []) q && h q)
+push_hit h done hits k c q so is hits_it =
+    member_push hits c q ∙ ap (λ x. is_member same_uid hits q || same_uid x q) is ∙ ap (λ b. b || same_uid k q) so
+    ∙ in_both (is_member same_uid done q) (h q) (same_uid k q) (λ t. sym (ap h ((same_uid_decides k q).0 t)) ∙ hits_it)
+    ∙ ap (λ b. b && h q) (sym (member_push done k q))
+
+pub skip_hit : (h : EntityUID → Bool) (done hits : List EntityUID) (k q : EntityUID) → is_member same_uid hits q ≡ (is_member same_uid done q && h q) → h k ≡ false → is_member same_uid hits q ≡ (is_member same_uid (done ++ k ∷ []) q && h q)
+skip_hit h done hits k q so misses =
+    so ∙ out_of (is_member same_uid done q) (h q) (same_uid k q) (λ t. sym (ap h ((same_uid_decides k q).0 t)) ∙ misses)
+    ∙ ap (λ b. b && h q) (sym (member_push done k q))
+
+-- only what is there has ancestors
 none_any : (us : List EntityUID) → false ≡ list_any (is_ancestor_in None) us
 none_any [] = refl
 none_any (u ∷ us) = none_any us
@@ -151,6 +189,11 @@ none_any (u ∷ us) = none_any us
 pub there_only_any : (o : Option SharedEntity) (us : List EntityUID) → (is_some o && list_any (is_ancestor_in (option_map shared o)) us) ≡ list_any (is_ancestor_in (option_map shared o)) us
 there_only_any None us = none_any us
 there_only_any (Some n) us = refl
+
+pub there_only_stripped : (b : Bool) (o : Option SharedEntity) (us : List EntityUID) → (is_some o && (b && list_any (is_ancestor_in (option_map shared o)) us)) ≡ (b && list_any (is_ancestor_in (option_map shared o)) us)
+there_only_stripped true o us = there_only_any o us
+there_only_stripped false None us = refl
+there_only_stripped false (Some n) us = refl
 
 -- that some of one list is in another is that some of the other is in the one
 none_in : (xs : List EntityUID) → list_any (λ x. is_member same_uid [] x) xs ≡ false

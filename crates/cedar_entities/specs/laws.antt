@@ -2,8 +2,8 @@ pub mod Closures
 pub mod Edits
 pub mod Held
 pub mod Lists
+pub mod Losses
 pub mod PlainAncestors
-pub mod Readings
 pub mod Refusals
 pub mod SameUids
 pub mod Settled

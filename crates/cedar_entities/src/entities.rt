@@ -25,19 +25,20 @@ ghost use Rattle.cedar_entities.specs.Touching.{IsAcyclicAt, IsMended, IsMendRef
 ghost use Rattle.cedar_entities.specs.World.{World, empty_world, added, overwritten, deleted, graph, AllAgree, FirstDiffers};
 
 use crate::dereference::{Dereference, unknown_of};
-use crate::incoming::{Incoming, uids_in, with_uids};
+use crate::incoming::{Incoming, shared_all, uids_in, with_uids};
 use crate::store_iters::{IntoIter, Iter};
 use crate::store_same::{have_deep_equals, have_keys_of};
 use crate::store_valid::check_each;
 use crate::touching::{
-    absent_uids, apply_each, held_uids, note_all, plain_copy_of, read_each, touched_by_any,
+    absent_uids, held_uids, losses_by, note_all, plain_copy_of, pointers_of, strip_each,
+    touched_by_any,
 };
 use cedar_entity::entity::Entity;
 use cedar_entity::err::EntitiesError;
 use cedar_entity::node::SharedEntity;
 use cedar_graph::{compute_tc, enforce_tc_and_dag, repair_tc};
 use cedar_ids::entity::EntityUID;
-use cedar_uid_sets::SharedUid;
+use cedar_uid_sets::{SharedUid, UidSet};
 use std::alloc::{AllocError, Global};
 use std::collections::{HashMap, HashSet};
 use std::hash::{BuildHasher, BuildHasherDefault, FoldHasher};
@@ -183,17 +184,6 @@ fn take_out<S: BuildHasher>(
     for uid in gone {
         take_at(entities, &uid);
     }
-}
-
-// The entities, to be shared.
-fn shared_all(alloc: Global, list: Vec<Entity>) -> Result<Vec<Rc<Entity>>, AllocError>
-    ensures { IfOk result (λ v. entities_in v.items ≡ list.items) }
-{
-    let mut shared = Vec::new(alloc);
-    for entity in list {
-        shared.push(Rc::new(alloc, entity)?)?;
-    }
-    Ok(shared)
 }
 
 // Checks that the ancestors are closed and that no entity is its own.
@@ -549,8 +539,10 @@ impl<S: BuildHasher + Clone> Entities<S> {
     ///
     /// Refused by [`EntitiesError::TransitiveClosureError`] as the mode says, and by `Memory`; a refusal gives
     /// no store back. An indirect ancestor that one of these entities was given with counts as one that it has.
-    /// It takes memory. It walks over the store once for each entity of the list, with a look or two an entity,
-    /// and closes what is touched, or checks the whole.
+    /// It takes memory. It walks over the store once for the whole list, with up to 16 looks an entity or one for each
+    /// of its ancestors. For an entity that is touched and none of the list it gathers what goes with each of the uids
+    /// that this has as ancestors, in memory for a pointer each, and takes that out at once. Then it closes what is
+    /// touched, or checks the whole.
     ///
     /// Unlike the original it takes neither a schema nor extensions.
     pub fn upsert_entities(
@@ -569,7 +561,7 @@ impl<S: BuildHasher + Clone> Entities<S> {
             (is_touched self.held (uids_of (entities_in list.items))) e)) }
         ensures untouched { IfOk result (λ s. StaysUntouched
             (uids_of (entities_in list.items)) self.held s.held) }
-        // after each uid of the list, before any repair: what the uids applied so far have stripped
+        // of the first uids of the list, however many: what they strip, before any repair
         ensures so_far { OnOk result ((W : World) → IsPlainStore W self → (k : ℕ) →
             StripsBetween W (take k (uids_of (entities_in list.items))) self.held) }
         ensures between { IfOk result (λ s. (W : World) → IsPlainStore W self → WhereTaken tc_computation
@@ -583,10 +575,12 @@ impl<S: BuildHasher + Clone> Entities<S> {
     {
         let coming = with_uids(alloc, list)?;
         let uids = uids_in(alloc, &coming)?;
-        let read = read_each(alloc, &self.entities, &uids)?;
         let mut entities = self.entities;
         let mut touched = HashSet::with_hasher(alloc, entities.hasher().clone()?);
-        apply_each(&mut entities, read, &[], &mut touched)?;
+        note_all(&mut touched, uids)?;
+        let losses = losses_by(alloc, &entities, &touched)?;
+        let none = UidSet::new(alloc);
+        strip_each(&mut entities, losses, &none, &mut touched)?;
         overwrite_all(&mut entities, coming)?;
         settle(alloc, &mut entities, &touched, tc_computation)?;
         Ok(Entities {
@@ -601,8 +595,8 @@ impl<S: BuildHasher + Clone> Entities<S> {
     /// what it still reaches. What is not touched stays as it is.
     ///
     /// Refused by [`EntitiesError::TransitiveClosureError`] as the mode says, which over a computed store is
-    /// never, and by `Memory`; a refusal gives no store back. It takes memory. It walks over the store once for
-    /// each uid that is held, with a look or two an entity, and closes what is touched, or checks the whole.
+    /// never, and by `Memory`; a refusal gives no store back. It takes memory, and walks over the store and strips it
+    /// as [`Entities::upsert_entities`] does, once for the whole list; then it closes what is touched, or checks the whole.
     pub fn remove_entities(
         self,
         alloc: Global,
@@ -624,12 +618,15 @@ impl<S: BuildHasher + Clone> Entities<S> {
             IsPlainStore (deleted W list.items) s) }
         ensures plain_err { IfErr result (λ e. (W : World) → IsPlainStore W self → e ≡ Memory) }
     {
-        let gone = held_uids(alloc, &self.entities, list)?;
-        let read = read_each(alloc, &self.entities, &gone)?;
+        let listed = held_uids(alloc, &self.entities, list)?;
+        let gone = UidSet::from_pointers(listed)?;
+        let copies = pointers_of(&gone)?;
         let mut entities = self.entities;
         let mut touched = HashSet::with_hasher(alloc, entities.hasher().clone()?);
-        apply_each(&mut entities, read, &gone, &mut touched)?;
-        take_out(&mut entities, gone);
+        note_all(&mut touched, copies)?;
+        let losses = losses_by(alloc, &entities, &touched)?;
+        strip_each(&mut entities, losses, &gone, &mut touched)?;
+        take_out(&mut entities, gone.into_pointers());
         mend(alloc, &mut entities, &touched, tc_computation)?;
         Ok(Entities {
             entities,

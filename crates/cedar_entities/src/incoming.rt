@@ -31,6 +31,17 @@ impl Model for Incoming {
     ghost invariant = { λ i. i.uid ≡ i.entity.value.uid };
 }
 
+// The entities, to be shared.
+pub(crate) fn shared_all(alloc: Global, list: Vec<Entity>) -> Result<Vec<Rc<Entity>>, AllocError>
+    ensures { IfOk result (λ v. entities_in v.items ≡ list.items) }
+{
+    let mut shared = Vec::new(alloc);
+    for entity in list {
+        shared.push(Rc::new(alloc, entity)?)?;
+    }
+    Ok(shared)
+}
+
 // The entity with a copy of its uid.
 fn with_uid(alloc: Global, entity: Rc<Entity>) -> Result<Incoming, AllocError>
     ensures { IfOk result (λ i. i ≡ entity.value) }

@@ -1,5 +1,6 @@
-//! What is read of the uids that an edit applies, what is stripped by that, and which entities are touched.
-ghost use Rattle.std.specs.Prelude.{◌≡◌, [], cond, map, ◌&&◌, ◌||◌, not, is_some, IfOk, IfErr, OnOk};
+//! What goes from each entity by the uids that an edit applies, how it is stripped of that, and which entities are touched.
+ghost use Rattle.std.specs.Prelude.{◌≡◌, Some, cond, ◌&&◌, ◌||◌, not, is_some, IfOk, IfErr, OnOk};
+ghost use Rattle.std.specs.FinSet as set;
 ghost use Rattle.std.specs.HashSet.{contains};
 ghost use Rattle.std.specs.List.{AllByRecursion, filter, list_any};
 ghost use Rattle.std.specs.Option.{option_map};
@@ -8,31 +9,27 @@ ghost use Rattle.cedar_ids.specs.UidOf.{same_uid};
 ghost use Rattle.cedar_ids.specs.declared.entity.EntityUID.{EntityUID};
 ghost use Rattle.cedar_entity.specs.View.{has_ancestor};
 ghost use Rattle.cedar_entity.specs.declared.err.EntitiesError.TheVariants.{Memory};
-ghost use Rattle.cedar_entities.specs.Edits.{parted, uids_of};
-ghost use Rattle.cedar_entities.specs.laws.Edits.{stripped};
 ghost use Rattle.cedar_entities.specs.Modes.{is_ancestor_in};
-ghost use Rattle.cedar_entities.specs.Plain.{entities_in};
+ghost use Rattle.cedar_entities.specs.laws.Edits.{stripped};
 ghost use Rattle.cedar_entities.specs.laws.Held.{held};
-ghost use Rattle.cedar_entities.specs.laws.Readings.{IsReadingOf, goes_from, is_below, notes};
+ghost use Rattle.cedar_entities.specs.laws.Losses.{IsLossOf, is_stripped, loses, loses_uid, takes};
 
 use cedar_entity::entity::Entity;
 use cedar_entity::err::EntitiesError;
 use cedar_entity::node::SharedEntity;
 use cedar_graph::TCNode;
 use cedar_ids::entity::EntityUID;
-use cedar_uid_sets::SharedUid;
+use cedar_uid_sets::{SharedUid, UidSet};
 use std::alloc::{AllocError, Global};
 use std::collections::{HashMap, HashSet};
 use std::hash::BuildHasher;
 use std::rc::Rc;
 
-// What is read of a uid that an edit applies, before anything changes: the entities that have it among their
-// ancestors, and what goes from these with it.
+// What goes from an entity that has one of the applied uids among its ancestors.
 #[derive(Drop)]
-pub(crate) struct Applied {
+pub(crate) struct Loss {
     pub(crate) uid: SharedUid,
-    pub(crate) by: Vec<SharedUid>,
-    pub(crate) lost: Vec<SharedUid>,
+    pub(crate) lost: UidSet,
 }
 
 // The uid, shared once more.
@@ -49,22 +46,12 @@ pub(crate) fn plain_copy_of(uid: &EntityUID) -> Result<EntityUID, AllocError>
     uid.clone()
 }
 
-// Copies of the uids of the entities that have a uid among their ancestors.
-fn touched_by<S: BuildHasher>(
-    alloc: Global,
-    entities: &HashMap<SharedUid, SharedEntity, S>,
-    uid: &SharedUid,
-) -> Result<Vec<SharedUid>, AllocError>
-    ensures { IfOk result (λ v. (q : EntityUID) →
-        is_member same_uid v.items q ≡ is_ancestor_in (held entities.now q) uid.now) }
+// The uids of a set, each shared once more.
+pub(crate) fn pointers_of(uids: &UidSet) -> Result<Vec<SharedUid>, AllocError>
+    ensures { IfOk result (λ v. (q : EntityUID) → is_member same_uid v.items q ≡ set.contains uids.now q) }
 {
-    let mut copies = Vec::new(alloc);
-    for (key, node) in entities {
-        if node.0.is_descendant_of_shared(uid) {
-            copies.push(copy_of(key)?)?;
-        }
-    }
-    Ok(copies)
+    let copy = uids.clone()?;
+    Ok(copy.into_pointers())
 }
 
 // Copies of the ancestors of an entity.
@@ -109,99 +96,6 @@ fn lost_with<S: BuildHasher>(
     }
 }
 
-// What is to be known of a uid before it is applied.
-fn reading_of<S: BuildHasher>(
-    alloc: Global,
-    entities: &HashMap<SharedUid, SharedEntity, S>,
-    uid: &SharedUid,
-) -> Result<Applied, AllocError>
-    ensures uid { IfOk result (λ a. a.uid ≡ uid.now) }
-    ensures read { IfOk result (IsReadingOf (held entities.now)) }
-{
-    let by = touched_by(alloc, entities, uid)?;
-    let lost = lost_with(alloc, entities, uid)?;
-    let uid = copy_of(uid)?;
-    Ok(Applied { uid, by, lost })
-}
-
-// What is to be known of each uid.
-pub(crate) fn read_each<S: BuildHasher>(
-    alloc: Global,
-    entities: &HashMap<SharedUid, SharedEntity, S>,
-    uids: &[SharedUid],
-) -> Result<Vec<Applied>, AllocError>
-    ensures uids { IfOk result (λ v. map (λ a. a.uid) v.items ≡ uids.now) }
-    ensures read { IfOk result (λ v. AllByRecursion (IsReadingOf (held entities.now)) v.items) }
-{
-    let mut all = Vec::new(alloc);
-    for uid in uids {
-        all.push(reading_of(alloc, entities, uid)?)?;
-    }
-    Ok(all)
-}
-
-// Takes these uids from the indirect ancestors of an entity.
-fn lessen(entity: &mut Entity, lost: &[SharedUid])
-    ensures { entity.new ≡ stripped (is_member same_uid []) (is_member same_uid lost.now) entity.old }
-{
-    for uid in lost {
-        entity.remove_shared_ancestor(uid);
-    }
-}
-
-// Takes these uids from the parents of an entity.
-fn part(entity: &mut Entity, gone: &[SharedUid])
-    ensures { entity.new ≡ parted (is_member same_uid gone.now) entity.old }
-{
-    for uid in gone {
-        entity.remove_shared_parent(uid);
-    }
-}
-
-// Takes some uids from the parents and others from the indirect ancestors of an entity.
-fn strip(entity: &mut Entity, gone: &[SharedUid], lost: &[SharedUid])
-    ensures { entity.new ≡ stripped (is_member same_uid gone.now) (is_member same_uid lost.now) entity.old }
-{
-    lessen(entity, lost);
-    part(entity, gone);
-}
-
-// Takes some uids from the parents and others from the indirect ancestors of the entity at a uid.
-fn strip_at<S: BuildHasher>(
-    entities: &mut HashMap<SharedUid, SharedEntity, S>,
-    uid: &SharedUid,
-    gone: &[SharedUid],
-    lost: &[SharedUid],
-) -> Result<(), EntitiesError>
-    ensures ok { OnOk result ((q : EntityUID) → held entities.new q ≡ cond (same_uid uid.now q)
-        (option_map (stripped (is_member same_uid gone.now) (is_member same_uid lost.now)) (held entities.old q))
-        (held entities.old q)) }
-    ensures err { IfErr result (λ e. e ≡ Memory) }
-{
-    if let Some(node) = entities.get_mut(uid) {
-        strip(Rc::make_mut(&mut node.0)?, gone, lost);
-    }
-    Ok(())
-}
-
-// Takes some uids from the parents and others from the indirect ancestors of the entities at a list of uids.
-fn strip_by<S: BuildHasher>(
-    entities: &mut HashMap<SharedUid, SharedEntity, S>,
-    by: &[SharedUid],
-    gone: &[SharedUid],
-    lost: &[SharedUid],
-) -> Result<(), EntitiesError>
-    ensures ok { OnOk result ((q : EntityUID) → held entities.new q ≡ cond (is_member same_uid by.now q)
-        (option_map (stripped (is_member same_uid gone.now) (is_member same_uid lost.now)) (held entities.old q))
-        (held entities.old q)) }
-    ensures err { IfErr result (λ e. e ≡ Memory) }
-{
-    for uid in by {
-        strip_at(entities, uid, gone, lost)?;
-    }
-    Ok(())
-}
-
 // Notes some uids.
 pub(crate) fn note_all<S: BuildHasher>(
     noted: &mut HashSet<SharedUid, S>,
@@ -213,46 +107,6 @@ pub(crate) fn note_all<S: BuildHasher>(
 {
     for uid in uids {
         noted.insert(uid)?;
-    }
-    Ok(())
-}
-
-// Strips by one reading what it names, and notes that and the uid.
-fn apply<S: BuildHasher>(
-    entities: &mut HashMap<SharedUid, SharedEntity, S>,
-    read: Applied,
-    gone: &[SharedUid],
-    touched: &mut HashSet<SharedUid, S>,
-) -> Result<(), EntitiesError>
-    ensures ok { OnOk result ((q : EntityUID) → held entities.new q ≡ cond (is_member same_uid read.by.items q)
-        (option_map (stripped (is_member same_uid gone.now) (is_member same_uid read.lost.items)) (held entities.old q))
-        (held entities.old q)) }
-    ensures touched { OnOk result ((q : EntityUID) → contains same_uid touched.new q
-        ≡ (contains same_uid touched.old q || (same_uid q read.uid || is_member same_uid read.by.items q))) }
-    ensures err { IfErr result (λ e. e ≡ Memory) }
-{
-    let Applied { uid, by, lost } = read;
-    strip_by(entities, &by, gone, &lost)?;
-    touched.insert(uid)?;
-    note_all(touched, by)
-}
-
-// Strips by each reading what it names, and notes that and the uids.
-pub(crate) fn apply_each<S: BuildHasher>(
-    entities: &mut HashMap<SharedUid, SharedEntity, S>,
-    read: Vec<Applied>,
-    gone: &[SharedUid],
-    touched: &mut HashSet<SharedUid, S>,
-) -> Result<(), EntitiesError>
-    ensures ok { OnOk result ((q : EntityUID) → held entities.new q ≡ option_map
-        (stripped (λ p. is_below read.items q && is_member same_uid gone.now p) (goes_from read.items q))
-        (held entities.old q)) }
-    ensures touched { OnOk result ((q : EntityUID) → contains same_uid touched.new q
-        ≡ (contains same_uid touched.old q || notes read.items q)) }
-    ensures err { IfErr result (λ e. e ≡ Memory) }
-{
-    for one in read {
-        apply(entities, one, gone, touched)?;
     }
     Ok(())
 }
@@ -346,4 +200,210 @@ pub(crate) fn touched_by_any<S: BuildHasher>(
         }
     }
     Ok(copies)
+}
+
+// Whether an entity loses something by some uids: it is none of them, and has one of them among its ancestors.
+fn is_hit<S: BuildHasher>(key: &SharedUid, entity: &Entity, uids: &HashSet<SharedUid, S>) -> bool
+    ensures { result ≡ is_stripped uids.now.keys key.now (has_ancestor entity.now) }
+{
+    if !has_any(entity, uids) {
+        return false;
+    }
+    !uids.contains(key)
+}
+
+// Those of some uids that an entity has among its ancestors, by a look for each of these.
+fn hits_by_uid<S: BuildHasher>(
+    alloc: Global,
+    entity: &Entity,
+    uids: &HashSet<SharedUid, S>,
+) -> Result<Vec<SharedUid>, AllocError>
+    ensures { IfOk result (λ v. (q : EntityUID) → is_member same_uid v.items q
+        ≡ (is_member same_uid uids.now.keys q && has_ancestor entity.now q)) }
+{
+    let mut hits = Vec::new(alloc);
+    for uid in uids {
+        if entity.is_descendant_of_shared(uid) {
+            hits.push(copy_of(uid)?)?;
+        }
+    }
+    Ok(hits)
+}
+
+// Those of some uids that an entity has among its ancestors, by a look for each ancestor.
+fn hits_by_ancestor<S: BuildHasher>(
+    alloc: Global,
+    entity: &Entity,
+    uids: &HashSet<SharedUid, S>,
+) -> Result<Vec<SharedUid>, AllocError>
+    ensures { IfOk result (λ v. (q : EntityUID) → is_member same_uid v.items q
+        ≡ (is_member same_uid uids.now.keys q && has_ancestor entity.now q)) }
+{
+    let mut hits = Vec::new(alloc);
+    for uid in entity.shared_ancestors() {
+        if uids.contains(uid) {
+            hits.push(copy_of(uid)?)?;
+        }
+    }
+    Ok(hits)
+}
+
+// Those of some uids that an entity has among its ancestors.
+fn hits_of<S: BuildHasher>(
+    alloc: Global,
+    entity: &Entity,
+    uids: &HashSet<SharedUid, S>,
+) -> Result<Vec<SharedUid>, AllocError>
+    ensures { IfOk result (λ v. (q : EntityUID) → is_member same_uid v.items q
+        ≡ (is_member same_uid uids.now.keys q && has_ancestor entity.now q)) }
+{
+    if uids.len() <= FEW {
+        return hits_by_uid(alloc, entity, uids);
+    }
+    hits_by_ancestor(alloc, entity, uids)
+}
+
+// Adds all of one list to another.
+fn append_all(to: &mut Vec<SharedUid>, uids: Vec<SharedUid>) -> Result<(), AllocError>
+    ensures { OnOk result ((q : EntityUID) → is_member same_uid to.new.items q
+        ≡ (is_member same_uid to.old.items q || is_member same_uid uids.items q)) }
+{
+    for uid in uids {
+        to.push(uid)?;
+    }
+    Ok(())
+}
+
+// What goes with some uids, each as often as it goes.
+fn lost_list<S: BuildHasher>(
+    alloc: Global,
+    entities: &HashMap<SharedUid, SharedEntity, S>,
+    uids: &[SharedUid],
+) -> Result<Vec<SharedUid>, AllocError>
+    ensures { IfOk result (λ v. (w : EntityUID) → is_member same_uid v.items w
+        ≡ list_any (λ u. takes (held entities.now) u w) uids.now) }
+{
+    let mut lost = Vec::new(alloc);
+    for uid in uids {
+        append_all(&mut lost, lost_with(alloc, entities, uid)?)?;
+    }
+    Ok(lost)
+}
+
+// What goes with some uids.
+fn lost_with_all<S: BuildHasher>(
+    alloc: Global,
+    entities: &HashMap<SharedUid, SharedEntity, S>,
+    uids: &[SharedUid],
+) -> Result<UidSet, AllocError>
+    ensures { IfOk result (λ s. (w : EntityUID) → set.contains s w
+        ≡ list_any (λ u. takes (held entities.now) u w) uids.now) }
+{
+    let lost = lost_list(alloc, entities, uids)?;
+    UidSet::from_pointers(lost)
+}
+
+// What goes from an entity by some uids.
+fn loss_of<S: BuildHasher>(
+    alloc: Global,
+    entities: &HashMap<SharedUid, SharedEntity, S>,
+    key: &SharedUid,
+    entity: &Entity,
+    uids: &HashSet<SharedUid, S>,
+) -> Result<Loss, AllocError>
+    ensures uid { IfOk result (λ a. a.uid ≡ key.now) }
+    ensures lost { IfOk result (λ a. (w : EntityUID) → set.contains a.lost w
+        ≡ list_any (λ u. has_ancestor entity.now u && takes (held entities.now) u w) uids.now.keys) }
+{
+    let hits = hits_of(alloc, entity, uids)?;
+    let lost = lost_with_all(alloc, entities, &hits)?;
+    let uid = copy_of(key)?;
+    Ok(Loss { uid, lost })
+}
+
+// Notes what goes from an entity by some uids, where something does.
+fn note_loss<S: BuildHasher>(
+    alloc: Global,
+    entities: &HashMap<SharedUid, SharedEntity, S>,
+    key: &SharedUid,
+    entity: &Entity,
+    uids: &HashSet<SharedUid, S>,
+    losses: &mut Vec<Loss>,
+) -> Result<(), AllocError>
+    ensures who { OnOk result ((q : EntityUID) → loses losses.new.items q
+        ≡ (loses losses.old.items q || (same_uid key.now q && is_stripped uids.now.keys key.now (has_ancestor entity.now)))) }
+    ensures lost { OnOk result (held entities.now key.now ≡ Some entity.now
+        → AllByRecursion (IsLossOf (held entities.now) uids.now.keys) losses.old.items
+        → AllByRecursion (IsLossOf (held entities.now) uids.now.keys) losses.new.items) }
+{
+    if !is_hit(key, entity, uids) {
+        return Ok(());
+    }
+    losses.push(loss_of(alloc, entities, key, entity, uids)?)?;
+    Ok(())
+}
+
+// What goes by some uids from each entity that is none of them and has one of them among its ancestors.
+pub(crate) fn losses_by<S: BuildHasher>(
+    alloc: Global,
+    entities: &HashMap<SharedUid, SharedEntity, S>,
+    uids: &HashSet<SharedUid, S>,
+) -> Result<Vec<Loss>, AllocError>
+    ensures who { IfOk result (λ v. (q : EntityUID) → loses v.items q
+        ≡ is_stripped uids.now.keys q (is_ancestor_in (held entities.now q))) }
+    ensures lost { IfOk result (λ v. AllByRecursion (IsLossOf (held entities.now) uids.now.keys) v.items) }
+{
+    let mut losses = Vec::new(alloc);
+    for (key, node) in entities {
+        note_loss(alloc, entities, key, &node.0, uids, &mut losses)?;
+    }
+    Ok(losses)
+}
+
+// Takes some uids from the parents and others from the indirect ancestors of an entity.
+fn strip_once(entity: &mut Entity, gone: &UidSet, lost: &UidSet)
+    ensures { entity.new ≡ stripped (set.contains gone.now) (set.contains lost.now) entity.old }
+{
+    entity.remove_ancestors_of(lost);
+    entity.remove_parents_of(gone);
+}
+
+// Takes some uids from the parents and others from the indirect ancestors of the entity at a uid.
+fn strip_once_at<S: BuildHasher>(
+    entities: &mut HashMap<SharedUid, SharedEntity, S>,
+    uid: &SharedUid,
+    gone: &UidSet,
+    lost: &UidSet,
+) -> Result<(), EntitiesError>
+    ensures ok { OnOk result ((q : EntityUID) → held entities.new q ≡ cond (same_uid uid.now q)
+        (option_map (stripped (set.contains gone.now) (set.contains lost.now)) (held entities.old q))
+        (held entities.old q)) }
+    ensures err { IfErr result (λ e. e ≡ Memory) }
+{
+    if let Some(node) = entities.get_mut(uid) {
+        strip_once(Rc::make_mut(&mut node.0)?, gone, lost);
+    }
+    Ok(())
+}
+
+// Strips each entity that loses something, and notes it.
+pub(crate) fn strip_each<S: BuildHasher>(
+    entities: &mut HashMap<SharedUid, SharedEntity, S>,
+    losses: Vec<Loss>,
+    gone: &UidSet,
+    touched: &mut HashSet<SharedUid, S>,
+) -> Result<(), EntitiesError>
+    ensures ok { OnOk result ((q : EntityUID) → held entities.new q ≡ option_map
+        (stripped (λ p. loses losses.items q && set.contains gone.now p) (loses_uid losses.items q))
+        (held entities.old q)) }
+    ensures touched { OnOk result ((q : EntityUID) → contains same_uid touched.new q
+        ≡ (contains same_uid touched.old q || loses losses.items q)) }
+    ensures err { IfErr result (λ e. e ≡ Memory) }
+{
+    for loss in losses {
+        let Loss { uid, lost } = loss;
+        strip_once_at(entities, &uid, gone, &lost)?;
+        touched.insert(uid)?;
+    }
+    Ok(())
 }

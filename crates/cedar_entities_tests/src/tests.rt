@@ -1,3 +1,4 @@
+mod store_batches;
 mod store_beside;
 mod store_edits;
 mod store_faults;
@@ -6,6 +7,7 @@ mod store_kept;
 mod store_keyed;
 mod store_lists;
 mod store_many;
+mod store_masks;
 mod store_modes;
 mod store_reads;
 mod store_shapes;

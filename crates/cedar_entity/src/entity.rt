@@ -685,6 +685,22 @@ impl Entity {
         self.parents.remove_shared(shared);
     }
 
+    /// Takes the uids of a set out of the indirect ancestors, as [`UidSet::difference`] does; the parents stay. It takes no
+    /// memory. This is the project's own.
+    pub fn remove_ancestors_of(&mut self, uids: &UidSet)
+        ensures { self.new ≡ record self.old { indirect = set.difference self.old.indirect uids.now } }
+    {
+        self.indirect_ancestors.difference(uids);
+    }
+
+    /// Takes the uids of a set out of the parents, as [`UidSet::difference`] does; the indirect ancestors stay. It takes no
+    /// memory. This is the project's own.
+    pub fn remove_parents_of(&mut self, uids: &UidSet)
+        ensures { self.new ≡ record self.old { parents = set.difference self.old.parents uids.now } }
+    {
+        self.parents.difference(uids);
+    }
+
     /// Takes all uids out of the indirect ancestors; the parents stay. It takes no memory.
     pub fn remove_all_indirect_ancestors(&mut self)
         ensures { self.new ≡ record self.old { indirect = set.empty } }

@@ -3,13 +3,35 @@ use super::gives::standing;
 use super::spec::{cut, shared};
 use cedar_entity::entity::Entity;
 use cedar_test_helpers::tried::put_word;
-use cedar_uid_sets::SharedUid;
+use cedar_uid_sets::{SharedUid, UidSet};
 use std::alloc::{AllocError, Global};
 use std::fmt::Write;
 use std::test::Fail;
 
+// The set of one uid.
+fn set_of(alloc: Global, one: &SharedUid) -> Result<UidSet, AllocError> {
+    let mut set = UidSet::new(alloc);
+    set.insert(one.clone()?)?;
+    Ok(set)
+}
+
+// Takes out the uids of a set: parents, or else indirect ancestors.
+fn take_out(entity: &mut Entity, parents: bool, set: UidSet) {
+    if parents {
+        entity.remove_parents_of(&set);
+    } else {
+        entity.remove_ancestors_of(&set);
+    }
+    drop(set);
+}
+
 // One change, by a uid.
-fn change(entity: &mut Entity, word: &str, one: &SharedUid) -> Result<(), AllocError> {
+fn change(
+    alloc: Global,
+    entity: &mut Entity,
+    word: &str,
+    one: &SharedUid,
+) -> Result<(), AllocError> {
     match word {
         "+parent" => entity.add_parent(one.uid().clone()?)?,
         "+indirect" => entity.add_indirect_ancestor(one.uid().clone()?)?,
@@ -17,6 +39,8 @@ fn change(entity: &mut Entity, word: &str, one: &SharedUid) -> Result<(), AllocE
         "-indirect" => entity.remove_indirect_ancestor(one.uid()),
         "-shared parent" => entity.remove_shared_parent(one),
         "-shared" => entity.remove_shared_ancestor(one),
+        "-parent set" => take_out(entity, true, set_of(alloc, one)?),
+        "-set" => take_out(entity, false, set_of(alloc, one)?),
         _ => entity.remove_all_indirect_ancestors(),
     }
     Ok(())
@@ -24,12 +48,13 @@ fn change(entity: &mut Entity, word: &str, one: &SharedUid) -> Result<(), AllocE
 
 // Makes a change, and writes how many parents and indirect ancestors there are then, and what the uid is.
 fn put_change(
+    alloc: Global,
     text: &mut String,
     entity: &mut Entity,
     word: &str,
     one: &SharedUid,
 ) -> Result<(), Fail> {
-    change(entity, word, one)?;
+    change(alloc, entity, word, one)?;
     let (parents, indirect) = (
         entity.parents().count(),
         entity.indirect_ancestors().count(),
@@ -48,7 +73,7 @@ fn put_each(
     for row in changes.split(", ") {
         let (word, name) = cut(row, " of ");
         let one = shared(alloc, name)?;
-        let done = put_change(text, entity, word, &one);
+        let done = put_change(alloc, text, entity, word, &one);
         drop(one);
         done?;
     }

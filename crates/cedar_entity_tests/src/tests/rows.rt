@@ -98,10 +98,12 @@ above: A.a A.z A.b | A.b A.c; A.z A.b A.c A.a =>  parent both indirect none\n\
 changed: A.a A.b | A.c | k=2, k=1; +indirect of A.b, +indirect of A.d =>  1 1 parent; 1 2 indirect; another\n\
 # a new parent is no indirect ancestor, and the entity is deep equal to what it was\n\
 changed: A.a A.b | A.c | k=2, k=1; +parent of A.c =>  2 0 parent; the same\n\
-# what is removed goes from its set alone, by a plain uid and by a shared one\n\
+# what is removed goes from its set alone, by a plain uid, by a shared one and by a set of these\n\
 changed: A.a A.b A.c | A.b A.d A.e; -parent of A.b, -indirect of A.b, clear of A.b =>  1 3 indirect; 1 2 none; 1 0 none; another\n\
 above: A.a A.b A.c | A.b A.d A.e; A.b =>  both\n\
 changed: A.a A.b A.c | A.b A.d A.e; -shared parent of A.b, -shared of A.b =>  1 3 indirect; 1 2 none; another\n\
+changed: A.a A.b A.c | A.b A.d A.e; -parent set of A.b, -set of A.b =>  1 3 indirect; 1 2 none; another\n\
+changed: A.a A.b A.c | A.b A.d A.e; -parent set of A.d, -set of A.c =>  2 3 indirect; 2 3 parent; the same\n\
 # deep equality looks at all but who is a parent, equality and hash at the uid alone\n\
 same: A.a A.b | A.c | k=1 | k=1; A.a A.b | A.c | k=1 | k=1 => deep equal\n\
 same: A.a A.b | A.c | k=1 | k=1; A.a A.c | A.b | k=1 | k=1 => deep equal\n\

@@ -1,5 +1,5 @@
 use Rattle.std.proofs.Common.{◌∙◌, sym}
-use Rattle.cedar_entities.proofs.Readings.{one_left_out, not_absent}
+use Rattle.cedar_entities.proofs.AnyOf.{one_left_out, not_absent}
 use Rattle.cedar_entities.proofs.touching.absent_uids.Goals as goal
 
 -- what the map holds is left out

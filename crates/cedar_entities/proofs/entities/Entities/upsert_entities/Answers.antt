@@ -3,11 +3,11 @@ use Rattle.std.proofs.lemmas.Result.{err_from_is_err_and}
 use Rattle.std.specs.HashSet.{contains}
 use Rattle.std.specs.Set.{is_member}
 use Rattle.cedar_ids.specs.UidOf.{same_uid}
+use Rattle.cedar_ids.specs.declared.entity.EntityUID.{EntityUID}
 use Rattle.cedar_entities.specs.Edits.{put_over, uids_of}
 use Rattle.std.specs.Option.{option_or}
 use Rattle.cedar_entities.specs.laws.Edits.{last_entity}
 use Rattle.cedar_entities.specs.laws.Held.{held, held_map}
-use Rattle.cedar_entities.specs.laws.Readings.{notes}
 use Rattle.cedar_entities.specs.Modes.{IsClosureRefused, WhereComputed}
 use Rattle.cedar_entities.specs.Plain.{StoreView}
 use Rattle.cedar_entities.specs.Refusals.{MatchRefusal, NamesOneOf}
@@ -20,8 +20,10 @@ pub returns-in_err-settle-clause-err : goal.returns-in_err-settle-clause-err
 returns-in_err-settle-clause-err g c =
     let is = ap (λ (s : StoreView). s.held) c.self.view_is in
     let L = map (λ r. r.value) c.args.list.items in
-    let uids : map (λ a. a.uid) c.in_ok-read.read.items ≡ uids_of L = c.in_ok-read.ensures.uids ∙ c.deref-2.ensures.value ∙ c.in_ok-uids.ensures ∙ ap uids_of (c.deref.ensures.value ∙ c.in_ok-coming.ensures) in
-    let laid = laid_over c.self.inside.entities c.apply_each.new.entities c.overwrite_all.new.entities c.args.self.held L c.in_ok-read.read.items is uids c.in_ok-read.ensures.read c.in_ok-apply_each.ensures.ok (λ q. c.in_ok-overwrite_all.ensures.ok q ∙ ap (λ l. option_or (last_entity l q) (held c.apply_each.new.entities q)) c.in_ok-coming.ensures) in
+    let same : (q : EntityUID) → is_member same_uid c.note_all.new.noted.keys q ≡ is_member same_uid (uids_of L) q = λ q. c.in_ok-note_all.ensures.ok q ∙ ap (λ ks. is_member same_uid ks q || is_member same_uid c.in_ok-uids.uids.items q) c.with_hasher-touched.ensures.empty
+    ∙ ap (λ us. is_member same_uid us q) (c.in_ok-uids.ensures ∙ ap uids_of (c.deref.ensures.value ∙ c.in_ok-coming.ensures)) in
+    let laid = laid_over c.self.inside.entities c.strip_each.new.entities c.overwrite_all.new.entities c.args.self.held L c.note_all.new.noted.keys c.new-none.result c.in_ok-losses.losses.items is same c.new-none.ensures
+    c.in_ok-losses.ensures.who c.in_ok-losses.ensures.lost c.in_ok-strip_each.ensures.ok (λ q. c.in_ok-overwrite_all.ensures.ok q ∙ ap (λ l. option_or (last_entity l q) (held c.strip_each.new.entities q)) c.in_ok-coming.ensures) in
     let p = err_from_is_err_and c.from_residual-in_err-settle.result c.from_residual-in_err-settle.ensures.1 in
     rw (p.1, p.2) (subst (λ D. MatchRefusal c.in_err-settle.field-0.0 (λ _. ⊥) (IsClosureRefused c.args.tc_computation D)) laid c.in_err-settle.ensures.err)
 
@@ -29,8 +31,10 @@ pub returns-in_err-settle-clause-plain_err : goal.returns-in_err-settle-clause-p
 returns-in_err-settle-clause-plain_err g c =
     let is = ap (λ (s : StoreView). s.held) c.self.view_is in
     let L = map (λ r. r.value) c.args.list.items in
-    let uids : map (λ a. a.uid) c.in_ok-read.read.items ≡ uids_of L = c.in_ok-read.ensures.uids ∙ c.deref-2.ensures.value ∙ c.in_ok-uids.ensures ∙ ap uids_of (c.deref.ensures.value ∙ c.in_ok-coming.ensures) in
-    let laid = laid_over c.self.inside.entities c.apply_each.new.entities c.overwrite_all.new.entities c.args.self.held L c.in_ok-read.read.items is uids c.in_ok-read.ensures.read c.in_ok-apply_each.ensures.ok (λ q. c.in_ok-overwrite_all.ensures.ok q ∙ ap (λ l. option_or (last_entity l q) (held c.apply_each.new.entities q)) c.in_ok-coming.ensures) in
+    let same : (q : EntityUID) → is_member same_uid c.note_all.new.noted.keys q ≡ is_member same_uid (uids_of L) q = λ q. c.in_ok-note_all.ensures.ok q ∙ ap (λ ks. is_member same_uid ks q || is_member same_uid c.in_ok-uids.uids.items q) c.with_hasher-touched.ensures.empty
+    ∙ ap (λ us. is_member same_uid us q) (c.in_ok-uids.ensures ∙ ap uids_of (c.deref.ensures.value ∙ c.in_ok-coming.ensures)) in
+    let laid = laid_over c.self.inside.entities c.strip_each.new.entities c.overwrite_all.new.entities c.args.self.held L c.note_all.new.noted.keys c.new-none.result c.in_ok-losses.losses.items is same c.new-none.ensures
+    c.in_ok-losses.ensures.who c.in_ok-losses.ensures.lost c.in_ok-strip_each.ensures.ok (λ q. c.in_ok-overwrite_all.ensures.ok q ∙ ap (λ l. option_or (last_entity l q) (held c.strip_each.new.entities q)) c.in_ok-coming.ensures) in
     let p = err_from_is_err_and c.from_residual-in_err-settle.result c.from_residual-in_err-settle.ensures.1 in
     rw (p.1, p.2) (λ W plain bare. over_refused W c.args.self L plain bare c.args.tc_computation c.in_err-settle.field-0.0
     (subst (λ D. MatchRefusal c.in_err-settle.field-0.0 (λ _. ⊥) (IsClosureRefused c.args.tc_computation D)) laid c.in_err-settle.ensures.err))
@@ -39,12 +43,14 @@ pub returns-clause-ok : goal.returns-clause-ok
 returns-clause-ok g c =
     let is = ap (λ (s : StoreView). s.held) c.self.view_is in
     let L = map (λ r. r.value) c.args.list.items in
-    let uids : map (λ a. a.uid) c.in_ok-read.read.items ≡ uids_of L = c.in_ok-read.ensures.uids ∙ c.deref-2.ensures.value ∙ c.in_ok-uids.ensures ∙ ap uids_of (c.deref.ensures.value ∙ c.in_ok-coming.ensures) in
-    let laid = laid_over c.self.inside.entities c.apply_each.new.entities c.overwrite_all.new.entities c.args.self.held L c.in_ok-read.read.items is uids c.in_ok-read.ensures.read c.in_ok-apply_each.ensures.ok (λ q. c.in_ok-overwrite_all.ensures.ok q ∙ ap (λ l. option_or (last_entity l q) (held c.apply_each.new.entities q)) c.in_ok-coming.ensures) in
-    let touched = noted_touched c.self.inside.entities c.args.self.held (uids_of L) c.in_ok-read.read.items (contains same_uid c.apply_each.new.touched) is uids c.in_ok-read.ensures.read
-    (λ q. c.in_ok-apply_each.ensures.touched q ∙ ap (λ ks. is_member same_uid ks q || notes c.in_ok-read.read.items q) c.with_hasher-touched.ensures.empty) in
+    let same : (q : EntityUID) → is_member same_uid c.note_all.new.noted.keys q ≡ is_member same_uid (uids_of L) q = λ q. c.in_ok-note_all.ensures.ok q ∙ ap (λ ks. is_member same_uid ks q || is_member same_uid c.in_ok-uids.uids.items q) c.with_hasher-touched.ensures.empty
+    ∙ ap (λ us. is_member same_uid us q) (c.in_ok-uids.ensures ∙ ap uids_of (c.deref.ensures.value ∙ c.in_ok-coming.ensures)) in
+    let laid = laid_over c.self.inside.entities c.strip_each.new.entities c.overwrite_all.new.entities c.args.self.held L c.note_all.new.noted.keys c.new-none.result c.in_ok-losses.losses.items is same c.new-none.ensures
+    c.in_ok-losses.ensures.who c.in_ok-losses.ensures.lost c.in_ok-strip_each.ensures.ok (λ q. c.in_ok-overwrite_all.ensures.ok q ∙ ap (λ l. option_or (last_entity l q) (held c.strip_each.new.entities q)) c.in_ok-coming.ensures) in
+    let touched = noted_touched c.self.inside.entities c.args.self.held c.note_all.new.noted.keys (uids_of L) c.in_ok-losses.losses.items (contains same_uid c.strip_each.new.touched) is same
+    c.in_ok-losses.ensures.who c.in_ok-strip_each.ensures.touched in
     subst (λ f. IsSettled c.args.tc_computation f (put_over c.args.self.held L) (held_map c.settle.new.entities)) touched
-    (subst (λ D. IsSettled c.args.tc_computation (contains same_uid c.apply_each.new.touched) D (held_map c.settle.new.entities)) laid c.in_ok-settle.ensures.ok)
+    (subst (λ D. IsSettled c.args.tc_computation (contains same_uid c.strip_each.new.touched) D (held_map c.settle.new.entities)) laid c.in_ok-settle.ensures.ok)
 
 pub returns-clause-untouched : goal.returns-clause-untouched
 returns-clause-untouched g c =
@@ -64,9 +70,10 @@ pub returns-in_err-settle-clause-named : goal.returns-in_err-settle-clause-named
 returns-in_err-settle-clause-named g c =
     let is = ap (λ (s : StoreView). s.held) c.self.view_is in
     let L = map (λ r. r.value) c.args.list.items in
-    let uids : map (λ a. a.uid) c.in_ok-read.read.items ≡ uids_of L = c.in_ok-read.ensures.uids ∙ c.deref-2.ensures.value ∙ c.in_ok-uids.ensures ∙ ap uids_of (c.deref.ensures.value ∙ c.in_ok-coming.ensures) in
-    let touched = noted_touched c.self.inside.entities c.args.self.held (uids_of L) c.in_ok-read.read.items (contains same_uid c.apply_each.new.touched) is uids c.in_ok-read.ensures.read
-    (λ q. c.in_ok-apply_each.ensures.touched q ∙ ap (λ ks. is_member same_uid ks q || notes c.in_ok-read.read.items q) c.with_hasher-touched.ensures.empty) in
+    let same : (q : EntityUID) → is_member same_uid c.note_all.new.noted.keys q ≡ is_member same_uid (uids_of L) q = λ q. c.in_ok-note_all.ensures.ok q ∙ ap (λ ks. is_member same_uid ks q || is_member same_uid c.in_ok-uids.uids.items q) c.with_hasher-touched.ensures.empty
+    ∙ ap (λ us. is_member same_uid us q) (c.in_ok-uids.ensures ∙ ap uids_of (c.deref.ensures.value ∙ c.in_ok-coming.ensures)) in
+    let touched = noted_touched c.self.inside.entities c.args.self.held c.note_all.new.noted.keys (uids_of L) c.in_ok-losses.losses.items (contains same_uid c.strip_each.new.touched) is same
+    c.in_ok-losses.ensures.who c.in_ok-strip_each.ensures.touched in
     let p = err_from_is_err_and c.from_residual-in_err-settle.result c.from_residual-in_err-settle.ensures.1 in
     rw (p.1, p.2) (subst (λ f. WhereComputed c.args.tc_computation (NamesOneOf f c.in_err-settle.field-0.0)) touched c.in_err-settle.ensures.named)
 

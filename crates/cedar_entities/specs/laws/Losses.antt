@@ -1,0 +1,31 @@
+-- What goes from each entity by all uids that an edit applies, read before anything changes.
+use Rattle.std.specs.Prelude.{◌≡◌, Bool, ◌&&◌, ◌||◌, not, List, Option}
+use Rattle.std.specs.Option.{is_some}
+use Rattle.std.specs.List.{list_any}
+use Rattle.std.specs.FinSet as set
+use Rattle.std.specs.Set.{is_member}
+use Rattle.cedar_ids.specs.UidOf.{same_uid}
+use Rattle.cedar_ids.specs.declared.entity.EntityUID.{EntityUID}
+use Rattle.cedar_entity.specs.View.{EntityView}
+use Rattle.cedar_entities.specs.Modes.{is_ancestor_in}
+use Rattle.cedar_entities.specs.declared.touching.Loss.{Loss}
+
+-- whether w goes with u: u is held, and w is u or an ancestor of u
+abbrev pub takes : (EntityUID → Option EntityView) → EntityUID → EntityUID → Bool
+takes f u w = is_some (f u) && (same_uid u w || is_ancestor_in (f u) w)
+
+-- whether an edit by these uids strips q, of which f says what is an ancestor: it is none of them, and has one of them
+abbrev pub is_stripped : List EntityUID → EntityUID → (EntityUID → Bool) → Bool
+is_stripped A q f = not (is_member same_uid A q) && list_any f A
+
+-- what goes from an entity is what goes with one of the uids that it has among its ancestors
+abbrev pub IsLossOf : (EntityUID → Option EntityView) → List EntityUID → Loss → Type 0
+IsLossOf f A a = (w : EntityUID) → set.contains a.lost w ≡ list_any (λ u. is_ancestor_in (f a.uid) u && takes f u w) A
+
+-- whether the list has a loss of q
+abbrev pub loses : List Loss → EntityUID → Bool
+loses R q = list_any (λ a. same_uid q a.uid) R
+
+-- whether w goes from q by the list
+abbrev pub loses_uid : List Loss → EntityUID → EntityUID → Bool
+loses_uid R q w = list_any (λ a. same_uid q a.uid && set.contains a.lost w) R
