@@ -1,9 +1,25 @@
-// Lists of calls: worked rows, and each kind of call with and without a refusal.
+// Lists of calls: worked rows, and each kind of call with and without a refusal. Each runs under the builder of hashers that
+// stores and sets have by default, and under two with keys.
 mod entities;
 mod script;
 
+use cedar_keyed_hash::KeyedState;
 use script::tells;
+use std::hash::{BuildHasherDefault, FoldHasher};
 use std::test::Fail;
+
+// The builder of hashers of a set that is given none.
+fn fixed() -> BuildHasherDefault<FoldHasher> {
+    BuildHasherDefault::new()
+}
+
+// Two builders of hashers with keys.
+fn keys() -> (KeyedState, KeyedState) {
+    (
+        KeyedState::with_keys(1, 2),
+        KeyedState::with_keys(u64::MAX, 3),
+    )
+}
 
 #[test]
 fn ids_that_conflict_are_renamed_or_refused(rt: HostRuntime) -> Result<(), Fail> {

@@ -3,12 +3,14 @@ use crate::made::{entities_of, shared_of, uids_of};
 use crate::written::{refusal_of, texts_of};
 use cedar_entities::entities::{Entities, TCComputation};
 use cedar_entity::err::EntitiesError;
+use cedar_keyed_hash::KeyedState;
 use cedar_test_helpers::tried::{beside, owned};
 use std::alloc::Global;
+use std::hash::{BuildHasher, BuildHasherDefault, FoldHasher};
 use std::test::Fail;
 
 /// What a list of calls leaves: a store, or why the first call was refused that was.
-pub type Outcome = Result<Entities, EntitiesError>;
+pub type Outcome<S = BuildHasherDefault<FoldHasher>> = Result<Entities<S>, EntitiesError>;
 
 fn mode_of(word: &str) -> TCComputation {
     if word == "assume" {
@@ -29,12 +31,18 @@ pub fn parts_of(call: &str) -> (&str, &str, &str) {
 }
 
 // One call on a store.
-fn step(alloc: Global, store: Entities, call: &str) -> Result<Outcome, Fail> {
+fn step<S: BuildHasher + Copy>(
+    alloc: Global,
+    store: Entities<S>,
+    call: &str,
+) -> Result<Outcome<S>, Fail> {
     let (word, mode, rest) = parts_of(call);
     let mode = mode_of(mode);
     if word == "from" {
+        let hasher = *store.hasher();
         drop(store);
-        return Ok(Entities::from_entities(alloc, entities_of(alloc, rest)?, mode));
+        let list = entities_of(alloc, rest)?;
+        return Ok(Entities::from_entities_with_hasher(alloc, hasher, list, mode));
     }
     if word == "add" {
         let (store, list) = beside(store, shared_of(alloc, rest))?;
@@ -54,9 +62,13 @@ fn step(alloc: Global, store: Entities, call: &str) -> Result<Outcome, Fail> {
     Ok(Ok(store))
 }
 
-/// What these calls leave, from the empty store on; the first refusal ends them.
-pub fn run(alloc: Global, calls: &str) -> Result<Outcome, Fail> {
-    let mut store = Entities::new(alloc);
+// What these calls leave, from this store on; the first refusal ends them.
+fn run_on<S: BuildHasher + Copy>(
+    alloc: Global,
+    store: Entities<S>,
+    calls: &str,
+) -> Result<Outcome<S>, Fail> {
+    let mut store = store;
     for call in calls.split(';') {
         match step(alloc, store, call)? {
             Ok(next) => store = next,
@@ -66,14 +78,23 @@ pub fn run(alloc: Global, calls: &str) -> Result<Outcome, Fail> {
     Ok(Ok(store))
 }
 
-/// The store that these calls leave, none of which is refused.
-pub fn store_of(alloc: Global, calls: &str) -> Result<Entities, Fail> {
-    Ok(run(alloc, calls)??)
+/// What these calls leave, from the empty store on that is given no builder of hashers; the first refusal ends them.
+pub fn run(alloc: Global, calls: &str) -> Result<Outcome, Fail> {
+    run_on(alloc, Entities::new(alloc), calls)
 }
 
-/// What these calls leave, or the refusal that ends them, as a text.
-pub fn told(alloc: Global, calls: &str) -> Result<String, Fail> {
-    match run(alloc, calls)? {
+/// The store that these calls leave, none of which is refused, and which hashes by what `hasher` builds.
+pub fn store_of<S: BuildHasher + Copy>(
+    alloc: Global,
+    hasher: S,
+    calls: &str,
+) -> Result<Entities<S>, Fail> {
+    Ok(run_on(alloc, Entities::with_hasher(alloc, hasher), calls)??)
+}
+
+// What calls leave, or the refusal that ends them, as a text.
+fn told_of<S: BuildHasher + Copy>(alloc: Global, outcome: Outcome<S>) -> Result<String, Fail> {
+    match outcome {
         Ok(store) => {
             let text = texts_of(alloc, &store);
             drop(store);
@@ -87,20 +108,50 @@ pub fn told(alloc: Global, calls: &str) -> Result<String, Fail> {
     }
 }
 
+/// What these calls leave, or the refusal that ends them, as a text.
+pub fn told(alloc: Global, calls: &str) -> Result<String, Fail> {
+    told_of(alloc, run(alloc, calls)?)
+}
+
+// What these calls leave in a store that hashes by what a builder builds.
+fn told_by<S: BuildHasher + Copy>(alloc: Global, hasher: S, calls: &str) -> Result<String, Fail> {
+    told_of(
+        alloc,
+        run_on(alloc, Entities::with_hasher(alloc, hasher), calls)?,
+    )
+}
+
 /// Whether a text is this one, or one of several with a slash between them.
 pub fn is_one_of(said: &str, want: &str) -> bool {
     want.split(" / ").any(|text| text == said)
 }
 
-/// Whether this is what the calls leave, or one of several texts with a slash between them.
-pub fn leaves(alloc: Global, calls: &str, want: &str) -> Result<bool, Fail> {
-    let said = told(alloc, calls)?;
+// Whether what was said is this text, or one of several; it is let go.
+fn is_said(said: Result<String, Fail>, want: &str) -> Result<bool, Fail> {
+    let said = said?;
     let is_so = is_one_of(&said, want);
     drop(said);
     Ok(is_so)
 }
 
-/// The first of these lists of calls that leaves something else than what stands beside it, or nothing.
+/// Whether this is what the calls leave, or one of several texts with a slash between them. It fails where stores under two
+/// keys tell otherwise.
+pub fn leaves(alloc: Global, calls: &str, want: &str) -> Result<bool, Fail> {
+    let (one, other) = (
+        KeyedState::with_keys(1, 2),
+        KeyedState::with_keys(u64::MAX, 3),
+    );
+    let is_so = is_said(told(alloc, calls), want)?;
+    if is_said(told_by(alloc, one, calls), want)? == is_so
+        && is_said(told_by(alloc, other, calls), want)? == is_so
+    {
+        return Ok(is_so);
+    }
+    Err(Fail::new(format_args!("{calls}: under another key they leave another store")))
+}
+
+/// The first of these lists of calls that leaves something else than what stands beside it, or nothing. It fails where stores
+/// under two keys tell otherwise.
 pub fn wrong(alloc: Global, table: &[(&str, &str)]) -> Result<String, Fail> {
     for (calls, want) in table {
         if !leaves(alloc, calls, want)? {

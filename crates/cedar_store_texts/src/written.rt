@@ -8,6 +8,7 @@ use cedar_ids::entity::EntityUID;
 use cedar_test_helpers::tried::{beside, owned, pushed};
 use std::alloc::Global;
 use std::fmt::Write;
+use std::hash::BuildHasher;
 use std::test::Fail;
 
 // A text of which the start is cut off, if it is there.
@@ -101,7 +102,10 @@ fn in_order(alloc: Global, texts: Vec<String>) -> Result<String, Fail> {
 }
 
 /// The texts of the entities of a store, in order.
-pub fn texts_of(alloc: Global, store: &Entities) -> Result<String, Fail> {
+pub fn texts_of<S: BuildHasher + Clone>(
+    alloc: Global,
+    store: &Entities<S>,
+) -> Result<String, Fail> {
     let mut texts = Vec::new(alloc);
     for entity in store.iter() {
         texts = pushed(texts, text_of(alloc, entity))?;

@@ -1,8 +1,23 @@
 mod cut;
 mod told;
 
+use cedar_keyed_hash::KeyedState;
 use cedar_talk::help_text;
 use std::alloc::{AllocError, Global};
+use std::hash::{BuildHasherDefault, FoldHasher};
+
+// The builder of hashers that a run is given by default.
+fn fixed() -> BuildHasherDefault<FoldHasher> {
+    BuildHasherDefault::new()
+}
+
+// Two builders of hashers with keys.
+fn keys() -> (KeyedState, KeyedState) {
+    (
+        KeyedState::with_keys(1, 2),
+        KeyedState::with_keys(u64::MAX, 3),
+    )
+}
 
 // In a row stand a line and, behind an arrow, what is due for it: `;` for the end of a line, `>` for a tab, `~` for a
 // carriage return; `HELP` is the text of the lines.

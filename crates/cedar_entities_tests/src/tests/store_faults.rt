@@ -1,17 +1,19 @@
 // Which stores are valid, and what is told of one that is not.
+use super::{fixed, keys};
 use cedar_entities::entities::{Entities, TCComputation};
 use cedar_entity::entity::Entity;
 use cedar_store_texts::calls::store_of;
 use cedar_store_texts::made::{long, named};
 use cedar_store_texts::written::{refusal_of, texts_of};
 use cedar_terms::{PartialValue, Value};
-use cedar_test_helpers::tried::{beside, owned, pushed};
+use cedar_test_helpers::tried::{beside, is_told, owned, pushed};
 use std::alloc::Global;
 use std::collections::HashSet;
+use std::hash::BuildHasher;
 use std::test::Fail;
 
 // What `try_validate` gives of a store, as a text.
-fn judged(alloc: Global, store: Entities) -> Result<String, Fail> {
+fn judged<S: BuildHasher + Copy>(alloc: Global, store: Entities<S>) -> Result<String, Fail> {
     match store.try_validate(alloc) {
         Ok(valid) => {
             let text = texts_of(alloc, &valid);
@@ -27,8 +29,16 @@ fn judged(alloc: Global, store: Entities) -> Result<String, Fail> {
 }
 
 // What `try_validate` gives of the store that these calls leave, as a text.
-fn verdict(alloc: Global, calls: &str) -> Result<String, Fail> {
-    judged(alloc, store_of(alloc, calls)?)
+fn verdict<S: BuildHasher + Copy>(alloc: Global, hasher: S, calls: &str) -> Result<String, Fail> {
+    judged(alloc, store_of(alloc, hasher, calls)?)
+}
+
+// Fails where `try_validate` gives something else, under the default builder of hashers or under one of two keys.
+fn gives(alloc: Global, calls: &str, want: &str) -> Result<(), Fail> {
+    let (one, other) = keys();
+    is_told(calls, verdict(alloc, fixed(), calls), want)?;
+    is_told(calls, verdict(alloc, one, calls), want)?;
+    is_told(calls, verdict(alloc, other, calls), want)
 }
 
 #[test]
@@ -40,7 +50,7 @@ fn a_valid_store_is_given_back(rt: HostRuntime) -> Result<(), Fail> {
         ("from: Action.v N.z | , N.z; remove: N.z", "Action.v"),
         ("partial; add: a b | | k=1 | t=2", "a b | | k=1 | t=2"),
     ] {
-        assert_eq!(rt; verdict(rt.alloc(), calls)?.as_str(), *want);
+        gives(rt.alloc(), calls, want)?;
     }
     Ok(())
 }
@@ -54,17 +64,28 @@ fn the_closure_is_looked_at_first(rt: HostRuntime) -> Result<(), Fail> {
         ("from assume: a b | b, c d, d e", "missing c d e"),
         ("from assume: Action.v T.z, c c", "cycle c"),
     ] {
-        assert_eq!(rt; verdict(rt.alloc(), calls)?.as_str(), *want);
+        gives(rt.alloc(), calls, want)?;
     }
     Ok(())
 }
 
-// Whether `try_validate` says this of this, and nothing else, of the store that these calls leave.
-fn is_told(alloc: Global, calls: &str, name: &str, fault: &str) -> Result<bool, Fail> {
-    let said = verdict(alloc, calls)?;
+// Whether this was said of this, and nothing else; it is let go.
+fn is_said(said: Result<String, Fail>, name: &str, fault: &str) -> Result<bool, Fail> {
+    let said = said?;
     let told = said.as_str().strip_prefix(name) == Some(fault);
     drop(said);
     Ok(told)
+}
+
+// Whether `try_validate` says this of this, and nothing else, of the store that these calls leave, under the default builder of
+// hashers and under two keys.
+fn is_fault(alloc: Global, calls: &str, name: &str, fault: &str) -> Result<bool, Fail> {
+    let (one, other) = keys();
+    Ok(
+        is_said(verdict(alloc, fixed(), calls), name, fault)?
+            && is_said(verdict(alloc, one, calls), name, fault)?
+            && is_said(verdict(alloc, other, calls), name, fault)?,
+    )
 }
 
 #[test]
@@ -86,7 +107,7 @@ fn the_fault_of_the_least_uid_is_told(rt: HostRuntime) -> Result<(), Fail> {
         ("from assume: B.b A.x | A.x, Action.v T.z", "", action),
         ("from: Action.v T.z, a b", "", action),
     ] {
-        assert!(rt; is_told(rt.alloc(), calls, name, fault)?, "{calls}");
+        assert!(rt; is_fault(rt.alloc(), calls, name, fault)?, "{calls}");
     }
     Ok(())
 }
@@ -117,25 +138,30 @@ fn with_record(alloc: Global, name: &str, key: &str) -> Result<Entity, Fail> {
 }
 
 // A store of entities with one record each.
-fn with_records(alloc: Global, pairs: &[(&str, &str)]) -> Result<Entities, Fail> {
+fn with_records<S: BuildHasher + Copy>(
+    alloc: Global,
+    hasher: S,
+    pairs: &[(&str, &str)],
+) -> Result<Entities<S>, Fail> {
     let mut list = Vec::new(alloc);
     for (name, key) in pairs {
         list = pushed(list, with_record(alloc, name, key))?;
     }
-    Ok(Entities::from_entities(alloc, list, TCComputation::ComputeNow)?)
+    Ok(Entities::from_entities_with_hasher(alloc, hasher, list, TCComputation::ComputeNow)?)
 }
 
 // What `try_validate` gives of a store of entities with one record each, as a text.
-fn verdict_on_records(alloc: Global) -> Result<String, Fail> {
+fn verdict_on_records<S: BuildHasher + Copy>(alloc: Global, hasher: S) -> Result<String, Fail> {
     let pairs = &[("c", "__entity"), ("b", "__extn"), ("a", "fine")];
-    judged(alloc, with_records(alloc, pairs)?)
+    judged(alloc, with_records(alloc, hasher, pairs)?)
 }
 
 #[test]
 fn reserved_keys_are_found_in_a_store(rt: HostRuntime) -> Result<(), Fail> {
-    assert_eq!(rt;
-        verdict_on_records(rt.alloc())?.as_str(),
-        "the key `__extn` is reserved"
-    );
-    Ok(())
+    let alloc = rt.alloc();
+    let (one, other) = keys();
+    let want = "the key `__extn` is reserved";
+    is_told("by default", verdict_on_records(alloc, fixed()), want)?;
+    is_told("under a key", verdict_on_records(alloc, one), want)?;
+    is_told("under another", verdict_on_records(alloc, other), want)
 }

@@ -3,6 +3,7 @@ use super::store_beside::{bit_of, bits_of, done, has_attr, numbered};
 use super::store_kept::{Fault, Kept, Left, Store, kept_at, left_by, none};
 use super::store_lists::{call_at, drawn_call, three};
 use super::store_world::{Call, Row, bit};
+use super::{fixed, keys};
 use cedar_entities::dereference::Dereference;
 use cedar_entities::entities::{Entities, TCComputation};
 use cedar_entity::entity::Entity;
@@ -10,6 +11,7 @@ use cedar_entity::err::EntitiesError;
 use cedar_graph::TcError;
 use cedar_test_helpers::drawn::below;
 use std::alloc::Global;
+use std::hash::BuildHasher;
 use std::test::Fail;
 
 // How a list of calls ends: its last answer or the store is another than it has to be; with a store; with a refusal that
@@ -46,7 +48,11 @@ fn found_at(found: &Dereference<'_, Entity>, uid: u8) -> Option<Kept> {
 }
 
 // What a store has at a uid.
-fn read_at(alloc: Global, store: &Entities, uid: u8) -> Result<Option<Kept>, Fail> {
+fn read_at<S: BuildHasher + Copy>(
+    alloc: Global,
+    store: &Entities<S>,
+    uid: u8,
+) -> Result<Option<Kept>, Fail> {
     let name = numbered(alloc, uid)?;
     let found = store.entity(alloc, &name);
     drop(name);
@@ -61,7 +67,7 @@ fn read_at(alloc: Global, store: &Entities, uid: u8) -> Result<Option<Kept>, Fai
 }
 
 // What a store has.
-fn read_store(alloc: Global, store: &Entities) -> Result<Store, Fail> {
+fn read_store<S: BuildHasher + Copy>(alloc: Global, store: &Entities<S>) -> Result<Store, Fail> {
     let held = [
         read_at(alloc, store, 0)?,
         read_at(alloc, store, 1)?,
@@ -115,8 +121,12 @@ fn ended(error: &EntitiesError, left: Result<Left, Fault>) -> End {
 }
 
 // How a list of calls ends. After each call the store has to be one that the call leaves of the store before it.
-fn compared(alloc: Global, calls: &[(Call, TCComputation)]) -> Result<End, Fail> {
-    let mut store = Entities::new(alloc);
+fn compared<S: BuildHasher + Copy>(
+    alloc: Global,
+    hasher: S,
+    calls: &[(Call, TCComputation)],
+) -> Result<End, Fail> {
+    let mut store = Entities::with_hasher(alloc, hasher);
     let mut before = none();
     for (call, mode) in calls {
         let left = left_by(&before, call, *mode);
@@ -197,44 +207,73 @@ fn mode_at(number: u8) -> TCComputation {
 }
 
 // Tells of this call and, where it is not refused, of each call in each mode after it.
-fn tell_after(alloc: Global, tally: &mut Tally, first: (Call, TCComputation)) -> Result<(), Fail> {
-    let end = compared(alloc, &[first])?;
+fn tell_after<S: BuildHasher + Copy>(
+    alloc: Global,
+    hasher: S,
+    tally: &mut Tally,
+    first: (Call, TCComputation),
+) -> Result<(), Fail> {
+    let end = compared(alloc, hasher, &[first])?;
     if end != End::Held {
         tell(tally, end);
         return Ok(());
     }
     for number in 0..246_u8 {
         let second = (call_at(number / 3), mode_at(number));
-        tell(tally, compared(alloc, &[first, second])?);
+        tell(tally, compared(alloc, hasher, &[first, second])?);
     }
     Ok(())
 }
 
 // Tells of each call in each mode on stores of three, built in a mode: of those with each set of parents, all 512 or each
 // 29th.
-fn tell_all(alloc: Global, mode: TCComputation, count: u16, step: u16) -> Result<Tally, Fail> {
+fn tell_all<S: BuildHasher + Copy>(
+    alloc: Global,
+    hasher: S,
+    mode: TCComputation,
+    count: u16,
+    step: u16,
+) -> Result<Tally, Fail> {
     let mut tally = nothing();
     for place in 0..count {
         let number = place.wrapping_mul(step);
-        tell_after(alloc, &mut tally, (Call::From(three(number)), mode))?;
+        let first = (Call::From(three(number)), mode);
+        tell_after(alloc, hasher, &mut tally, first)?;
     }
     Ok(tally)
+}
+
+// Whether each call in each mode leaves what it has to of a closed store.
+fn is_well_closed<S: BuildHasher + Copy>(alloc: Global, hasher: S) -> Result<bool, Fail> {
+    let tally = tell_all(alloc, hasher, TCComputation::ComputeNow, 512, 1)?;
+    Ok(tally.differs == 0 && tally.held > 3_000 && tally.missing > 100)
 }
 
 #[test]
 fn each_call_in_each_mode_leaves_what_it_has_to_of_a_closed_store(
     rt: HostRuntime,
 ) -> Result<(), Fail> {
-    let tally = tell_all(rt.alloc(), TCComputation::ComputeNow, 512, 1)?;
-    assert!(rt; tally.differs == 0 && tally.held > 3_000 && tally.missing > 100);
+    let (one, other) = keys();
+    assert!(rt; is_well_closed(rt.alloc(), fixed())?);
+    assert!(rt; is_well_closed(rt.alloc(), one)?);
+    assert!(rt; is_well_closed(rt.alloc(), other)?);
     Ok(())
+}
+
+// Whether each does so of a store that is not closed.
+fn is_well_taken<S: BuildHasher + Copy>(alloc: Global, hasher: S) -> Result<bool, Fail> {
+    let mode = TCComputation::AssumeAlreadyComputed;
+    Ok(tell_all(alloc, hasher, mode, 18, 29)?.is_well(30))
 }
 
 #[test]
 fn each_call_in_each_mode_leaves_what_it_has_to_of_a_store_that_is_not_closed(
     rt: HostRuntime,
 ) -> Result<(), Fail> {
-    assert!(rt; tell_all(rt.alloc(), TCComputation::AssumeAlreadyComputed, 18, 29)?.is_well(30));
+    let (one, other) = keys();
+    assert!(rt; is_well_taken(rt.alloc(), fixed())?);
+    assert!(rt; is_well_taken(rt.alloc(), one)?);
+    assert!(rt; is_well_taken(rt.alloc(), other)?);
     Ok(())
 }
 
@@ -244,7 +283,12 @@ fn drawn(seed: &mut u64) -> (Call, TCComputation) {
 }
 
 // Tells of this many lists of four calls in drawn modes, from a seed on.
-fn tell_drawn(alloc: Global, seed: u64, count: u16) -> Result<Tally, Fail> {
+fn tell_drawn<S: BuildHasher + Copy>(
+    alloc: Global,
+    hasher: S,
+    seed: u64,
+    count: u16,
+) -> Result<Tally, Fail> {
     let mut tally = nothing();
     let mut seed = seed;
     for _list in 0..count {
@@ -254,13 +298,21 @@ fn tell_drawn(alloc: Global, seed: u64, count: u16) -> Result<Tally, Fail> {
             drawn(&mut seed),
             drawn(&mut seed),
         ];
-        tell(&mut tally, compared(alloc, &calls)?);
+        tell(&mut tally, compared(alloc, hasher, &calls)?);
     }
     Ok(tally)
 }
 
+// Whether lists of calls in drawn modes leave what they have to.
+fn is_well_drawn<S: BuildHasher + Copy>(alloc: Global, hasher: S) -> Result<bool, Fail> {
+    Ok(tell_drawn(alloc, hasher, 2_026, 5_000)?.is_well(30))
+}
+
 #[test]
 fn lists_of_calls_in_drawn_modes_leave_what_they_have_to(rt: HostRuntime) -> Result<(), Fail> {
-    assert!(rt; tell_drawn(rt.alloc(), 2_026, 5_000)?.is_well(30));
+    let (one, other) = keys();
+    assert!(rt; is_well_drawn(rt.alloc(), fixed())?);
+    assert!(rt; is_well_drawn(rt.alloc(), one)?);
+    assert!(rt; is_well_drawn(rt.alloc(), other)?);
     Ok(())
 }

@@ -1,9 +1,9 @@
 // Two stores of the same entities whose hashers have other keys.
+use super::keys;
 use super::store_beside::{Answer, built};
 use super::store_lists::three;
 use super::store_world::Rows;
 use cedar_entities::entities::{Entities, TCComputation};
-use cedar_keyed_hash::KeyedState;
 use cedar_test_helpers::tried::beside;
 use std::alloc::{AllocError, Global};
 use std::hash::BuildHasher;
@@ -71,10 +71,7 @@ fn agree<S: BuildHasher + Clone>(
 
 // Whether the stores of a list under two keys agree.
 fn keys_agree(alloc: Global, rows: &Rows, mode: TCComputation) -> Result<bool, Fail> {
-    let (one, other) = (
-        KeyedState::with_keys(1, 2),
-        KeyedState::with_keys(u64::MAX, 3),
-    );
+    let (one, other) = keys();
     let first = built(alloc, one, rows, mode)?;
     let (first, second) = beside(first, built(alloc, other, rows, mode))?;
     Ok(agree(alloc, first, second)?)

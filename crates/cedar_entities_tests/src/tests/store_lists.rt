@@ -1,11 +1,11 @@
 // Many lists of calls, each on a store and on the world that it stands for.
 use super::store_beside::{End, compared};
 use super::store_world::{Call, Refused, Row, Rows, bit};
+use super::{fixed, keys};
 use cedar_entities::entities::Entities;
-use cedar_keyed_hash::KeyedState;
 use cedar_test_helpers::drawn::below;
 use std::alloc::Global;
-use std::hash::{BuildHasher, BuildHasherDefault, FoldHasher};
+use std::hash::BuildHasher;
 use std::test::Fail;
 
 // How many lists of calls ended in which way.
@@ -76,30 +76,42 @@ pub(super) fn call_at(number: u8) -> Call {
 }
 
 // Tells of each list of two calls that begins with this one.
-fn tell_pairs(alloc: Global, tally: &mut Tally, one: u8) -> Result<(), Fail> {
+fn tell_pairs<S: BuildHasher + Copy>(
+    alloc: Global,
+    hasher: S,
+    tally: &mut Tally,
+    one: u8,
+) -> Result<(), Fail> {
     for other in 0..82_u8 {
+        let store = Entities::with_hasher(alloc, hasher);
         tell(
             tally,
-            compared(alloc, Entities::new(alloc), &[call_at(one), call_at(other)])?,
+            compared(alloc, store, &[call_at(one), call_at(other)])?,
         );
     }
     Ok(())
 }
 
-fn all_pairs(alloc: Global) -> Result<Tally, Fail> {
+fn all_pairs<S: BuildHasher + Copy>(alloc: Global, hasher: S) -> Result<Tally, Fail> {
     let mut tally = nothing();
     for one in 0..82_u8 {
-        tell_pairs(alloc, &mut tally, one)?;
+        tell_pairs(alloc, hasher, &mut tally, one)?;
     }
     Ok(tally)
 }
 
+// Whether each list of two calls leaves the plain store, with each way to end among them.
+fn pairs_leave_plain<S: BuildHasher + Copy>(alloc: Global, hasher: S) -> Result<bool, Fail> {
+    let tally = all_pairs(alloc, hasher)?;
+    Ok(tally.differs == 0 && tally.total() == 6724 && tally.has_each(200))
+}
+
 #[test]
 fn each_list_of_two_calls_leaves_the_plain_store(rt: HostRuntime) -> Result<(), Fail> {
-    let tally = all_pairs(rt.alloc())?;
-    assert_eq!(rt; tally.differs, 0);
-    assert_eq!(rt; tally.total(), 6724);
-    assert!(rt; tally.has_each(200));
+    let (one, other) = keys();
+    assert!(rt; pairs_leave_plain(rt.alloc(), fixed())?);
+    assert!(rt; pairs_leave_plain(rt.alloc(), one)?);
+    assert!(rt; pairs_leave_plain(rt.alloc(), other)?);
     Ok(())
 }
 
@@ -163,7 +175,7 @@ fn leave_plain<S: BuildHasher + Copy>(alloc: Global, hasher: S) -> Result<bool, 
 
 #[test]
 fn each_call_on_each_store_of_three_leaves_the_plain_store(rt: HostRuntime) -> Result<(), Fail> {
-    assert!(rt; leave_plain(rt.alloc(), BuildHasherDefault::<FoldHasher>::new())?);
+    assert!(rt; leave_plain(rt.alloc(), fixed())?);
     Ok(())
 }
 
@@ -171,8 +183,9 @@ fn each_call_on_each_store_of_three_leaves_the_plain_store(rt: HostRuntime) -> R
 fn each_call_on_each_store_of_three_leaves_the_plain_store_under_two_keys(
     rt: HostRuntime,
 ) -> Result<(), Fail> {
-    assert!(rt; leave_plain(rt.alloc(), KeyedState::with_keys(1, 2))?);
-    assert!(rt; leave_plain(rt.alloc(), KeyedState::with_keys(u64::MAX, 3))?);
+    let (one, other) = keys();
+    assert!(rt; leave_plain(rt.alloc(), one)?);
+    assert!(rt; leave_plain(rt.alloc(), other)?);
     Ok(())
 }
 
@@ -221,22 +234,39 @@ fn drawn_calls(seed: &mut u64) -> [Call; 4] {
 }
 
 // Tells of this many lists of four calls, drawn from a seed on.
-fn all_drawn(alloc: Global, seed: u64, count: u16) -> Result<Tally, Fail> {
+fn all_drawn<S: BuildHasher + Copy>(
+    alloc: Global,
+    hasher: S,
+    seed: u64,
+    count: u16,
+) -> Result<Tally, Fail> {
     let mut tally = nothing();
     let mut seed = seed;
     for _list in 0..count {
-        tell(
-            &mut tally,
-            compared(alloc, Entities::new(alloc), &drawn_calls(&mut seed))?,
-        );
+        let store = Entities::with_hasher(alloc, hasher);
+        tell(&mut tally, compared(alloc, store, &drawn_calls(&mut seed))?);
     }
     Ok(tally)
 }
 
 // Whether each of 5,000 lists of four calls leaves the plain store, with each way to end among them.
-fn leave_plain_stores(alloc: Global, seed: u64) -> Result<bool, Fail> {
-    let tally = all_drawn(alloc, seed, 5_000)?;
+fn leave_plain_by<S: BuildHasher + Copy>(
+    alloc: Global,
+    hasher: S,
+    seed: u64,
+) -> Result<bool, Fail> {
+    let tally = all_drawn(alloc, hasher, seed, 5_000)?;
     Ok(tally.differs == 0 && tally.total() == 5_000 && tally.has_each(500))
+}
+
+// Whether that is so under the default builder of hashers, and under two keys.
+fn leave_plain_stores(alloc: Global, seed: u64) -> Result<bool, Fail> {
+    let (one, other) = keys();
+    Ok(
+        leave_plain_by(alloc, fixed(), seed)?
+            && leave_plain_by(alloc, one, seed)?
+            && leave_plain_by(alloc, other, seed)?,
+    )
 }
 
 #[test]

@@ -4,6 +4,7 @@
 // Entities are numbers. `chain 500` is as many, each with the next as its parent; `under 100 900` as many, each with that
 // parent; else `1>2 3` are one with a parent and one without. `from` and `assume` make a store of entities, of which the
 // second takes them as they are; `add` adds some; `remove` takes those of numbers out.
+use super::{fixed, keys};
 use cedar_entities::entities::{Entities, TCComputation};
 use cedar_entity::entity::Entity;
 use cedar_ids::entity::EntityUID;
@@ -11,6 +12,7 @@ use cedar_test_helpers::rows::all_hold;
 use cedar_test_helpers::tried::{beside, joined, pushed};
 use std::alloc::Global;
 use std::collections::HashSet;
+use std::hash::BuildHasher;
 use std::rc::Rc;
 use std::test::Fail;
 
@@ -116,39 +118,62 @@ fn uids(alloc: Global, texts: &str) -> Result<Vec<EntityUID>, Fail> {
     Ok(list)
 }
 
-fn made(alloc: Global, text: &str, mode: TCComputation) -> Result<Entities, Fail> {
-    Ok(Entities::from_entities(alloc, listed(alloc, text)?, mode)?)
+fn made<S: BuildHasher + Copy>(
+    alloc: Global,
+    hasher: S,
+    text: &str,
+    mode: TCComputation,
+) -> Result<Entities<S>, Fail> {
+    let list = listed(alloc, text)?;
+    Ok(Entities::from_entities_with_hasher(alloc, hasher, list, mode)?)
 }
 
-fn added(alloc: Global, store: Entities, texts: &str) -> Result<Entities, Fail> {
+fn added<S: BuildHasher + Copy>(
+    alloc: Global,
+    store: Entities<S>,
+    texts: &str,
+) -> Result<Entities<S>, Fail> {
     let (store, list) = beside(store, all_shared(alloc, texts))?;
     Ok(store.add_entities(alloc, list, TCComputation::ComputeNow)?)
 }
 
-fn removed(alloc: Global, store: Entities, texts: &str) -> Result<Entities, Fail> {
+fn removed<S: BuildHasher + Copy>(
+    alloc: Global,
+    store: Entities<S>,
+    texts: &str,
+) -> Result<Entities<S>, Fail> {
     let (store, list) = beside(store, uids(alloc, texts))?;
     Ok(store.remove_entities(alloc, list, TCComputation::ComputeNow)?)
 }
 
 // What a call makes of a store.
-fn after(alloc: Global, store: Entities, call: &str) -> Result<Entities, Fail> {
+fn after<S: BuildHasher + Copy>(
+    alloc: Global,
+    store: Entities<S>,
+    call: &str,
+) -> Result<Entities<S>, Fail> {
+    let hasher = *store.hasher();
     let (word, rest) = call.split_once(' ').unwrap_or((call, ""));
     match word {
         "add" => added(alloc, store, rest),
         "remove" => removed(alloc, store, rest),
         "assume" => {
             drop(store);
-            made(alloc, rest, TCComputation::AssumeAlreadyComputed)
+            made(alloc, hasher, rest, TCComputation::AssumeAlreadyComputed)
         }
         _ => {
             drop(store);
-            made(alloc, rest, TCComputation::ComputeNow)
+            made(alloc, hasher, rest, TCComputation::ComputeNow)
         }
     }
 }
 
-fn all_done(alloc: Global, calls: &str) -> Result<Entities, Fail> {
-    let mut store = Entities::new(alloc);
+fn all_done<S: BuildHasher + Copy>(
+    alloc: Global,
+    hasher: S,
+    calls: &str,
+) -> Result<Entities<S>, Fail> {
+    let mut store = Entities::with_hasher(alloc, hasher);
     for call in calls.split("; ") {
         store = after(alloc, store, call)?;
     }
@@ -165,7 +190,7 @@ fn ancestors(entity: &Entity) -> usize {
 }
 
 // How many all entities of a store have.
-fn all_ancestors(store: &Entities) -> usize {
+fn all_ancestors<S: BuildHasher + Copy>(store: &Entities<S>) -> usize {
     let mut count = 0_usize;
     for entity in store.iter() {
         count = count.saturating_add(ancestors(entity));
@@ -173,26 +198,34 @@ fn all_ancestors(store: &Entities) -> usize {
     count
 }
 
-fn counted(alloc: Global, calls: &str) -> Result<String, Fail> {
-    let store = all_done(alloc, calls)?;
+fn counted<S: BuildHasher + Copy>(alloc: Global, hasher: S, calls: &str) -> Result<String, Fail> {
+    let store = all_done(alloc, hasher, calls)?;
     let (many, count) = (store.len(), all_ancestors(&store));
     drop(store);
     Ok(format!(in alloc; "{many} {count}")?)
 }
 
 // Whether two lists of calls leave stores that are equal throughout.
-fn same(alloc: Global, calls: &str, others: &str) -> Result<String, Fail> {
-    let (one, other) = beside(all_done(alloc, calls)?, all_done(alloc, others))?;
+fn same<S: BuildHasher + Copy>(
+    alloc: Global,
+    keys: (S, S),
+    calls: &str,
+    others: &str,
+) -> Result<String, Fail> {
+    let (one, other) = beside(
+        all_done(alloc, keys.0, calls)?,
+        all_done(alloc, keys.1, others),
+    )?;
     let same = one.deep_eq(&other) && other.deep_eq(&one);
     drop(one);
     drop(other);
     Ok(String::from_str(alloc, if same { "the same" } else { "other" })?)
 }
 
-fn row(alloc: Global, asked: &str) -> Result<String, Fail> {
+fn row<S: BuildHasher + Copy>(alloc: Global, keys: (S, S), asked: &str) -> Result<String, Fail> {
     match asked.split_once(" / ") {
-        Some((calls, others)) => same(alloc, calls, others),
-        None => counted(alloc, asked),
+        Some((calls, others)) => same(alloc, keys, calls, others),
+        None => counted(alloc, keys.0, asked),
     }
 }
 
@@ -223,5 +256,10 @@ from 1>2 2>3; add 5>6 => 3 4";
 
 #[test]
 fn stores_of_many_have_so_many_ancestors(rt: HostRuntime) -> Result<(), Fail> {
-    all_hold(rt.alloc(), ROWS, row)
+    all_hold(
+        rt.alloc(),
+        ROWS,
+        |alloc, asked| row(alloc, (fixed(), fixed()), asked),
+    )?;
+    all_hold(rt.alloc(), ROWS, |alloc, asked| row(alloc, keys(), asked))
 }

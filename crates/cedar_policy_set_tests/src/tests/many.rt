@@ -1,6 +1,6 @@
 // Sets of many policies: adding, linking and taking out by the thousand, and merging with all ids renamed.
 use super::notation::put_number;
-use super::uid;
+use super::{fixed, keys, uid};
 use cedar_action::ActionConstraint;
 use cedar_annotation::Annotations;
 use cedar_ids::loc::Loc;
@@ -14,6 +14,7 @@ use cedar_test_helpers::tried::{beside, kept};
 use indexmap::IndexMap;
 use std::alloc::Global;
 use std::collections::HashMap;
+use std::hash::BuildHasher;
 use std::rc::{Rc, RcStr};
 use std::test::Fail;
 
@@ -60,7 +61,11 @@ fn static_policy(alloc: Global, number: u32) -> Result<Policy, Fail> {
     Ok(Template::try_as_policy(alloc, Rc::new(alloc, template)?)?)
 }
 
-fn add_all(alloc: Global, set: &mut PolicySet, many: u32) -> Result<(), Fail> {
+fn add_all<S: BuildHasher + Copy>(
+    alloc: Global,
+    set: &mut PolicySet<S>,
+    many: u32,
+) -> Result<(), Fail> {
     for number in 0..many {
         let policy = static_policy(alloc, number)?;
         set.add(alloc, policy)?;
@@ -86,14 +91,22 @@ fn t(alloc: Global) -> Result<PolicyID, Fail> {
 }
 
 // Links the template `t` under a number.
-fn link_one(alloc: Global, set: &mut PolicySet, number: u32) -> Result<(), Fail> {
+fn link_one<S: BuildHasher + Copy>(
+    alloc: Global,
+    set: &mut PolicySet<S>,
+    number: u32,
+) -> Result<(), Fail> {
     let named = beside(t(alloc)?, numbered(alloc, number))?;
     let ((template, id), values) = beside(named, values_of(alloc))?;
     set.link(alloc, template, id, values)?;
     Ok(())
 }
 
-fn link_all(alloc: Global, set: &mut PolicySet, many: u32) -> Result<(), Fail> {
+fn link_all<S: BuildHasher + Copy>(
+    alloc: Global,
+    set: &mut PolicySet<S>,
+    many: u32,
+) -> Result<(), Fail> {
     for number in 0..many {
         link_one(alloc, set, number)?;
     }
@@ -101,7 +114,11 @@ fn link_all(alloc: Global, set: &mut PolicySet, many: u32) -> Result<(), Fail> {
 }
 
 // Takes out the link of a number.
-fn unlink_one(alloc: Global, set: &mut PolicySet, number: u32) -> Result<(), Fail> {
+fn unlink_one<S: BuildHasher + Copy>(
+    alloc: Global,
+    set: &mut PolicySet<S>,
+    number: u32,
+) -> Result<(), Fail> {
     let id = numbered(alloc, number)?;
     let taken = set.unlink(&id);
     drop(id);
@@ -109,14 +126,18 @@ fn unlink_one(alloc: Global, set: &mut PolicySet, number: u32) -> Result<(), Fai
     Ok(())
 }
 
-fn unlink_all(alloc: Global, set: &mut PolicySet, many: u32) -> Result<(), Fail> {
+fn unlink_all<S: BuildHasher + Copy>(
+    alloc: Global,
+    set: &mut PolicySet<S>,
+    many: u32,
+) -> Result<(), Fail> {
     for number in 0..many {
         unlink_one(alloc, set, number)?;
     }
     Ok(())
 }
 
-fn count(set: &PolicySet) -> u32 {
+fn count<S: BuildHasher + Copy>(set: &PolicySet<S>) -> u32 {
     let mut count = 0;
     for _policy in set.policies() {
         if count < 1_000_000 {
@@ -127,43 +148,51 @@ fn count(set: &PolicySet) -> u32 {
 }
 
 // The set of so many static policies.
-fn set_of_static(alloc: Global, many: u32) -> Result<PolicySet, Fail> {
-    let mut set = PolicySet::new(alloc);
+fn set_of_static<S: BuildHasher + Copy>(
+    alloc: Global,
+    hasher: S,
+    many: u32,
+) -> Result<PolicySet<S>, Fail> {
+    let mut set = PolicySet::with_hasher(alloc, hasher);
     let done = add_all(alloc, &mut set, many);
     kept(set, done)
 }
 
 // How many static policies there are after so many were added.
-fn added(alloc: Global, many: u32) -> Result<u32, Fail> {
-    let set = set_of_static(alloc, many)?;
+fn added<S: BuildHasher + Copy>(alloc: Global, hasher: S, many: u32) -> Result<u32, Fail> {
+    let set = set_of_static(alloc, hasher, many)?;
     let count = count(&set);
     drop(set);
     Ok(count)
 }
 
-fn add_template(alloc: Global, set: &mut PolicySet) -> Result<(), Fail> {
+fn add_template<S: BuildHasher + Copy>(alloc: Global, set: &mut PolicySet<S>) -> Result<(), Fail> {
     let template = slotted(alloc, t(alloc)?)?;
     set.add_template(alloc, template)?;
     Ok(())
 }
 
 // A set with the template `t`.
-fn with_template(alloc: Global) -> Result<PolicySet, Fail> {
-    let mut set = PolicySet::new(alloc);
+fn with_template<S: BuildHasher + Copy>(alloc: Global, hasher: S) -> Result<PolicySet<S>, Fail> {
+    let mut set = PolicySet::with_hasher(alloc, hasher);
     let done = add_template(alloc, &mut set);
     kept(set, done)
 }
 
 // How many links there are after so many were linked, and after they were taken out.
-fn linked_on(alloc: Global, set: &mut PolicySet, many: u32) -> Result<(u32, u32), Fail> {
+fn linked_on<S: BuildHasher + Copy>(
+    alloc: Global,
+    set: &mut PolicySet<S>,
+    many: u32,
+) -> Result<(u32, u32), Fail> {
     link_all(alloc, set, many)?;
     let before = count(set);
     unlink_all(alloc, set, many)?;
     Ok((before, count(set)))
 }
 
-fn linked(alloc: Global, many: u32) -> Result<(u32, u32), Fail> {
-    let mut set = with_template(alloc)?;
+fn linked<S: BuildHasher + Copy>(alloc: Global, hasher: S, many: u32) -> Result<(u32, u32), Fail> {
+    let mut set = with_template(alloc, hasher)?;
     let told = linked_on(alloc, &mut set, many);
     drop(set);
     told
@@ -192,7 +221,12 @@ fn of_effect(alloc: Global, number: u32, effect: Effect) -> Result<Policy, Fail>
     Ok(Template::try_as_policy(alloc, Rc::new(alloc, template?)?)?)
 }
 
-fn add_effect(alloc: Global, set: &mut PolicySet, many: u32, effect: Effect) -> Result<(), Fail> {
+fn add_effect<S: BuildHasher + Copy>(
+    alloc: Global,
+    set: &mut PolicySet<S>,
+    many: u32,
+    effect: Effect,
+) -> Result<(), Fail> {
     for number in 0..many {
         let policy = of_effect(alloc, number, effect)?;
         set.add(alloc, policy)?;
@@ -201,8 +235,13 @@ fn add_effect(alloc: Global, set: &mut PolicySet, many: u32, effect: Effect) -> 
 }
 
 // The set of so many of them.
-fn set_of_effect(alloc: Global, many: u32, effect: Effect) -> Result<PolicySet, Fail> {
-    let mut set = PolicySet::new(alloc);
+fn set_of_effect<S: BuildHasher + Copy>(
+    alloc: Global,
+    hasher: S,
+    many: u32,
+    effect: Effect,
+) -> Result<PolicySet<S>, Fail> {
+    let mut set = PolicySet::with_hasher(alloc, hasher);
     let done = add_effect(alloc, &mut set, many, effect);
     kept(set, done)
 }
@@ -216,9 +255,9 @@ fn has_number(alloc: Global, id: &PolicyID, number: u32) -> Result<bool, Fail> {
 }
 
 // Whether each id went to the one so many numbers on.
-fn are_moved(
+fn are_moved<S: BuildHasher + Copy>(
     alloc: Global,
-    renaming: &IndexMap<PolicyID, PolicyID>,
+    renaming: &IndexMap<PolicyID, PolicyID, S>,
     by: u32,
 ) -> Result<bool, Fail> {
     let mut number = 0_u32;
@@ -235,10 +274,10 @@ fn are_moved(
 }
 
 // Merges a set into another; how many ids are renamed, and whether each is moved by so much.
-fn renamed(
+fn renamed<S: BuildHasher + Copy>(
     alloc: Global,
-    set: &mut PolicySet,
-    other: &PolicySet,
+    set: &mut PolicySet<S>,
+    other: &PolicySet<S>,
     by: u32,
 ) -> Result<(usize, bool), Fail> {
     let renaming = set.merge_policyset(alloc, other, true)?;
@@ -249,13 +288,14 @@ fn renamed(
 }
 
 // Merges a set of so many policies into another; how many ids are renamed, and whether each is moved by so much.
-fn renamed_of(
+fn renamed_of<S: BuildHasher + Copy>(
     alloc: Global,
-    set: &mut PolicySet,
+    hasher: S,
+    set: &mut PolicySet<S>,
     there: u32,
     by: u32,
 ) -> Result<(usize, bool), Fail> {
-    let other = set_of_effect(alloc, there, Effect::Forbid)?;
+    let other = set_of_effect(alloc, hasher, there, Effect::Forbid)?;
     let told = renamed(alloc, set, &other, by);
     drop(other);
     told
@@ -263,9 +303,15 @@ fn renamed_of(
 
 // Merges a set of so many policies into another; how many ids are renamed, whether each is moved by so much, and how many
 // policies there are then.
-fn merged(alloc: Global, here: u32, there: u32, by: u32) -> Result<(usize, bool, u32), Fail> {
-    let mut set = set_of_effect(alloc, here, Effect::Permit)?;
-    let told = renamed_of(alloc, &mut set, there, by);
+fn merged<S: BuildHasher + Copy>(
+    alloc: Global,
+    keys: (S, S),
+    here: u32,
+    there: u32,
+    by: u32,
+) -> Result<(usize, bool, u32), Fail> {
+    let mut set = set_of_effect(alloc, keys.0, here, Effect::Permit)?;
+    let told = renamed_of(alloc, keys.1, &mut set, there, by);
     let count = count(&set);
     drop(set);
     let (many, moved) = told?;
@@ -296,7 +342,11 @@ fn is_wanted(
 }
 
 // How many of the bodies of a set stand so, from the first on.
-fn bodies_wanted(alloc: Global, set: &PolicySet, there: u32) -> Result<u32, Fail> {
+fn bodies_wanted<S: BuildHasher + Copy>(
+    alloc: Global,
+    set: &PolicySet<S>,
+    there: u32,
+) -> Result<u32, Fail> {
     let mut place = 0_u32;
     for body in set.all_templates() {
         if !is_wanted(alloc, body.id(), body.effect(), place, there)? {
@@ -308,7 +358,11 @@ fn bodies_wanted(alloc: Global, set: &PolicySet, there: u32) -> Result<u32, Fail
 }
 
 // How many of the policies of a set do.
-fn policies_wanted(alloc: Global, set: &PolicySet, there: u32) -> Result<u32, Fail> {
+fn policies_wanted<S: BuildHasher + Copy>(
+    alloc: Global,
+    set: &PolicySet<S>,
+    there: u32,
+) -> Result<u32, Fail> {
     let mut place = 0_u32;
     for policy in set.policies() {
         if !is_wanted(alloc, policy.id(), policy.effect(), place, there)? {
@@ -320,8 +374,13 @@ fn policies_wanted(alloc: Global, set: &PolicySet, there: u32) -> Result<u32, Fa
 }
 
 // How many bodies and how many policies of that set stand as they should.
-fn boards_of(alloc: Global, set: &mut PolicySet, there: u32) -> Result<(u32, u32), Fail> {
-    let (many, moved) = renamed_of(alloc, set, there, there)?;
+fn boards_of<S: BuildHasher + Copy>(
+    alloc: Global,
+    hasher: S,
+    set: &mut PolicySet<S>,
+    there: u32,
+) -> Result<(u32, u32), Fail> {
+    let (many, moved) = renamed_of(alloc, hasher, set, there, there)?;
     if many != 100 || !moved {
         return Ok((0, 0));
     }
@@ -330,9 +389,9 @@ fn boards_of(alloc: Global, set: &mut PolicySet, there: u32) -> Result<(u32, u32
 }
 
 // That as a text.
-fn boards(alloc: Global, there: u32) -> Result<String, Fail> {
-    let mut set = set_of_effect(alloc, 100, Effect::Permit)?;
-    let told = boards_of(alloc, &mut set, there);
+fn boards<S: BuildHasher + Copy>(alloc: Global, keys: (S, S), there: u32) -> Result<String, Fail> {
+    let mut set = set_of_effect(alloc, keys.0, 100, Effect::Permit)?;
+    let told = boards_of(alloc, keys.1, &mut set, there);
     drop(set);
     let (bodies, policies) = told?;
     Ok(format!(in alloc; "{bodies} {policies}")?)
@@ -368,7 +427,12 @@ fn placed_link(alloc: Global, start: usize) -> Result<Policy, Fail> {
 }
 
 // Adds a static policy, a template or a link at a place.
-fn add_at(alloc: Global, set: &mut PolicySet, kind: &str, start: usize) -> Result<(), Fail> {
+fn add_at<S: BuildHasher + Copy>(
+    alloc: Global,
+    set: &mut PolicySet<S>,
+    kind: &str,
+    start: usize,
+) -> Result<(), Fail> {
     match kind {
         "static" => {
             let policy = Template::try_as_policy(alloc, Rc::new(alloc, placed(alloc, start)?)?)?;
@@ -381,14 +445,19 @@ fn add_at(alloc: Global, set: &mut PolicySet, kind: &str, start: usize) -> Resul
 }
 
 // The set of that.
-fn set_at(alloc: Global, kind: &str, start: usize) -> Result<PolicySet, Fail> {
-    let mut set = PolicySet::new(alloc);
+fn set_at<S: BuildHasher + Copy>(
+    alloc: Global,
+    hasher: S,
+    kind: &str,
+    start: usize,
+) -> Result<PolicySet<S>, Fail> {
+    let mut set = PolicySet::with_hasher(alloc, hasher);
     let done = add_at(alloc, &mut set, kind, start);
     kept(set, done)
 }
 
 // Where the body with an id begins, or 0.
-fn body_start(set: &PolicySet, id: &PolicyID) -> usize {
+fn body_start<S: BuildHasher + Copy>(set: &PolicySet<S>, id: &PolicyID) -> usize {
     match set.get_template(id) {
         Some(template) => template.loc().map_or(0, |loc| loc.start),
         None => 0,
@@ -396,7 +465,7 @@ fn body_start(set: &PolicySet, id: &PolicyID) -> usize {
 }
 
 // Where the policy with an id does, or 0.
-fn policy_start(set: &PolicySet, id: &PolicyID) -> usize {
+fn policy_start<S: BuildHasher + Copy>(set: &PolicySet<S>, id: &PolicyID) -> usize {
     match set.get(id) {
         Some(policy) => policy.loc().map_or(0, |loc| loc.start),
         None => 0,
@@ -404,7 +473,7 @@ fn policy_start(set: &PolicySet, id: &PolicyID) -> usize {
 }
 
 // Where the body `t` and the policies `t` and `l` begin.
-fn starts(alloc: Global, set: &PolicySet) -> Result<String, Fail> {
+fn starts<S: BuildHasher + Copy>(alloc: Global, set: &PolicySet<S>) -> Result<String, Fail> {
     let (t, l) = beside(t(alloc)?, l(alloc))?;
     let told = (
         body_start(set, &t),
@@ -417,7 +486,11 @@ fn starts(alloc: Global, set: &PolicySet) -> Result<String, Fail> {
 }
 
 // Merges a set into another, and says where all stands in both then, and how many ids are renamed.
-fn merged_starts(alloc: Global, set: &mut PolicySet, other: &PolicySet) -> Result<String, Fail> {
+fn merged_starts<S: BuildHasher + Copy>(
+    alloc: Global,
+    set: &mut PolicySet<S>,
+    other: &PolicySet<S>,
+) -> Result<String, Fail> {
     let renaming = set.merge_policyset(alloc, other, false)?;
     let many = renaming.len();
     drop(renaming);
@@ -426,45 +499,61 @@ fn merged_starts(alloc: Global, set: &mut PolicySet, other: &PolicySet) -> Resul
 }
 
 // Where all stands in a set; and then that.
-fn moves_on(alloc: Global, set: &mut PolicySet, other: &PolicySet) -> Result<String, Fail> {
+fn moves_on<S: BuildHasher + Copy>(
+    alloc: Global,
+    set: &mut PolicySet<S>,
+    other: &PolicySet<S>,
+) -> Result<String, Fail> {
     let before = starts(alloc, set)?;
     let (before, after) = beside(before, merged_starts(alloc, set, other))?;
     Ok(format!(in alloc; "{before}, {after}")?)
 }
 
 // That of the sets of a thing of a kind at the places 3 and 7.
-fn moves(alloc: Global, kind: &str) -> Result<String, Fail> {
-    let (mut set, other) = beside(set_at(alloc, kind, 3)?, set_at(alloc, kind, 7))?;
+fn moves<S: BuildHasher + Copy>(alloc: Global, keys: (S, S), kind: &str) -> Result<String, Fail> {
+    let (mut set, other) = beside(
+        set_at(alloc, keys.0, kind, 3)?,
+        set_at(alloc, keys.1, kind, 7),
+    )?;
     let told = moves_on(alloc, &mut set, &other);
     drop(set);
     drop(other);
     told
 }
 
-fn counted_links(alloc: Global, many: u32) -> Result<String, Fail> {
-    let (before, after) = linked(alloc, many)?;
+fn counted_links<S: BuildHasher + Copy>(
+    alloc: Global,
+    hasher: S,
+    many: u32,
+) -> Result<String, Fail> {
+    let (before, after) = linked(alloc, hasher, many)?;
     Ok(format!(in alloc; "{before} {after}")?)
 }
 
-fn renamed_text(alloc: Global, here: u32, there: u32) -> Result<String, Fail> {
-    let (many, moved, count) = merged(alloc, here, there, there)?;
+fn renamed_text<S: BuildHasher + Copy>(
+    alloc: Global,
+    keys: (S, S),
+    here: u32,
+    there: u32,
+) -> Result<String, Fail> {
+    let (many, moved, count) = merged(alloc, keys, here, there, there)?;
     let word = if moved { "moved" } else { "elsewhere" };
     Ok(format!(in alloc; "{many} {word} {count}")?)
 }
 
 // What is told of a word and a number or two.
-fn row(alloc: Global, asked: &str) -> Result<String, Fail> {
+fn row<S: BuildHasher + Copy>(alloc: Global, keys: (S, S), asked: &str) -> Result<String, Fail> {
     let (word, rest) = asked.split_once('|').unwrap_or((asked, ""));
     if word == "moves" {
-        return moves(alloc, rest);
+        return moves(alloc, keys, rest);
     }
     let (one, two) = rest.split_once('|').unwrap_or((rest, "0"));
     let (one, two): (u32, u32) = (one.parse()?, two.parse()?);
     match word {
-        "added" => Ok(added(alloc, one)?.to_string(alloc)?),
-        "linked" => counted_links(alloc, one),
-        "merged" => renamed_text(alloc, one, two),
-        _ => boards(alloc, one),
+        "added" => Ok(added(alloc, keys.0, one)?.to_string(alloc)?),
+        "linked" => counted_links(alloc, keys.0, one),
+        "merged" => renamed_text(alloc, keys, one, two),
+        _ => boards(alloc, keys, one),
     }
 }
 
@@ -489,5 +578,10 @@ moves|link => 3 0 3, 0 renamed, 7 0 7, 7 0 7";
 
 #[test]
 fn sets_of_many_are_changed_and_merged(rt: HostRuntime) -> Result<(), Fail> {
-    all_hold(rt.alloc(), ROWS, row)
+    all_hold(
+        rt.alloc(),
+        ROWS,
+        |alloc, asked| row(alloc, (fixed(), fixed()), asked),
+    )?;
+    all_hold(rt.alloc(), ROWS, |alloc, asked| row(alloc, keys(), asked))
 }

@@ -240,10 +240,10 @@ fn of_sets<S: BuildHasher + Copy>(
         "made" => made_text(alloc, keys.0, one),
         "single" => is_added(alloc, one, two),
         "lent" => is_lent_of(alloc, keys.0, one),
-        "raw" => is_raw(alloc, one, two),
-        "on raw" => told_raw(alloc, one, two),
-        "crossed" => is_crossed(alloc, one),
-        "on crossed" => told_crossed(alloc, one),
+        "raw" => is_raw(alloc, keys, one, two),
+        "on raw" => told_raw(alloc, keys, one, two),
+        "crossed" => is_crossed(alloc, keys, one),
+        "on crossed" => told_crossed(alloc, keys, one),
         _ => of_readers(alloc, keys.0, word, one, two),
     }
 }

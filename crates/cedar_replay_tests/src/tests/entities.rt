@@ -4,13 +4,16 @@ ghost use Rattle.std.specs.List.{AllByRecursion};
 ghost use Rattle.cedar_entities.specs.Plain.{AreBare, IsBare, entities_in};
 ghost use Rattle.cedar_replay.specs.CallsOf.{HasBareEntities};
 
+use super::keys;
 use cedar_entities::entities::Entities;
 use cedar_entity::entity::Entity;
-use cedar_replay::{EntityCall, replay_entities};
+use cedar_entity::err::EntitiesError;
+use cedar_replay::{EntityCall, replay_entities, replay_entities_with_hasher};
 use cedar_store_texts::calls::{is_one_of, parts_of};
 use cedar_store_texts::made::{entity_of, shared, uids_of};
 use cedar_store_texts::written::{refusal_of, texts_of};
 use std::alloc::Global;
+use std::hash::BuildHasher;
 use std::rc::Rc;
 use std::test::Fail;
 
@@ -96,7 +99,7 @@ fn calls_of(alloc: Global, texts: &str) -> Result<Vec<EntityCall>, Fail>
 }
 
 // The entities of a store, behind a word where it is partial.
-fn shown(alloc: Global, store: &Entities) -> Result<String, Fail> {
+fn shown<S: BuildHasher + Copy>(alloc: Global, store: &Entities<S>) -> Result<String, Fail> {
     let texts = texts_of(alloc, store)?;
     if !store.is_partial() {
         return Ok(texts);
@@ -114,9 +117,12 @@ fn numbered(alloc: Global, number: usize, text: Result<String, Fail>) -> Result<
     Ok(whole?)
 }
 
-// What calls leave, or the number of those before the refused one and why it is.
-fn left(alloc: Global, calls: &str) -> Result<String, Fail> {
-    match replay_entities(alloc, calls_of(alloc, calls)?) {
+// The store that calls leave, or the number of those before the refused one and why it is.
+type Replayed<S> = Result<Entities<S>, (usize, EntitiesError)>;
+
+// That as a text.
+fn told<S: BuildHasher + Copy>(alloc: Global, replayed: Replayed<S>) -> Result<String, Fail> {
+    match replayed {
         Ok(store) => {
             let text = shown(alloc, &store);
             drop(store);
@@ -130,19 +136,36 @@ fn left(alloc: Global, calls: &str) -> Result<String, Fail> {
     }
 }
 
-// The first of the calls that leaves something else than what is beside it, and what it leaves.
-fn wrong(alloc: Global, table: &[(&str, &str)]) -> Result<String, Fail> {
-    for (calls, due) in table {
-        let found = left(alloc, calls)?;
-        let is_due = is_one_of(&found, due);
-        if !is_due {
-            let text = format!(in alloc; "{calls} leaves {found}");
-            drop(found);
-            return Ok(text?);
-        }
-        drop(found);
+// What calls leave where no builder of hashers is given.
+fn left(alloc: Global, calls: &str) -> Result<String, Fail> {
+    told(alloc, replay_entities(alloc, calls_of(alloc, calls)?))
+}
+
+// What calls leave under a builder of hashers.
+fn left_by<S: BuildHasher + Copy>(alloc: Global, hasher: S, calls: &str) -> Result<String, Fail> {
+    let calls = calls_of(alloc, calls)?;
+    told(alloc, replay_entities_with_hasher(alloc, hasher, calls))
+}
+
+// Fails with calls and what they leave, where that is not what is due.
+fn is_due(calls: &str, found: Result<String, Fail>, due: &str) -> Result<(), Fail> {
+    let found = found?;
+    if is_one_of(&found, due) {
+        return Ok(());
     }
-    Ok(String::new(alloc))
+    Err(Fail::new(format_args!("{calls} leaves {found}")))
+}
+
+// Fails with the first of the calls that leaves something else than what is beside it, where no builder of hashers is given
+// or under one of two keys.
+fn leaves(alloc: Global, table: &[(&str, &str)]) -> Result<(), Fail> {
+    let (one, other) = keys();
+    for (calls, due) in table {
+        is_due(calls, left(alloc, calls), due)?;
+        is_due(calls, left_by(alloc, one, calls), due)?;
+        is_due(calls, left_by(alloc, other, calls), due)?;
+    }
+    Ok(())
 }
 
 #[test]
@@ -162,8 +185,7 @@ fn calls_are_made_in_turn(rt: HostRuntime) -> Result<(), Fail> {
         ("from: a b; upsert: a c, a d", "a d"),
         ("from: a b, b c, c; add: a b c", "a b | c, b c, c"),
     ];
-    assert_eq!(rt; wrong(rt.alloc(), table)?.as_str(), "");
-    Ok(())
+    leaves(rt.alloc(), table)
 }
 
 #[test]
@@ -179,8 +201,7 @@ fn the_first_refusal_ends_the_calls(rt: HostRuntime) -> Result<(), Fail> {
         ("add: a b, a c", "0 duplicate a"),
         ("partial; remove: z; add: b; from: b c, b", "3 duplicate b"),
     ];
-    assert_eq!(rt; wrong(rt.alloc(), table)?.as_str(), "");
-    Ok(())
+    leaves(rt.alloc(), table)
 }
 
 #[test]
@@ -192,13 +213,12 @@ fn a_store_starts_anew_and_becomes_partial(rt: HostRuntime) -> Result<(), Fail> 
         ("from: a; partial; upsert: b a; remove: a", "partial b"),
         ("partial; from: a", "a"),
     ];
-    assert_eq!(rt; wrong(rt.alloc(), table)?.as_str(), "");
-    Ok(())
+    leaves(rt.alloc(), table)
 }
 
-// Whether no call leaves the store without entities, which is not partial.
-fn leaves_nothing(alloc: Global) -> Result<bool, Fail> {
-    match replay_entities(alloc, Vec::new(alloc)) {
+// Whether this is the store without entities, which is not partial.
+fn is_nothing<S: BuildHasher + Copy>(replayed: Replayed<S>) -> Result<bool, Fail> {
+    match replayed {
         Ok(store) => {
             let answer = store.is_empty() && !store.is_partial();
             drop(store);
@@ -208,8 +228,21 @@ fn leaves_nothing(alloc: Global) -> Result<bool, Fail> {
     }
 }
 
+// Whether no call leaves that where no builder of hashers is given.
+fn leaves_nothing(alloc: Global) -> Result<bool, Fail> {
+    is_nothing(replay_entities(alloc, Vec::new(alloc)))
+}
+
+// Whether no call leaves that under a builder of hashers.
+fn leaves_nothing_by<S: BuildHasher + Copy>(alloc: Global, hasher: S) -> Result<bool, Fail> {
+    is_nothing(replay_entities_with_hasher(alloc, hasher, Vec::new(alloc)))
+}
+
 #[test]
 fn no_call_leaves_the_empty_store(rt: HostRuntime) -> Result<(), Fail> {
+    let (one, other) = keys();
     assert!(rt; leaves_nothing(rt.alloc())?);
+    assert!(rt; leaves_nothing_by(rt.alloc(), one)?);
+    assert!(rt; leaves_nothing_by(rt.alloc(), other)?);
     Ok(())
 }

@@ -5,6 +5,7 @@
 //
 // No function holds a set, a policy, a call or an answer over a step that may fail, and none leaves one to the end of its
 // body: what is at hand goes to `beside` or `kept`, or is let go by a written `drop`.
+use super::{fixed, keys};
 use cedar_action::ActionConstraint;
 use cedar_annotation::Annotations;
 use cedar_ids::entity::EntityUID;
@@ -18,6 +19,7 @@ use indexmap::IndexMap;
 use std::alloc::Global;
 use std::collections::HashMap;
 use std::fmt::Display;
+use std::hash::BuildHasher;
 use std::mem;
 use std::test::Fail;
 
@@ -102,11 +104,19 @@ fn values_of(alloc: Global, slot: SlotId, text: &str) -> Result<SlotEnv, Fail> {
     kept(values, done)
 }
 
-fn static_call(alloc: Global, text: &str, effect: Effect) -> Result<PolicyCall, Fail> {
+fn static_call<S: BuildHasher + Copy>(
+    alloc: Global,
+    text: &str,
+    effect: Effect,
+) -> Result<PolicyCall<S>, Fail> {
     Ok(PolicyCall::AddStatic(static_of(alloc, text, effect)?))
 }
 
-fn link_call(alloc: Global, slot: SlotId, text: &str) -> Result<PolicyCall, Fail> {
+fn link_call<S: BuildHasher + Copy>(
+    alloc: Global,
+    slot: SlotId,
+    text: &str,
+) -> Result<PolicyCall<S>, Fail> {
     let (template, rest) = text.split_once(' ').unwrap_or((text, ""));
     let (id, value) = rest.split_once(' ').unwrap_or((rest, ""));
     let named = beside(id_of(alloc, template)?, id_of(alloc, id))?;
@@ -114,13 +124,17 @@ fn link_call(alloc: Global, slot: SlotId, text: &str) -> Result<PolicyCall, Fail
     Ok(PolicyCall::Link(template, id, values))
 }
 
-fn add_call(alloc: Global, text: &str) -> Result<PolicyCall, Fail> {
+fn add_call<S: BuildHasher + Copy>(alloc: Global, text: &str) -> Result<PolicyCall<S>, Fail> {
     let policy = static_of(alloc, text, Effect::Permit)?;
     Ok(PolicyCall::Add(Policy::from_static(alloc, policy)?))
 }
 
 // The adding of a template on the action's slot, or on the principal's.
-fn template_call(alloc: Global, text: &str, on_action: bool) -> Result<PolicyCall, Fail> {
+fn template_call<S: BuildHasher + Copy>(
+    alloc: Global,
+    text: &str,
+    on_action: bool,
+) -> Result<PolicyCall<S>, Fail> {
     let (principal, action) = if on_action {
         (PrincipalConstraint::any(), ActionConstraint::is_eq_slot())
     } else {
@@ -131,12 +145,21 @@ fn template_call(alloc: Global, text: &str, on_action: bool) -> Result<PolicyCal
 }
 
 // The merge of the other set, for which an empty one is left.
-fn merge_call(alloc: Global, other: &mut PolicySet, rename: bool) -> PolicyCall {
-    PolicyCall::Merge(mem::replace(other, PolicySet::new(alloc)), rename)
+fn merge_call<S: BuildHasher + Copy>(
+    alloc: Global,
+    other: &mut PolicySet<S>,
+    rename: bool,
+) -> PolicyCall<S> {
+    let empty = PolicySet::with_hasher(alloc, *other.hasher());
+    PolicyCall::Merge(mem::replace(other, empty), rename)
 }
 
 // The call with a text. The other set goes into a merge.
-fn call_of(alloc: Global, text: &str, other: &mut PolicySet) -> Result<PolicyCall, Fail> {
+fn call_of<S: BuildHasher + Copy>(
+    alloc: Global,
+    text: &str,
+    other: &mut PolicySet<S>,
+) -> Result<PolicyCall<S>, Fail> {
     let (word, rest) = text.split_once(' ').unwrap_or((text, ""));
     match word {
         "static" => static_call(alloc, rest, Effect::Permit),
@@ -153,11 +176,11 @@ fn call_of(alloc: Global, text: &str, other: &mut PolicySet) -> Result<PolicyCal
     }
 }
 
-fn put_calls(
+fn put_calls<S: BuildHasher + Copy>(
     alloc: Global,
-    calls: &mut Vec<PolicyCall>,
+    calls: &mut Vec<PolicyCall<S>>,
     texts: &str,
-    other: &mut PolicySet,
+    other: &mut PolicySet<S>,
 ) -> Result<(), Fail> {
     for text in texts.split(';') {
         if !text.trim().is_empty() {
@@ -168,7 +191,11 @@ fn put_calls(
 }
 
 // The calls with these texts. The other set, which goes into a merge, is let go if there is none.
-fn calls_of(alloc: Global, texts: &str, mut other: PolicySet) -> Result<Vec<PolicyCall>, Fail> {
+fn calls_of<S: BuildHasher + Copy>(
+    alloc: Global,
+    texts: &str,
+    mut other: PolicySet<S>,
+) -> Result<Vec<PolicyCall<S>>, Fail> {
     let mut calls = Vec::new(alloc);
     let done = put_calls(alloc, &mut calls, texts, &mut other);
     drop(other);
@@ -207,10 +234,10 @@ fn put_pair(
 }
 
 // Writes what merging answered: the ids that were renamed.
-fn put_renamed(
+fn put_renamed<S: BuildHasher + Copy>(
     alloc: Global,
     text: &mut String,
-    renaming: &IndexMap<PolicyID, PolicyID>,
+    renaming: &IndexMap<PolicyID, PolicyID, S>,
 ) -> Result<(), Fail> {
     if renaming.is_empty() {
         return put_word(text, "merged");
@@ -248,7 +275,11 @@ fn put_policy<E: Display>(
 }
 
 // Writes what a call answered.
-fn put_answer(alloc: Global, text: &mut String, answer: &Answer) -> Result<(), Fail> {
+fn put_answer<S: BuildHasher + Copy>(
+    alloc: Global,
+    text: &mut String,
+    answer: &Answer<S>,
+) -> Result<(), Fail> {
     match answer {
         Answer::AddStatic(done) => put_done(alloc, text, done),
         Answer::AddTemplate(done) => put_done(alloc, text, done),
@@ -264,7 +295,11 @@ fn put_answer(alloc: Global, text: &mut String, answer: &Answer) -> Result<(), F
 }
 
 // Writes what the calls answered, parted by semicolons.
-fn put_answers(alloc: Global, text: &mut String, answers: &[Answer]) -> Result<(), Fail> {
+fn put_answers<S: BuildHasher + Copy>(
+    alloc: Global,
+    text: &mut String,
+    answers: &[Answer<S>],
+) -> Result<(), Fail> {
     for answer in answers {
         if !text.is_empty() {
             put_word(text, "; ")?;
@@ -275,7 +310,7 @@ fn put_answers(alloc: Global, text: &mut String, answers: &[Answer]) -> Result<(
 }
 
 // Writes the ids of bodies, each behind a blank.
-fn put_bodies(text: &mut String, set: &PolicySet) -> Result<(), Fail> {
+fn put_bodies<S: BuildHasher + Copy>(text: &mut String, set: &PolicySet<S>) -> Result<(), Fail> {
     for template in set.all_templates() {
         put_word(text, " ")?;
         put_word(text, template.id().as_ref())?;
@@ -284,7 +319,7 @@ fn put_bodies(text: &mut String, set: &PolicySet) -> Result<(), Fail> {
 }
 
 // Writes the ids of policies, each behind a blank.
-fn put_policies(text: &mut String, set: &PolicySet) -> Result<(), Fail> {
+fn put_policies<S: BuildHasher + Copy>(text: &mut String, set: &PolicySet<S>) -> Result<(), Fail> {
     for policy in set.policies() {
         put_word(text, " ")?;
         put_word(text, policy.id().as_ref())?;
@@ -293,11 +328,11 @@ fn put_policies(text: &mut String, set: &PolicySet) -> Result<(), Fail> {
 }
 
 // Writes what calls answered, and both orders of the set that they left.
-fn put_told(
+fn put_told<S: BuildHasher + Copy>(
     alloc: Global,
     text: &mut String,
-    set: &PolicySet,
-    answers: &[Answer],
+    set: &PolicySet<S>,
+    answers: &[Answer<S>],
 ) -> Result<(), Fail> {
     put_answers(alloc, text, answers)?;
     put_word(text, " |")?;
@@ -307,14 +342,22 @@ fn put_told(
 }
 
 // That as a text.
-fn told_text(alloc: Global, set: &PolicySet, answers: &[Answer]) -> Result<String, Fail> {
+fn told_text<S: BuildHasher + Copy>(
+    alloc: Global,
+    set: &PolicySet<S>,
+    answers: &[Answer<S>],
+) -> Result<String, Fail> {
     let mut text = String::new(alloc);
     let done = put_told(alloc, &mut text, set, answers);
     kept(text, done)
 }
 
 // What the calls answer on a set, and both orders after them.
-fn told_on(alloc: Global, set: &mut PolicySet, calls: Vec<PolicyCall>) -> Result<String, Fail> {
+fn told_on<S: BuildHasher + Copy>(
+    alloc: Global,
+    set: &mut PolicySet<S>,
+    calls: Vec<PolicyCall<S>>,
+) -> Result<String, Fail> {
     let answers = replay_policies(alloc, set, calls)?;
     let told = told_text(alloc, set, &answers);
     drop(answers);
@@ -322,24 +365,37 @@ fn told_on(alloc: Global, set: &mut PolicySet, calls: Vec<PolicyCall>) -> Result
 }
 
 // What the calls answer on the empty set, and both orders after them.
-fn told(alloc: Global, other: PolicySet, texts: &str) -> Result<String, Fail> {
+fn told<S: BuildHasher + Copy>(
+    alloc: Global,
+    hasher: S,
+    other: PolicySet<S>,
+    texts: &str,
+) -> Result<String, Fail> {
     let calls = calls_of(alloc, texts, other)?;
-    let mut set = PolicySet::new(alloc);
+    let mut set = PolicySet::with_hasher(alloc, hasher);
     let told = told_on(alloc, &mut set, calls);
     drop(set);
     told
 }
 
 // Makes calls on a set.
-fn run(alloc: Global, set: &mut PolicySet, calls: Vec<PolicyCall>) -> Result<(), Fail> {
+fn run<S: BuildHasher + Copy>(
+    alloc: Global,
+    set: &mut PolicySet<S>,
+    calls: Vec<PolicyCall<S>>,
+) -> Result<(), Fail> {
     drop(replay_policies(alloc, set, calls)?);
     Ok(())
 }
 
 // The set that some calls leave.
-fn set_of(alloc: Global, texts: &str) -> Result<PolicySet, Fail> {
-    let calls = calls_of(alloc, texts, PolicySet::new(alloc))?;
-    let mut set = PolicySet::new(alloc);
+fn set_of<S: BuildHasher + Copy>(
+    alloc: Global,
+    hasher: S,
+    texts: &str,
+) -> Result<PolicySet<S>, Fail> {
+    let calls = calls_of(alloc, texts, PolicySet::with_hasher(alloc, hasher))?;
+    let mut set = PolicySet::with_hasher(alloc, hasher);
     let done = run(alloc, &mut set, calls);
     kept(set, done)
 }
@@ -353,12 +409,25 @@ fn is_told(calls: &str, told: Result<String, Fail>, want: &str) -> Result<(), Fa
     Err(Fail::new(format_args!("{calls}: {told}")))
 }
 
+// Fails where another thing is told of a list of calls than is wanted. The set hashes by the first of two builders, the one
+// that is merged in by the second.
+fn tells_by<S: BuildHasher + Copy>(
+    alloc: Global,
+    keys: (S, S),
+    other: &str,
+    calls: &str,
+    want: &str,
+) -> Result<(), Fail> {
+    let other = set_of(alloc, keys.1, other)?;
+    is_told(calls, told(alloc, keys.0, other, calls), want)
+}
+
 // Fails with the first of these lists of calls, each beside the set that it merges in, of which another thing is told
-// than stands beside it.
+// than stands beside it, under the default builder of hashers or under two keys.
 pub(super) fn tells(alloc: Global, table: &[(&str, &str, &str)]) -> Result<(), Fail> {
     for (other, calls, want) in table {
-        let other = set_of(alloc, other)?;
-        is_told(calls, told(alloc, other, calls), want)?;
+        tells_by(alloc, (fixed(), fixed()), other, calls, want)?;
+        tells_by(alloc, keys(), other, calls, want)?;
     }
     Ok(())
 }

@@ -1,10 +1,10 @@
 // Slices of random stores beside what a search gives: of plain ones, and of stores that were taken as they are, which may have
 // cycles or lack ancestors.
-use super::stores::{beside, keys_in, listed, sliced, store_by, store_of};
+use super::stores::{beside, keys_in, listed, sliced, store_of};
 use super::worlds::{LETTERS, Row, is_least, reached, with_ancestors};
+use super::{fixed, keys};
 use cedar_entities::entities::{Entities, TCComputation};
 use cedar_ids::entity::EntityUID;
-use cedar_keyed_hash::KeyedState;
 use std::alloc::{AllocError, Global};
 use std::hash::BuildHasher;
 use std::test::Fail;
@@ -53,7 +53,7 @@ fn rows(alloc: Global, state: u64, is_plain: bool) -> Result<Vec<Row>, AllocErro
 }
 
 // How far an entity that a store has with one uid descends from another: 0 where it has none.
-fn descent(store: &Entities, from: &EntityUID, to: &EntityUID) -> u8 {
+fn descent<S: BuildHasher + Copy>(store: &Entities<S>, from: &EntityUID, to: &EntityUID) -> u8 {
     match store.stored(from) {
         Some(entity) => {
             if entity.is_descendant_of(to) {
@@ -66,7 +66,12 @@ fn descent(store: &Entities, from: &EntityUID, to: &EntityUID) -> u8 {
 }
 
 // Whether both stores answer alike of these uids against each.
-fn are_alike(one: &Entities, other: &Entities, asked: &[EntityUID], all: &[EntityUID]) -> bool {
+fn are_alike<S: BuildHasher + Copy>(
+    one: &Entities<S>,
+    other: &Entities<S>,
+    asked: &[EntityUID],
+    all: &[EntityUID],
+) -> bool {
     for from in asked {
         for to in all {
             if descent(one, from, to) != descent(other, from, to) {
@@ -78,7 +83,12 @@ fn are_alike(one: &Entities, other: &Entities, asked: &[EntityUID], all: &[Entit
 }
 
 // Whether both stores answer alike of the uids of a set.
-fn answer_alike(alloc: Global, one: &Entities, other: &Entities, set: u16) -> Result<bool, Fail> {
+fn answer_alike<S: BuildHasher + Copy>(
+    alloc: Global,
+    one: &Entities<S>,
+    other: &Entities<S>,
+    set: u16,
+) -> Result<bool, Fail> {
     let (asked, all) = beside(listed(alloc, set, 1)?, listed(alloc, 8191, 1))?;
     let alike = are_alike(one, other, &asked, &all);
     drop(asked);
@@ -117,17 +127,39 @@ impl<'a> Case<'a> {
     }
 }
 
-// A store, its slice, and the store of what the slice has by search.
-fn made(alloc: Global, case: &Case<'_>) -> Result<((Entities, Entities), Entities), Fail> {
-    let whole = store_of(alloc, case.rows, 8191, case.mode())?;
+// A store and its slice.
+type Pair<S> = (Entities<S>, Entities<S>);
+
+// A store and its slice, under a builder of hashers.
+fn made_by<S: BuildHasher + Copy>(
+    alloc: Global,
+    hasher: S,
+    case: &Case<'_>,
+) -> Result<Pair<S>, Fail> {
+    let whole = store_of(alloc, hasher, case.rows, 8191, case.mode())?;
     let part = sliced(alloc, &whole, case.asked, case.times);
-    let pair = beside(whole, part)?;
-    beside(pair, store_of(alloc, case.rows, case.wanted(), case.mode()))
+    beside(whole, part)
+}
+
+// A store and its slice under the first of two builders of hashers, and under the second the store of what the slice has by
+// search.
+fn made<S: BuildHasher + Copy>(
+    alloc: Global,
+    keys: (S, S),
+    case: &Case<'_>,
+) -> Result<(Pair<S>, Entities<S>), Fail> {
+    let pair = made_by(alloc, keys.0, case)?;
+    let model = store_of(alloc, keys.1, case.rows, case.wanted(), case.mode());
+    beside(pair, model)
 }
 
 // Whether a slice is right.
-fn is_right(alloc: Global, case: &Case<'_>) -> Result<bool, Fail> {
-    let ((whole, part), model) = made(alloc, case)?;
+fn is_right<S: BuildHasher + Copy>(
+    alloc: Global,
+    keys: (S, S),
+    case: &Case<'_>,
+) -> Result<bool, Fail> {
+    let ((whole, part), model) = made(alloc, keys, case)?;
     let same = part.deep_eq(&model) && case.is_least(keys_in(&part));
     let alike = answer_alike(alloc, &whole, &part, case.asked);
     drop(whole);
@@ -137,7 +169,12 @@ fn is_right(alloc: Global, case: &Case<'_>) -> Result<bool, Fail> {
 }
 
 // Whether the slice of a random store at a random list is right.
-fn is_right_at(alloc: Global, state: u64, is_plain: bool) -> Result<bool, Fail> {
+fn is_right_at<S: BuildHasher + Copy>(
+    alloc: Global,
+    keys: (S, S),
+    state: u64,
+    is_plain: bool,
+) -> Result<bool, Fail> {
     let rows = rows(alloc, state, is_plain)?;
     let other = next(state);
     let case = Case {
@@ -146,40 +183,31 @@ fn is_right_at(alloc: Global, state: u64, is_plain: bool) -> Result<bool, Fail> 
         asked: letters(other) & letters(next(other)),
         times: ((other >> 62) & 1) as u32 + 1,
     };
-    let right = is_right(alloc, &case);
+    let right = is_right(alloc, keys, &case);
     drop(rows);
     right
 }
 
 // How many of so many slices are right, up to the first that is wrong.
-fn right(alloc: Global, times: u32, is_plain: bool) -> Result<u32, Fail> {
+fn right<S: BuildHasher + Copy>(
+    alloc: Global,
+    keys: (S, S),
+    times: u32,
+    is_plain: bool,
+) -> Result<u32, Fail> {
     let mut state = 1;
     for done in 0..times {
         state = next(state);
-        if !is_right_at(alloc, state, is_plain)? {
+        if !is_right_at(alloc, keys, state, is_plain)? {
             return Ok(done);
         }
     }
     Ok(times)
 }
 
-// A store and its slice, under a builder of hashers.
-fn made_by<S: BuildHasher + Copy>(
-    alloc: Global,
-    hasher: S,
-    case: &Case<'_>,
-) -> Result<(Entities<S>, Entities<S>), Fail> {
-    let whole = store_by(alloc, hasher, case.rows, case.mode())?;
-    let part = sliced(alloc, &whole, case.asked, case.times);
-    beside(whole, part)
-}
-
 // Whether the slices of a store under two keys are deeply equal.
 fn keys_agree(alloc: Global, case: &Case<'_>) -> Result<bool, Fail> {
-    let (one, other) = (
-        KeyedState::with_keys(1, 2),
-        KeyedState::with_keys(u64::MAX, 3),
-    );
+    let (one, other) = keys();
     let ((whole, part), (again, second)) = beside(
         made_by(alloc, one, case)?,
         made_by(alloc, other, case),
@@ -227,12 +255,14 @@ fn slices_of_stores_under_two_keys_are_deeply_equal(rt: HostRuntime) -> Result<(
 
 #[test]
 fn slices_of_random_plain_stores_are_as_a_search_gives(rt: HostRuntime) -> Result<(), Fail> {
-    assert_eq!(rt; right(rt.alloc(), 5000, true)?, 5000);
+    assert_eq!(rt; right(rt.alloc(), (fixed(), fixed()), 5000, true)?, 5000);
+    assert_eq!(rt; right(rt.alloc(), keys(), 5000, true)?, 5000);
     Ok(())
 }
 
 #[test]
 fn slices_of_stores_that_were_taken_as_they_are_have_one_step(rt: HostRuntime) -> Result<(), Fail> {
-    assert_eq!(rt; right(rt.alloc(), 2000, false)?, 2000);
+    assert_eq!(rt; right(rt.alloc(), (fixed(), fixed()), 2000, false)?, 2000);
+    assert_eq!(rt; right(rt.alloc(), keys(), 2000, false)?, 2000);
     Ok(())
 }

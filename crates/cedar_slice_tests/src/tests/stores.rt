@@ -117,25 +117,16 @@ fn entities_of(alloc: Global, rows: &[Row], set: u16) -> Result<Vec<Entity>, Fai
     Ok(list)
 }
 
-// As `store_of`, which hashes by what a builder builds.
-pub(super) fn store_by<S: BuildHasher + Clone>(
+// The store of those rows whose uids are in a set, which hashes by what a builder builds.
+pub(super) fn store_of<S: BuildHasher + Copy>(
     alloc: Global,
     hasher: S,
     rows: &[Row],
-    mode: TCComputation,
-) -> Result<Entities<S>, Fail> {
-    let (hasher, list) = beside(hasher, entities_of(alloc, rows, 8191))?;
-    Ok(Entities::from_entities_with_hasher(alloc, hasher, list, mode)?)
-}
-
-// The store of those rows whose uids are in a set.
-pub(super) fn store_of(
-    alloc: Global,
-    rows: &[Row],
     set: u16,
     mode: TCComputation,
-) -> Result<Entities, Fail> {
-    Ok(Entities::from_entities(alloc, entities_of(alloc, rows, set)?, mode)?)
+) -> Result<Entities<S>, Fail> {
+    let list = entities_of(alloc, rows, set)?;
+    Ok(Entities::from_entities_with_hasher(alloc, hasher, list, mode)?)
 }
 
 // The slice of a store at the uids of a set, each of which is asked for so many times.
@@ -161,7 +152,7 @@ fn bits(uids: Uids<'_>) -> u16 {
 }
 
 // The set of the uids of the entities of a store.
-pub(super) fn keys_in(store: &Entities) -> u16 {
+pub(super) fn keys_in<S: BuildHasher + Copy>(store: &Entities<S>) -> u16 {
     let mut set = 0;
     for entity in store.iter() {
         set |= set_of(entity.uid().eid().as_ref());
@@ -189,7 +180,11 @@ fn push_word(text: &mut String, entity: &Entity) -> Result<(), AllocError> {
 }
 
 // Adds the words of the entities of a store that have one of some uids.
-fn push_words(text: &mut String, store: &Entities, uids: &[EntityUID]) -> Result<(), AllocError> {
+fn push_words<S: BuildHasher + Copy>(
+    text: &mut String,
+    store: &Entities<S>,
+    uids: &[EntityUID],
+) -> Result<(), AllocError> {
     for uid in uids {
         if let Some(entity) = store.stored(uid) {
             push_word(text, entity)?;
@@ -199,7 +194,10 @@ fn push_words(text: &mut String, store: &Entities, uids: &[EntityUID]) -> Result
 }
 
 // The words of the entities of a store in the order of their letters, each behind a blank.
-pub(super) fn text_of(alloc: Global, store: &Entities) -> Result<String, Fail> {
+pub(super) fn text_of<S: BuildHasher + Copy>(
+    alloc: Global,
+    store: &Entities<S>,
+) -> Result<String, Fail> {
     let uids = listed(alloc, 8191, 1)?;
     let mut text = String::new(alloc);
     let added = push_words(&mut text, store, &uids);

@@ -1,8 +1,10 @@
 // Worked slices. A line has what the store was made by, its entities, the uids that are asked for, and what the slice has.
 use super::stores::{beside, sliced, store_of, text_of};
 use super::worlds::{rows_of, set_of};
+use super::{fixed, keys};
 use cedar_entities::entities::{Entities, TCComputation};
 use std::alloc::Global;
+use std::hash::BuildHasher;
 use std::test::Fail;
 
 const LINES: &str = "compute; ab bc cd d e; a; ab/cd bc/d cd/ d/
@@ -22,19 +24,24 @@ partial; ab bc; az; ab/c bc/
 partial; ab bc; z; ";
 
 // The store that is made so of a text.
-fn made(alloc: Global, word: &str, text: &str) -> Result<Entities, Fail> {
+fn made<S: BuildHasher + Copy>(
+    alloc: Global,
+    hasher: S,
+    word: &str,
+    text: &str,
+) -> Result<Entities<S>, Fail> {
     let rows = rows_of(alloc, text)?;
     let mode = match word {
         "assume" => TCComputation::AssumeAlreadyComputed,
         _ => TCComputation::ComputeNow,
     };
-    let store = store_of(alloc, &rows, 8191, mode);
+    let store = store_of(alloc, hasher, &rows, 8191, mode);
     drop(rows);
     Ok(store?)
 }
 
 // The store, partial where it was made so.
-fn in_mode(word: &str, store: Entities) -> Entities {
+fn in_mode<S: BuildHasher + Copy>(word: &str, store: Entities<S>) -> Entities<S> {
     if word == "partial" {
         return store.partial();
     }
@@ -42,7 +49,11 @@ fn in_mode(word: &str, store: Entities) -> Entities {
 }
 
 // The text of the slice of a store at these uids, each asked for twice. It is not partial.
-fn told(alloc: Global, store: Entities, asked: &str) -> Result<String, Fail> {
+fn told<S: BuildHasher + Copy>(
+    alloc: Global,
+    store: Entities<S>,
+    asked: &str,
+) -> Result<String, Fail> {
     let (store, part) = {
         let part = sliced(alloc, &store, set_of(asked), 2);
         beside(store, part)?
@@ -63,9 +74,9 @@ fn field<'a>(line: &'a str, place: usize) -> &'a str {
 }
 
 // Whether the slice of a line is the one that stands in it.
-fn is_so(alloc: Global, line: &str) -> Result<bool, Fail> {
+fn is_so<S: BuildHasher + Copy>(alloc: Global, hasher: S, line: &str) -> Result<bool, Fail> {
     let word = field(line, 0);
-    let store = in_mode(word, made(alloc, word, field(line, 1))?);
+    let store = in_mode(word, made(alloc, hasher, word, field(line, 1))?);
     let text = told(alloc, store, field(line, 2))?;
     let same = text.trim() == field(line, 3);
     drop(text);
@@ -73,9 +84,9 @@ fn is_so(alloc: Global, line: &str) -> Result<bool, Fail> {
 }
 
 // The first line whose slice is another, or nothing.
-fn wrong(alloc: Global) -> Result<&'static str, Fail> {
+fn wrong<S: BuildHasher + Copy>(alloc: Global, hasher: S) -> Result<&'static str, Fail> {
     for line in LINES.lines() {
-        if !is_so(alloc, line)? {
+        if !is_so(alloc, hasher, line)? {
             return Ok(line);
         }
     }
@@ -84,6 +95,9 @@ fn wrong(alloc: Global) -> Result<&'static str, Fail> {
 
 #[test]
 fn a_slice_has_what_is_asked_for_and_what_is_stored_above_it(rt: HostRuntime) -> Result<(), Fail> {
-    assert_eq!(rt; wrong(rt.alloc())?, "");
+    let (one, other) = keys();
+    assert_eq!(rt; wrong(rt.alloc(), fixed())?, "");
+    assert_eq!(rt; wrong(rt.alloc(), one)?, "");
+    assert_eq!(rt; wrong(rt.alloc(), other)?, "");
     Ok(())
 }

@@ -1,8 +1,8 @@
 // Readers and writers that fail at each of their calls.
-use super::{due_of, lines_of};
-use cedar_keyed_hash::KeyedState;
+use super::{due_of, fixed, keys, lines_of};
 use cedar_talk::{Manner, TalkError, talk};
 use std::alloc::Global;
+use std::hash::BuildHasher;
 use std::io;
 use std::io::{ErrorKind, Read, Write};
 
@@ -40,7 +40,14 @@ fn status_of(answer: Result<u8, TalkError>) -> u8 {
 // Whether a conversation over a reader that fails after so many good reads wrote what is due for all lines that these
 // brought to their line feed; strictly it ends with the last row, which is no command, and else at the end of the
 // input.
-fn is_due(alloc: Global, manner: Manner, rows: &str, most: usize, good: usize) -> bool {
+fn is_due<S: BuildHasher + Copy>(
+    alloc: Global,
+    hasher: S,
+    manner: Manner,
+    rows: &str,
+    most: usize,
+    good: usize,
+) -> bool {
     let input = lines_of(alloc, rows);
     let all = input.len();
     let read = good.saturating_mul(most).min(all);
@@ -51,7 +58,6 @@ fn is_due(alloc: Global, manner: Manner, rows: &str, most: usize, good: usize) -
         good,
     };
     let mut out = Vec::new(alloc);
-    let hasher = KeyedState::with_keys(1, 2);
     let status = status_of(talk(alloc, hasher, manner, &mut reader, &mut out));
     let ended = match manner {
         Manner::Lenient if good.saturating_sub(1).saturating_mul(most) >= all => 0,
@@ -66,13 +72,27 @@ fn is_due(alloc: Global, manner: Manner, rows: &str, most: usize, good: usize) -
 }
 
 // Whether that is so after any number of good reads.
-fn are_due(alloc: Global, manner: Manner, rows: &str, most: usize) -> bool {
+fn are_due_by<S: BuildHasher + Copy>(
+    alloc: Global,
+    hasher: S,
+    manner: Manner,
+    rows: &str,
+    most: usize,
+) -> bool {
     for good in 0..140 {
-        if !is_due(alloc, manner, rows, most, good) {
+        if !is_due(alloc, hasher, manner, rows, most, good) {
             return false;
         }
     }
     true
+}
+
+// Whether that is so under the default builder of hashers, and under two keys.
+fn are_due(alloc: Global, manner: Manner, rows: &str, most: usize) -> bool {
+    let (one, other) = keys();
+    are_due_by(alloc, fixed(), manner, rows, most)
+        && are_due_by(alloc, one, manner, rows, most)
+        && are_due_by(alloc, other, manner, rows, most)
 }
 
 const LENIENT: &str = "ent>A::\"a\">A::\"b\" =>
@@ -139,7 +159,13 @@ impl Write for Full {
 
 // Whether a conversation of nine written bytes, whose writer takes so many at a time and so many good writes, and
 // flushes or not, is refused for it where it needs more.
-fn is_written_whole(alloc: Global, most: usize, good: usize, flushes: bool) -> bool {
+fn is_written_whole<S: BuildHasher + Copy>(
+    alloc: Global,
+    hasher: S,
+    most: usize,
+    good: usize,
+    flushes: bool,
+) -> bool {
     let mut reader = b"ent\tA::\"a\"\nbuild\nanc\tA::\"a\"\n".as_slice();
     let mut writer = Full {
         taken: 0,
@@ -147,7 +173,6 @@ fn is_written_whole(alloc: Global, most: usize, good: usize, flushes: bool) -> b
         good,
         flushes,
     };
-    let hasher = KeyedState::with_keys(1, 2);
     let status = status_of(talk(alloc, hasher, Manner::Strict, &mut reader, &mut writer));
     if good.saturating_mul(most) >= 9 && flushes {
         status == 0 && writer.taken == 9
@@ -157,14 +182,22 @@ fn is_written_whole(alloc: Global, most: usize, good: usize, flushes: bool) -> b
 }
 
 // Whether that is so after any number of good writes.
-fn is_refused_for_writes(alloc: Global, most: usize) -> bool {
+fn is_refused_by<S: BuildHasher + Copy>(alloc: Global, hasher: S, most: usize) -> bool {
     for good in 0..11 {
-        let flushed = is_written_whole(alloc, most, good, true);
-        if !flushed || !is_written_whole(alloc, most, good, false) {
+        let flushed = is_written_whole(alloc, hasher, most, good, true);
+        if !flushed || !is_written_whole(alloc, hasher, most, good, false) {
             return false;
         }
     }
     true
+}
+
+// Whether that is so under the default builder of hashers, and under two keys.
+fn is_refused_for_writes(alloc: Global, most: usize) -> bool {
+    let (one, other) = keys();
+    is_refused_by(alloc, fixed(), most)
+        && is_refused_by(alloc, one, most)
+        && is_refused_by(alloc, other, most)
 }
 
 #[test]

@@ -1,31 +1,36 @@
 // What a conversation writes for an input, beside what a run writes.
-use super::{due_of, lines_of, push_bytes};
+use super::{due_of, fixed, keys, lines_of, push_bytes};
 use cedar_store::run;
 use cedar_talk::{Manner, TalkError, help_text, talk};
 use std::alloc::Global;
-use std::hash::{BuildHasherDefault, FoldHasher};
+use std::hash::BuildHasher;
 use std::test::Fail;
 
 // What a conversation over these bytes answers and writes.
-fn held(alloc: Global, manner: Manner, input: &[u8], out: &mut Vec<u8>) -> Option<u8> {
-    let hasher: BuildHasherDefault<FoldHasher> = BuildHasherDefault::new();
+fn held<S: BuildHasher + Copy>(
+    alloc: Global,
+    hasher: S,
+    manner: Manner,
+    input: &[u8],
+    out: &mut Vec<u8>,
+) -> Option<u8> {
     let mut reader = input;
     talk(alloc, hasher, manner, &mut reader, out).ok()
 }
 
 // Whether a lenient conversation over bytes writes these, with status 0.
-fn is_answered(alloc: Global, input: &[u8], due: &[u8]) -> bool {
+fn is_answered<S: BuildHasher + Copy>(alloc: Global, hasher: S, input: &[u8], due: &[u8]) -> bool {
     let mut out = Vec::new(alloc);
-    let status = held(alloc, Manner::Lenient, input, &mut out);
+    let status = held(alloc, hasher, Manner::Lenient, input, &mut out);
     let told = status == Some(0) && out.as_slice() == due;
     drop(out);
     told
 }
 
 // Whether a strict conversation over bytes writes what a run does, with the same status.
-fn is_run(alloc: Global, input: &[u8]) -> bool {
+fn is_run<S: BuildHasher + Copy>(alloc: Global, hasher: S, input: &[u8]) -> bool {
     let mut out = Vec::new(alloc);
-    let status = held(alloc, Manner::Strict, input, &mut out);
+    let status = held(alloc, hasher, Manner::Strict, input, &mut out);
     let mut due = Vec::new(alloc);
     let mut reader = input;
     let same = status == run(alloc, &mut reader, &mut due).ok() && out.as_slice() == due.as_slice();
@@ -43,10 +48,13 @@ fn bytes_of(alloc: Global, text: &str) -> Vec<u8> {
     bytes
 }
 
-// Whether that is so of the bytes that a text stands for.
+// Whether that is so of the bytes that a text stands for, under the default builder of hashers and under two keys.
 fn is_run_of(alloc: Global, text: &str) -> bool {
+    let (one, other) = keys();
     let input = bytes_of(alloc, text);
-    let told = is_run(alloc, input.as_slice());
+    let told = is_run(alloc, fixed(), input.as_slice())
+        && is_run(alloc, one, input.as_slice())
+        && is_run(alloc, other, input.as_slice());
     drop(input);
     told
 }
@@ -73,12 +81,12 @@ fn strictly_it_writes_what_a_run_writes(rt: HostRuntime) {
 
 // Whether a lenient conversation over the lines of rows writes what is due for them, and over the same lines of which
 // the last has no line feed.
-fn are_answered(alloc: Global, rows: &str) -> bool {
+fn are_answered<S: BuildHasher + Copy>(alloc: Global, hasher: S, rows: &str) -> bool {
     let input = lines_of(alloc, rows);
     let due = due_of(alloc, rows, usize::MAX);
     let cut = input.len().saturating_sub(1);
-    let told = is_answered(alloc, input.as_slice(), due.as_slice())
-        && is_answered(alloc, &input.as_slice()[..cut], due.as_slice());
+    let told = is_answered(alloc, hasher, input.as_slice(), due.as_slice())
+        && is_answered(alloc, hasher, &input.as_slice()[..cut], due.as_slice());
     drop(input);
     drop(due);
     told && cut > 0
@@ -103,7 +111,10 @@ help => HELP";
 
 #[test]
 fn leniently_it_goes_on(rt: HostRuntime) {
-    assert!(rt; are_answered(rt.alloc(), GOES_ON));
+    let (one, other) = keys();
+    assert!(rt; are_answered(rt.alloc(), fixed(), GOES_ON));
+    assert!(rt; are_answered(rt.alloc(), one, GOES_ON));
+    assert!(rt; are_answered(rt.alloc(), other, GOES_ON));
 }
 
 #[test]

@@ -6,16 +6,16 @@ use Rattle.cedar_policy_set_tests.proofs.Crossed.{turned, ids_turned, crossed}
 use Rattle.cedar_policy_set_tests.proofs.tests.raw.raw_crossed.Goals as goal
 
 pub lists_of_two-requires : goal.lists_of_two-requires
-lists_of_two-requires c = turned c.args.first.template.id c.args.second.template.id c.requires.apart
+lists_of_two-requires g c = turned c.args.first.template.id c.args.second.template.id c.requires.apart
 
 pub templates_of_two-requires : goal.templates_of_two-requires
-templates_of_two-requires c = turned c.args.first.template.id c.args.second.template.id c.requires.apart
+templates_of_two-requires g c = turned c.args.first.template.id c.args.second.template.id c.requires.apart
 
 pub links_turned-requires : goal.links_turned-requires
-links_turned-requires c = ids_turned c.args.first c.args.second c.requires.first.0 c.requires.second.0 c.requires.apart
+links_turned-requires g c = ids_turned c.args.first c.args.second c.requires.first.0 c.requires.second.0 c.requires.apart
 
 pub from_raw_components-requires : goal.from_raw_components-requires
-from_raw_components-requires c =
+from_raw_components-requires g c =
     let p = c.args.first in
     let q = c.args.second in
     let now : Maps = maps_of c.in_ok-templates.templates.entries c.in_ok-links.links.entries c.in_ok-lists.lists.entries in
