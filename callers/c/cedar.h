@@ -3,9 +3,9 @@
  * What is proved. Each function here has a contract over what is kept behind its handle, which the checker has proved
  * of its body: what a status says, what is written, what a handle holds afterwards, the comments below in short. Not
  * proved but tested is that CEDAR_NO_MEMORY comes only where memory is refused, that all memory is freed, what becomes
- * of a text that is not that of a uid with an ASCII eid, how a uid with another is written, that `cedar_run` answers no
- * third status, and that a handle into which a store or a set is put has no last answer and no last refusal. No
- * contract sees the key. It is proved for callers that keep these rules, which no compiler checks:
+ * of a text that has the marks of a uid and a name before the first, but is not that of a uid with an ASCII eid, and
+ * how a uid with another is written. No contract sees the key. It is proved for callers that keep these rules, which no
+ * compiler checks:
  *
  * - A handle is zeroed before its first use (`cedar_store s = {0};`), and none of its bytes are written. While it is
  *   open it may be moved, if the old place is not used again, but is not copied. Two handles of one call are two.

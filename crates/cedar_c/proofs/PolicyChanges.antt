@@ -6,7 +6,7 @@ use Rattle.cedar_c_lists.specs.declared.reason.Reason.{Reason}
 use Rattle.cedar_c_lists.specs.declared.reason.Reason.TheVariants.{NoMemory}
 use Rattle.cedar_c_sets.specs.declared.kept_set.KeptSet.{KeptSet}
 use Rattle.cedar_c.specs.Statuses.{ok}
-use Rattle.cedar_c.specs.PolicyCalls.{Changes, ChangesBy, FillsBy, HasBoard, IsFilled}
+use Rattle.cedar_c.specs.PolicyCalls.{Changes, ChangesBy, FillsBy, IsFilled}
 use Rattle.cedar_c.specs.declared.policies_handle.Inner.{Inner}
 use Rattle.std.specs.Option.{IsSomeAnd}
 use Rattle.cedar_policy_set.specs.Boards.{Board}
@@ -25,12 +25,12 @@ filled_not made w n old status (inr is) = (Err w, status, refl, inr (ap Err is))
 pub filled : (made : Result KeptSet Reason) (i : Inner) (old new : Option Inner) → made ≡ Ok i.kept → new ≡ Some i → FillsBy made old 0 new
 filled made i old new is put = (Ok i.kept, refl, (i, put, refl), inl (sym is))
 
--- a handle that is filled with a set has its board
-pub has_board : (b : Board) (k : KeptSet) (old new : Option Inner) (n : ℕ) → k.set ≡ b → FillsBy (Ok k) old n new → n ≡ ok → HasBoard b new
-has_board b k old new n same f zero = elim f.3 [
+-- what is so of a set that a handle is filled with is so of what it holds
+pub holds : (P : KeptSet → Type 0) (k : KeptSet) (old new : Option Inner) (n : ℕ) → P k → FillsBy (Ok k) old n new → n ≡ ok → IsSomeAnd new (λ (i : Inner). P i.kept)
+holds P k old new n so f zero = elim f.3 [
   | inl is ↦
       let g = subst (λ r. IsFilled r old new) is f.2 in
-      subst (λ o. IsSomeAnd o (λ (i : Inner). i.kept.set ≡ b)) (sym g.1) (ap (λ (x : KeptSet). x.set) g.2 ∙ same)
+      subst (λ o. IsSomeAnd o (λ (i : Inner). P i.kept)) (sym g.1) (subst P (sym g.2) so)
   | inr is ↦ absurd (omega (arith, sym zero ∙ f.1 ∙ ap status_of is))
 ]
 

@@ -6,11 +6,9 @@ use Rattle.cedar_c_lists.specs.declared.reason.Reason.{Reason}
 use Rattle.cedar_c_lists.specs.declared.reason.Reason.TheVariants.{NoMemory}
 use Rattle.cedar_c_stores.specs.declared.kept_store.KeptStore.{KeptStore}
 use Rattle.cedar_c.specs.Statuses.{ok}
-use Rattle.cedar_c.specs.StoreCalls.{Changes, FillsBy, HasWorld, IsFilled}
+use Rattle.cedar_c.specs.StoreCalls.{Changes, FillsBy, IsFilled}
 use Rattle.cedar_c.specs.declared.store_handle.Inner.{Inner}
 use Rattle.std.specs.Option.{IsSomeAnd}
-use Rattle.cedar_entities.specs.Plain.{IsPlainStore}
-use Rattle.cedar_entities.specs.World.{World}
 
 -- what an open handle holds was changed, and put back
 pub changed : (P : Result (Unit {0}) Reason → KeptStore → KeptStore → Type 0) (old new : Option Inner) (i k : Inner) (j : KeptStore) (r : Result (Unit {0}) Reason) (n : ℕ) → Some i ≡ old → k ≡ i → new ≡ Some (record { kept = j })
@@ -26,11 +24,11 @@ filled_not made w n old status (inr is) = (Err w, status, refl, inr (ap Err is))
 pub filled : (made : Result KeptStore Reason) (i : Inner) (old new : Option Inner) → made ≡ Ok i.kept → new ≡ Some i → FillsBy made old 0 new
 filled made i old new is put = (Ok i.kept, refl, (i, put, refl), inl (sym is))
 
--- a handle that is filled with the plain store of a world has it
-pub has_world : (W : World) (k : KeptStore) (old new : Option Inner) (n : ℕ) → IsPlainStore W k.store → FillsBy (Ok k) old n new → n ≡ ok → HasWorld W new
-has_world W k old new n plain f zero = elim f.3 [
+-- what is so of a store that a handle is filled with is so of what it holds
+pub holds : (P : KeptStore → Type 0) (k : KeptStore) (old new : Option Inner) (n : ℕ) → P k → FillsBy (Ok k) old n new → n ≡ ok → IsSomeAnd new (λ (i : Inner). P i.kept)
+holds P k old new n so f zero = elim f.3 [
   | inl is ↦
       let g = subst (λ r. IsFilled r old new) is f.2 in
-      subst (λ o. IsSomeAnd o (λ (i : Inner). IsPlainStore W i.kept.store)) (sym g.1) (subst (λ (x : KeptStore). IsPlainStore W x.store) (sym g.2) plain)
+      subst (λ o. IsSomeAnd o (λ (i : Inner). P i.kept)) (sym g.1) (subst P (sym g.2) so)
   | inr is ↦ absurd (omega (arith, sym zero ∙ f.1 ∙ ap status_of is))
 ]

@@ -7,6 +7,7 @@ use Rattle.cedar_policy_set.specs.BoardEquality.{same_board}
 use Rattle.cedar_policy_set.specs.Boards.{Board}
 use Rattle.cedar_c_lists.specs.Answers.{spans_from}
 use Rattle.cedar_c_lists.specs.Reasons.{status_of, Tells}
+use Rattle.cedar_c_sets.specs.Sets.{IsUntold}
 use Rattle.cedar_c_sets.specs.declared.kept_set.KeptSet.{KeptSet}
 use Rattle.cedar_c_lists.specs.declared.layout.Span.{Span}
 use Rattle.cedar_c_lists.specs.declared.reason.Reason.{Reason}
@@ -18,6 +19,10 @@ use Rattle.cedar_c.specs.declared.policies_handle.Inner.{Inner}
 -- an open handle with the set of a board
 abbrev pub HasBoard : Board → Option Inner → Type 0
 HasBoard b o = IsSomeAnd o (λ i. i.kept.set ≡ b)
+
+-- an open handle that has no last answer and no last refusal
+abbrev pub HasNoTexts : Option Inner → Type 0
+HasNoTexts o = IsSomeAnd o (λ i. IsUntold i.kept)
 
 -- a closed handle says so; an open one says what became of a call, and holds what that left
 abbrev pub Changes : (Result (Unit {0}) Reason → KeptSet → KeptSet → Type 0) → Option Inner → ℕ → Option Inner → Type 0

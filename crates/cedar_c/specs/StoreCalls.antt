@@ -9,6 +9,7 @@ use Rattle.cedar_entities.specs.Plain.{StoreView, IsPlainStore}
 use Rattle.cedar_entities.specs.World.{World}
 use Rattle.cedar_c_lists.specs.Answers.{spans_from}
 use Rattle.cedar_c_lists.specs.Reasons.{status_of, Tells}
+use Rattle.cedar_c_stores.specs.Stores.{IsUntold}
 use Rattle.cedar_c_stores.specs.declared.kept_store.KeptStore.{KeptStore}
 use Rattle.cedar_c_lists.specs.declared.layout.Span.{Span}
 use Rattle.cedar_c_lists.specs.declared.reason.Reason.{Reason}
@@ -20,6 +21,10 @@ use Rattle.cedar_c.specs.declared.store_handle.Inner.{Inner}
 -- an open handle with the plain store of a world
 abbrev pub HasWorld : World → Option Inner → Type 0
 HasWorld W o = IsSomeAnd o (λ i. IsPlainStore W i.kept.store)
+
+-- an open handle that has no last answer and no last refusal
+abbrev pub HasNoTexts : Option Inner → Type 0
+HasNoTexts o = IsSomeAnd o (λ i. IsUntold i.kept)
 
 -- how many entities it has; a closed one has none
 abbrev pub Counts : Option Inner → ℕ → Type 0

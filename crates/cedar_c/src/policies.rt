@@ -5,7 +5,7 @@ ghost use Rattle.cedar_policy_set.specs.Boards.{empty_board};
 ghost use Rattle.cedar_policy_set.specs.Steps.{remove_static_step, remove_template_step, unlink_step};
 ghost use Rattle.cedar_c_sets.specs.Sets.{AddsStatic, AddsTemplate, CopiesSet, Links, ListsIds, MergesSet, Takes};
 ghost use Rattle.cedar_c.specs.Statuses.{ok, no_memory};
-ghost use Rattle.cedar_c.specs.PolicyCalls.{Boxes, Changes, ChangesBy, Compares, CopiesAnswer, CopiesRefusal, CopiesSpans, Fills, FillsBy, HasBoard};
+ghost use Rattle.cedar_c.specs.PolicyCalls.{Boxes, Changes, ChangesBy, Compares, CopiesAnswer, CopiesRefusal, CopiesSpans, Fills, FillsBy, HasBoard, HasNoTexts};
 
 use crate::copying::copy_out;
 use crate::keys::hasher_of;
@@ -92,6 +92,7 @@ pub extern "C" fn cedar_policies_new(
     key: u64,
 ) -> u32
     ensures new { result ≡ ok → HasBoard empty_board handle.new.held.value }
+    ensures untold { result ≡ ok → HasNoTexts handle.new.held.value }
     ensures err { result ≢ ok → (result ≡ no_memory) × (handle.new.held.value ≡ handle.old.held.value) }
 {
     fill(alloc, handle, Ok(KeptSet::new(alloc, hasher_of(seed, key))))

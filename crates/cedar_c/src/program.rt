@@ -1,8 +1,8 @@
 //! The whole program in one call, and whether a text is a uid's.
-ghost use Rattle.std.specs.Prelude.{◌≡◌, IfOk};
+ghost use Rattle.std.specs.Prelude.{◌≡◌, ◌≢◌, IfOk};
 ghost use Rattle.cedar_store.specs.Output.{IsOutput};
 ghost use Rattle.cedar_c.specs.Checks.{Checks};
-ghost use Rattle.cedar_c.specs.Statuses.{ok};
+ghost use Rattle.cedar_c.specs.Statuses.{ok, no_memory};
 ghost use Rattle.cedar_c.specs.Runs.{Runs};
 
 use crate::copying::copy_out;
@@ -35,7 +35,8 @@ pub extern "C" fn cedar_run(
     told: &mut usize,
     ended: &mut u32,
 ) -> u32
-    ensures { result ≡ ok → Runs input.now out.old out.new told.new ended.new }
+    ensures runs { result ≡ ok → Runs input.now out.old out.new told.new ended.new }
+    ensures err { result ≢ ok → result ≡ no_memory }
 {
     let Ok((bytes, status)) = output_of(alloc, hasher_of(seed, key), input) else {
         return Reason::NoMemory.number();

@@ -5,7 +5,7 @@ ghost use Rattle.cedar_entities.specs.World.{empty_world};
 ghost use Rattle.cedar_entity.specs.View.{has_ancestor};
 ghost use Rattle.cedar_c_stores.specs.Stores.{AddsListed, Asks, AsksFor, BuildsListed, Copies, IsAbove, IsParent, Listing, RemovesListed, SlicesAt, UpsertsListed, Validates, has_parent};
 ghost use Rattle.cedar_c.specs.Statuses.{ok, no_memory};
-ghost use Rattle.cedar_c.specs.StoreCalls.{AsksHandle, Boxes, Changes, Compares, CopiesAnswer, CopiesRefusal, CopiesSpans, Counts, Fills, FillsBy, HasWorld};
+ghost use Rattle.cedar_c.specs.StoreCalls.{AsksHandle, Boxes, Changes, Compares, CopiesAnswer, CopiesRefusal, CopiesSpans, Counts, Fills, FillsBy, HasNoTexts, HasWorld};
 
 use crate::copying::copy_out;
 use crate::keys::hasher_of;
@@ -87,6 +87,7 @@ fn fill(alloc: Global, handle: &mut Store, made: Result<KeptStore, Reason>) -> u
 #[unsafe(no_mangle)]
 pub extern "C" fn cedar_store_new(alloc: Global, handle: &mut Store, seed: u64, key: u64) -> u32
     ensures new { result ≡ ok → HasWorld empty_world handle.new.held.value }
+    ensures untold { result ≡ ok → HasNoTexts handle.new.held.value }
     ensures err { result ≢ ok → (result ≡ no_memory) × (handle.new.held.value ≡ handle.old.held.value) }
 {
     fill(

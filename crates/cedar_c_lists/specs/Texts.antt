@@ -5,6 +5,7 @@ use Rattle.std.specs.Option.{IfSome}
 use Rattle.std.specs.Str.{IsUtf8}
 use Rattle.cedar_ids.specs.Escape.{is_ascii}
 use Rattle.cedar_ids.specs.Printed.{printed_uid, uid_output}
+use Rattle.cedar_ids.specs.ReadsUid.{StartsWithName}
 use Rattle.cedar_ids.specs.TextOf.{IsPrinted}
 use Rattle.cedar_ids.specs.UidOf.{uid_parts}
 use Rattle.cedar_ids.specs.declared.entity.EntityUID.{EntityUID}
@@ -13,10 +14,12 @@ use Rattle.cedar_c_lists.specs.declared.layout.Span.{Span}
 use Rattle.cedar_c_lists.specs.declared.reason.Reason.{Reason}
 use Rattle.cedar_c_lists.specs.declared.reason.Reason.TheVariants.{NoMemory, BadArgument, NotAUid, NotUtf8}
 
--- u is read of the text: with an ASCII eid it is written so, and where a uid with an ASCII eid is written so, it is that one
+-- u is read of the text: with an ASCII eid it is written so; where a uid with an ASCII eid is written so, it is that one; and the
+-- text has its marks, and the name of its type before the first `::"`
 pub record IsReadOf (u : EntityUID) (text : List ℕ) : Type 0 where
   pub printed : IsTrue (is_ascii (uid_parts u).eid) → IsPrinted (uid_parts u) text
   pub exact : (v : EntityUID) → IsPrinted (uid_parts v) text → u ≡ v
+  pub starts : StartsWithName (uid_parts u).name text
 
 -- no uid with an ASCII eid is written so
 abbrev pub IsNoUid : List ℕ → Type 0

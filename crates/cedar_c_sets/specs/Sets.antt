@@ -206,7 +206,11 @@ abbrev pub ListsIds : {A : Type 0} → ℕ → Result A Reason → KeptSet → K
 ListsIds n (Ok a) i j = (j.set ≡ i.set) × (j.refusal.items ≡ i.refusal.items) × IsKind n i.set j.answer
 ListsIds n (Err w) i j = (j ≡ i) × ((w ≡ reasons.NoMemory) ⊎ ((w ≡ reasons.BadArgument) × ((ids : List (List ℕ)) → IsKind n i.set ids → ⊥)))
 
+-- no call has answered anything of what is kept, and none was refused
+abbrev pub IsUntold : KeptSet → Type 0
+IsUntold k = (k.answer ≡ []) × (k.refusal.items ≡ [])
+
 -- a copy of a set; or why it is not made
 abbrev pub CopiesSet : Board → Result KeptSet Reason → Type 0
-CopiesSet b (Ok k) = k.set ≡ b
+CopiesSet b (Ok k) = (k.set ≡ b) × IsUntold k
 CopiesSet b (Err w) = w ≡ reasons.NoMemory

@@ -1,5 +1,5 @@
--- What the calls on a store give, and what is kept of it. Each `Gives` has the public clauses of the call of `cedar_entities` or
--- `cedar_slice` that is behind a call here.
+-- What the calls on a store give, and what is kept of it. Each `Gives` has the public clauses of the call of `cedar_entities` that
+-- is behind a call here, but for `so_far` and `between` of overwriting; `IsSlice` has those of the call of `cedar_slice`.
 use Rattle.std.specs.Prelude.{◌≡◌, ◌↔◌, ◌⊎◌, ℕ, List, [], ◌∷◌, ◌++◌, Bool, true, false, IfOk, IfErr, OnOk, IsTrue, map, Option, Some, None, Result, Ok, Err, take}
 use Rattle.std.specs.FinMap as finmap
 use Rattle.std.specs.FinSet as set
@@ -219,6 +219,10 @@ Validates (Err w) i j =
     (j.store ≡ i.store) × (j.answer ≡ i.answer)
     × ((w ≡ reasons.NoMemory) ⊎ ((e : EntitiesError) × IsStoreFault i.store.held e × IsToldBy e w j.refusal.items))
 
+-- no call has answered anything of what is kept, and none was refused
+abbrev pub IsUntold : KeptStore → Type 0
+IsUntold k = (k.answer ≡ []) × (k.refusal.items ≡ [])
+
 -- the slice of a store at uids
 pub record IsSlice (U : List EntityUID) (S N : StoreView) : Type 0 where
   pub held : N ≡ record { held = sliced S.held U; partial = false }
@@ -226,10 +230,10 @@ pub record IsSlice (U : List EntityUID) (S N : StoreView) : Type 0 where
 
 -- the slice of a store at the uids that parts of a text are; or why it is not made
 abbrev pub SlicesAt : List ℕ → List Span → StoreView → Result KeptStore Reason → Type 0
-SlicesAt text spans S (Ok k) = (U : List EntityUID) × AreReadAt text U spans × IsSlice U S k.store
+SlicesAt text spans S (Ok k) = (U : List EntityUID) × AreReadAt text U spans × IsSlice U S k.store × IsUntold k
 SlicesAt text spans S (Err w) = IsOneUnread text spans w
 
 -- a copy of a store; or why it is not made
 abbrev pub Copies : StoreView → Result KeptStore Reason → Type 0
-Copies S (Ok k) = k.store ≡ S
+Copies S (Ok k) = (k.store ≡ S) × IsUntold k
 Copies S (Err w) = w ≡ reasons.NoMemory

@@ -4,7 +4,7 @@ ghost use Rattle.cedar_entities.specs.Answers.{AreDeepEqual};
 ghost use Rattle.cedar_entities.specs.Plain.{IsPlainStore, entities_in};
 ghost use Rattle.cedar_entities.specs.World.{empty_world};
 ghost use Rattle.cedar_entity.specs.View.{has_ancestor};
-ghost use Rattle.cedar_c_stores.specs.Stores.{Adds, Asks, AsksFor, Copies, IsAbove, IsParent, IsSlice, IsToldBy, KeepsTexts, Listing, Removes, Settles, SlicesAt, Upserts, Validates, empty_store, has_parent};
+ghost use Rattle.cedar_c_stores.specs.Stores.{Adds, Asks, AsksFor, Copies, IsAbove, IsParent, IsSlice, IsToldBy, IsUntold, KeepsTexts, Listing, Removes, Settles, SlicesAt, Upserts, Validates, empty_store, has_parent};
 ghost use Rattle.cedar_c_lists.specs.Texts.{AreTextsOf, IsTextOf};
 ghost use Rattle.cedar_c_lists.specs.declared.reason.Reason.TheVariants as reasons;
 
@@ -243,7 +243,7 @@ impl KeptStore {
 
     // The slice of the store at some uids.
     fn slice_of(&self, alloc: Global, uids: Vec<EntityUID>) -> Result<KeptStore, Reason>
-        ensures { MatchResult result (λ k. IsSlice uids.items self.now.store k.store) (λ w. w ≡ reasons.NoMemory) }
+        ensures { MatchResult result (λ k. IsSlice uids.items self.now.store k.store × IsUntold k) (λ w. w ≡ reasons.NoMemory) }
     {
         match slice(alloc, &self.store, &uids) {
             Ok(store) => Ok(KeptStore::of(alloc, self.hasher, store)),
@@ -251,7 +251,7 @@ impl KeptStore {
         }
     }
 
-    /// The slice of the store at the uids that parts of a text are. Takes memory.
+    /// The slice of the store at the uids that parts of a text are, of which nothing was answered and nothing refused. Takes memory.
     pub fn slice(&self, alloc: Global, text: &[u8], spans: &[Span]) -> Result<KeptStore, Reason>
         ensures { SlicesAt text.now spans.now self.now.store result }
     {
