@@ -4,7 +4,6 @@ use Rattle.std.proofs.Common.{ap, sym, refl, subst, ◌∙◌}
 use Rattle.std.proofs.lemmas.Bool.{false≢true, or_left}
 use Rattle.std.specs.Option.{option_map, option_or, is_some}
 use Rattle.std.specs.HashMap.{HashMap}
-use Rattle.std.specs.HashSet.{HashSet, contains}
 use Rattle.std.specs.List.{AllByRecursion, list_any}
 use Rattle.std.specs.Set.{is_member}
 use Rattle.std.specs.FinSet as set
@@ -126,34 +125,21 @@ taken_from l m n D U A out gone R is all keys outs who lost strip take =
     ∙ taken_at D U A gone R all keys (λ p. who p ∙ ap (λ g. is_stripped A p (is_ancestor_in (g p))) f) (subst (λ g. AllByRecursion (IsLossOf g A) R) f lost) q (leaves D U q) refl
     ∙ sym (get_taken_out D U q))
 
-or_not : (m l : Bool) → (m || (not m && l)) ≡ (m || l)
-or_not true l = refl
-or_not false l = refl
+-- what an edit touches is what it is known to touch in the map, by uids that are the same
+pub known_touched : (E D : Held) (A B : List EntityUID) (f : EntityUID → Bool) → E ≡ D → ((q : EntityUID) → is_member same_uid A q ≡ is_member same_uid B q) → ((q : EntityUID) → f q ≡ is_touched E A q) → f ≡ is_touched D B
+known_touched E D A B f is same known = λ i q. (
+    known q
+    ∙ ap (λ M. is_touched M A q) is
+    ∙ ap (λ b. b || list_any (ancestry D q) A) (same q)
+    ∙ ap (λ b. is_member same_uid B q || b) (any_alike (ancestry D q) A B same)) i
 
--- what was noted is what is touched
-pub noted_touched : {S : Type 0} (l : HashMap EntityUID SharedEntity S) (D : Held) (A B : List EntityUID) (R : List Loss) (f : EntityUID → Bool) → held_map l ≡ D
-    → ((q : EntityUID) → is_member same_uid A q ≡ is_member same_uid B q)
-    → ((q : EntityUID) → loses R q ≡ is_stripped A q (is_ancestor_in (held l q)))
-    → ((q : EntityUID) → f q ≡ (is_member same_uid A q || loses R q)) → f ≡ is_touched D B
-noted_touched l D A B R f is same who noted = λ i q. (
-    noted q ∙ ap (λ b. is_member same_uid A q || b) (who q) ∙ or_not (is_member same_uid A q) (list_any (is_ancestor_in (held l q)) A)
-    ∙ ap (λ b. is_member same_uid A q || b) (any_alike (is_ancestor_in (held l q)) A B same)
-    ∙ ap (λ b. b || list_any (is_ancestor_in (held l q)) B) (same q)
-    ∙ ap (λ g. is_member same_uid B q || list_any (is_ancestor_in (g q)) B) (stored l D is)) i
-
--- the same of an adding
-pub added_touched : {S T : Type 0} (l m : HashMap EntityUID SharedEntity S) (one two : HashSet EntityUID T) (D : Held) (L : List EntityView) (fresh by : List EntityUID) → held_map l ≡ D → held_map m ≡ with_first D L
-    → fresh ≡ filter (λ u. not (is_some (held l u))) (uids_of L)
-    → ((q : EntityUID) → contains same_uid one q ≡ is_member same_uid fresh q)
-    → ((q : EntityUID) → is_member same_uid by q ≡ list_any (is_ancestor_in (held m q)) one.keys)
-    → ((q : EntityUID) → contains same_uid two q ≡ (contains same_uid one q || is_member same_uid by q))
-    → contains same_uid two ≡ is_touched D (inserted_in D L)
-added_touched l m one two D L fresh by is put all first below then =
-    let g : fresh ≡ inserted_in D L = all ∙ ap (λ h. filter (λ u. not (is_some (h u))) (uids_of L)) (stored l D is) in
-    λ i q. (
-    then q
-    ∙ ap (λ b. contains same_uid one q || b) (below q ∙ any_alike (is_ancestor_in (held m q)) one.keys fresh first)
-    ∙ ap (λ b. b || list_any (is_ancestor_in (held m q)) fresh) (first q)
-    ∙ ap (λ k. is_member same_uid k q || list_any (is_ancestor_in (held m q)) k) g
-    ∙ ap (λ h. is_member same_uid (inserted_in D L) q || list_any (is_ancestor_in (h q)) (inserted_in D L)) (stored m (with_first D L) put)
-    ∙ touched_alike D L q) i
+-- an adding touches in the map that has what was put in what it touches in the map before
+pub added_alike : {S : Type 0} (m : HashMap EntityUID SharedEntity S) (D : Held) (L : List EntityView) (A : List EntityUID) → held_map m ≡ with_first D L
+    → ((q : EntityUID) → is_member same_uid A q ≡ is_member same_uid (inserted_in D L) q) → (q : EntityUID) → is_touched (held_map m) A q ≡ is_touched D A q
+added_alike m D L A put same q =
+    ap (λ M. is_touched M A q) put
+    ∙ ap (λ b. b || list_any (ancestry (with_first D L) q) A) (same q)
+    ∙ ap (λ b. is_member same_uid (inserted_in D L) q || b) (any_alike (ancestry (with_first D L) q) A (inserted_in D L) same)
+    ∙ touched_alike D L q
+    ∙ ap (λ b. b || list_any (ancestry D q) (inserted_in D L)) (sym (same q))
+    ∙ ap (λ b. is_member same_uid A q || b) (sym (any_alike (ancestry D q) A (inserted_in D L) same))

@@ -1,6 +1,6 @@
 -- What the steps of an overwriting and a removal leave of the map.
-use Rattle.std.specs.Prelude.{◌≡◌, ℕ, ◌+◌, ◌<◌, Bool, true, false, cond, not, ◌&&◌, ◌||◌, List, [], ◌∷◌, ◌++◌, Option, Some, None, take, length}
-use Rattle.std.proofs.Common.{ap, sym, refl, subst, ◌∙◌, get_or}
+use Rattle.std.specs.Prelude.{◌≡◌, ℕ, ◌+◌, ◌<◌, Bool, true, false, cond, not, ◌&&◌, ◌||◌, List, [], ◌∷◌, ◌++◌, Option, Some, None, map, take, length}
+use Rattle.std.proofs.Common.{ap, sym, refl, subst, ◌∙◌, get_or, Bor}
 use Rattle.std.proofs.lemmas.List.Folds.{list_any_more, list_any-append}
 use Rattle.std.specs.Option.{option_map, IfSome}
 use Rattle.std.specs.HashMap.{HashMap, get}
@@ -38,6 +38,10 @@ cond_keyed q false o h = h
 -- entities that are changed, but for their uids, stand under their uids
 pub mapped_match : {S : Type 0} (m n : HashMap EntityUID SharedEntity S) (f : EntityView → EntityView) → ((e : EntityView) → (f e).uid ≡ e.uid) → ((q : EntityUID) → held n q ≡ option_map f (held m q)) → UidsMatch m → UidsMatch n
 mapped_match m n f k step h q = key_back q (get same_uid n q) (subst (λ o. IfSome o (λ e. e.uid ≡ q)) (sym (step q)) (map_keyed f k q (held m q) (key_there q (get same_uid m q) (h q))))
+
+-- the same where what is made of an entity hangs on its uid
+pub changed_match : {S : Type 0} (m n : HashMap EntityUID SharedEntity S) (f : EntityUID → EntityView → EntityView) → ((q : EntityUID) (e : EntityView) → (f q e).uid ≡ e.uid) → ((q : EntityUID) → held n q ≡ option_map (f q) (held m q)) → UidsMatch m → UidsMatch n
+changed_match m n f keeps is h q = key_back q (get same_uid n q) (subst (λ o. IfSome o (λ e. e.uid ≡ q)) (sym (is q)) (map_keyed (f q) (keeps q) q (held m q) (key_there q (get same_uid m q) (h q))))
 
 -- what is left after some are taken out does too
 pub left_match : {S : Type 0} (m n : HashMap EntityUID SharedEntity S) (gone : EntityUID → Bool) → ((q : EntityUID) → held n q ≡ cond (gone q) None (held m q)) → UidsMatch m → UidsMatch n
@@ -77,6 +81,17 @@ stripped_nothing e = λ i. record e { parents = sym (retain_none e.parents) i; i
 -- one more of a list is looked at
 pub any_more : (T : EntityUID → Bool) (xs : List EntityUID) (i : ℕ) (k : EntityUID) → i < length xs → k ≡ get_or xs i k → list_any T (take (i + 1) xs) ≡ (list_any T (take i xs) || T k)
 any_more T xs i k within is = list_any_more T xs i k within ∙ ap (λ x. list_any T (take i xs) || T x) (sym is)
+
+pub member_more : (xs : List EntityUID) (i : ℕ) (k q : EntityUID) → i < length xs → k ≡ get_or xs i k → is_member same_uid (take (i + 1) xs) q ≡ (is_member same_uid (take i xs) q || same_uid k q)
+member_more xs i k q within is = any_more (same_uid q) xs i k within is ∙ ap (λ b. is_member same_uid (take i xs) q || b) (same_uid_equiv.symm q k)
+
+map_append_one : {X Y : Type 0} (f : X → Y) (xs : List X) (x : X) → map f (xs ++ x ∷ []) ≡ map f xs ++ f x ∷ []
+map_append_one f [] x = refl
+map_append_one f (y ∷ xs) x = ap (λ l. f y ∷ l) (map_append_one f xs x)
+
+-- one more that an iterator gives
+pub member_next : (done : List (Bor EntityUID)) (x : Bor EntityUID) (q : EntityUID) → is_member same_uid (map (λ y. y.now) (done ++ x ∷ [])) q ≡ (is_member same_uid (map (λ y. y.now) done) q || same_uid x.now q)
+member_next done x q = ap (λ l. is_member same_uid l q) (map_append_one (λ y. y.now) done x) ∙ member_push (map (λ y. y.now) done) x.now q
 
 pub stripped_both : (e : EntityView) (g l h m : EntityUID → Bool) → stripped h m (stripped g l e) ≡ stripped (λ p. g p || h p) (λ w. l w || m w) e
 stripped_both e g l h m = λ j. record e { parents = retain_both e.parents g h j; indirect = retain_both e.indirect l m j }

@@ -6,6 +6,7 @@ pub mod Closures
 pub mod Edited
 pub mod Editing
 pub mod FirstFaults
+pub mod Indexes
 pub mod Listed
 pub mod Losses
 pub mod Overwriting

@@ -36,6 +36,12 @@ pub within : (b l : Bool) → (l ≡ true → b ≡ true) → (b && l) ≡ l
 within b true h = ap (λ c. c && true) (h refl)
 within b false h = and_off b
 
+-- what is stripped is touched
+pub stripped_touched : (m l : Bool) → ((m || l) && (not m && l)) ≡ (not m && l)
+stripped_touched true l = refl
+stripped_touched false true = refl
+stripped_touched false false = refl
+
 -- of the hits T holds for one where it does for one of the list that is hit
 pub any_hit : (h T : EntityUID → Bool) (hits A : List EntityUID) → ((q : EntityUID) → is_member same_uid hits q ≡ (is_member same_uid A q && h q)) → list_any T hits ≡ list_any (λ u. h u && T u) A
 any_hit h T hits A is = same_bool (list_any T hits) (list_any (λ u. h u && T u) A)

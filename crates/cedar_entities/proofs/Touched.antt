@@ -82,19 +82,14 @@ loss_push G done a first now new q so step =
     (λ p. sym (list_any-append (λ (x : Loss). same_uid q x.uid) done (a ∷ [])) i && G p)
     (λ w. sym (list_any-append (λ (x : Loss). same_uid q x.uid && set.contains x.lost w) done (a ∷ [])) i)) first
 
--- and noted
-pub noted_loss : (first now new : Bool) (done : List Loss) (a : Loss) (q : EntityUID) → now ≡ (first || loses done q) → new ≡ cond (same_uid a.uid q) true now → new ≡ (first || loses (done ++ a ∷ []) q)
-noted_loss first now new done a q so step =
-    step ∙ ap (cond (same_uid a.uid q) true) so ∙ added first (loses done q) (same_uid a.uid q) ∙ ap (λ b. first || b) (sym (loses_push done a q))
+pub and_on : (c : Bool) → (c && true) ≡ c
+and_on true = refl
+and_on false = refl
 
 -- one more loss is listed, or none
 pub listed_loss : (done : List Loss) (a : Loss) (key q : EntityUID) (b : Bool) → a.uid ≡ key → b ≡ true → loses (done ++ a ∷ []) q ≡ (loses done q || (same_uid key q && b))
 listed_loss done a key q b is h =
     loses_push done a q ∙ ap (λ k. loses done q || same_uid k q) is ∙ ap (λ c. loses done q || c) (sym (ap (λ c. same_uid key q && c) h ∙ and_on (same_uid key q)))
-  where
-    and_on : (c : Bool) → (c && true) ≡ c
-    and_on true = refl
-    and_on false = refl
 
 pub unlisted_loss : (o k b : Bool) → b ≡ false → o ≡ (o || (k && b))
 unlisted_loss true k b h = refl
@@ -155,45 +150,21 @@ module _ (f : EntityUID → Bool) (es : List (EntityUID × SharedEntity)) (k : E
       ∙ ap (λ b. b && f q) (sym (seen_key es k n q))
 
 -- one more key of the map, which is stripped or not
-key_case : (d f b h : Bool) → (b ≡ true → h ≡ f) → ((d && f) || (b && h)) ≡ ((d || b) && f)
+pub key_case : (d f b h : Bool) → (b ≡ true → h ≡ f) → ((d && f) || (b && h)) ≡ ((d || b) && f)
 key_case true true b h k = refl
 key_case true false true h k = k refl
 key_case true false false h k = refl
 key_case false f true h k = k refl
 key_case false f false h k = refl
 
-pub seen_loss : (F : EntityUID → Bool) (es : List (EntityUID × SharedEntity)) (k : EntityUID) (n : SharedEntity) (q : EntityUID) (now new hit : Bool)
-    → now ≡ (is_some (lookup (same_uid q) es) && F q) → new ≡ (now || (same_uid k q && hit)) → hit ≡ F k → new ≡ (is_some (lookup (same_uid q) (es ++ (k, n) ∷ [])) && F q)
-seen_loss F es k n q now new hit so step is =
-    step ∙ ap (λ b. b || (same_uid k q && hit)) so
-    ∙ key_case (is_some (lookup (same_uid q) es)) (F q) (same_uid k q) hit (λ t. is ∙ ap F ((same_uid_decides k q).0 t))
-    ∙ ap (λ b. b && F q) (sym (seen_key es k n q))
-
--- one more uid that is hit, and one that is not
-pub push_hit : (h : EntityUID → Bool) (done hits : List EntityUID) (k c q : EntityUID) → is_member same_uid hits q ≡ (is_member same_uid done q && h q) → c ≡ k → h k ≡ true → is_member same_uid (hits ++ c ∷ []) q ≡ (is_member same_uid (done ++ k ∷ []) q && h q)
-push_hit h done hits k c q so is hits_it =
-    member_push hits c q ∙ ap (λ x. is_member same_uid hits q || same_uid x q) is ∙ ap (λ b. b || same_uid k q) so
-    ∙ in_both (is_member same_uid done q) (h q) (same_uid k q) (λ t. sym (ap h ((same_uid_decides k q).0 t)) ∙ hits_it)
-    ∙ ap (λ b. b && h q) (sym (member_push done k q))
-
-pub skip_hit : (h : EntityUID → Bool) (done hits : List EntityUID) (k q : EntityUID) → is_member same_uid hits q ≡ (is_member same_uid done q && h q) → h k ≡ false → is_member same_uid hits q ≡ (is_member same_uid (done ++ k ∷ []) q && h q)
-skip_hit h done hits k q so misses =
-    so ∙ out_of (is_member same_uid done q) (h q) (same_uid k q) (λ t. sym (ap h ((same_uid_decides k q).0 t)) ∙ misses)
-    ∙ ap (λ b. b && h q) (sym (member_push done k q))
-
 -- only what is there has ancestors
-none_any : (us : List EntityUID) → false ≡ list_any (is_ancestor_in None) us
+pub none_any : (us : List EntityUID) → false ≡ list_any (is_ancestor_in None) us
 none_any [] = refl
 none_any (u ∷ us) = none_any us
 
 pub there_only_any : (o : Option SharedEntity) (us : List EntityUID) → (is_some o && list_any (is_ancestor_in (option_map shared o)) us) ≡ list_any (is_ancestor_in (option_map shared o)) us
 there_only_any None us = none_any us
 there_only_any (Some n) us = refl
-
-pub there_only_stripped : (b : Bool) (o : Option SharedEntity) (us : List EntityUID) → (is_some o && (b && list_any (is_ancestor_in (option_map shared o)) us)) ≡ (b && list_any (is_ancestor_in (option_map shared o)) us)
-there_only_stripped true o us = there_only_any o us
-there_only_stripped false None us = refl
-there_only_stripped false (Some n) us = refl
 
 -- that some of one list is in another is that some of the other is in the one
 none_in : (xs : List EntityUID) → list_any (λ x. is_member same_uid [] x) xs ≡ false

@@ -1,6 +1,7 @@
 pub mod Closures
 pub mod Edits
 pub mod Held
+pub mod Indexes
 pub mod Lists
 pub mod Losses
 pub mod PlainAncestors

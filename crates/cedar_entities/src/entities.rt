@@ -12,6 +12,7 @@ ghost use Rattle.cedar_entities.specs.Answers.{AreDeepEqual, Finds, ListsHeld};
 ghost use Rattle.std.specs.HashSet.{contains};
 ghost use Rattle.cedar_entities.specs.Edits.{put_over, taken_out, uids_of};
 ghost use Rattle.cedar_entities.specs.laws.Edits.{last_entity};
+ghost use Rattle.cedar_entities.specs.laws.Indexes.{HasChildren, IsIndexOf, parentage};
 ghost use Rattle.cedar_entities.specs.laws.Held.{held, held_map, shared, UidsMatch};
 ghost use Rattle.cedar_entities.specs.Modes.{IsClosureRefused, IsSound, WhereComputed};
 ghost use Rattle.cedar_entities.specs.Plain.{StoreView, entities_in, IsPlainStore, IsKeyed, AreBare, given_of, no_entities};
@@ -25,18 +26,19 @@ ghost use Rattle.cedar_entities.specs.Touching.{IsAcyclicAt, IsMended, IsMendRef
 ghost use Rattle.cedar_entities.specs.World.{World, empty_world, added, overwritten, deleted, graph, AllAgree, FirstDiffers};
 
 use crate::dereference::{Dereference, unknown_of};
-use crate::incoming::{Incoming, shared_all, uids_in, with_uids};
+use crate::incoming::{Incoming, shared_all, stays_plain, uids_in, with_uids};
+use crate::index::{Index, forget, join, leave, list_if_it_pays, touched_by};
+use crate::settling::{check, mend, settle, settle_whole};
+use crate::sought::listed;
 use crate::store_iters::{IntoIter, Iter};
 use crate::store_same::{have_deep_equals, have_keys_of};
 use crate::store_valid::check_each;
 use crate::touching::{
     absent_uids, held_uids, losses_by, note_all, plain_copy_of, pointers_of, strip_each,
-    touched_by_any,
 };
 use cedar_entity::entity::Entity;
 use cedar_entity::err::EntitiesError;
 use cedar_entity::node::SharedEntity;
-use cedar_graph::{compute_tc, enforce_tc_and_dag, repair_tc};
 use cedar_ids::entity::EntityUID;
 use cedar_uid_sets::{SharedUid, UidSet};
 use std::alloc::{AllocError, Global};
@@ -62,17 +64,26 @@ pub enum TCComputation {
 ///
 /// Entities are shared: copying a store copies none of them.
 ///
+/// An edit finds what it touches by a walk over all entities, with up to 16 looks at each or one for each of its ancestors.
+/// A store that `ComputeNow` calls made of entities without indirect ancestors, and removals, knows that its ancestors are
+/// what the parents imply. Where it has 40 entities or more it lists the children of each uid once edits have walked over
+/// it sixteen times, and from then on an edit goes down from its own uids alone. The list takes 8 to 16 bytes for each
+/// parent of each entity and a set for each uid that is a parent; a copy of the store begins without it. Where memory for it
+/// is refused the store goes on without: no edit is refused for it.
+///
 /// Its map hashes uids by the hashers that `S` builds, and so do the sets that its calls make. By default they have a
 /// fixed seed, so that whoever picks the uids can make them collide, and each call slow: a store of uids that strangers
 /// pick is made by [`Entities::with_hasher`] with a builder that has a random key. No contract sees the builder.
-#[derive(Debug, Drop)]
+#[derive(Drop)]
 pub struct Entities<S: BuildHasher = BuildHasherDefault<FoldHasher>> {
-    entities: HashMap<SharedUid, SharedEntity, S>,
-    partial: bool,
+    pub(crate) entities: HashMap<SharedUid, SharedEntity, S>,
+    pub(crate) partial: bool,
+    index: Index<S>,
 }
 
 impl<S: BuildHasher> Model for Entities<S> {
     ghost use Rattle.cedar_entities.specs.laws.Held.{held_map, UidsMatch};
+    ghost use Rattle.cedar_entities.specs.laws.Indexes.{IsIndexOf};
     ghost use Rattle.cedar_entities.specs.Plain.{StoreView, entities_in};
     ghost use Rattle.cedar_entities.specs.Codes.{store_code};
 
@@ -82,7 +93,7 @@ impl<S: BuildHasher> Model for Entities<S> {
 
     ghost view = { λ s. record { held = held_map s.entities; partial = s.partial } };
 
-    ghost invariant = { λ s. UidsMatch s.entities };
+    ghost invariant = { λ s. UidsMatch s.entities × IsIndexOf s.index (held_map s.entities) };
 }
 
 // Puts in an entity whose uid is absent; one that is present has to be deeply equal.
@@ -186,109 +197,6 @@ fn take_out<S: BuildHasher>(
     }
 }
 
-// Checks that the ancestors are closed and that no entity is its own.
-fn check<S: BuildHasher>(
-    alloc: Global,
-    entities: &HashMap<SharedUid, SharedEntity, S>,
-) -> Result<(), EntitiesError>
-    requires { UidsMatch entities.now }
-    ensures ok { OnOk result (IsSound (held_map entities.now)) }
-    ensures err { IfErr result (λ e. MatchRefusal e (λ _. ⊥)
-        (IsClosureRefused EnforceAlreadyComputed (held_map entities.now))) }
-{
-    enforce_tc_and_dag(alloc, entities)?;
-    Ok(())
-}
-
-// Gives the entities that are touched the ancestors that they reach.
-fn repair<S: BuildHasher + Clone>(
-    alloc: Global,
-    entities: &mut HashMap<SharedUid, SharedEntity, S>,
-    touched: &HashSet<SharedUid, S>,
-    enforce_dag: bool,
-) -> Result<(), EntitiesError>
-    requires { UidsMatch entities.old }
-    ensures keys { UidsMatch entities.new }
-    ensures ok { OnOk result (IsRepairOf (contains same_uid touched.now)
-        (held_map entities.old) (held_map entities.new)
-        × (IsTrue enforce_dag →
-        IsAcyclicAt (contains same_uid touched.now) (held_map entities.old))) }
-    ensures err { IfErr result (λ e. MatchRefusal e (λ _. ⊥) (λ t. IsTrue enforce_dag
-        × IsClosureRefused ComputeNow (held_map entities.old) t)) }
-    ensures named { IfErr result (NamesOneOf (contains same_uid touched.now)) }
-{
-    repair_tc(alloc, touched, entities, enforce_dag)?;
-    Ok(())
-}
-
-// Ends an adding or an overwriting, as the mode says.
-fn settle<S: BuildHasher + Clone>(
-    alloc: Global,
-    entities: &mut HashMap<SharedUid, SharedEntity, S>,
-    touched: &HashSet<SharedUid, S>,
-    tc_computation: TCComputation,
-) -> Result<(), EntitiesError>
-    requires { UidsMatch entities.old }
-    ensures keys { UidsMatch entities.new }
-    ensures ok { OnOk result (IsSettled tc_computation (contains same_uid touched.now)
-        (held_map entities.old) (held_map entities.new)) }
-    ensures err { IfErr result (λ e. MatchRefusal e (λ _. ⊥)
-        (IsClosureRefused tc_computation (held_map entities.old))) }
-    ensures named { IfErr result (λ e. WhereComputed tc_computation (NamesOneOf (contains same_uid touched.now) e)) }
-{
-    match tc_computation {
-        TCComputation::AssumeAlreadyComputed => Ok(()),
-        TCComputation::EnforceAlreadyComputed => check(alloc, entities),
-        TCComputation::ComputeNow => repair(alloc, entities, touched, true),
-    }
-}
-
-// Gives all entities the ancestors that they reach, and refuses where one reaches itself. So all that a map held where it
-// was empty before is repaired, whatever passes for touched.
-fn close<S: BuildHasher + Clone>(
-    alloc: Global,
-    entities: &mut HashMap<SharedUid, SharedEntity, S>,
-) -> Result<(), EntitiesError>
-    requires { UidsMatch entities.old }
-    ensures keys { UidsMatch entities.new }
-    ensures ok { OnOk result ((touched : EntityUID → Bool) →
-        ((q : EntityUID) → is_some (held entities.old q) ≡ true → touched q ≡ true) →
-        IsRepairOf touched (held_map entities.old) (held_map entities.new)
-        × IsAcyclicAt touched (held_map entities.old)) }
-    ensures err { IfErr result (λ e. MatchRefusal e (λ _. ⊥)
-        (IsClosureRefused ComputeNow (held_map entities.old))) }
-    ensures named { IfErr result (λ e. (touched : EntityUID → Bool) →
-        ((q : EntityUID) → is_some (held entities.old q) ≡ true → touched q ≡ true) →
-        NamesOneOf touched e) }
-{
-    compute_tc(alloc, entities, true)?;
-    Ok(())
-}
-
-// Ends an adding to an empty map, as the mode says.
-fn settle_whole<S: BuildHasher + Clone>(
-    alloc: Global,
-    entities: &mut HashMap<SharedUid, SharedEntity, S>,
-    tc_computation: TCComputation,
-) -> Result<(), EntitiesError>
-    requires { UidsMatch entities.old }
-    ensures keys { UidsMatch entities.new }
-    ensures ok { OnOk result ((touched : EntityUID → Bool) →
-        ((q : EntityUID) → is_some (held entities.old q) ≡ true → touched q ≡ true) →
-        IsSettled tc_computation touched (held_map entities.old) (held_map entities.new)) }
-    ensures err { IfErr result (λ e. MatchRefusal e (λ _. ⊥)
-        (IsClosureRefused tc_computation (held_map entities.old))) }
-    ensures named { IfErr result (λ e. (touched : EntityUID → Bool) →
-        ((q : EntityUID) → is_some (held entities.old q) ≡ true → touched q ≡ true) →
-        WhereComputed tc_computation (NamesOneOf touched e)) }
-{
-    match tc_computation {
-        TCComputation::AssumeAlreadyComputed => Ok(()),
-        TCComputation::EnforceAlreadyComputed => check(alloc, entities),
-        TCComputation::ComputeNow => close(alloc, entities),
-    }
-}
-
 // Adds entities to an empty map, in which all that is put is touched.
 fn fill<S: BuildHasher + Clone>(
     alloc: Global,
@@ -319,10 +227,14 @@ fn fill<S: BuildHasher + Clone>(
 fn add_to<S: BuildHasher + Clone>(
     alloc: Global,
     entities: &mut HashMap<SharedUid, SharedEntity, S>,
+    index: &mut Index<S>,
     list: Vec<Incoming>,
     tc_computation: TCComputation,
 ) -> Result<(), EntitiesError>
     requires keys { UidsMatch entities.old }
+    requires index { IsIndexOf index.old (held_map entities.old) }
+    ensures plain { index.new.plain ≡ index.old.plain }
+    ensures children { OnOk result (IfSome index.new.children (HasChildren (parentage (held entities.new)))) }
     ensures keys { UidsMatch entities.new }
     ensures agree { OnOk result (AllMatch (held entities.old) list.items) }
     ensures ok { OnOk result (IsSettled tc_computation
@@ -338,11 +250,13 @@ fn add_to<S: BuildHasher + Clone>(
 {
     let uids = uids_in(alloc, &list)?;
     let fresh = absent_uids(alloc, entities, uids)?;
-    let mut touched = HashSet::with_hasher(alloc, entities.hasher().clone()?);
-    note_all(&mut touched, fresh)?;
+    let mut inserted = HashSet::with_hasher(alloc, entities.hasher().clone()?);
+    note_all(&mut inserted, fresh)?;
+    let joining = listed(alloc, &inserted)?;
+    list_if_it_pays(alloc, entities, index);
     put_all(entities, list)?;
-    let by = touched_by_any(alloc, entities, &touched)?;
-    note_all(&mut touched, by)?;
+    let touched = touched_by(alloc, entities, index, &inserted)?;
+    join(alloc, index, entities, &joining);
     settle(alloc, entities, &touched, tc_computation)
 }
 
@@ -350,10 +264,14 @@ fn add_to<S: BuildHasher + Clone>(
 fn add_all<S: BuildHasher + Clone>(
     alloc: Global,
     entities: &mut HashMap<SharedUid, SharedEntity, S>,
+    index: &mut Index<S>,
     list: Vec<Incoming>,
     tc_computation: TCComputation,
 ) -> Result<(), EntitiesError>
     requires keys { UidsMatch entities.old }
+    requires index { IsIndexOf index.old (held_map entities.old) }
+    ensures plain { index.new.plain ≡ index.old.plain }
+    ensures children { OnOk result (IfSome index.new.children (HasChildren (parentage (held entities.new)))) }
     ensures keys { UidsMatch entities.new }
     ensures agree { OnOk result (AllMatch (held entities.old) list.items) }
     ensures ok { OnOk result (IsSettled tc_computation
@@ -368,34 +286,10 @@ fn add_all<S: BuildHasher + Clone>(
         (is_touched (held_map entities.old) (inserted_in (held_map entities.old) list.items)) e)) }
 {
     if entities.is_empty() {
+        index.children = None;
         return fill(alloc, entities, list, tc_computation);
     }
-    add_to(alloc, entities, list, tc_computation)
-}
-
-// Repairs what a removal touched, and ends that as the mode says.
-fn mend<S: BuildHasher + Clone>(
-    alloc: Global,
-    entities: &mut HashMap<SharedUid, SharedEntity, S>,
-    touched: &HashSet<SharedUid, S>,
-    tc_computation: TCComputation,
-) -> Result<(), EntitiesError>
-    requires { UidsMatch entities.old }
-    ensures keys { UidsMatch entities.new }
-    ensures ok { OnOk result (IsMended tc_computation (contains same_uid touched.now)
-        (held_map entities.old) (held_map entities.new)) }
-    ensures err { IfErr result (λ e. MatchRefusal e (λ _. ⊥) (IsMendRefused tc_computation
-        (contains same_uid touched.now) (held_map entities.old))) }
-    ensures named { IfErr result (λ e. WhereComputed tc_computation (NamesOneOf (contains same_uid touched.now) e)) }
-{
-    match tc_computation {
-        TCComputation::AssumeAlreadyComputed => repair(alloc, entities, touched, false),
-        TCComputation::EnforceAlreadyComputed => {
-            repair(alloc, entities, touched, false)?;
-            check(alloc, entities)
-        }
-        TCComputation::ComputeNow => repair(alloc, entities, touched, true),
-    }
+    add_to(alloc, entities, index, list, tc_computation)
 }
 
 // A copy of the map, with the same entities.
@@ -421,6 +315,7 @@ impl<S: BuildHasher + Clone> Entities<S> {
         Entities {
             entities: HashMap::with_hasher(alloc, hasher),
             partial: false,
+            index: Index::unlisted(true),
         }
     }
 
@@ -438,6 +333,7 @@ impl<S: BuildHasher + Clone> Entities<S> {
         Entities {
             entities: self.entities,
             partial: true,
+            index: self.index,
         }
     }
 
@@ -489,9 +385,8 @@ impl<S: BuildHasher + Clone> Entities<S> {
     ///
     /// An indirect ancestor that an entity was given with counts as one that it has. What is touched is what
     /// was inserted, and what has one of that among its ancestors; the others stay as they are in every mode.
-    /// It takes memory. It looks up each entity of the list a few times and walks over the store once, with up to
-    /// 16 looks an entity or one for each of its ancestors; then it closes what is touched, or checks the whole.
-    /// A store without entities is not walked, and is closed as a whole.
+    /// It takes memory. It looks up each entity of the list a few times and finds what is touched, as [`Entities`] says;
+    /// then it closes that, or checks the whole. A store without entities is closed as a whole.
     pub fn add_entities(
         self,
         alloc: Global,
@@ -523,12 +418,18 @@ impl<S: BuildHasher + Clone> Entities<S> {
             AreBare (entities_in list.items) → WhereComputed tc_computation
             (IsAddingRefused W (map given_of (entities_in list.items)) e)) }
     {
-        let mut entities = self.entities;
+        let Entities {
+            mut entities,
+            partial,
+            mut index,
+        } = self;
         let coming = with_uids(alloc, list)?;
-        add_all(alloc, &mut entities, coming, tc_computation)?;
+        let stays = stays_plain(tc_computation, &coming);
+        add_all(alloc, &mut entities, &mut index, coming, tc_computation)?;
         Ok(Entities {
             entities,
-            partial: self.partial,
+            partial,
+            index: index.plain_if(stays),
         })
     }
 
@@ -539,10 +440,9 @@ impl<S: BuildHasher + Clone> Entities<S> {
     ///
     /// Refused by [`EntitiesError::TransitiveClosureError`] as the mode says, and by `Memory`; a refusal gives
     /// no store back. An indirect ancestor that one of these entities was given with counts as one that it has.
-    /// It takes memory. It walks over the store once for the whole list, with up to 16 looks an entity or one for each
-    /// of its ancestors. For an entity that is touched and none of the list it gathers what goes with each of the uids
-    /// that this has as ancestors, in memory for a pointer each, and takes that out at once. Then it closes what is
-    /// touched, or checks the whole.
+    /// It takes memory. It finds what is touched, as [`Entities`] says, once for the whole list. For an entity that is
+    /// touched and none of the list it gathers what goes with each of the uids that this has as ancestors, in memory for a
+    /// pointer each, and takes that out at once. Then it closes what is touched, or checks the whole.
     ///
     /// Unlike the original it takes neither a schema nor extensions.
     pub fn upsert_entities(
@@ -575,17 +475,28 @@ impl<S: BuildHasher + Clone> Entities<S> {
     {
         let coming = with_uids(alloc, list)?;
         let uids = uids_in(alloc, &coming)?;
-        let mut entities = self.entities;
-        let mut touched = HashSet::with_hasher(alloc, entities.hasher().clone()?);
-        note_all(&mut touched, uids)?;
-        let losses = losses_by(alloc, &entities, &touched)?;
+        let Entities {
+            mut entities,
+            partial,
+            mut index,
+        } = self;
+        let mut applied = HashSet::with_hasher(alloc, entities.hasher().clone()?);
+        note_all(&mut applied, uids)?;
+        list_if_it_pays(alloc, &entities, &mut index);
+        let touched = touched_by(alloc, &entities, &index, &applied)?;
+        let losses = losses_by(alloc, &entities, &applied, &touched)?;
+        let joining = listed(alloc, &applied)?;
+        leave(&mut index, &entities, &joining);
         let none = UidSet::new(alloc);
-        strip_each(&mut entities, losses, &none, &mut touched)?;
+        strip_each(&mut entities, losses, &none)?;
+        let stays = stays_plain(tc_computation, &coming);
         overwrite_all(&mut entities, coming)?;
+        join(alloc, &mut index, &entities, &joining);
         settle(alloc, &mut entities, &touched, tc_computation)?;
         Ok(Entities {
             entities,
-            partial: self.partial,
+            partial,
+            index: index.plain_if(stays),
         })
     }
 
@@ -595,8 +506,8 @@ impl<S: BuildHasher + Clone> Entities<S> {
     /// what it still reaches. What is not touched stays as it is.
     ///
     /// Refused by [`EntitiesError::TransitiveClosureError`] as the mode says, which over a computed store is
-    /// never, and by `Memory`; a refusal gives no store back. It takes memory, and walks over the store and strips it
-    /// as [`Entities::upsert_entities`] does, once for the whole list; then it closes what is touched, or checks the whole.
+    /// never, and by `Memory`; a refusal gives no store back. It takes memory, and finds and strips what is touched as
+    /// [`Entities::upsert_entities`] does, once for the whole list; then it closes that, or checks the whole.
     pub fn remove_entities(
         self,
         alloc: Global,
@@ -621,16 +532,24 @@ impl<S: BuildHasher + Clone> Entities<S> {
         let listed = held_uids(alloc, &self.entities, list)?;
         let gone = UidSet::from_pointers(listed)?;
         let copies = pointers_of(&gone)?;
-        let mut entities = self.entities;
-        let mut touched = HashSet::with_hasher(alloc, entities.hasher().clone()?);
-        note_all(&mut touched, copies)?;
-        let losses = losses_by(alloc, &entities, &touched)?;
-        strip_each(&mut entities, losses, &gone, &mut touched)?;
+        let Entities {
+            mut entities,
+            partial,
+            mut index,
+        } = self;
+        let mut applied = HashSet::with_hasher(alloc, entities.hasher().clone()?);
+        note_all(&mut applied, copies)?;
+        list_if_it_pays(alloc, &entities, &mut index);
+        let touched = touched_by(alloc, &entities, &index, &applied)?;
+        let losses = losses_by(alloc, &entities, &applied, &touched)?;
+        forget(&mut index, &entities, gone.pointers());
+        strip_each(&mut entities, losses, &gone)?;
         take_out(&mut entities, gone.into_pointers());
         mend(alloc, &mut entities, &touched, tc_computation)?;
         Ok(Entities {
             entities,
-            partial: self.partial,
+            partial,
+            index,
         })
     }
 
@@ -776,6 +695,7 @@ impl<S: BuildHasher + Clone> Clone for Entities<S> {
         Ok(Entities {
             entities: copy_of_map(&self.entities)?,
             partial: self.partial,
+            index: Index::unlisted(self.index.plain),
         })
     }
 }

@@ -1,8 +1,11 @@
 //! Entities that a call puts in, each with its uid to be shared: one copy of the uid serves the map and all notes.
-ghost use Rattle.std.specs.Prelude.{◌≡◌, IfOk};
+ghost use Rattle.std.specs.Prelude.{◌≡◌, IfOk, IsTrue};
 ghost use Rattle.cedar_entities.specs.Edits.{uids_of};
-ghost use Rattle.cedar_entities.specs.Plain.{entities_in};
+ghost use Rattle.cedar_entities.specs.declared.entities.TCComputation.TheVariants.{ComputeNow};
+ghost use Rattle.cedar_entities.specs.Plain.{AreBare, IsBare, entities_in};
 
+use crate::entities::TCComputation;
+use crate::settling::computes;
 use crate::touching::copy_of;
 use cedar_entity::entity::Entity;
 use cedar_uid_sets::SharedUid;
@@ -70,4 +73,34 @@ pub(crate) fn uids_in(alloc: Global, list: &[Incoming]) -> Result<Vec<SharedUid>
         uids.push(copy_of(&entity.uid)?)?;
     }
     Ok(uids)
+}
+
+// Whether an entity has no indirect ancestors.
+fn is_bare(entity: &Entity) -> bool
+    ensures { IsTrue result → IsBare entity.now }
+{
+    entity.indirect_ancestors().next().is_none()
+}
+
+// Whether no entity has indirect ancestors.
+fn are_bare(list: &[Incoming]) -> bool
+    ensures { IsTrue result → AreBare list.now }
+{
+    for coming in list {
+        if !is_bare(&coming.entity) {
+            return false;
+        }
+    }
+    true
+}
+
+// Whether an adding or an overwriting of these leaves a plain store plain: the closure is computed, and none has indirect
+// ancestors.
+pub(crate) fn stays_plain(tc_computation: TCComputation, list: &[Incoming]) -> bool
+    ensures { IsTrue result → (tc_computation ≡ ComputeNow) × AreBare list.now }
+{
+    if !computes(tc_computation) {
+        return false;
+    }
+    are_bare(list)
 }

@@ -10,10 +10,12 @@ ghost use Rattle.cedar_ids.specs.declared.entity.EntityUID.{EntityUID};
 ghost use Rattle.cedar_entity.specs.View.{has_ancestor};
 ghost use Rattle.cedar_entity.specs.declared.err.EntitiesError.TheVariants.{Memory};
 ghost use Rattle.cedar_entities.specs.Modes.{is_ancestor_in};
+ghost use Rattle.cedar_entities.specs.Touching.{is_touched};
 ghost use Rattle.cedar_entities.specs.laws.Edits.{stripped};
-ghost use Rattle.cedar_entities.specs.laws.Held.{held};
+ghost use Rattle.cedar_entities.specs.laws.Held.{held, held_map};
 ghost use Rattle.cedar_entities.specs.laws.Losses.{IsLossOf, is_stripped, loses, loses_uid, takes};
 
+use crate::sought::Sought;
 use cedar_entity::entity::Entity;
 use cedar_entity::err::EntitiesError;
 use cedar_entity::node::SharedEntity;
@@ -147,43 +149,6 @@ pub(crate) fn absent_uids<S: BuildHasher>(
     Ok(kept)
 }
 
-// So many uids are looked for one by one among an entity's ancestors; of more, each ancestor is looked for.
-const FEW: usize = 16;
-
-// Whether an entity has one of some uids among its ancestors, by a look for each of these.
-fn has_any_of<S: BuildHasher>(entity: &Entity, uids: &HashSet<SharedUid, S>) -> bool
-    ensures { result ≡ list_any (has_ancestor entity.now) uids.now.keys }
-{
-    for uid in uids {
-        if entity.is_descendant_of_shared(uid) {
-            return true;
-        }
-    }
-    false
-}
-
-// Whether an entity has one of some uids among its ancestors, by a look for each ancestor.
-fn has_any_among<S: BuildHasher>(entity: &Entity, uids: &HashSet<SharedUid, S>) -> bool
-    ensures { result ≡ list_any (has_ancestor entity.now) uids.now.keys }
-{
-    for uid in entity.ancestors() {
-        if uids.contains(uid) {
-            return true;
-        }
-    }
-    false
-}
-
-// Whether an entity has one of some uids among its ancestors.
-fn has_any<S: BuildHasher>(entity: &Entity, uids: &HashSet<SharedUid, S>) -> bool
-    ensures { result ≡ list_any (has_ancestor entity.now) uids.now.keys }
-{
-    if uids.len() <= FEW {
-        return has_any_of(entity, uids);
-    }
-    has_any_among(entity, uids)
-}
-
 // Copies of the uids of the entities that have one of some uids among their ancestors.
 pub(crate) fn touched_by_any<S: BuildHasher>(
     alloc: Global,
@@ -193,74 +158,14 @@ pub(crate) fn touched_by_any<S: BuildHasher>(
     ensures { IfOk result (λ v. (q : EntityUID) →
         is_member same_uid v.items q ≡ list_any (is_ancestor_in (held entities.now q)) uids.now.keys) }
 {
+    let sought = Sought::of(alloc, uids)?;
     let mut copies = Vec::new(alloc);
     for (key, node) in entities {
-        if has_any(&node.0, uids) {
+        if sought.has_any(&node.0) {
             copies.push(copy_of(key)?)?;
         }
     }
     Ok(copies)
-}
-
-// Whether an entity loses something by some uids: it is none of them, and has one of them among its ancestors.
-fn is_hit<S: BuildHasher>(key: &SharedUid, entity: &Entity, uids: &HashSet<SharedUid, S>) -> bool
-    ensures { result ≡ is_stripped uids.now.keys key.now (has_ancestor entity.now) }
-{
-    if !has_any(entity, uids) {
-        return false;
-    }
-    !uids.contains(key)
-}
-
-// Those of some uids that an entity has among its ancestors, by a look for each of these.
-fn hits_by_uid<S: BuildHasher>(
-    alloc: Global,
-    entity: &Entity,
-    uids: &HashSet<SharedUid, S>,
-) -> Result<Vec<SharedUid>, AllocError>
-    ensures { IfOk result (λ v. (q : EntityUID) → is_member same_uid v.items q
-        ≡ (is_member same_uid uids.now.keys q && has_ancestor entity.now q)) }
-{
-    let mut hits = Vec::new(alloc);
-    for uid in uids {
-        if entity.is_descendant_of_shared(uid) {
-            hits.push(copy_of(uid)?)?;
-        }
-    }
-    Ok(hits)
-}
-
-// Those of some uids that an entity has among its ancestors, by a look for each ancestor.
-fn hits_by_ancestor<S: BuildHasher>(
-    alloc: Global,
-    entity: &Entity,
-    uids: &HashSet<SharedUid, S>,
-) -> Result<Vec<SharedUid>, AllocError>
-    ensures { IfOk result (λ v. (q : EntityUID) → is_member same_uid v.items q
-        ≡ (is_member same_uid uids.now.keys q && has_ancestor entity.now q)) }
-{
-    let mut hits = Vec::new(alloc);
-    for uid in entity.shared_ancestors() {
-        if uids.contains(uid) {
-            hits.push(copy_of(uid)?)?;
-        }
-    }
-    Ok(hits)
-}
-
-// Those of some uids that an entity has among its ancestors.
-fn hits_of<S: BuildHasher>(
-    alloc: Global,
-    entity: &Entity,
-    uids: &HashSet<SharedUid, S>,
-) -> Result<Vec<SharedUid>, AllocError>
-    ensures { IfOk result (λ v. (q : EntityUID) → is_member same_uid v.items q
-        ≡ (is_member same_uid uids.now.keys q && has_ancestor entity.now q)) }
-{
-    if uids.len() <= FEW {
-        return hits_by_uid(alloc, entity, uids);
-    }
-    hits_by_ancestor(alloc, entity, uids)
 }
 
 // Adds all of one list to another.
@@ -309,13 +214,13 @@ fn loss_of<S: BuildHasher>(
     entities: &HashMap<SharedUid, SharedEntity, S>,
     key: &SharedUid,
     entity: &Entity,
-    uids: &HashSet<SharedUid, S>,
+    uids: &Sought<'_, S>,
 ) -> Result<Loss, AllocError>
     ensures uid { IfOk result (λ a. a.uid ≡ key.now) }
     ensures lost { IfOk result (λ a. (w : EntityUID) → set.contains a.lost w
-        ≡ list_any (λ u. has_ancestor entity.now u && takes (held entities.now) u w) uids.now.keys) }
+        ≡ list_any (λ u. has_ancestor entity.now u && takes (held entities.now) u w) uids.now) }
 {
-    let hits = hits_of(alloc, entity, uids)?;
+    let hits = uids.hits(alloc, entity)?;
     let lost = lost_with_all(alloc, entities, &hits)?;
     let uid = copy_of(key)?;
     Ok(Loss { uid, lost })
@@ -327,35 +232,58 @@ fn note_loss<S: BuildHasher>(
     entities: &HashMap<SharedUid, SharedEntity, S>,
     key: &SharedUid,
     entity: &Entity,
-    uids: &HashSet<SharedUid, S>,
+    uids: &Sought<'_, S>,
     losses: &mut Vec<Loss>,
 ) -> Result<(), AllocError>
     ensures who { OnOk result ((q : EntityUID) → loses losses.new.items q
-        ≡ (loses losses.old.items q || (same_uid key.now q && is_stripped uids.now.keys key.now (has_ancestor entity.now)))) }
+        ≡ (loses losses.old.items q || (same_uid key.now q && is_stripped uids.now key.now (has_ancestor entity.now)))) }
     ensures lost { OnOk result (held entities.now key.now ≡ Some entity.now
-        → AllByRecursion (IsLossOf (held entities.now) uids.now.keys) losses.old.items
-        → AllByRecursion (IsLossOf (held entities.now) uids.now.keys) losses.new.items) }
+        → AllByRecursion (IsLossOf (held entities.now) uids.now) losses.old.items
+        → AllByRecursion (IsLossOf (held entities.now) uids.now) losses.new.items) }
 {
-    if !is_hit(key, entity, uids) {
+    if !uids.is_hit(key, entity) {
         return Ok(());
     }
     losses.push(loss_of(alloc, entities, key, entity, uids)?)?;
     Ok(())
 }
 
-// What goes by some uids from each entity that is none of them and has one of them among its ancestors.
+// Notes what goes from the entity at a uid by some uids, where there is one and something does.
+fn note_loss_at<S: BuildHasher>(
+    alloc: Global,
+    entities: &HashMap<SharedUid, SharedEntity, S>,
+    key: &SharedUid,
+    uids: &Sought<'_, S>,
+    losses: &mut Vec<Loss>,
+) -> Result<(), AllocError>
+    ensures who { OnOk result ((q : EntityUID) → loses losses.new.items q
+        ≡ (loses losses.old.items q || (same_uid key.now q && is_stripped uids.now key.now (is_ancestor_in (held entities.now key.now))))) }
+    ensures lost { OnOk result (AllByRecursion (IsLossOf (held entities.now) uids.now) losses.old.items
+        → AllByRecursion (IsLossOf (held entities.now) uids.now) losses.new.items) }
+{
+    match entities.get(key) {
+        Some(node) => note_loss(alloc, entities, key, &node.0, uids, losses),
+        None => Ok(()),
+    }
+}
+
+// What goes by some uids from each entity that is none of them and has one of them among its ancestors. All these are among
+// the entities that are touched.
 pub(crate) fn losses_by<S: BuildHasher>(
     alloc: Global,
     entities: &HashMap<SharedUid, SharedEntity, S>,
     uids: &HashSet<SharedUid, S>,
+    touched: &HashSet<SharedUid, S>,
 ) -> Result<Vec<Loss>, AllocError>
+    requires { (q : EntityUID) → contains same_uid touched.now q ≡ is_touched (held_map entities.now) uids.now.keys q }
     ensures who { IfOk result (λ v. (q : EntityUID) → loses v.items q
         ≡ is_stripped uids.now.keys q (is_ancestor_in (held entities.now q))) }
     ensures lost { IfOk result (λ v. AllByRecursion (IsLossOf (held entities.now) uids.now.keys) v.items) }
 {
+    let sought = Sought::of(alloc, uids)?;
     let mut losses = Vec::new(alloc);
-    for (key, node) in entities {
-        note_loss(alloc, entities, key, &node.0, uids, &mut losses)?;
+    for key in touched {
+        note_loss_at(alloc, entities, key, &sought, &mut losses)?;
     }
     Ok(losses)
 }
@@ -386,24 +314,19 @@ fn strip_once_at<S: BuildHasher>(
     Ok(())
 }
 
-// Strips each entity that loses something, and notes it.
+// Strips each entity that loses something.
 pub(crate) fn strip_each<S: BuildHasher>(
     entities: &mut HashMap<SharedUid, SharedEntity, S>,
     losses: Vec<Loss>,
     gone: &UidSet,
-    touched: &mut HashSet<SharedUid, S>,
 ) -> Result<(), EntitiesError>
     ensures ok { OnOk result ((q : EntityUID) → held entities.new q ≡ option_map
         (stripped (λ p. loses losses.items q && set.contains gone.now p) (loses_uid losses.items q))
         (held entities.old q)) }
-    ensures touched { OnOk result ((q : EntityUID) → contains same_uid touched.new q
-        ≡ (contains same_uid touched.old q || loses losses.items q)) }
     ensures err { IfErr result (λ e. e ≡ Memory) }
 {
     for loss in losses {
-        let Loss { uid, lost } = loss;
-        strip_once_at(entities, &uid, gone, &lost)?;
-        touched.insert(uid)?;
+        strip_once_at(entities, &loss.uid, gone, &loss.lost)?;
     }
     Ok(())
 }

@@ -5,6 +5,7 @@ mod store_faults;
 mod store_in_modes;
 mod store_kept;
 mod store_keyed;
+mod store_listed;
 mod store_lists;
 mod store_many;
 mod store_masks;

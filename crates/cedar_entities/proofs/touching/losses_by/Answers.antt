@@ -1,41 +1,45 @@
-use Rattle.std.proofs.Common.{◌≡◌, ◌∙◌, ◌&&◌, ap, sym, map, not, is_some, Some}
-use Rattle.std.specs.Map.{lookup}
-use Rattle.std.specs.Map.Iter.{deref_pair}
-use Rattle.std.specs.HashMap.{get}
-use Rattle.std.specs.Option.{option_map}
+use Rattle.std.proofs.Common.{◌∙◌, ◌&&◌, ◌||◌, ap, map, refl, subst, sym}
+use Rattle.std.specs.List.{AllByRecursion, list_any}
+use Rattle.std.specs.Map.Iter.{deref}
 use Rattle.std.specs.Set.{is_member}
-use Rattle.std.proofs.lemmas.Map.Iter.{iter_end, hash_map_turn}
+use Rattle.std.proofs.lemmas.Map.Iter.{iter_end}
 use Rattle.cedar_ids.specs.UidOf.{same_uid}
-use Rattle.cedar_ids.specs.laws.UidOfLaws.{same_uid_equiv}
-use Rattle.cedar_entity.specs.View.{has_ancestor}
+use Rattle.cedar_ids.specs.laws.UidOfLaws.{same_uid_decides}
+use Rattle.cedar_ids.specs.declared.entity.EntityUID.{EntityUID}
 use Rattle.cedar_entities.specs.Modes.{is_ancestor_in}
-use Rattle.cedar_entities.specs.laws.Held.{held, shared}
-use Rattle.cedar_entities.specs.laws.Losses.{is_stripped, loses}
-use Rattle.cedar_entities.proofs.Touched.{seen_loss, there_only_stripped}
-use Rattle.cedar_entities.proofs.Versions.{map_append_one}
+use Rattle.cedar_entities.specs.laws.Held.{held, held_map}
+use Rattle.cedar_entities.specs.laws.Losses.{IsLossOf, is_stripped, loses}
+use Rattle.cedar_entities.proofs.Adds.{stored}
+use Rattle.cedar_entities.proofs.Editing.{member_next}
+use Rattle.cedar_entities.proofs.Losses.{stripped_touched}
+use Rattle.cedar_entities.proofs.Touched.{key_case}
 use Rattle.cedar_entities.proofs.touching.losses_by.Goals as goal
 
 pub loop-key-preserved : goal.loop-key-preserved
 loop-key-preserved g c =
     let m = c.args.entities.now in
-    let keys = c.args.uids.now.keys in
+    let A = c.args.uids.now.keys in
     let key = c.in-Some.key.now in
-    let gives = c.into_iter-key-iterator.ensures.into_iter_gives in
-    let found = (hash_map_turn deref_pair c.loop-key.yielded c.into_iter-key-iterator.result c.loop-key.key-iterator c.next.new.self c.next.result (c.in-Some.key, c.in-Some.node) c.loop-key.yielded_by c.in-Some.is c.next.ensures.steps same_uid_equiv m gives.0 gives.4).1 in
-    let is : held m key ≡ Some c.deref.result.now = ap (option_map shared) found ∙ ap Some (sym c.deref.ensures) in
+    let F = λ (x : EntityUID). is_stripped A x (is_ancestor_in (held m x)) in
+    let old = c.loop-key.losses.items in
     record {
-      who = λ q. seen_loss (λ x. is_stripped keys x (is_ancestor_in (held m x))) (map deref_pair c.loop-key.yielded) key c.in-Some.node.now q (loses c.loop-key.losses.items q) (loses c.note_loss.new.losses.items q)
-          (is_stripped keys key (has_ancestor c.deref.result.now)) (c.loop-key.invariant.who q) (c.in_ok-note_loss.ensures.who q) (ap (λ o. is_stripped keys key (is_ancestor_in o)) (sym is))
-          ∙ ap (λ l. is_some (lookup (same_uid q) l) && is_stripped keys q (is_ancestor_in (held m q))) (sym (map_append_one deref_pair c.loop-key.yielded (c.in-Some.key, c.in-Some.node)));
-      lost = c.in_ok-note_loss.ensures.lost is c.loop-key.invariant.lost;
+      who = λ q.
+          c.in_ok-note_loss_at.ensures.who q
+          ∙ ap (λ us. loses old q || (same_uid key q && is_stripped us key (is_ancestor_in (held m key)))) c.in_ok-sought.ensures
+          ∙ ap (λ b. b || (same_uid key q && F key)) (c.loop-key.invariant.who q)
+          ∙ key_case (is_member same_uid (map (λ x. x.now) c.loop-key.yielded) q) (F q) (same_uid key q) (F key) (λ t. ap F ((same_uid_decides key q).0 t))
+          ∙ ap (λ b. b && F q) (sym (member_next c.loop-key.yielded c.in-Some.key q));
+      lost = subst (λ us. AllByRecursion (IsLossOf (held m) us) old → AllByRecursion (IsLossOf (held m) us) c.note_loss_at.new.losses.items) c.in_ok-sought.ensures c.in_ok-note_loss_at.ensures.lost c.loop-key.invariant.lost;
     }
 
 pub returns-clause-who : goal.returns-clause-who
 returns-clause-who g c q =
     let m = c.args.entities.now in
-    let keys = c.args.uids.now.keys in
+    let A = c.args.uids.now.keys in
     let gives = c.into_iter-key-iterator.ensures.into_iter_gives in
-    let whole = (iter_end deref_pair m.entries c.loop-key.yielded c.into_iter-key-iterator.result c.loop-key.key-iterator c.next.new.self c.next.result gives.0 c.loop-key.yielded_by c.in-None.is c.next.ensures.steps).0 in
+    let whole = (iter_end deref c.args.touched.now.keys c.loop-key.yielded c.into_iter-key-iterator.result c.loop-key.key-iterator c.next.new.self c.next.result gives.0 c.loop-key.yielded_by c.in-None.is c.next.ensures.steps).0 in
     c.loop-key.invariant.who q
-    ∙ ap (λ l. is_some (lookup (same_uid q) l) && is_stripped keys q (is_ancestor_in (held m q))) whole
-    ∙ there_only_stripped (not (is_member same_uid keys q)) (get same_uid m q) keys
+    ∙ ap (λ l. is_member same_uid l q && is_stripped A q (is_ancestor_in (held m q))) whole
+    ∙ ap (λ b. b && is_stripped A q (is_ancestor_in (held m q))) (c.requires q)
+    ∙ ap (λ f. (is_member same_uid A q || list_any (is_ancestor_in (f q)) A) && is_stripped A q (is_ancestor_in (held m q))) (sym (stored m (held_map m) refl))
+    ∙ stripped_touched (is_member same_uid A q) (list_any (is_ancestor_in (held m q)) A)

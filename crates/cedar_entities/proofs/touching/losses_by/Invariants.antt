@@ -1,7 +1,6 @@
-use Rattle.std.proofs.Common.{◌≡◌, ◌&&◌, map, is_some}
+use Rattle.std.proofs.Common.{◌≡◌, ◌&&◌, map}
 use Rattle.std.specs.List.{AllByRecursion}
-use Rattle.std.specs.Map.{lookup}
-use Rattle.std.specs.Map.Iter.{deref_pair}
+use Rattle.std.specs.Set.{is_member}
 use Rattle.cedar_ids.specs.UidOf.{same_uid}
 use Rattle.cedar_ids.specs.declared.entity.EntityUID.{EntityUID}
 use Rattle.cedar_entities.specs.Modes.{is_ancestor_in}
@@ -11,6 +10,6 @@ use Rattle.cedar_entities.proofs.touching.losses_by.Given as goal
 
 abbrev pub invariant-loop-key : goal.invariant-loop-key
 invariant-loop-key g l = record {
-  who : (q : EntityUID) → loses l.losses.items q ≡ (is_some (lookup (same_uid q) (map deref_pair l.yielded)) && is_stripped l.uids.keys q (is_ancestor_in (held l.entities q)));
+  who : (q : EntityUID) → loses l.losses.items q ≡ (is_member same_uid (map (λ x. x.now) l.yielded) q && is_stripped l.uids.keys q (is_ancestor_in (held l.entities q)));
   lost : AllByRecursion (IsLossOf (held l.entities) l.uids.keys) l.losses.items;
 }

@@ -1,8 +1,6 @@
-use Rattle.std.specs.Prelude.{◌≡◌, ◌&&◌, ◌||◌}
+use Rattle.std.specs.Prelude.{◌≡◌, ◌&&◌}
 use Rattle.std.specs.FinSet as set
-use Rattle.std.specs.HashSet.{contains}
 use Rattle.std.specs.Option.{option_map}
-use Rattle.cedar_ids.specs.UidOf.{same_uid}
 use Rattle.cedar_ids.specs.declared.entity.EntityUID.{EntityUID}
 use Rattle.cedar_entities.specs.laws.Edits.{stripped}
 use Rattle.cedar_entities.specs.laws.Held.{held}
@@ -10,7 +8,4 @@ use Rattle.cedar_entities.specs.laws.Losses.{loses, loses_uid}
 use Rattle.cedar_entities.proofs.touching.strip_each.Given as goal
 
 abbrev pub invariant-loop-loss : goal.invariant-loop-loss
-invariant-loop-loss g l = record {
-  holds : (q : EntityUID) → held l.entities q ≡ option_map (stripped (λ p. loses l.yielded q && set.contains l.gone p) (loses_uid l.yielded q)) (held l.initial.entities q);
-  noted : (q : EntityUID) → contains same_uid l.touched q ≡ (contains same_uid l.initial.touched q || loses l.yielded q);
-}
+invariant-loop-loss g l = (q : EntityUID) → held l.entities q ≡ option_map (stripped (λ p. loses l.yielded q && set.contains l.gone p) (loses_uid l.yielded q)) (held l.initial.entities q)

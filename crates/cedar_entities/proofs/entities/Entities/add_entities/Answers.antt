@@ -1,9 +1,10 @@
-use Rattle.std.proofs.Common.{ap, subst, map, ◌≡◌}
+use Rattle.std.proofs.Common.{ap, subst, sym, map, ◌≡◌, ◌∙◌}
 use Rattle.std.specs.FinMap as finmap
 use Rattle.std.proofs.lemmas.Result.{err_from_is_err_and}
 use Rattle.cedar_entities.specs.laws.Held.{held, held_map}
 use Rattle.cedar_entities.specs.Modes.{IsClosureRefused, WhereComputed}
-use Rattle.cedar_entities.specs.Plain.{StoreView}
+use Rattle.cedar_entities.specs.Plain.{AreBare, StoreView}
+use Rattle.cedar_entities.proofs.Indexes.{children_seen, plain_in}
 use Rattle.cedar_entities.specs.Refusals.{MatchRefusal, NamesOneOf}
 use Rattle.cedar_entities.specs.Touching.{inserted_in, is_touched, IsSettled}
 use Rattle.cedar_entities.specs.Present.{AllMatch, FirstMismatch, with_first}
@@ -64,3 +65,17 @@ returns-in_err-add_all-clause-named g c =
     let p = err_from_is_err_and c.from_residual-in_err-add_all.result c.from_residual-in_err-add_all.ensures.1 in
     rw (p.1, p.2) (subst (λ D. WhereComputed c.args.tc_computation (NamesOneOf (is_touched D (inserted_in D L)) c.in_err-add_all.field-0.0)) (ap (λ (s : StoreView). s.held) c.self.view_is)
     (subst (λ l. WhereComputed c.args.tc_computation (NamesOneOf (is_touched (held_map c.self.inside.entities) (inserted_in (held_map c.self.inside.entities) l)) c.in_err-add_all.field-0.0)) c.in_ok-coming.ensures c.in_err-add_all.ensures.named))
+
+pub invariant_of-result : goal.invariant_of-result
+invariant_of-result g c =
+    let m = c.self.inside.entities in
+    let n = c.add_all.new.entities in (
+      c.in_ok-add_all.ensures.keys,
+      record {
+        plain = λ t.
+            let p = c.plain_if.ensures.plain t in
+            let stays = c.stays_plain-stays.ensures p.1 in
+            plain_in (held_map m) (c.self.invariant.1.plain (sym c.add_all.ensures.plain ∙ p.0)) c.in_ok-coming.coming.items (subst AreBare c.deref.ensures.value stays.1) c.args.tc_computation stays.0 (held_map n) c.in_ok-add_all.ensures.ok;
+        children = c.plain_if.ensures.children _ (children_seen n c.add_all.new.index.children c.in_ok-add_all.ensures.children);
+      },
+    )

@@ -18,7 +18,7 @@ returns-in-None-clause-value g c =
     ∙ sym (get_seen c.self.inside.entities c.args.uid.now) ∙ ap (λ (s : StoreView). finmap.get s.held c.args.uid.now) c.self.view_is
 
 pub returns-in-Some-clause-keyed : goal.returns-in-Some-clause-keyed
-returns-in-Some-clause-keyed g c = subst IsKeyed (ap (λ (s : StoreView). s.held) c.self.view_is) (seen_keyed c.self.inside.entities c.self.invariant)
+returns-in-Some-clause-keyed g c = subst IsKeyed (ap (λ (s : StoreView). s.held) c.self.view_is) (seen_keyed c.self.inside.entities c.self.invariant.0)
 
 pub returns-in-None-clause-keyed : goal.returns-in-None-clause-keyed
-returns-in-None-clause-keyed g c = subst IsKeyed (ap (λ (s : StoreView). s.held) c.self.view_is) (seen_keyed c.self.inside.entities c.self.invariant)
+returns-in-None-clause-keyed g c = subst IsKeyed (ap (λ (s : StoreView). s.held) c.self.view_is) (seen_keyed c.self.inside.entities c.self.invariant.0)

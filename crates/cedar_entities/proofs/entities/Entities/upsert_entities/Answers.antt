@@ -1,4 +1,4 @@
-use Rattle.std.proofs.Common.{ap, subst, take, map, ◌∙◌, ◌≡◌, ◌||◌}
+use Rattle.std.proofs.Common.{ap, not, refl, subst, sym, take, map, ◌∙◌, ◌≡◌, ◌&&◌, ◌||◌}
 use Rattle.std.proofs.lemmas.Result.{err_from_is_err_and}
 use Rattle.std.specs.HashSet.{contains}
 use Rattle.std.specs.Set.{is_member}
@@ -12,7 +12,16 @@ use Rattle.cedar_entities.specs.Modes.{IsClosureRefused, WhereComputed}
 use Rattle.cedar_entities.specs.Plain.{StoreView}
 use Rattle.cedar_entities.specs.Refusals.{MatchRefusal, NamesOneOf}
 use Rattle.cedar_entities.specs.Touching.{is_touched, IsSettled}
-use Rattle.cedar_entities.proofs.Edited.{laid_over, noted_touched}
+use Rattle.cedar_entities.proofs.Edited.{known_touched, laid_over}
+use Rattle.cedar_entities.proofs.Adds.{stored}
+use Rattle.cedar_entities.proofs.Closures.{where_computed}
+use Rattle.cedar_entities.proofs.Editing.{changed_match}
+use Rattle.cedar_entities.proofs.Indexes.{children_back, children_over, if_some, plain_over, settled_kept}
+use Rattle.cedar_entities.specs.Plain.{AreBare}
+use Rattle.cedar_entities.specs.laws.Edits.{stripped}
+use Rattle.cedar_entities.specs.laws.Indexes.{IsPlainHeld, is_parent_at}
+use Rattle.cedar_entities.specs.laws.Losses.{loses, loses_uid}
+use Rattle.std.specs.FinSet as set
 use Rattle.cedar_entities.proofs.Overwriting.{so_far, over_between, over_plain, over_refused, over_untouched, settled_untouched}
 use Rattle.cedar_entities.proofs.entities.Entities.upsert_entities.Goals as goal
 
@@ -20,7 +29,7 @@ pub returns-in_err-settle-clause-err : goal.returns-in_err-settle-clause-err
 returns-in_err-settle-clause-err g c =
     let is = ap (λ (s : StoreView). s.held) c.self.view_is in
     let L = map (λ r. r.value) c.args.list.items in
-    let same : (q : EntityUID) → is_member same_uid c.note_all.new.noted.keys q ≡ is_member same_uid (uids_of L) q = λ q. c.in_ok-note_all.ensures.ok q ∙ ap (λ ks. is_member same_uid ks q || is_member same_uid c.in_ok-uids.uids.items q) c.with_hasher-touched.ensures.empty
+    let same : (q : EntityUID) → is_member same_uid c.note_all.new.noted.keys q ≡ is_member same_uid (uids_of L) q = λ q. c.in_ok-note_all.ensures.ok q ∙ ap (λ ks. is_member same_uid ks q || is_member same_uid c.in_ok-uids.uids.items q) c.with_hasher-applied.ensures.empty
     ∙ ap (λ us. is_member same_uid us q) (c.in_ok-uids.ensures ∙ ap uids_of (c.deref.ensures.value ∙ c.in_ok-coming.ensures)) in
     let laid = laid_over c.self.inside.entities c.strip_each.new.entities c.overwrite_all.new.entities c.args.self.held L c.note_all.new.noted.keys c.new-none.result c.in_ok-losses.losses.items is same c.new-none.ensures
     c.in_ok-losses.ensures.who c.in_ok-losses.ensures.lost c.in_ok-strip_each.ensures.ok (λ q. c.in_ok-overwrite_all.ensures.ok q ∙ ap (λ l. option_or (last_entity l q) (held c.strip_each.new.entities q)) c.in_ok-coming.ensures) in
@@ -31,7 +40,7 @@ pub returns-in_err-settle-clause-plain_err : goal.returns-in_err-settle-clause-p
 returns-in_err-settle-clause-plain_err g c =
     let is = ap (λ (s : StoreView). s.held) c.self.view_is in
     let L = map (λ r. r.value) c.args.list.items in
-    let same : (q : EntityUID) → is_member same_uid c.note_all.new.noted.keys q ≡ is_member same_uid (uids_of L) q = λ q. c.in_ok-note_all.ensures.ok q ∙ ap (λ ks. is_member same_uid ks q || is_member same_uid c.in_ok-uids.uids.items q) c.with_hasher-touched.ensures.empty
+    let same : (q : EntityUID) → is_member same_uid c.note_all.new.noted.keys q ≡ is_member same_uid (uids_of L) q = λ q. c.in_ok-note_all.ensures.ok q ∙ ap (λ ks. is_member same_uid ks q || is_member same_uid c.in_ok-uids.uids.items q) c.with_hasher-applied.ensures.empty
     ∙ ap (λ us. is_member same_uid us q) (c.in_ok-uids.ensures ∙ ap uids_of (c.deref.ensures.value ∙ c.in_ok-coming.ensures)) in
     let laid = laid_over c.self.inside.entities c.strip_each.new.entities c.overwrite_all.new.entities c.args.self.held L c.note_all.new.noted.keys c.new-none.result c.in_ok-losses.losses.items is same c.new-none.ensures
     c.in_ok-losses.ensures.who c.in_ok-losses.ensures.lost c.in_ok-strip_each.ensures.ok (λ q. c.in_ok-overwrite_all.ensures.ok q ∙ ap (λ l. option_or (last_entity l q) (held c.strip_each.new.entities q)) c.in_ok-coming.ensures) in
@@ -43,14 +52,14 @@ pub returns-clause-ok : goal.returns-clause-ok
 returns-clause-ok g c =
     let is = ap (λ (s : StoreView). s.held) c.self.view_is in
     let L = map (λ r. r.value) c.args.list.items in
-    let same : (q : EntityUID) → is_member same_uid c.note_all.new.noted.keys q ≡ is_member same_uid (uids_of L) q = λ q. c.in_ok-note_all.ensures.ok q ∙ ap (λ ks. is_member same_uid ks q || is_member same_uid c.in_ok-uids.uids.items q) c.with_hasher-touched.ensures.empty
+    let same : (q : EntityUID) → is_member same_uid c.note_all.new.noted.keys q ≡ is_member same_uid (uids_of L) q = λ q. c.in_ok-note_all.ensures.ok q ∙ ap (λ ks. is_member same_uid ks q || is_member same_uid c.in_ok-uids.uids.items q) c.with_hasher-applied.ensures.empty
     ∙ ap (λ us. is_member same_uid us q) (c.in_ok-uids.ensures ∙ ap uids_of (c.deref.ensures.value ∙ c.in_ok-coming.ensures)) in
     let laid = laid_over c.self.inside.entities c.strip_each.new.entities c.overwrite_all.new.entities c.args.self.held L c.note_all.new.noted.keys c.new-none.result c.in_ok-losses.losses.items is same c.new-none.ensures
     c.in_ok-losses.ensures.who c.in_ok-losses.ensures.lost c.in_ok-strip_each.ensures.ok (λ q. c.in_ok-overwrite_all.ensures.ok q ∙ ap (λ l. option_or (last_entity l q) (held c.strip_each.new.entities q)) c.in_ok-coming.ensures) in
-    let touched = noted_touched c.self.inside.entities c.args.self.held c.note_all.new.noted.keys (uids_of L) c.in_ok-losses.losses.items (contains same_uid c.strip_each.new.touched) is same
-    c.in_ok-losses.ensures.who c.in_ok-strip_each.ensures.touched in
+    let touched = known_touched (held_map c.self.inside.entities) c.args.self.held c.note_all.new.noted.keys (uids_of L) (contains same_uid c.in_ok-touched.touched) is same
+    (c.in_ok-touched.ensures.ok (held_map c.self.inside.entities) c.list_if_it_pays.ensures.index (λ q. refl)) in
     subst (λ f. IsSettled c.args.tc_computation f (put_over c.args.self.held L) (held_map c.settle.new.entities)) touched
-    (subst (λ D. IsSettled c.args.tc_computation (contains same_uid c.strip_each.new.touched) D (held_map c.settle.new.entities)) laid c.in_ok-settle.ensures.ok)
+    (subst (λ D. IsSettled c.args.tc_computation (contains same_uid c.in_ok-touched.touched) D (held_map c.settle.new.entities)) laid c.in_ok-settle.ensures.ok)
 
 pub returns-clause-untouched : goal.returns-clause-untouched
 returns-clause-untouched g c =
@@ -70,12 +79,79 @@ pub returns-in_err-settle-clause-named : goal.returns-in_err-settle-clause-named
 returns-in_err-settle-clause-named g c =
     let is = ap (λ (s : StoreView). s.held) c.self.view_is in
     let L = map (λ r. r.value) c.args.list.items in
-    let same : (q : EntityUID) → is_member same_uid c.note_all.new.noted.keys q ≡ is_member same_uid (uids_of L) q = λ q. c.in_ok-note_all.ensures.ok q ∙ ap (λ ks. is_member same_uid ks q || is_member same_uid c.in_ok-uids.uids.items q) c.with_hasher-touched.ensures.empty
+    let same : (q : EntityUID) → is_member same_uid c.note_all.new.noted.keys q ≡ is_member same_uid (uids_of L) q = λ q. c.in_ok-note_all.ensures.ok q ∙ ap (λ ks. is_member same_uid ks q || is_member same_uid c.in_ok-uids.uids.items q) c.with_hasher-applied.ensures.empty
     ∙ ap (λ us. is_member same_uid us q) (c.in_ok-uids.ensures ∙ ap uids_of (c.deref.ensures.value ∙ c.in_ok-coming.ensures)) in
-    let touched = noted_touched c.self.inside.entities c.args.self.held c.note_all.new.noted.keys (uids_of L) c.in_ok-losses.losses.items (contains same_uid c.strip_each.new.touched) is same
-    c.in_ok-losses.ensures.who c.in_ok-strip_each.ensures.touched in
+    let touched = known_touched (held_map c.self.inside.entities) c.args.self.held c.note_all.new.noted.keys (uids_of L) (contains same_uid c.in_ok-touched.touched) is same
+    (c.in_ok-touched.ensures.ok (held_map c.self.inside.entities) c.list_if_it_pays.ensures.index (λ q. refl)) in
     let p = err_from_is_err_and c.from_residual-in_err-settle.result c.from_residual-in_err-settle.ensures.1 in
     rw (p.1, p.2) (subst (λ f. WhereComputed c.args.tc_computation (NamesOneOf f c.in_err-settle.field-0.0)) touched c.in_err-settle.ensures.named)
 
 pub returns-clause-so_far : goal.returns-clause-so_far
 returns-clause-so_far g c W plain k = so_far W c.args.self plain (take k (uids_of (map (λ r. r.value) c.args.list.items)))
+
+pub overwrite_all-requires : goal.overwrite_all-requires
+overwrite_all-requires g c = changed_match c.self.inside.entities c.strip_each.new.entities
+    (λ q. stripped (λ p. loses c.in_ok-losses.losses.items q && set.contains c.new-none.result p) (loses_uid c.in_ok-losses.losses.items q)) (λ q e. refl) c.in_ok-strip_each.ensures.ok c.self.invariant.0
+
+pub returns-in_err-losses-clause-named : goal.returns-in_err-losses-clause-named
+returns-in_err-losses-clause-named g c =
+    let p = err_from_is_err_and c.from_residual-in_err-losses.result c.from_residual-in_err-losses.ensures.1 in
+    rw (p.1, p.2) (where_computed c.args.tc_computation _ tt)
+
+pub returns-in_err-losses-clause-plain_err : goal.returns-in_err-losses-clause-plain_err
+returns-in_err-losses-clause-plain_err g c =
+    let p = err_from_is_err_and c.from_residual-in_err-losses.result c.from_residual-in_err-losses.ensures.1 in
+    rw (p.1, p.2) (λ W plain bare. where_computed c.args.tc_computation _ tt)
+
+pub returns-in_err-joining-clause-plain_err : goal.returns-in_err-joining-clause-plain_err
+returns-in_err-joining-clause-plain_err g c =
+    let p = err_from_is_err_and c.from_residual-in_err-joining.result c.from_residual-in_err-joining.ensures.1 in
+    rw (p.1, p.2) (λ W plain bare. where_computed c.args.tc_computation _ tt)
+
+pub returns-in_err-strip_each-clause-named : goal.returns-in_err-strip_each-clause-named
+returns-in_err-strip_each-clause-named g c =
+    let p = err_from_is_err_and c.from_residual-in_err-strip_each.result c.from_residual-in_err-strip_each.ensures.1 in
+    rw (p.1, p.2, c.in_err-strip_each.ensures.err) (where_computed c.args.tc_computation _ tt)
+
+pub returns-in_err-strip_each-clause-plain_err : goal.returns-in_err-strip_each-clause-plain_err
+returns-in_err-strip_each-clause-plain_err g c =
+    let p = err_from_is_err_and c.from_residual-in_err-strip_each.result c.from_residual-in_err-strip_each.ensures.1 in
+    rw (p.1, p.2, c.in_err-strip_each.ensures.err) (λ W plain bare. where_computed c.args.tc_computation _ tt)
+
+pub invariant_of-result : goal.invariant_of-result
+invariant_of-result g c =
+    let m = c.self.inside.entities in
+    let n = c.overwrite_all.new.entities in
+    let N = held_map c.settle.new.entities in
+    let D = c.args.self.held in
+    let L = map (λ r. r.value) c.args.list.items in
+    let is = ap (λ (s : StoreView). s.held) c.self.view_is in
+    let same : (q : EntityUID) → is_member same_uid c.note_all.new.noted.keys q ≡ is_member same_uid (uids_of L) q = λ q. c.in_ok-note_all.ensures.ok q ∙ ap (λ ks. is_member same_uid ks q || is_member same_uid c.in_ok-uids.uids.items q) c.with_hasher-applied.ensures.empty
+    ∙ ap (λ us. is_member same_uid us q) (c.in_ok-uids.ensures ∙ ap uids_of (c.deref.ensures.value ∙ c.in_ok-coming.ensures)) in
+    let laid = laid_over m c.strip_each.new.entities n D L c.note_all.new.noted.keys c.new-none.result c.in_ok-losses.losses.items is same c.new-none.ensures
+    c.in_ok-losses.ensures.who c.in_ok-losses.ensures.lost c.in_ok-strip_each.ensures.ok (λ q. c.in_ok-overwrite_all.ensures.ok q ∙ ap (λ l. option_or (last_entity l q) (held c.strip_each.new.entities q)) c.in_ok-coming.ensures) in
+    let left = c.deref-2.result.now in
+    let joined = c.deref-4.result.now in
+    let once : left ≡ joined = c.deref-2.ensures.value ∙ sym c.deref-4.ensures.value in
+    let A = joined in
+    let listed : (q : EntityUID) → is_member same_uid A q ≡ is_member same_uid (uids_of L) q = λ q. ap (λ l. is_member same_uid l q) (c.deref-4.ensures.value ∙ c.in_ok-joining.ensures) ∙ same q in
+    let touched = known_touched (held_map c.self.inside.entities) c.args.self.held c.note_all.new.noted.keys (uids_of L) (contains same_uid c.in_ok-touched.touched) is same
+    (c.in_ok-touched.ensures.ok (held_map c.self.inside.entities) c.list_if_it_pays.ensures.index (λ q. refl)) in
+    let ok = subst (λ f. IsSettled c.args.tc_computation f (put_over c.args.self.held L) (held_map c.settle.new.entities)) touched
+    (subst (λ D. IsSettled c.args.tc_computation (contains same_uid c.in_ok-touched.touched) D (held_map c.settle.new.entities)) laid c.in_ok-settle.ensures.ok) in
+    let keeps = λ (x : EntityUID). settled_kept c.args.tc_computation _ (put_over D L) N ok x in (
+      c.in_ok-settle.ensures.keys,
+      record {
+        plain = λ t.
+            let p = c.plain_if.ensures.plain t in
+            let stays = c.stays_plain-stays.ensures p.1 in
+            plain_over D (subst IsPlainHeld is (c.self.invariant.1.plain (sym c.list_if_it_pays.ensures.plain ∙ sym c.leave.ensures.plain ∙ sym c.join.ensures.plain ∙ p.0))) L
+            (subst AreBare (c.deref-3.ensures.value ∙ c.in_ok-coming.ensures) stays.1) c.args.tc_computation stays.0 N ok;
+        children = c.plain_if.ensures.children _ (if_some _ _ c.join.new.index.children
+            (λ ch h p q. h p q
+            ∙ ap (λ l. (not (is_member same_uid l q) && is_parent_at (held m q) p) || (is_member same_uid joined q && is_parent_at (held n q) p)) once
+            ∙ ap (λ f. (not (is_member same_uid joined q) && is_parent_at (f q) p) || (is_member same_uid joined q && is_parent_at (held n q) p)) (stored m D is)
+            ∙ children_over D N L A (held n) listed (λ x. ap (λ f. f x) (stored n (put_over D L) laid)) keeps p q)
+            (c.join.ensures.children _ (c.leave.ensures.children (children_back m (held_map m) c.list_if_it_pays.new.index.children refl c.list_if_it_pays.ensures.index.children))));
+      },
+    )

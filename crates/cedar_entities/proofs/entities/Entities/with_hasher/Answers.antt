@@ -1,6 +1,9 @@
-use Rattle.std.proofs.Common.{sym, subst, false}
+use Rattle.std.proofs.Common.{rules, sym, subst, false}
 use Rattle.cedar_entities.specs.Plain.{Held, IsPlainStore}
 use Rattle.cedar_entities.specs.World.{empty_world}
+use Rattle.cedar_entities.specs.laws.Held.{held_map}
+use Rattle.cedar_entities.specs.laws.Indexes.{IsIndexOf}
+use Rattle.cedar_entities.proofs.Indexes.{plain_held}
 use Rattle.cedar_entities.proofs.StoreMaps.{seen_empty}
 use Rattle.cedar_entities.proofs.PlainStores.{plain_empty}
 use Rattle.cedar_entities.proofs.entities.Entities.with_hasher.Goals as goal
@@ -10,3 +13,10 @@ returns-clause-value g c = λ i. record { held = seen_empty c.with_hasher.result
 
 pub returns-clause-plain : goal.returns-clause-plain
 returns-clause-plain g c = subst (λ (h : Held). IsPlainStore empty_world (record { held = h; partial = false })) (sym (seen_empty c.with_hasher.result c.with_hasher.ensures.empty)) plain_empty
+
+pub invariant_of-result : goal.invariant_of-result
+invariant_of-result g c = (
+  search rules,
+  subst (λ x. IsIndexOf x (held_map c.with_hasher.result)) (sym c.unlisted.ensures)
+      (record { plain = λ _. plain_held empty_world (record { held = held_map c.with_hasher.result; partial = false }) (returns-clause-plain g c); children = tt }),
+)

@@ -1,0 +1,12 @@
+use Rattle.std.proofs.Common.{◌≡◌, ◌&&◌, ◌||◌, not, take}
+use Rattle.std.specs.HashSet.{contains}
+use Rattle.std.specs.Set.{is_member}
+use Rattle.cedar_ids.specs.UidOf.{same_uid}
+use Rattle.cedar_ids.specs.declared.entity.EntityUID.{EntityUID}
+use Rattle.cedar_children.proofs.walk.see_all.Given as goal
+
+abbrev pub invariant-loop-uid : goal.invariant-loop-uid
+invariant-loop-uid g l = record {
+  seen : (q : EntityUID) → contains same_uid l.seen q ≡ (contains same_uid l.initial.seen q || is_member same_uid (take l.uid-index l.uids) q);
+  todo : (q : EntityUID) → is_member same_uid l.todo.items q ≡ (is_member same_uid l.initial.todo.items q || (not (contains same_uid l.initial.seen q) && is_member same_uid (take l.uid-index l.uids) q));
+}

@@ -1,0 +1,106 @@
+//! The walk from some uids to all that lies below them.
+ghost use Rattle.std.specs.Prelude.{◌≡◌, ◌↔◌, ◌&&◌, ◌||◌, true, not, IfOk, OnOk};
+ghost use Rattle.std.specs.HashMap.{get};
+ghost use Rattle.std.specs.HashSet.{contains};
+ghost use Rattle.std.specs.Option.{IfSome};
+ghost use Rattle.std.specs.Set.{is_member};
+ghost use Rattle.cedar_ids.specs.UidOf.{same_uid};
+ghost use Rattle.cedar_ids.specs.declared.entity.EntityUID.{EntityUID};
+ghost use Rattle.cedar_children.specs.Children.{IsBelow, is_in};
+
+use cedar_uid_sets::{SharedUid, UidSet};
+use std::alloc::{AllocError, Global};
+use std::collections::{HashMap, HashSet};
+use std::hash::BuildHasher;
+
+// Notes a uid as seen and, where it was not, as one whose children are to be looked at.
+fn see<S: BuildHasher>(
+    seen: &mut HashSet<SharedUid, S>,
+    todo: &mut Vec<SharedUid>,
+    uid: &SharedUid,
+) -> Result<(), AllocError>
+    ensures seen { OnOk result ((q : EntityUID) → contains same_uid seen.new q
+        ≡ (contains same_uid seen.old q || same_uid uid.now q)) }
+    ensures todo { OnOk result ((q : EntityUID) → is_member same_uid todo.new.items q
+        ≡ (is_member same_uid todo.old.items q || (not (contains same_uid seen.old q) && same_uid uid.now q))) }
+{
+    if seen.contains(uid) {
+        return Ok(());
+    }
+    todo.push(uid.clone()?)?;
+    seen.insert(uid.clone()?)?;
+    Ok(())
+}
+
+// Notes each of some uids.
+fn see_all<S: BuildHasher>(
+    seen: &mut HashSet<SharedUid, S>,
+    todo: &mut Vec<SharedUid>,
+    uids: &[SharedUid],
+) -> Result<(), AllocError>
+    ensures seen { OnOk result ((q : EntityUID) → contains same_uid seen.new q
+        ≡ (contains same_uid seen.old q || is_member same_uid uids.now q)) }
+    ensures todo { OnOk result ((q : EntityUID) → is_member same_uid todo.new.items q
+        ≡ (is_member same_uid todo.old.items q || (not (contains same_uid seen.old q) && is_member same_uid uids.now q))) }
+{
+    for uid in uids {
+        see(seen, todo, uid)?;
+    }
+    Ok(())
+}
+
+// Notes the children of a uid.
+fn see_children<S: BuildHasher>(
+    seen: &mut HashSet<SharedUid, S>,
+    todo: &mut Vec<SharedUid>,
+    sets: &HashMap<SharedUid, UidSet, S>,
+    uid: &SharedUid,
+) -> Result<(), AllocError>
+    ensures seen { OnOk result ((q : EntityUID) → contains same_uid seen.new q
+        ≡ (contains same_uid seen.old q || is_in (get same_uid sets.now uid.now) q)) }
+    ensures todo { OnOk result ((q : EntityUID) → is_member same_uid todo.new.items q
+        ≡ (is_member same_uid todo.old.items q || (not (contains same_uid seen.old q) && is_in (get same_uid sets.now uid.now) q))) }
+{
+    match sets.get(uid) {
+        Some(set) => see_all(seen, todo, set.pointers()),
+        None => Ok(()),
+    }
+}
+
+// The uids of a set as a list, each shared once more.
+fn listed<S: BuildHasher>(
+    alloc: Global,
+    uids: &HashSet<SharedUid, S>,
+) -> Result<Vec<SharedUid>, AllocError>
+    ensures { IfOk result (λ v. v.items ≡ uids.now.keys) }
+{
+    let mut list = Vec::new(alloc);
+    for uid in uids {
+        list.push(uid.clone()?)?;
+    }
+    Ok(list)
+}
+
+// Some uids and what lies below them.
+pub(crate) fn walk<S: BuildHasher + Clone>(
+    alloc: Global,
+    sets: &HashMap<SharedUid, UidSet, S>,
+    uids: &HashSet<SharedUid, S>,
+    most: usize,
+) -> Result<Option<HashSet<SharedUid, S>>, AllocError>
+    ensures { IfOk result (λ o. IfSome o (λ s. (q : EntityUID) → (contains same_uid s q ≡ true)
+        ↔ IsBelow (λ a b. is_in (get same_uid sets.now b) a) uids.now.keys q)) }
+{
+    let from = listed(alloc, uids)?;
+    let mut seen = HashSet::with_hasher(alloc, uids.hasher().clone()?);
+    let mut todo = Vec::new(alloc);
+    see_all(&mut seen, &mut todo, &from)?;
+    drop(from);
+    for _ in 0..most {
+        match todo.pop() {
+            None => return Ok(Some(seen)),
+            Some(uid) => see_children(&mut seen, &mut todo, sets, &uid)?,
+        }
+    }
+    Ok(None)
+}

@@ -1,0 +1,11 @@
+use Rattle.std.proofs.Common.{subst, sym}
+use Rattle.cedar_entities.specs.laws.Held.{held_map}
+use Rattle.cedar_entities.specs.laws.Indexes.{IsIndexOf, IsPlainHeld}
+use Rattle.cedar_entities.proofs.entities.EntitiesClone.clone.Goals as goal
+
+pub invariant_of-result : goal.invariant_of-result
+invariant_of-result g c = (
+  c.in_ok-copy_of_map.ensures.keys,
+  subst (λ x. IsIndexOf x (held_map c.in_ok-copy_of_map.field-0)) (sym c.unlisted.ensures)
+      (record { plain = λ t. subst IsPlainHeld (sym c.in_ok-copy_of_map.ensures.held) (c.self.invariant.1.plain t); children = tt }),
+)
