@@ -1,11 +1,9 @@
 -- What the calls on a policy set give, and what is kept of it, whatever builds its hashers: B is that builder, and H what it builds.
-use Rattle.std.specs.Prelude.{◌≡◌, ◌⊎◌, ◌+◌, ℕ, List, [], ◌∷◌, ◌++◌, Bool, true, false, IsTrue, Option, Some, None, Result, Ok, Err, if◌then◌else◌}
-use Rattle.std.specs.List.{flat_map, list_any}
-use Rattle.std.specs.Map.{values_of}
+use Rattle.std.specs.Prelude.{◌≡◌, ◌⊎◌, ◌+◌, ℕ, List, [], ◌∷◌, ◌++◌, Bool, false, IsTrue, Option, Some, None, Result, Ok, Err, if◌then◌else◌}
+use Rattle.std.specs.List.{flat_map}
 use Rattle.std.specs.Str.{IsUtf8}
 use Rattle.cedar_ids.specs.Escape.{is_ascii}
 use Rattle.cedar_ids.specs.Printed.{printed_uid}
-use Rattle.cedar_ids.specs.Uid.{UidParts}
 use Rattle.cedar_ids.specs.UidOf.{uid_parts}
 use Rattle.cedar_ids.specs.declared.entity.EntityUID.{EntityUID}
 use Rattle.cedar_terms.specs.declared.slot.SlotId.{SlotId}
@@ -15,10 +13,9 @@ use Rattle.cedar_binding.specs.BindingTexts.{arity_text}
 use Rattle.cedar_body.specs.Bodies.{BodyParts}
 use Rattle.cedar_body.specs.declared.effect.Effect.{Effect}
 use Rattle.cedar_body.specs.declared.effect.Effect.TheVariants.{Permit, Forbid}
-use Rattle.cedar_action.specs.Rules.{ActionRule}
-use Rattle.cedar_policy_set.specs.Boards.{Board, Binding, is_bound, without_id}
+use Rattle.cedar_policy_set.specs.Boards.{Board, Binding, without_id}
 use Rattle.cedar_policy_set.specs.Merge.{conflicts, merged, new_id, IsRenaming, body_ids, policy_ids}
-use Rattle.cedar_policy_set.specs.Steps.{Refusal, occupied, no_body, no_such_template, arity, not_an_action, id_conflict, no_link, not_a_link, no_template, with_links, not_a_template, no_static, not_static, add_static_step, add_template_step, link_step, unlink_step, remove_static_step, remove_template_step}
+use Rattle.cedar_policy_set.specs.Steps.{Refusal, occupied, no_body, no_such_template, arity, not_an_action, id_conflict, no_link, not_a_link, no_template, with_links, not_a_template, no_static, not_static, add_static_step, add_template_step, link_step}
 use Rattle.cedar_policy_lines.specs.PolicyCommand.{bound_more}
 use Rattle.cedar_policy_lines.specs.PolicyOutput.{slot_constraint, slot_rule, static_body}
 use Rattle.cedar_c_lists.specs.Answers.{part}
