@@ -1,7 +1,7 @@
 -- What the calls on a store give, and what is kept of it, whatever builds its hashers: B is that builder, and H what it builds. Each
 -- `Gives` has the public clauses of the call of `cedar_entities` that is behind a call here, but for `so_far` and `between` of
 -- overwriting; `IsSlice` has those of the call of `cedar_slice`.
-use Rattle.std.specs.Prelude.{◌≡◌, ◌↔◌, ◌⊎◌, ℕ, List, [], ◌∷◌, ◌++◌, Bool, true, false, IfOk, IfErr, OnOk, IsTrue, map, Option, Some, None, Result, Ok, Err, take}
+use Rattle.std.specs.Prelude.{◌≡◌, ◌↔◌, ◌⊎◌, ℕ, List, [], ◌∷◌, ◌++◌, Bool, true, false, IfOk, IfErr, OnOk, map, Some, None, Result, Ok, Err}
 use Rattle.std.specs.FinMap as finmap
 use Rattle.std.specs.FinSet as set
 use Rattle.std.specs.List.{AllByRecursion, flat_map}
@@ -17,10 +17,9 @@ use Rattle.cedar_graph.specs.declared.err.TcError.TheVariants as tc
 use Rattle.cedar_entity.specs.View.{EntityView, has_ancestor}
 use Rattle.cedar_entity.specs.declared.err.EntitiesError.{EntitiesError}
 use Rattle.cedar_entity.specs.declared.err.EntitiesError.TheVariants as errors
-use Rattle.cedar_entities.specs.Answers.{AreDeepEqual}
 use Rattle.cedar_entities.specs.Edits.{put_over, taken_out, uids_of}
 use Rattle.cedar_entities.specs.Modes.{IsClosureRefused, WhereComputed}
-use Rattle.cedar_entities.specs.Plain.{StoreView, Held, no_entities, given_of, AreBare, IsPlainStore}
+use Rattle.cedar_entities.specs.Plain.{StoreView, no_entities, given_of, AreBare, IsPlainStore}
 use Rattle.cedar_entities.specs.Present.{with_first, AllMatch, FirstMismatch}
 use Rattle.cedar_entities.specs.Refusals.{MatchRefusal, NamesOneOf, IsAddingRefused, IsOverwritingRefused}
 use Rattle.cedar_entities.specs.StoreFaults.{IsStoreFault, IsValidStore}

@@ -8,7 +8,7 @@ ghost use Rattle.cedar_c_stores.specs.Stores.{Adds, Asks, AsksFor, Copies, IsAbo
 ghost use Rattle.cedar_c_lists.specs.Texts.{AreTextsOf, IsTextOf};
 ghost use Rattle.cedar_c_lists.specs.declared.reason.Reason.TheVariants as reasons;
 
-use crate::refusal::told;
+use crate::refusal::told_by;
 use cedar_c_lists::{Answer, Reason, Span, uid_of, uids_of, with_uid};
 use cedar_entities::{Entities, EntitiesError, Entity, TCComputation, Uids};
 use cedar_ids::entity::EntityUID;
@@ -90,7 +90,7 @@ impl<S: BuildHasher + Copy> KeptStore<S> {
         ensures told { IsToldBy error result self.new.refusal.items }
         ensures kept { result ≡ reasons.NoMemory → self.new.refusal.items ≡ self.old.refusal.items }
     {
-        match told(alloc, &error) {
+        match told_by(alloc, &error) {
             Ok(told) => {
                 self.refusal = told.text;
                 told.reason

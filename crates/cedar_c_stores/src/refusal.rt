@@ -101,7 +101,7 @@ fn told_for(alloc: Global, reason: Reason, error: &EntitiesError) -> Result<Told
 }
 
 // What a store refuses, and want of memory where that is what it wants.
-pub(crate) fn told(alloc: Global, error: &EntitiesError) -> Result<Told, AllocError>
+pub(crate) fn told_by(alloc: Global, error: &EntitiesError) -> Result<Told, AllocError>
     ensures { IfOk result (λ t. (t.reason ≡ reason_of error.now) × (t.reason ≢ reasons.NoMemory)
         × IsRefusalText error.now t.text.items) }
 {

@@ -78,7 +78,10 @@ impl<S: BuildHasher + Copy> KeptStore<S> {
         ensures { RemovesListed text.now uids.now mode result self.old self.new }
     {
         let mode = mode_of(mode)?;
-        let uids = uids_of(alloc, text, uids)?;
+        let uids = match uids_of(alloc, text, uids) {
+            Ok(uids) => uids,
+            Err(reason) => return Err(reason),
+        };
         self.remove_uids(alloc, uids, mode)
     }
 }
