@@ -8,16 +8,12 @@ ghost use Rattle.cedar_c.specs.Runs.{Runs};
 use crate::copying::copy_out;
 use crate::keys::hasher_of;
 use cedar_c_lists::{Reason, check_uid, status_of};
+use cedar_keyed_hash::KeyedState;
 use cedar_store::{RunError, run_with};
 use std::alloc::Global;
-use std::hash::BuildHasher;
 
 // The output of an input, and its status.
-fn output_of<S: BuildHasher + Copy>(
-    alloc: Global,
-    hasher: S,
-    input: &[u8],
-) -> Result<(Vec<u8>, u8), RunError>
+fn output_of(alloc: Global, hasher: KeyedState, input: &[u8]) -> Result<(Vec<u8>, u8), RunError>
     ensures { IfOk result (λ r. IsOutput input.now (record { bytes = r.0.items; status = r.1 })) }
 {
     let mut reader = input;
