@@ -62,7 +62,8 @@ typedef struct cedar_edge {
     size_t to;
 } cedar_edge;
 
-/* What a call answers. Each function names those that it gives. */
+/* What a call answers. Each function names those that it gives. A refusal from 7 on has a text, which a handle keeps
+ * until the next one that has: all statuses below 7, CEDAR_NO_MEMORY too, leave it as it was. */
 typedef enum cedar_status {
     CEDAR_OK = 0,
     CEDAR_NO_MEMORY = 1,    /* a request for memory was refused; from each call but those that take no memory */
@@ -202,9 +203,9 @@ size_t cedar_store_answer(cedar_store *s, size_t from, uint8_t *out, size_t room
 size_t cedar_store_answer_spans(cedar_store *s, size_t from, cedar_span *out, size_t room);
 
 /* Copies out the text of the last refusal of the store, from CEDAR_DUPLICATE to CEDAR_RESERVED_KEY, as much as there is
- * room for, and tells how long it is: words, and behind a blank each the uids that the refusal names. Calls at CEDAR_OK
- * leave it, but behind the calls that leave no last answer there is none. What CEDAR_NO_MEMORY leaves there is not
- * said: it may be `out of memory`. Takes no memory. */
+ * room for, and tells how long it is: words, and behind a blank each the uids that the refusal names. A call at any
+ * other status leaves it as it was, at CEDAR_NO_MEMORY too; but behind the calls that leave no last answer there is
+ * none. Takes no memory. */
 size_t cedar_store_refusal(cedar_store *s, uint8_t *out, size_t room);
 
 /* ---- policy sets. A call that is refused, for memory too, leaves the set as it was. */
@@ -272,9 +273,9 @@ size_t cedar_policies_answer(cedar_policies *p, size_t from, uint8_t *out, size_
 size_t cedar_policies_answer_spans(cedar_policies *p, size_t from, cedar_span *out, size_t room);
 
 /* Copies out the text of the last refusal of the set, from CEDAR_OCCUPIED to CEDAR_NOT_STATIC, as much as there is room
- * for, and tells how long it is: words, a blank, and the id, the slots or the uid that the refusal names. Calls at
- * CEDAR_OK leave it, but behind the calls that leave no last answer there is none. What CEDAR_NO_MEMORY leaves there is
- * not said. Takes no memory. */
+ * for, and tells how long it is: words, a blank, and the id, the slots or the uid that the refusal names. A call at any
+ * other status leaves it as it was, at CEDAR_NO_MEMORY too; but behind the calls that leave no last answer there is
+ * none. Takes no memory. */
 size_t cedar_policies_refusal(cedar_policies *p, uint8_t *out, size_t room);
 
 #ifdef __cplusplus

@@ -36,11 +36,13 @@ typedef struct held {
     cedar_policies p, q;
 } held;
 
-/* Each handle is open and has an answer. */
+/* Each handle is open, and has an answer and the text of a refusal. */
 static void set_up(held *h) {
     memset(h, 0, sizeof *h);
-    CHECK(new_store(&h->s) == CEDAR_OK && build(&h->s, "a b;b c;x c", CEDAR_COMPUTE) == CEDAR_OK);
-    CHECK(new_store(&h->t) == CEDAR_OK && build(&h->t, "y z", CEDAR_COMPUTE) == CEDAR_OK);
+    CHECK(new_store(&h->s) == CEDAR_OK && build(&h->s, "m m", CEDAR_COMPUTE) == CEDAR_CYCLE);
+    CHECK(build(&h->s, "a b;b c;x c", CEDAR_COMPUTE) == CEDAR_OK);
+    CHECK(new_store(&h->t) == CEDAR_OK && build(&h->t, "n n", CEDAR_COMPUTE) == CEDAR_CYCLE);
+    CHECK(build(&h->t, "y z", CEDAR_COMPUTE) == CEDAR_OK);
     CHECK(ancestors(&h->s, U("a")) == CEDAR_OK && parents(&h->t, U("y")) == CEDAR_OK);
     CHECK(new_set(&h->p) == CEDAR_OK && add_static(&h->p, "a", 0) == CEDAR_OK);
     CHECK(add_template(&h->p, "t", 5) == CEDAR_OK && add_template(&h->p, "u", 2) == CEDAR_OK);
@@ -48,6 +50,9 @@ static void set_up(held *h) {
     CHECK(new_set(&h->q) == CEDAR_OK && add_static(&h->q, "a", 1) == CEDAR_OK &&
           add_template(&h->q, "t2", 5) == CEDAR_OK);
     CHECK(link_id(&h->q, "t2", "m", U("a"), "", "B::\"b\"") == CEDAR_OK && cedar_policies_ids(&h->q, 1) == CEDAR_OK);
+    CHECK(unlink_id(&h->p, "p") == CEDAR_NO_LINK && unlink_id(&h->q, "q") == CEDAR_NO_LINK);
+    CHECK(IS(store_refusal(&h->s), "cycle at " U("m")) && IS(store_refusal(&h->t), "cycle at " U("n")));
+    CHECK(IS(policies_refusal(&h->p), "no link p") && IS(policies_refusal(&h->q), "no link q"));
 }
 
 static void let_go(held *h) {
@@ -202,12 +207,22 @@ static bool answer_alike(held *h, held *like) {
     return stores && IS(policies_answer(&like->p), kept);
 }
 
-static bool refuse_alike(held *h, held *like) {
+/* Whether two handles tell the text of the same last refusal. */
+static bool store_refuses_alike(cedar_store *s, cedar_store *like) {
     char kept[ROOM];
-    snprintf(kept, sizeof kept, "%s", store_refusal(&h->s));
-    bool stores = IS(store_refusal(&like->s), kept);
-    snprintf(kept, sizeof kept, "%s", policies_refusal(&h->p));
-    return stores && IS(policies_refusal(&like->p), kept);
+    snprintf(kept, sizeof kept, "%s", store_refusal(s));
+    return IS(store_refusal(like), kept);
+}
+
+static bool set_refuses_alike(cedar_policies *p, cedar_policies *like) {
+    char kept[ROOM];
+    snprintf(kept, sizeof kept, "%s", policies_refusal(p));
+    return IS(policies_refusal(like), kept);
+}
+
+static bool refuse_alike(held *h, held *like) {
+    return store_refuses_alike(&h->s, &like->s) && store_refuses_alike(&h->t, &like->t) &&
+           set_refuses_alike(&h->p, &like->p) && set_refuses_alike(&h->q, &like->q);
 }
 
 /* Whether the handles beside the store that is called are alike. */
@@ -215,17 +230,18 @@ static bool alike_beside(held *h, held *like) {
     return equal(&h->t, &like->t) == 1 && sets_equal(&h->p, &like->p) == 1 && sets_equal(&h->q, &like->q) == 1;
 }
 
-/* What want of memory leaves: a store that is as it was, or is without entities; all else, the answers too, as it was.
- */
+/* What want of memory leaves: a store that is as it was, or is without entities; all else, the answers and the texts of
+ * the last refusals too, as it was. */
 static bool left_well(held *h, held *before) {
-    if (!alike_beside(h, before) || !answer_alike(h, before) || !h->s.is_open) return false;
+    if (!alike_beside(h, before) || !answer_alike(h, before) || !refuse_alike(h, before)) return false;
+    if (!h->s.is_open) return false;
     return cedar_store_len(&h->s) == 0 || equal(&h->s, &before->s) == 1;
 }
 
-/* A store that was emptied is put back, with its answer. */
+/* A store that was emptied is built anew, which leaves its answer and the text of its last refusal. */
 static void put_back(held *h, held *before) {
     if (cedar_store_len(&h->s) > 0) return;
-    CHECK(cedar_store_copy(&before->s, &h->s) == CEDAR_OK && ancestors(&h->s, U("a")) == CEDAR_OK);
+    CHECK(build(&h->s, "a b;b c;x c", CEDAR_COMPUTE) == CEDAR_OK && equal(&h->s, &before->s) == 1);
 }
 
 static bool ends_alike(held *h, held *after) {

@@ -9,12 +9,18 @@ use Rattle.cedar_c_lists.specs.Answers.{spans_from}
 use Rattle.cedar_c_lists.specs.Reasons.{status_of, Tells}
 use Rattle.cedar_c_sets.specs.Sets.{IsUntold}
 use Rattle.cedar_c_sets.specs.declared.kept_set.KeptSet.{KeptSet}
+use Rattle.cedar_keyed_hash.specs.declared.KeyedHasher.{KeyedHasher}
+use Rattle.cedar_keyed_hash.specs.declared.KeyedState.{KeyedState}
 use Rattle.cedar_c_lists.specs.declared.layout.Span.{Span}
 use Rattle.cedar_c_lists.specs.declared.reason.Reason.{Reason}
 use Rattle.cedar_c_lists.specs.declared.reason.Reason.TheVariants.{NoMemory}
 use Rattle.cedar_c.specs.Copying.{CopiesOut}
 use Rattle.cedar_c.specs.Statuses.{ok, closed}
 use Rattle.cedar_c.specs.declared.policies_handle.Inner.{Inner}
+
+-- what a handle keeps: a policy set that hashes with a key, its last answer and its last refusal
+abbrev pub Kept : Type 0
+Kept = KeptSet KeyedState KeyedHasher
 
 -- an open handle with the set of a board
 abbrev pub HasBoard : Board → Option Inner → Type 0
@@ -25,26 +31,26 @@ abbrev pub HasNoTexts : Option Inner → Type 0
 HasNoTexts o = IsSomeAnd o (λ i. IsUntold i.kept)
 
 -- a closed handle says so; an open one says what became of a call, and holds what that left
-abbrev pub Changes : (Result (Unit {0}) Reason → KeptSet → KeptSet → Type 0) → Option Inner → ℕ → Option Inner → Type 0
+abbrev pub Changes : (Result (Unit {0}) Reason → Kept → Kept → Type 0) → Option Inner → ℕ → Option Inner → Type 0
 Changes P None n new = (n ≡ closed) × (new ≡ None)
 Changes P (Some i) n new = (r : Result (Unit {0}) Reason) × (n ≡ status_of r) × ((j : Inner) × (new ≡ Some j) × P r i.kept j.kept)
 
 -- a handle holds what was made, or is as it was
-abbrev pub IsFilled : Result KeptSet Reason → Option Inner → Option Inner → Type 0
+abbrev pub IsFilled : Result Kept Reason → Option Inner → Option Inner → Type 0
 IsFilled (Ok k) old new = (j : Inner) × (new ≡ Some j) × (j.kept ≡ k)
 IsFilled (Err w) old new = new ≡ old
 
 -- what was made goes into a handle, or want of memory is told in its place
-abbrev pub FillsBy : Result KeptSet Reason → Option Inner → ℕ → Option Inner → Type 0
-FillsBy made old n new = (r : Result KeptSet Reason) × (n ≡ status_of r) × IsFilled r old new × ((r ≡ made) ⊎ (r ≡ Err NoMemory))
+abbrev pub FillsBy : Result Kept Reason → Option Inner → ℕ → Option Inner → Type 0
+FillsBy made old n new = (r : Result Kept Reason) × (n ≡ status_of r) × IsFilled r old new × ((r ≡ made) ⊎ (r ≡ Err NoMemory))
 
 -- a closed handle says so; of an open one's policy set something is made, which goes into another handle
-abbrev pub Fills : (Board → Result KeptSet Reason → Type 0) → Option Inner → ℕ → Option Inner → Option Inner → Type 0
+abbrev pub Fills : (Board → Result Kept Reason → Type 0) → Option Inner → ℕ → Option Inner → Option Inner → Type 0
 Fills P None n old new = (n ≡ closed) × (new ≡ old)
-Fills P (Some i) n old new = (r : Result KeptSet Reason) × (n ≡ status_of r) × IsFilled r old new × P i.kept.set r
+Fills P (Some i) n old new = (r : Result Kept Reason) × (n ≡ status_of r) × IsFilled r old new × P i.kept.set r
 
 -- a box of what was made, or why there is none: it was not made, or memory was refused
-abbrev pub Boxes : Result KeptSet Reason → Result (Box Inner) Reason → Type 0
+abbrev pub Boxes : Result Kept Reason → Result (Box Inner) Reason → Type 0
 Boxes made (Ok b) = made ≡ Ok b.value.kept
 Boxes made (Err w) = (made ≡ Err w) ⊎ (w ≡ NoMemory)
 
@@ -55,7 +61,7 @@ Compares (Some i) None n old new = (n ≡ closed) × (new ≡ old)
 Compares (Some i) (Some j) n old new = (n ≡ ok) × (new ≡ same_board i.kept.set j.kept.set)
 
 -- a call with the set of another handle; where one is closed, that is said
-abbrev pub ChangesBy : (Board → Result (Unit {0}) Reason → KeptSet → KeptSet → Type 0) → Option Inner → Option Inner → ℕ → Option Inner → Type 0
+abbrev pub ChangesBy : (Board → Result (Unit {0}) Reason → Kept → Kept → Type 0) → Option Inner → Option Inner → ℕ → Option Inner → Type 0
 ChangesBy P other None n new = (n ≡ closed) × (new ≡ None)
 ChangesBy P None (Some i) n new = (n ≡ closed) × (new ≡ Some i)
 ChangesBy P (Some o) (Some i) n new = Changes (P o.kept.set) (Some i) n new

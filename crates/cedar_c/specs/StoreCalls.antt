@@ -11,12 +11,18 @@ use Rattle.cedar_c_lists.specs.Answers.{spans_from}
 use Rattle.cedar_c_lists.specs.Reasons.{status_of, Tells}
 use Rattle.cedar_c_stores.specs.Stores.{IsUntold}
 use Rattle.cedar_c_stores.specs.declared.kept_store.KeptStore.{KeptStore}
+use Rattle.cedar_keyed_hash.specs.declared.KeyedHasher.{KeyedHasher}
+use Rattle.cedar_keyed_hash.specs.declared.KeyedState.{KeyedState}
 use Rattle.cedar_c_lists.specs.declared.layout.Span.{Span}
 use Rattle.cedar_c_lists.specs.declared.reason.Reason.{Reason}
 use Rattle.cedar_c_lists.specs.declared.reason.Reason.TheVariants.{NoMemory}
 use Rattle.cedar_c.specs.Copying.{CopiesOut}
 use Rattle.cedar_c.specs.Statuses.{ok, closed}
 use Rattle.cedar_c.specs.declared.store_handle.Inner.{Inner}
+
+-- what a handle keeps: a store that hashes with a key, its last answer and its last refusal
+abbrev pub Kept : Type 0
+Kept = KeptStore KeyedState KeyedHasher
 
 -- an open handle with the plain store of a world
 abbrev pub HasWorld : World → Option Inner → Type 0
@@ -32,7 +38,7 @@ Counts None n = n ≡ 0
 Counts (Some i) n = n ≡ finmap.len i.kept.store.held
 
 -- a closed handle says so; an open one says what became of a call, and holds what that left
-abbrev pub Changes : (Result (Unit {0}) Reason → KeptStore → KeptStore → Type 0) → Option Inner → ℕ → Option Inner → Type 0
+abbrev pub Changes : (Result (Unit {0}) Reason → Kept → Kept → Type 0) → Option Inner → ℕ → Option Inner → Type 0
 Changes P None n new = (n ≡ closed) × (new ≡ None)
 Changes P (Some i) n new = (r : Result (Unit {0}) Reason) × (n ≡ status_of r) × ((j : Inner) × (new ≡ Some j) × P r i.kept j.kept)
 
@@ -42,21 +48,21 @@ AsksHandle P None n old new = (n ≡ closed) × (new ≡ old)
 AsksHandle P (Some i) n old new = (r : Result Bool Reason) × Tells r n old new × P i.kept.store r
 
 -- a handle holds what was made, or is as it was
-abbrev pub IsFilled : Result KeptStore Reason → Option Inner → Option Inner → Type 0
+abbrev pub IsFilled : Result Kept Reason → Option Inner → Option Inner → Type 0
 IsFilled (Ok k) old new = (j : Inner) × (new ≡ Some j) × (j.kept ≡ k)
 IsFilled (Err w) old new = new ≡ old
 
 -- what was made goes into a handle, or want of memory is told in its place
-abbrev pub FillsBy : Result KeptStore Reason → Option Inner → ℕ → Option Inner → Type 0
-FillsBy made old n new = (r : Result KeptStore Reason) × (n ≡ status_of r) × IsFilled r old new × ((r ≡ made) ⊎ (r ≡ Err NoMemory))
+abbrev pub FillsBy : Result Kept Reason → Option Inner → ℕ → Option Inner → Type 0
+FillsBy made old n new = (r : Result Kept Reason) × (n ≡ status_of r) × IsFilled r old new × ((r ≡ made) ⊎ (r ≡ Err NoMemory))
 
 -- a closed handle says so; of an open one's store something is made, which goes into another handle
-abbrev pub Fills : (StoreView → Result KeptStore Reason → Type 0) → Option Inner → ℕ → Option Inner → Option Inner → Type 0
+abbrev pub Fills : (StoreView → Result Kept Reason → Type 0) → Option Inner → ℕ → Option Inner → Option Inner → Type 0
 Fills P None n old new = (n ≡ closed) × (new ≡ old)
-Fills P (Some i) n old new = (r : Result KeptStore Reason) × (n ≡ status_of r) × IsFilled r old new × P i.kept.store r
+Fills P (Some i) n old new = (r : Result Kept Reason) × (n ≡ status_of r) × IsFilled r old new × P i.kept.store r
 
 -- a box of what was made, or why there is none: it was not made, or memory was refused
-abbrev pub Boxes : Result KeptStore Reason → Result (Box Inner) Reason → Type 0
+abbrev pub Boxes : Result Kept Reason → Result (Box Inner) Reason → Type 0
 Boxes made (Ok b) = made ≡ Ok b.value.kept
 Boxes made (Err w) = (made ≡ Err w) ⊎ (w ≡ NoMemory)
 

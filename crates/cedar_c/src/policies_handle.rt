@@ -5,6 +5,7 @@ ghost use Rattle.cedar_c.specs.PoliciesHeld.{held_owns, held_coded};
 
 use crate::parts::Parts;
 use cedar_c_sets::KeptSet;
+use cedar_keyed_hash::KeyedState;
 use std::alloc::Global;
 use std::boxed::Box;
 use std::marker::Model;
@@ -13,8 +14,8 @@ use std::ptr;
 /// What a handle keeps for its caller.
 #[derive(Drop)]
 pub struct Inner {
-    /// A policy set, the last answer and the last refusal.
-    pub kept: KeptSet,
+    /// A policy set, which hashes with the caller's key, the last answer and the last refusal.
+    pub kept: KeptSet<KeyedState>,
 }
 
 /// Nothing, or a box.

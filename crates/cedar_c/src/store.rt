@@ -12,6 +12,7 @@ use crate::keys::hasher_of;
 use crate::store_handle::{Held, Inner};
 use cedar_c_lists::{Edge, Reason, Span, status_of, tell};
 use cedar_c_stores::KeptStore;
+use cedar_keyed_hash::KeyedState;
 use std::alloc::Global;
 use std::boxed::Box;
 use std::mem;
@@ -62,7 +63,10 @@ fn take(alloc: Global, handle: &mut Store) -> Option<Box<Inner, Global>>
 }
 
 // A box of what was made.
-fn boxed(alloc: Global, made: Result<KeptStore, Reason>) -> Result<Box<Inner, Global>, Reason>
+fn boxed(
+    alloc: Global,
+    made: Result<KeptStore<KeyedState>, Reason>,
+) -> Result<Box<Inner, Global>, Reason>
     ensures { Boxes made result }
 {
     let kept = made?;
@@ -70,7 +74,7 @@ fn boxed(alloc: Global, made: Result<KeptStore, Reason>) -> Result<Box<Inner, Gl
 }
 
 // A handle holds what was made, and what it held before is freed; or it stays as it is.
-fn fill(alloc: Global, handle: &mut Store, made: Result<KeptStore, Reason>) -> u32
+fn fill(alloc: Global, handle: &mut Store, made: Result<KeptStore<KeyedState>, Reason>) -> u32
     ensures { FillsBy made handle.old.held.value result handle.new.held.value }
 {
     match boxed(alloc, made) {

@@ -5,6 +5,7 @@ ghost use Rattle.cedar_c.specs.StoreHeld.{held_owns, held_coded};
 
 use crate::parts::Parts;
 use cedar_c_stores::KeptStore;
+use cedar_keyed_hash::KeyedState;
 use std::alloc::Global;
 use std::boxed::Box;
 use std::marker::Model;
@@ -13,8 +14,8 @@ use std::ptr;
 /// What a handle keeps for its caller.
 #[derive(Drop)]
 pub struct Inner {
-    /// A store, the last answer and the last refusal.
-    pub kept: KeptStore,
+    /// A store, which hashes with the caller's key, the last answer and the last refusal.
+    pub kept: KeptStore<KeyedState>,
 }
 
 /// Nothing, or a box.

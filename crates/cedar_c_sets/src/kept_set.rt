@@ -13,17 +13,20 @@ use crate::making::{bindings_of, effect_of, slots_of, static_policy, template};
 use crate::telling::{Told, by_linking, by_removal, by_set, by_template_removal, by_unlinking};
 use cedar_c_lists::{Answer, Reason, Span, id_of};
 use cedar_ids::policy_id::PolicyID;
-use cedar_keyed_hash::KeyedState;
 use cedar_policy::{LinkingError, SlotEnv, StaticPolicy, Template};
 use cedar_policy_set::PolicySet;
 use indexmap::IndexMap;
 use std::alloc::{AllocError, Global};
+use std::hash::BuildHasher;
 
 /// A policy set, the texts of the last answer, and the text of the last refusal.
+///
+/// The set hashes ids by what `S` builds, and so do the sets that its calls make. No contract sees the builder; but code that is
+/// generic in it makes none of its own, so each set here has the one that the caller gave.
 #[derive(Drop)]
-pub struct KeptSet {
-    /// The policy set, whose maps hash with the caller's key.
-    pub set: PolicySet<KeyedState>,
+pub struct KeptSet<S: BuildHasher> {
+    /// The policy set.
+    pub set: PolicySet<S>,
     /// The texts that the last call that lists or merges gave.
     pub answer: Answer,
     /// The text of the last refusal of a call on the set.
@@ -31,7 +34,10 @@ pub struct KeptSet {
 }
 
 // The ids of all bodies, as texts.
-fn body_texts(alloc: Global, set: &PolicySet<KeyedState>) -> Result<Answer, AllocError>
+fn body_texts<S: BuildHasher + Copy>(
+    alloc: Global,
+    set: &PolicySet<S>,
+) -> Result<Answer, AllocError>
     ensures { IfOk result (λ a. a ≡ body_ids set.now) }
 {
     let mut answer = Answer::new(alloc);
@@ -42,7 +48,10 @@ fn body_texts(alloc: Global, set: &PolicySet<KeyedState>) -> Result<Answer, Allo
 }
 
 // The ids of all policies, as texts.
-fn policy_texts(alloc: Global, set: &PolicySet<KeyedState>) -> Result<Answer, AllocError>
+fn policy_texts<S: BuildHasher + Copy>(
+    alloc: Global,
+    set: &PolicySet<S>,
+) -> Result<Answer, AllocError>
     ensures { IfOk result (λ a. a ≡ policy_ids set.now) }
 {
     let mut answer = Answer::new(alloc);
@@ -53,9 +62,9 @@ fn policy_texts(alloc: Global, set: &PolicySet<KeyedState>) -> Result<Answer, Al
 }
 
 // A renaming, as texts.
-fn texts_of_renaming(
+fn texts_of_renaming<S: BuildHasher>(
     alloc: Global,
-    renaming: &IndexMap<PolicyID, PolicyID, KeyedState>,
+    renaming: &IndexMap<PolicyID, PolicyID, S>,
 ) -> Result<Answer, AllocError>
     ensures { IfOk result (λ a. a ≡ renaming_texts renaming.now.entries) }
 {
@@ -68,9 +77,9 @@ fn texts_of_renaming(
 }
 
 // Links a template, and keeps the link in the set alone.
-fn link(
+fn link<S: BuildHasher + Copy>(
     alloc: Global,
-    set: &mut PolicySet<KeyedState>,
+    set: &mut PolicySet<S>,
     template: PolicyID,
     id: PolicyID,
     values: SlotEnv,
@@ -81,9 +90,9 @@ fn link(
     Ok(())
 }
 
-impl KeptSet {
+impl<S: BuildHasher + Copy> KeptSet<S> {
     /// A set of which nothing was answered and nothing refused. Takes no memory.
-    pub fn of(alloc: Global, set: PolicySet<KeyedState>) -> KeptSet
+    pub fn of(alloc: Global, set: PolicySet<S>) -> KeptSet<S>
         ensures set { result.set ≡ set }
         ensures answer { result.answer ≡ [] }
         ensures refusal { result.refusal.items ≡ [] }
@@ -95,8 +104,8 @@ impl KeptSet {
         }
     }
 
-    /// The set without a binding. Takes no memory.
-    pub fn new(alloc: Global, hasher: KeyedState) -> KeptSet
+    /// The set without a binding, which hashes ids by what `hasher` builds. Takes no memory.
+    pub fn new(alloc: Global, hasher: S) -> KeptSet<S>
         ensures set { result.set ≡ empty_board }
         ensures answer { result.answer ≡ [] }
         ensures refusal { result.refusal.items ≡ [] }
@@ -104,13 +113,13 @@ impl KeptSet {
         KeptSet::of(alloc, PolicySet::with_hasher(alloc, hasher))
     }
 
-    // The text of a refusal is kept, and its reason told.
+    // The text of a refusal is kept, and its reason told. Want of memory for the text leaves the one before.
     fn refuse(&mut self, told: Result<Told, AllocError>) -> Reason
         ensures set { self.new.set ≡ self.old.set }
         ensures answer { self.new.answer ≡ self.old.answer }
         ensures told { MatchResult told
             (λ t. (result ≡ t.reason) × (self.new.refusal.items ≡ t.text.items))
-            (λ _. result ≡ reasons.NoMemory) }
+            (λ _. (result ≡ reasons.NoMemory) × (self.new.refusal.items ≡ self.old.refusal.items)) }
     {
         match told {
             Ok(told) => {
@@ -265,7 +274,7 @@ impl KeptSet {
 
     /// Takes in what another set binds, as `PolicySet::merge_policyset` does, and answers each id that was renamed with its new
     /// one behind it. Takes memory, for a copy of this set too: what can be refused is done on the copy.
-    pub fn merge(&mut self, alloc: Global, other: &KeptSet, rename: bool) -> Result<(), Reason>
+    pub fn merge(&mut self, alloc: Global, other: &KeptSet<S>, rename: bool) -> Result<(), Reason>
         ensures { MergesSet other.now.set rename result self.old self.new }
     {
         let mut set = self.set.clone()?;
@@ -309,7 +318,7 @@ impl KeptSet {
     }
 
     /// A copy, of which nothing was answered and nothing refused. Takes memory.
-    pub fn copy(&self, alloc: Global) -> Result<KeptSet, Reason>
+    pub fn copy(&self, alloc: Global) -> Result<KeptSet<S>, Reason>
         ensures { CopiesSet self.now.set result }
     {
         let set = self.set.clone()?;
@@ -317,7 +326,7 @@ impl KeptSet {
     }
 
     /// Whether both sets have equal bodies and policies, in equal orders. Takes no memory.
-    pub fn is_equal(&self, other: &KeptSet) -> bool
+    pub fn is_equal(&self, other: &KeptSet<S>) -> bool
         ensures { result ≡ same_board self.now.set other.now.set }
     {
         self.set == other.set

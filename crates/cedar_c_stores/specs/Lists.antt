@@ -10,7 +10,7 @@ use Rattle.cedar_c_lists.specs.Texts.{AreReadAt, IsInside, IsOneUnread}
 use Rattle.cedar_c_lists.specs.declared.layout.Edge.{Edge}
 use Rattle.cedar_c_lists.specs.declared.layout.Span.{Span}
 use Rattle.cedar_c_lists.specs.declared.reason.Reason.{Reason}
-use Rattle.cedar_c_lists.specs.declared.reason.Reason.TheVariants.{NoMemory, BadArgument}
+use Rattle.cedar_c_lists.specs.declared.reason.Reason.TheVariants.{BadArgument}
 
 -- an entity with a uid and these parents, and nothing else
 abbrev pub with_parents : EntityUID → List EntityUID → EntityView

@@ -1,6 +1,7 @@
--- What the calls on a store give, and what is kept of it. Each `Gives` has the public clauses of the call of `cedar_entities` that
--- is behind a call here, but for `so_far` and `between` of overwriting; `IsSlice` has those of the call of `cedar_slice`.
-use Rattle.std.specs.Prelude.{◌≡◌, ◌↔◌, ◌⊎◌, ℕ, List, [], ◌∷◌, ◌++◌, Bool, true, false, IfOk, IfErr, OnOk, IsTrue, map, Option, Some, None, Result, Ok, Err, take}
+-- What the calls on a store give, and what is kept of it, whatever builds its hashers: B is that builder, and H what it builds. Each
+-- `Gives` has the public clauses of the call of `cedar_entities` that is behind a call here, but for `so_far` and `between` of
+-- overwriting; `IsSlice` has those of the call of `cedar_slice`.
+use Rattle.std.specs.Prelude.{◌≡◌, ◌↔◌, ◌⊎◌, ℕ, List, [], ◌∷◌, ◌++◌, Bool, true, false, IfOk, IfErr, OnOk, map, Some, None, Result, Ok, Err}
 use Rattle.std.specs.FinMap as finmap
 use Rattle.std.specs.FinSet as set
 use Rattle.std.specs.List.{AllByRecursion, flat_map}
@@ -16,10 +17,9 @@ use Rattle.cedar_graph.specs.declared.err.TcError.TheVariants as tc
 use Rattle.cedar_entity.specs.View.{EntityView, has_ancestor}
 use Rattle.cedar_entity.specs.declared.err.EntitiesError.{EntitiesError}
 use Rattle.cedar_entity.specs.declared.err.EntitiesError.TheVariants as errors
-use Rattle.cedar_entities.specs.Answers.{AreDeepEqual}
 use Rattle.cedar_entities.specs.Edits.{put_over, taken_out, uids_of}
 use Rattle.cedar_entities.specs.Modes.{IsClosureRefused, WhereComputed}
-use Rattle.cedar_entities.specs.Plain.{StoreView, Held, no_entities, given_of, AreBare, IsPlainStore}
+use Rattle.cedar_entities.specs.Plain.{StoreView, no_entities, given_of, AreBare, IsPlainStore}
 use Rattle.cedar_entities.specs.Present.{with_first, AllMatch, FirstMismatch}
 use Rattle.cedar_entities.specs.Refusals.{MatchRefusal, NamesOneOf, IsAddingRefused, IsOverwritingRefused}
 use Rattle.cedar_entities.specs.StoreFaults.{IsStoreFault, IsValidStore}
@@ -29,7 +29,7 @@ use Rattle.cedar_entities.specs.declared.entities.TCComputation.{TCComputation}
 use Rattle.cedar_slice.specs.Slices.{sliced, IsPlainSlice}
 use Rattle.cedar_c_stores.specs.Lists.{AreListed, IsMode, IsNoMode, IsUnlisted}
 use Rattle.cedar_c_lists.specs.Reasons.{words_of}
-use Rattle.cedar_c_lists.specs.Stops.{IsStopped}
+use Rattle.cedar_c_lists.specs.Stops.{IsStopped, KeepsRefusal}
 use Rattle.cedar_c_lists.specs.Texts.{AreReadAt, AreTextsOf, IsAsciiUid, IsOneUnread, IsReadOf, IsUnread, spaced}
 use Rattle.cedar_c_lists.specs.declared.layout.Edge.{Edge}
 use Rattle.cedar_c_lists.specs.declared.layout.Span.{Span}
@@ -88,12 +88,12 @@ IsToldBy e w text = (w ≡ reasons.NoMemory) ⊎ ((w ≡ reason_of e) × IsRefus
 abbrev pub empty_store : StoreView
 empty_store = record { held = no_entities; partial = false }
 
--- a call that lists nothing keeps the texts of the last answer, and that of the last refusal where it is not refused
-abbrev pub KeepsTexts : {A : Type 0} → Result A Reason → KeptStore → KeptStore → Type 0
-KeepsTexts r i j = (j.answer ≡ i.answer) × OnOk r (j.refusal.items ≡ i.refusal.items)
+-- a call that lists nothing keeps the texts of the last answer, and that of the last refusal where it is made or memory is refused
+abbrev pub KeepsTexts : {A B H : Type 0} → Result A Reason → KeptStore B H → KeptStore B H → Type 0
+KeepsTexts r i j = (j.answer ≡ i.answer) × KeepsRefusal r i.refusal.items j.refusal.items
 
 -- what a call gave is kept: the store; or the error is told, and what is kept is the store without entities
-abbrev pub Settles : {A : Type 0} → Result StoreView EntitiesError → Result A Reason → KeptStore → Type 0
+abbrev pub Settles : {A B H : Type 0} → Result StoreView EntitiesError → Result A Reason → KeptStore B H → Type 0
 Settles (Ok S) (Ok a) k = k.store ≡ S
 Settles (Err e) (Err w) k = (k.store ≡ empty_store) × IsToldBy e w k.refusal.items
 Settles given answer k = ⊥
@@ -131,33 +131,33 @@ pub record RemoveGives (m : TCComputation) (U : List EntityUID) (S : StoreView) 
   pub plain_err : IfErr given (λ e. (W : World) → IsPlainStore W S → e ≡ errors.Memory)
 
 -- a list is added to a store, put over it, or uids are taken out of it, and what that gives is kept
-abbrev pub Adds : {A : Type 0} → TCComputation → List EntityView → StoreView → Result A Reason → KeptStore → Type 0
+abbrev pub Adds : {A B H : Type 0} → TCComputation → List EntityView → StoreView → Result A Reason → KeptStore B H → Type 0
 Adds m L S r k = (given : Result StoreView EntitiesError) × AddGives m L S given × Settles given r k
 
-abbrev pub Upserts : {A : Type 0} → TCComputation → List EntityView → StoreView → Result A Reason → KeptStore → Type 0
+abbrev pub Upserts : {A B H : Type 0} → TCComputation → List EntityView → StoreView → Result A Reason → KeptStore B H → Type 0
 Upserts m L S r k = (given : Result StoreView EntitiesError) × UpsertGives m L S given × Settles given r k
 
-abbrev pub Removes : {A : Type 0} → TCComputation → List EntityUID → StoreView → Result A Reason → KeptStore → Type 0
+abbrev pub Removes : {A B H : Type 0} → TCComputation → List EntityUID → StoreView → Result A Reason → KeptStore B H → Type 0
 Removes m U S r k = (given : Result StoreView EntitiesError) × RemoveGives m U S given × Settles given r k
 
 -- entities that lists say become the store, are added to it or put over it, in the mode of a number; or that is not read
-abbrev pub BuildsListed : {A : Type 0} → List ℕ → List Span → ℕ → List Edge → ℕ → Result A Reason → KeptStore → KeptStore → Type 0
+abbrev pub BuildsListed : {A B H : Type 0} → List ℕ → List Span → ℕ → List Edge → ℕ → Result A Reason → KeptStore B H → KeptStore B H → Type 0
 BuildsListed text spans n es mode r i j =
     IsStopped (λ w. IsNoMode mode w ⊎ IsUnlisted text spans n es w) r i j
     ⊎ ((m : TCComputation) × (L : List EntityView) × IsMode mode m × AreListed text spans n es L × Adds m L empty_store r j × KeepsTexts r i j)
 
-abbrev pub AddsListed : {A : Type 0} → List ℕ → List Span → ℕ → List Edge → ℕ → Result A Reason → KeptStore → KeptStore → Type 0
+abbrev pub AddsListed : {A B H : Type 0} → List ℕ → List Span → ℕ → List Edge → ℕ → Result A Reason → KeptStore B H → KeptStore B H → Type 0
 AddsListed text spans n es mode r i j =
     IsStopped (λ w. IsNoMode mode w ⊎ IsUnlisted text spans n es w) r i j
     ⊎ ((m : TCComputation) × (L : List EntityView) × IsMode mode m × AreListed text spans n es L × Adds m L i.store r j × KeepsTexts r i j)
 
-abbrev pub UpsertsListed : {A : Type 0} → List ℕ → List Span → ℕ → List Edge → ℕ → Result A Reason → KeptStore → KeptStore → Type 0
+abbrev pub UpsertsListed : {A B H : Type 0} → List ℕ → List Span → ℕ → List Edge → ℕ → Result A Reason → KeptStore B H → KeptStore B H → Type 0
 UpsertsListed text spans n es mode r i j =
     IsStopped (λ w. IsNoMode mode w ⊎ IsUnlisted text spans n es w) r i j
     ⊎ ((m : TCComputation) × (L : List EntityView) × IsMode mode m × AreListed text spans n es L × Upserts m L i.store r j × KeepsTexts r i j)
 
 -- the uids that parts of a text are are taken out, in the mode of a number; or that is not read
-abbrev pub RemovesListed : {A : Type 0} → List ℕ → List Span → ℕ → Result A Reason → KeptStore → KeptStore → Type 0
+abbrev pub RemovesListed : {A B H : Type 0} → List ℕ → List Span → ℕ → Result A Reason → KeptStore B H → KeptStore B H → Type 0
 RemovesListed text spans mode r i j =
     IsStopped (λ w. IsNoMode mode w ⊎ IsOneUnread text spans w) r i j
     ⊎ ((m : TCComputation) × (U : List EntityUID) × IsMode mode m × AreReadAt text U spans × Removes m U i.store r j × KeepsTexts r i j)
@@ -195,7 +195,7 @@ pub record ListsThose (test : EntityView → EntityUID → Bool) (Related : Worl
   pub are_texts : AreTextsOf uids texts
 
 -- those of the entity with the uid of a text become the answer; or why they do not, and all is as it was
-abbrev pub Listing : {A : Type 0} → (EntityView → EntityUID → Bool) → (World → EntityUID → EntityUID → Type 0) → List ℕ → Result A Reason → KeptStore → KeptStore → Type 0
+abbrev pub Listing : {A B H : Type 0} → (EntityView → EntityUID → Bool) → (World → EntityUID → EntityUID → Type 0) → List ℕ → Result A Reason → KeptStore B H → KeptStore B H → Type 0
 Listing test Related text (Ok a) i j =
     (j.store ≡ i.store) × (j.refusal.items ≡ i.refusal.items) × ((u : EntityUID) × IsReadOf u text × ListsThose test Related i.store u j.answer)
 Listing test Related text (Err w) i j =
@@ -212,15 +212,16 @@ IsAbove W u q = Reach (graph W) u q
 abbrev pub IsParent : World → EntityUID → EntityUID → Type 0
 IsParent W u q = graph W u q ≡ true
 
--- the store is valid, and all is as it was; or its first fault is told, and the store and the answer are as they were
-abbrev pub Validates : {A : Type 0} → Result A Reason → KeptStore → KeptStore → Type 0
+-- the store is valid, and all is as it was; or its first fault is told, and the store and the answer are as they were, as the text
+-- of the last refusal is where memory was refused
+abbrev pub Validates : {A B H : Type 0} → Result A Reason → KeptStore B H → KeptStore B H → Type 0
 Validates (Ok a) i j = IsValidStore i.store.held × (j ≡ i)
 Validates (Err w) i j =
-    (j.store ≡ i.store) × (j.answer ≡ i.answer)
+    (j.store ≡ i.store) × (j.answer ≡ i.answer) × (w ≡ reasons.NoMemory → j.refusal.items ≡ i.refusal.items)
     × ((w ≡ reasons.NoMemory) ⊎ ((e : EntitiesError) × IsStoreFault i.store.held e × IsToldBy e w j.refusal.items))
 
 -- no call has answered anything of what is kept, and none was refused
-abbrev pub IsUntold : KeptStore → Type 0
+abbrev pub IsUntold : {B H : Type 0} → KeptStore B H → Type 0
 IsUntold k = (k.answer ≡ []) × (k.refusal.items ≡ [])
 
 -- the slice of a store at uids
@@ -229,11 +230,11 @@ pub record IsSlice (U : List EntityUID) (S N : StoreView) : Type 0 where
   pub plain : (W : World) → IsPlainStore W S → IsPlainSlice W U N
 
 -- the slice of a store at the uids that parts of a text are; or why it is not made
-abbrev pub SlicesAt : List ℕ → List Span → StoreView → Result KeptStore Reason → Type 0
+abbrev pub SlicesAt : {B H : Type 0} → List ℕ → List Span → StoreView → Result (KeptStore B H) Reason → Type 0
 SlicesAt text spans S (Ok k) = (U : List EntityUID) × AreReadAt text U spans × IsSlice U S k.store × IsUntold k
 SlicesAt text spans S (Err w) = IsOneUnread text spans w
 
 -- a copy of a store; or why it is not made
-abbrev pub Copies : StoreView → Result KeptStore Reason → Type 0
+abbrev pub Copies : {B H : Type 0} → StoreView → Result (KeptStore B H) Reason → Type 0
 Copies S (Ok k) = (k.store ≡ S) × IsUntold k
 Copies S (Err w) = w ≡ reasons.NoMemory

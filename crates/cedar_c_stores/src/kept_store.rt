@@ -8,28 +8,31 @@ ghost use Rattle.cedar_c_stores.specs.Stores.{Adds, Asks, AsksFor, Copies, IsAbo
 ghost use Rattle.cedar_c_lists.specs.Texts.{AreTextsOf, IsTextOf};
 ghost use Rattle.cedar_c_lists.specs.declared.reason.Reason.TheVariants as reasons;
 
-use crate::refusal::{reason_of, text_of};
+use crate::refusal::told_by;
 use cedar_c_lists::{Answer, Reason, Span, uid_of, uids_of, with_uid};
 use cedar_entities::{Entities, EntitiesError, Entity, TCComputation, Uids};
 use cedar_ids::entity::EntityUID;
-use cedar_keyed_hash::KeyedState;
 use cedar_slice::slice;
 use cedar_uid_sets::Union;
 use std::alloc::{AllocError, Global};
+use std::hash::BuildHasher;
 use std::mem;
 use std::rc::Rc;
 
 /// A store of entities, the texts of the last answer, and the text of the last refusal.
+///
+/// The store hashes uids by what `S` builds, and so do the stores that its calls make. No contract sees which builder a store has;
+/// but code that is generic in it makes none of its own, so each store here has the one that the caller gave.
 #[derive(Drop)]
-pub struct KeptStore {
-    /// The store, whose map hashes with the caller's key.
-    pub store: Entities<KeyedState>,
+pub struct KeptStore<S: BuildHasher> {
+    /// The store.
+    pub store: Entities<S>,
     /// The texts that the last call that lists gave.
     pub answer: Answer,
     /// The text of the last refusal of a call on the store.
     pub refusal: Vec<u8>,
     // What builds the hashers of the next store.
-    hasher: KeyedState,
+    hasher: S,
 }
 
 // The texts of ancestors.
@@ -54,10 +57,10 @@ fn texts_of_set(alloc: Global, uids: Uids<'_>) -> Result<Answer, AllocError>
     Ok(answer)
 }
 
-impl KeptStore {
+impl<S: BuildHasher + Copy> KeptStore<S> {
     /// A store of which nothing was answered and nothing refused, and what builds the hashers of stores that take its place.
     /// Takes no memory.
-    pub fn of(alloc: Global, hasher: KeyedState, store: Entities<KeyedState>) -> KeptStore
+    pub fn of(alloc: Global, hasher: S, store: Entities<S>) -> KeptStore<S>
         ensures store { result.store ≡ store }
         ensures answer { result.answer ≡ [] }
         ensures refusal { result.refusal.items ≡ [] }
@@ -70,8 +73,8 @@ impl KeptStore {
         }
     }
 
-    /// The store without entities. Takes no memory.
-    pub fn new(alloc: Global, hasher: KeyedState) -> KeptStore
+    /// The store without entities, which hashes uids by what `hasher` builds. Takes no memory.
+    pub fn new(alloc: Global, hasher: S) -> KeptStore<S>
         ensures store { result.store ≡ empty_store }
         ensures plain { IsPlainStore empty_world result.store }
         ensures answer { result.answer ≡ [] }
@@ -80,16 +83,17 @@ impl KeptStore {
         KeptStore::of(alloc, hasher, Entities::with_hasher(alloc, hasher))
     }
 
-    // The text of an error is kept, and its reason told.
+    // The text of an error is kept, and its reason told. Want of memory, for the text too, leaves the one before.
     fn refuse(&mut self, alloc: Global, error: EntitiesError) -> Reason
         ensures store { self.new.store ≡ self.old.store }
         ensures answer { self.new.answer ≡ self.old.answer }
         ensures told { IsToldBy error result self.new.refusal.items }
+        ensures kept { result ≡ reasons.NoMemory → self.new.refusal.items ≡ self.old.refusal.items }
     {
-        match text_of(alloc, &error) {
-            Ok(text) => {
-                self.refusal = text;
-                reason_of(&error)
+        match told_by(alloc, &error) {
+            Ok(told) => {
+                self.refusal = told.text;
+                told.reason
             }
             Err(_want) => Reason::NoMemory,
         }
@@ -99,7 +103,7 @@ impl KeptStore {
     fn settle(
         &mut self,
         alloc: Global,
-        given: Result<Entities<KeyedState>, EntitiesError>,
+        given: Result<Entities<S>, EntitiesError>,
     ) -> Result<(), Reason>
         ensures settles { Settles given result self.new }
         ensures texts { KeepsTexts result self.old self.new }
@@ -242,7 +246,7 @@ impl KeptStore {
     }
 
     // The slice of the store at some uids.
-    fn slice_of(&self, alloc: Global, uids: Vec<EntityUID>) -> Result<KeptStore, Reason>
+    fn slice_of(&self, alloc: Global, uids: Vec<EntityUID>) -> Result<KeptStore<S>, Reason>
         ensures { MatchResult result (λ k. IsSlice uids.items self.now.store k.store × IsUntold k) (λ w. w ≡ reasons.NoMemory) }
     {
         match slice(alloc, &self.store, &uids) {
@@ -252,7 +256,7 @@ impl KeptStore {
     }
 
     /// The slice of the store at the uids that parts of a text are, of which nothing was answered and nothing refused. Takes memory.
-    pub fn slice(&self, alloc: Global, text: &[u8], spans: &[Span]) -> Result<KeptStore, Reason>
+    pub fn slice(&self, alloc: Global, text: &[u8], spans: &[Span]) -> Result<KeptStore<S>, Reason>
         ensures { SlicesAt text.now spans.now self.now.store result }
     {
         let uids = uids_of(alloc, text, spans)?;
@@ -260,7 +264,7 @@ impl KeptStore {
     }
 
     /// A copy, of which nothing was answered and nothing refused. Takes memory.
-    pub fn copy(&self, alloc: Global) -> Result<KeptStore, Reason>
+    pub fn copy(&self, alloc: Global) -> Result<KeptStore<S>, Reason>
         ensures { Copies self.now.store result }
     {
         let store = self.store.clone()?;
@@ -268,7 +272,7 @@ impl KeptStore {
     }
 
     /// Whether both stores have deeply equal entities. Takes no memory.
-    pub fn is_equal(&self, other: &KeptStore) -> bool
+    pub fn is_equal(&self, other: &KeptStore<S>) -> bool
         ensures { IsTrue result ↔ AreDeepEqual self.now.store other.now.store }
     {
         self.store.deep_eq(&other.store)

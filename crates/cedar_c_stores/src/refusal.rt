@@ -1,8 +1,9 @@
 //! The reasons and the texts of what a store refuses.
-ghost use Rattle.std.specs.Prelude.{◌≡◌, ◌++◌, IfOk, OnOk};
+ghost use Rattle.std.specs.Prelude.{◌≡◌, ◌≢◌, ◌++◌, IfOk, OnOk};
 ghost use Rattle.std.specs.List.{AllByRecursion, flat_map};
 ghost use Rattle.cedar_c_stores.specs.Stores.{IsRefusalText, closure_names, closure_reason, key_named, reason_of, uids_named};
 ghost use Rattle.cedar_c_lists.specs.Texts.{IsAsciiUid, spaced};
+ghost use Rattle.cedar_c_lists.specs.declared.reason.Reason.TheVariants as reasons;
 
 use cedar_c_lists::{Reason, push_uid};
 use cedar_entities::EntitiesError;
@@ -81,12 +82,31 @@ fn push_named(alloc: Global, out: &mut Vec<u8>, error: &EntitiesError) -> Result
     }
 }
 
-// The text of an error: the words of its reason, and what it names.
-pub(crate) fn text_of(alloc: Global, error: &EntitiesError) -> Result<Vec<u8>, AllocError>
-    ensures { IfOk result (λ v. IsRefusalText error.now v.items) }
+// A reason that is not want of memory, and the text of a refusal for it.
+#[derive(Drop)]
+pub(crate) struct Told {
+    pub(crate) reason: Reason,
+    pub(crate) text: Vec<u8>,
+}
+
+// What a store refuses for a reason: its words, and what the error names.
+fn told_for(alloc: Global, reason: Reason, error: &EntitiesError) -> Result<Told, AllocError>
+    requires { reason ≡ reason_of error.now }
+    ensures { IfOk result (λ t. (t.reason ≡ reason_of error.now) × IsRefusalText error.now t.text.items) }
 {
-    let mut out = Vec::new(alloc);
-    out.extend_from_slice(reason_of(error).words().as_bytes())?;
-    push_named(alloc, &mut out, error)?;
-    Ok(out)
+    let mut text = Vec::new(alloc);
+    text.extend_from_slice(reason.words().as_bytes())?;
+    push_named(alloc, &mut text, error)?;
+    Ok(Told { reason, text })
+}
+
+// What a store refuses, and want of memory where that is what it wants.
+pub(crate) fn told_by(alloc: Global, error: &EntitiesError) -> Result<Told, AllocError>
+    ensures { IfOk result (λ t. (t.reason ≡ reason_of error.now) × (t.reason ≢ reasons.NoMemory)
+        × IsRefusalText error.now t.text.items) }
+{
+    match reason_of(error) {
+        Reason::NoMemory => Err(AllocError),
+        reason => told_for(alloc, reason, error),
+    }
 }

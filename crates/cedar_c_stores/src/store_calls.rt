@@ -6,13 +6,15 @@ use crate::kept_store::KeptStore;
 use crate::listing::{entities_of, mode_of};
 use cedar_c_lists::{Edge, Reason, Span, uids_of};
 use std::alloc::Global;
+use std::hash::BuildHasher;
 
-impl KeptStore {
+impl<S: BuildHasher + Copy> KeptStore<S> {
     /// The entities that lists say become the store, in the mode of a number: it is what adding them to the store without
     /// entities gives.
     ///
     /// What is read wrong, as by `entities_of` and `mode_of`, leaves all as it was; so does want of memory while that is read. A
-    /// refusal of the call on the store, for memory too, leaves the store without entities. Takes memory.
+    /// refusal of the call on the store, for memory too, leaves the store without entities; want of memory leaves the text of the
+    /// last refusal, as it does in each call here. Takes memory.
     pub fn build(
         &mut self,
         alloc: Global,
@@ -76,7 +78,10 @@ impl KeptStore {
         ensures { RemovesListed text.now uids.now mode result self.old self.new }
     {
         let mode = mode_of(mode)?;
-        let uids = uids_of(alloc, text, uids)?;
+        let uids = match uids_of(alloc, text, uids) {
+            Ok(uids) => uids,
+            Err(reason) => return Err(reason),
+        };
         self.remove_uids(alloc, uids, mode)
     }
 }

@@ -4,4 +4,4 @@ use Rattle.cedar_policy_set.specs.Merge.{policy_ids}
 use Rattle.cedar_c_sets.proofs.kept_set.policy_texts.Given as goal
 
 abbrev pub invariant-loop-policy : goal.invariant-loop-policy
-invariant-loop-policy l = l.answer ++ map policy_id l.policy-iterator ≡ policy_ids l.set
+invariant-loop-policy g l = l.answer ++ map policy_id l.policy-iterator ≡ policy_ids l.set

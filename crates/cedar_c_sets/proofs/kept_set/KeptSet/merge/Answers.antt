@@ -1,10 +1,12 @@
-use Rattle.cedar_c_sets.proofs.Refusing.{told_merging}
+use Rattle.cedar_policy_set.specs.Refusals.{told_by_set}
+use Rattle.cedar_c_sets.proofs.Refusing.{kept_before, told_merging}
 use Rattle.cedar_c_sets.proofs.kept_set.KeptSet.merge.Goals as goal
 
 pub returns-in-Err : goal.returns-in-Err
-returns-in-Err c = (
+returns-in-Err g c = (
   c.refuse.ensures.set,
   c.refuse.ensures.answer,
-  told_merging (λ r. r.entries) c.merge_policyset.result c.in-Err.error c.in_ok-set.set c.args.self.now.set c.args.other.now.set c.args.rename _ c.by_set.result c.refuse.result c.refuse.new.self.refusal.items
+  kept_before (told_by_set c.in-Err.error) c.by_set.result c.refuse.result c.args.self.now.refusal.items c.refuse.new.self.refusal.items c.by_set.ensures c.refuse.ensures.told,
+  told_merging (λ r. r.entries) c.merge_policyset.result c.in-Err.error c.in_ok-set.set c.args.self.now.set c.args.other.now.set c.args.rename _ c.by_set.result c.refuse.result c.args.self.now.refusal.items c.refuse.new.self.refusal.items
       c.in-Err.is c.in_ok-set.ensures.cases c.merge_policyset.ensures.merges c.by_set.ensures c.refuse.ensures.told,
 )

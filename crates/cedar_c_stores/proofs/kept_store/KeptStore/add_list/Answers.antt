@@ -4,7 +4,7 @@ use Rattle.cedar_c_stores.specs.Stores.{AddGives}
 use Rattle.cedar_c_stores.proofs.kept_store.KeptStore.add_list.Goals as goal
 
 pub returns-clause-adds : goal.returns-clause-adds
-returns-clause-adds c =
+returns-clause-adds g c =
     let e = c.add_entities-given.ensures in (
       c.add_entities-given.result,
       subst (λ S. AddGives c.args.mode (entities_in c.args.list.items) S c.add_entities-given.result) c.replace-store.ensures.value (record {

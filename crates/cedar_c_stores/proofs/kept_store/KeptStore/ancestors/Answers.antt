@@ -5,7 +5,7 @@ use Rattle.cedar_c_stores.proofs.Asking.{above_held}
 use Rattle.cedar_c_stores.proofs.kept_store.KeptStore.ancestors.Goals as goal
 
 pub returns : goal.returns
-returns c =
+returns g c =
     let u = c.in_ok-uid.uid in
     let x = c.in-Some.entity.now in
     let members = c.ancestors_in_order.ensures.members in (

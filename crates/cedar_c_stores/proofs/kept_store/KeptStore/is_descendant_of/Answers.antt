@@ -6,7 +6,7 @@ use Rattle.cedar_c_stores.proofs.Asking.{above_held}
 use Rattle.cedar_c_stores.proofs.kept_store.KeptStore.is_descendant_of.Goals as goal
 
 pub returns : goal.returns
-returns c =
+returns g c =
     let u = c.in_ok-child.child in
     let v = c.in_ok-ancestor.ancestor in
     let x = c.in-Some.entity.now in (

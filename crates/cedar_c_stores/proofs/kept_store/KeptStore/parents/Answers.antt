@@ -3,7 +3,7 @@ use Rattle.cedar_c_stores.proofs.Asking.{parent_held}
 use Rattle.cedar_c_stores.proofs.kept_store.KeptStore.parents.Goals as goal
 
 pub returns : goal.returns
-returns c =
+returns g c =
     let u = c.in_ok-uid.uid in
     let x = c.in-Some.entity.now in
     let members = c.parents.ensures.lists.members in (

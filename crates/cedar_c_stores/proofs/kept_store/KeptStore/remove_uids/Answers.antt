@@ -3,7 +3,7 @@ use Rattle.cedar_c_stores.specs.Stores.{RemoveGives}
 use Rattle.cedar_c_stores.proofs.kept_store.KeptStore.remove_uids.Goals as goal
 
 pub returns-clause-removes : goal.returns-clause-removes
-returns-clause-removes c =
+returns-clause-removes g c =
     let e = c.remove_entities-given.ensures in (
       c.remove_entities-given.result,
       subst (λ S. RemoveGives c.args.mode c.args.uids.items S c.remove_entities-given.result) c.replace-store.ensures.value (record {
