@@ -16,9 +16,9 @@ use Rattle.cedar_ids.specs.Texts.{same_text}
 use Rattle.cedar_ids.specs.laws.TextLaws.{same_text_equiv}
 use Rattle.cedar_body.specs.Bodies.{BodyParts}
 use Rattle.cedar_policy.specs.Policies.{PolicyParts, policy_id}
-use Rattle.cedar_policy_set.specs.Boards.{AreOnce, IsBoard, is_bound, is_body_at, is_policy_at}
+use Rattle.cedar_policy_set.specs.Boards.{AreOnce, is_bound, is_body_at, is_policy_at}
 use Rattle.cedar_policy_set.specs.Lists.{ids_in}
-use Rattle.cedar_policy_set.specs.Maps.{Maps, shared_of, lists_of, maps_of, board_in, ids_by_body, DoAgree}
+use Rattle.cedar_policy_set.specs.Maps.{Maps, shared_of, lists_of, board_in, ids_by_body, DoAgree}
 use Rattle.cedar_policy_set.specs.Views.{bodies_of}
 use Rattle.cedar_policy_set.specs.laws.BoardLaws.{no_body_at, no_policy_at}
 use Rattle.cedar_policy_set.specs.laws.ListedLaws.{changed, with_listed, IsKeyed, lookup_is, keyed_last, join_listed}

@@ -83,7 +83,10 @@ impl<S: BuildHasher + Copy> PolicySet<S> {
     {
         let hasher = *self.templates.hasher();
         let Parted { stand, join } = bodies;
-        let Parted { stand: alike, join: policies } = policies;
+        let Parted {
+            stand: alike,
+            join: policies,
+        } = policies;
         match what_enters(alloc, hasher, &stand, join, policies) {
             Ok(entering) => self.put_in(entering, stand, alike),
             Err(error) => {
@@ -277,10 +280,7 @@ pub(crate) fn room_in_lists<S: BuildHasher + Copy>(
 }
 
 // Puts ids last in a set, where there is room for them.
-fn put_ids<S: BuildHasher + Copy>(
-    ids: &mut IndexSet<PolicyID, S>,
-    more: IndexSet<PolicyID, S>,
-)
+fn put_ids<S: BuildHasher + Copy>(ids: &mut IndexSet<PolicyID, S>, more: IndexSet<PolicyID, S>)
     requires { length more.keys ≤ sets.spare ids.old }
     ensures { ids.new.keys ≡ insert_all same_text ids.old.keys more.keys }
 {

@@ -37,9 +37,11 @@ impl<S: BuildHasher + Copy> PolicySet<S> {
     /// original moves those that both bind to the back, and takes a template without slots for an equal static policy. What
     /// both bind alike takes the other's value, which differs in locations alone.
     ///
-    /// Takes memory for the three maps, what is renamed and the answer. A refused call, for memory too, leaves both orders
-    /// as they were: the result is built apart and put in at the end. It costs look-ups for each id of the two sets, and
-    /// a look at each of the ids `policyN` that are bound.
+    /// Takes memory for a copy of what the other set binds, for room in the maps and in the lists of links that grow, for what is
+    /// renamed and for the answer. A refused call, for memory too, leaves both orders as they were: all that can be refused
+    /// is done first. It costs what the other set costs: look-ups for each of its ids, in both sets, the copies, and a look at
+    /// each of the ids `policyN` that are bound. What this set binds is neither walked nor copied; a map that is full moves to
+    /// one of twice its places.
     #[tactic(auto, using(crate::specs::laws::RenamingLaws::once_free, crate::specs::laws::RenamingLaws::none_bound_of, crate::specs::laws::RenamingLaws::numbers_below))]
     pub fn merge_policyset(
         &mut self,
@@ -377,7 +379,11 @@ fn part_policy<S: BuildHasher + Copy>(
 {
     let new = renaming.get(policy.id());
     let stands = here.is_bound(new_or(new, policy.id()));
-    part(parted, stands, renamed_policy(alloc, policy, new, renaming)?)
+    part(
+        parted,
+        stands,
+        renamed_policy(alloc, policy, new, renaming)?,
+    )
 }
 
 // A policy under its new id, if it gets one, a link with its template under its own.

@@ -9,7 +9,7 @@ use Rattle.std.proofs.lemmas.List.Folds.{list_any-append}
 use Rattle.std.proofs.lemmas.List.Elements.{filter-append}
 use Rattle.indexmap.specs.IndexMap.{insert_entry}
 use Rattle.indexmap.specs.IndexMap as maps
-use Rattle.indexmap.specs.IndexSet.{IndexSet, spare, insert_key, insert_all}
+use Rattle.indexmap.specs.IndexSet.{IndexSet, spare, insert_all}
 use Rattle.cedar_ids.specs.Texts.{same_text}
 use Rattle.cedar_ids.specs.laws.TextLaws.{same_text_equiv, same_text_decides}
 use Rattle.cedar_policy_set.specs.Boards.{AreOnce}

@@ -1,7 +1,6 @@
-use Rattle.std.specs.Prelude.{◌≡◌, ◌∷◌, false}
+use Rattle.std.specs.Prelude.{◌∷◌}
 use Rattle.std.proofs.Common.{◌∙◌, sym, ap, subst, arith}
 use Rattle.std.specs.List.{list_any}
-use Rattle.std.specs.Map.{keys_of}
 use Rattle.cedar_ids.specs.Texts.{same_text}
 use Rattle.cedar_policy_set.specs.Maps.{lists_of}
 use Rattle.cedar_policy_set.specs.laws.GrowLaws.{HaveRoom, HaveOwnKeys, grown_by, room_elsewhere, listed_keys}

@@ -1,5 +1,4 @@
 use Rattle.std.proofs.Common.{◌≡◌, ◌++◌, List, ℕ}
-use Rattle.indexmap.specs.IndexSet.{IndexSet}
 use Rattle.cedar_policy_set.specs.Maps.{lists_of}
 use Rattle.cedar_policy_set.specs.laws.GrowLaws.{HaveRoom}
 use Rattle.cedar_policy_set.proofs.grow.room_in_lists.Given as goal

@@ -1,4 +1,4 @@
-use Rattle.std.proofs.Common.{◌≡◌, ◌∙◌, Bool, not, ap, sym}
+use Rattle.std.proofs.Common.{◌≡◌, ◌∙◌, not, ap}
 use Rattle.std.proofs.lemmas.Result.{on_ok_weaker}
 use Rattle.std.specs.Option.{unwrap_or, option_copied}
 use Rattle.cedar_body.specs.Bodies.{BodyParts, with_id}

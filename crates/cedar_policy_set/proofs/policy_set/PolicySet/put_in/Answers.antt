@@ -1,10 +1,10 @@
-use Rattle.std.specs.Prelude.{◌≡◌, ◌++◌}
+use Rattle.std.specs.Prelude.{◌++◌}
 use Rattle.std.proofs.Common.{◌∙◌, sym, ap, subst, refl}
 use Rattle.std.specs.Map.{values_of}
 use Rattle.cedar_policy_set.specs.Boards.{Board}
 use Rattle.cedar_policy_set.specs.Maps.{Maps, maps_of, board_in, lists_of, shared_of}
 use Rattle.cedar_policy_set.specs.Views.{bodies_of}
-use Rattle.cedar_policy_set.specs.laws.GrowLaws.{grown_by, HaveOwnKeys}
+use Rattle.cedar_policy_set.specs.laws.GrowLaws.{grown_by}
 use Rattle.cedar_policy_set.specs.laws.TakenIn.{CanTakeIn, taken_in}
 use Rattle.cedar_policy_set.proofs.Entered.{bodies_new, policies_new, grown_once, lists_new, entered}
 use Rattle.cedar_policy_set.proofs.policy_set.PolicySet.put_in.Goals as goal

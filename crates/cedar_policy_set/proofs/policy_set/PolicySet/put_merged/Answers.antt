@@ -1,9 +1,7 @@
-use Rattle.std.proofs.Common.{◌≡◌, sym, subst}
-use Rattle.cedar_body.specs.Bodies.{BodyParts}
-use Rattle.cedar_policy.specs.Policies.{PolicyParts}
-use Rattle.cedar_policy_set.specs.Boards.{Board, IsBoard}
+use Rattle.std.proofs.Common.{subst}
+use Rattle.cedar_policy_set.specs.Boards.{IsBoard}
 use Rattle.cedar_policy_set.specs.Merge.{new_id}
-use Rattle.cedar_policy_set.specs.laws.TakenIn.{CanTakeIn, takes_in}
+use Rattle.cedar_policy_set.specs.laws.TakenIn.{takes_in}
 use Rattle.cedar_policy_set.specs.laws.RenamingLaws.{renames}
 use Rattle.cedar_policy_set.proofs.policy_set.PolicySet.put_merged.Goals as goal
 
