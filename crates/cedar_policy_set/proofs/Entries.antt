@@ -16,11 +16,10 @@ use Rattle.cedar_ids.specs.Texts.{same_text}
 use Rattle.cedar_ids.specs.laws.TextLaws.{same_text_equiv}
 use Rattle.cedar_body.specs.Bodies.{BodyParts}
 use Rattle.cedar_policy.specs.Policies.{PolicyParts, policy_id}
-use Rattle.cedar_policy_set.specs.Boards.{AreOnce, IsBoard, is_bound, is_body_at, is_policy_at}
+use Rattle.cedar_policy_set.specs.Boards.{AreOnce, is_bound, is_body_at, is_policy_at}
 use Rattle.cedar_policy_set.specs.Lists.{ids_in}
-use Rattle.cedar_policy_set.specs.Maps.{Maps, shared_of, lists_of, maps_of, board_in, ids_by_body, DoAgree}
+use Rattle.cedar_policy_set.specs.Maps.{Maps, shared_of, lists_of, board_in, ids_by_body, DoAgree}
 use Rattle.cedar_policy_set.specs.Views.{bodies_of}
-use Rattle.cedar_policy_set.specs.laws.SharedBoards.{board_of}
 use Rattle.cedar_policy_set.specs.laws.BoardLaws.{no_body_at, no_policy_at}
 use Rattle.cedar_policy_set.specs.laws.ListedLaws.{changed, with_listed, IsKeyed, lookup_is, keyed_last, join_listed}
 use Rattle.cedar_policy_set.specs.laws.ListSteps.{parted}
@@ -86,12 +85,43 @@ module _ {V W : Type 0} (f : V → W) where
   read_last old mid new k i v w a b c d =
       ap read_by (b ∙ ap (λ es. es ++ (k, v) ∷ []) a) ∙ map-append (λ (e : List ℕ × V). (e.0, f e.1)) old ((k, v) ∷ []) ∙ (λ j. read_by old ++ (c j, d j) ∷ [])
 
+  alike_at : (v : Bool) (e : List ℕ × V) (o : Option V) (es gs : List (List ℕ × V)) (s w : V) → cond v (Some e.1) o ≡ Some s → f w ≡ f s → (o ≡ Some s → read_by gs ≡ read_by es) →
+      read_by (cond v ((e.0, w) ∷ es) (e ∷ gs)) ≡ (e.0, f e.1) ∷ read_by es
+  alike_at true e o es gs s w l q ih =
+      let same : e.1 ≡ s = cc in
+      ap (λ x. (e.0, x) ∷ read_by es) (q ∙ ap f (sym same))
+  alike_at false e o es gs s w l q ih = ap (λ xs. (e.0, f e.1) ∷ xs) (ih l)
+
+  -- what is written in the place of a value that is read alike
+  pub alike_written : (t : List ℕ → Bool) (es : List (List ℕ × V)) (s w : V) → lookup t es ≡ Some s → f w ≡ f s → read_by (set_value t es w) ≡ read_by es
+  alike_written t [] s w l q = absurd (cc)
+  alike_written t (e ∷ es) s w l q = alike_at (t e.0) e (lookup t es) es (set_value t es w) s w l q (λ m. alike_written t es s w m q)
+
   none_read : (o : Option V) → option_map f o ≡ None → o ≡ None
   none_read None h = refl
   none_read (Some v) h = absurd (cc)
 
   pub none_unread : (t : List ℕ → Bool) (es : List (List ℕ × V)) → lookup t (read_by es) ≡ None → lookup t es ≡ None
   none_unread t es h = none_read (lookup t es) (sym (lookup-map_values f t es) ∙ h)
+
+same_at_key : {V : Type 0} (v : Bool) (e : List ℕ × V) (o : Option V) (es gs : List (List ℕ × V)) (s w : V) → cond v (Some e.1) o ≡ Some s → w ≡ s → (o ≡ Some s → gs ≡ es) → cond v ((e.0, w) ∷ es) (e ∷ gs) ≡ e ∷ es
+same_at_key true e o es gs s w l q ih =
+    let same : e.1 ≡ s = cc in
+    ap (λ x. (e.0, x) ∷ es) (q ∙ sym same)
+same_at_key false e o es gs s w l q ih = ap (λ xs. e ∷ xs) (ih l)
+
+-- what is written in the place of the same value
+pub same_written : {V : Type 0} (t : List ℕ → Bool) (es : List (List ℕ × V)) (s w : V) → lookup t es ≡ Some s → w ≡ s → set_value t es w ≡ es
+same_written t [] s w l q = absurd (cc)
+same_written t (e ∷ es) s w l q = same_at_key (t e.0) e (lookup t es) es (set_value t es w) s w l q (λ m. same_written t es s w m q)
+
+-- one more body, if it is one of these
+body_parted_at : (v : Bool) (olds news : List (Rc BodyParts Global)) (x : Rc BodyParts Global) (t : BodyParts) → news ≡ olds ++ cond v (x ∷ []) [] → x.value ≡ t → bodies_of news ≡ bodies_of olds ++ cond v (t ∷ []) []
+body_parted_at true olds news x t e q = ap bodies_of e ∙ map-append (λ (t : Rc BodyParts Global). t.value) olds (x ∷ []) ∙ ap (λ b. bodies_of olds ++ b ∷ []) q
+body_parted_at false olds news x t e q = ap bodies_of e ∙ map-append (λ (t : Rc BodyParts Global). t.value) olds []
+
+pub body_parted : (v w : Bool) (olds news : List (Rc BodyParts Global)) (x : Rc BodyParts Global) (t : BodyParts) → v ≡ w → news ≡ olds ++ cond v (x ∷ []) [] → x.value ≡ t → bodies_of news ≡ bodies_of olds ++ cond w (t ∷ []) []
+body_parted v w olds news x t b e q = body_parted_at w olds news x t (e ∙ ap (λ a. olds ++ cond a (x ∷ []) []) b) q
 
 abbrev body : Rc BodyParts Global → BodyParts
 body t = t.value
@@ -197,28 +227,12 @@ pub shared_once : (ts : List (Rc BodyParts Global)) → AreOnce body_id (bodies_
 shared_once [] h = tt
 shared_once (t ∷ ts) h = (sym (any-map body (is_at body_id t.value.id) ts) ∙ h.0, shared_once ts h.1)
 
-shared_keyed : (es : List (List ℕ × Rc BodyParts Global)) → IsKeyed shared_id es → IsKeyed body_id (shared_of es)
+pub shared_keyed : (es : List (List ℕ × Rc BodyParts Global)) → IsKeyed shared_id es → IsKeyed body_id (shared_of es)
 shared_keyed [] h = refl
 shared_keyed (e ∷ es) h =
     let k : e.0 ≡ e.1.value.id = cc in
     let r : IsKeyed shared_id es = cc in
     λ j. k j ∷ shared_keyed es r j
-
--- maps that are made from the bodies and policies of a board
-pub made : {S : Type 0} (ts : List (List ℕ × Rc BodyParts Global)) (ps : List (List ℕ × PolicyParts)) (ls : List (List ℕ × IndexSet (List ℕ) S)) (bs : List (Rc BodyParts Global)) (qs : List PolicyParts) →
-    IsBoard (board_of bs qs) → IsKeyed shared_id ts → values_of ts ≡ bs → IsKeyed policy_id ps → values_of ps ≡ qs → lists_of ls ≡ ids_by_body (bodies_of bs) qs →
-    DoAgree (maps_of ts ps ls) × (board_in (maps_of ts ps ls) ≡ board_of bs qs)
-made ts ps ls bs qs h f v g w l =
-    let us : values_of (shared_of ts) ≡ bodies_of bs = sym (shared_values ts) ∙ ap bodies_of v in
-    let now : board_in (maps_of ts ps ls) ≡ board_of bs qs = λ j. record { bodies = us j; policies = w j } in (
-      record {
-        board = subst IsBoard (sym now) h;
-        bodies_by_id = shared_keyed ts f;
-        policies_by_id = g;
-        all_listed = l ∙ (λ j. ids_by_body (sym us j) (sym w j));
-      },
-      now,
-    )
 
 -- no id under one more body
 pub no_ids_more : {S : Type 0} (ts : List (Rc BodyParts Global)) (k : ℕ) (t : Rc BodyParts Global) (es fs : List (List ℕ × IndexSet (List ℕ) S)) (i : List ℕ) (s : IndexSet (List ℕ) S) →

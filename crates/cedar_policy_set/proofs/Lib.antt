@@ -1,3 +1,4 @@
+mod Entered
 mod Entries
 mod Told
 mod Written

@@ -5,6 +5,7 @@ pub mod EqualityLaws
 pub mod Founds
 pub mod FreshLaws
 pub mod GatherLaws
+pub mod GrowLaws
 pub mod Joins
 pub mod LinkLaws
 pub mod ListSteps
@@ -16,4 +17,4 @@ pub mod Numerals
 pub mod OnceLaws
 pub mod RawMaps
 pub mod RenamingLaws
-pub mod SharedBoards
+pub mod TakenIn

@@ -2,26 +2,21 @@
 ghost use Rattle.std.specs.Prelude.{◌≡◌, OnOk, OnErr, Some, false, length, ◌<◌};
 ghost use Rattle.std.specs.List.{find, list_any};
 ghost use Rattle.std.specs.Option.{option_copied, option_map};
-ghost use Rattle.cedar_policy_set.specs.Boards.{bound_at, is_bound, is_body_at, is_policy_at, has_links, with_template, with_policy, with_both, without_id, last_policy, IsBoard};
+ghost use Rattle.cedar_policy_set.specs.Boards.{bound_at, is_bound, is_body_at, is_policy_at, has_links, with_template, with_policy, with_both, without_id, last_policy};
 ghost use Rattle.cedar_policy_set.specs.Lists.{ids_in};
 ghost use Rattle.cedar_policy_set.specs.Views.{bodies_of};
-ghost use Rattle.cedar_policy_set.specs.laws.SharedBoards.{board_of};
 ghost use Rattle.cedar_policy_set.specs.laws.Founds.{found_binding};
 ghost use Rattle.cedar_policy_set.specs.laws.Joins.{CanJoin, CanJoinBoth};
 ghost use Rattle.cedar_policy_set.specs.laws.MapLaws.{has_other};
 
 use crate::found::Found;
-use crate::maps::{
-    bodies_by_id, ids_by_body, list_policy, policies_by_id, put_last, room_for_body, room_for_both,
-    unlist,
-};
+use crate::maps::{list_policy, put_last, room_for_body, room_for_both, unlist};
 use crate::policy_set::PolicySet;
 use cedar_ids::policy_id::PolicyID;
 use cedar_policy::{Policy, Template};
 use indexmap::IndexSet;
-use std::alloc::{AllocError, Global};
+use std::alloc::AllocError;
 use std::hash::BuildHasher;
-use std::mem::replace;
 use std::rc::Rc;
 
 impl<S: BuildHasher + Copy> PolicySet<S> {
@@ -197,48 +192,6 @@ impl<S: BuildHasher + Copy> PolicySet<S> {
     {
         let policies = self.all_policies();
         &policies[policies.len() - 1]
-    }
-
-    // Puts other bodies and policies in the place of all.
-    pub(crate) fn replace(
-        &mut self,
-        alloc: Global,
-        bodies: Vec<Rc<Template>>,
-        policies: Vec<Policy>,
-    ) -> Result<(), AllocError>
-        requires { IsBoard (board_of bodies.items policies.items) }
-        ensures ok { OnOk result (self.new ≡ board_of bodies.items policies.items) }
-        ensures err { OnErr result (self.new ≡ self.old) }
-    {
-        let hasher = *self.templates.hasher();
-        let listed = match ids_by_body(alloc, hasher, &bodies, &policies) {
-            Ok(listed) => listed,
-            Err(error) => {
-                drop(bodies);
-                drop(policies);
-                return Err(error);
-            }
-        };
-        let templates = match bodies_by_id(alloc, hasher, bodies) {
-            Ok(templates) => templates,
-            Err(error) => {
-                drop(policies);
-                drop(listed);
-                return Err(error);
-            }
-        };
-        let links = match policies_by_id(alloc, hasher, policies) {
-            Ok(links) => links,
-            Err(error) => {
-                drop(listed);
-                drop(templates);
-                return Err(error);
-            }
-        };
-        drop(replace(&mut self.templates, templates));
-        drop(replace(&mut self.links, links));
-        drop(replace(&mut self.template_to_links_map, listed));
-        Ok(())
     }
 }
 

@@ -12,6 +12,7 @@ mod default_hasher;
 pub mod err;
 mod found;
 mod fresh;
+mod grow;
 pub mod iters;
 mod join;
 mod kept;

@@ -10,11 +10,13 @@ ghost use Rattle.cedar_policy_set.specs.Boards.{AreOnce, bound_at};
 ghost use Rattle.cedar_policy_set.specs.Fresh.{is_bound_in_either};
 ghost use Rattle.cedar_policy_set.specs.Merge.{has_body, body_ids, policy_ids, is_same_at, conflicting, gathered, conflicts, Differ, renamed_body, renamed_policy, joined_bodies, joined_policies, merged, new_id, IsRenaming, Merges, AreBelow, bound_ids};
 ghost use Rattle.cedar_policy_set.specs.laws.GatherLaws.{in_groups, looked_at};
+ghost use Rattle.cedar_policy_set.specs.laws.TakenIn.{standing_bodies};
 ghost use Rattle.cedar_policy_set.specs.laws.MergeSteps.{Refuses, with_template_renamed};
 ghost use Rattle.cedar_policy_set.specs.Views.{bodies_of};
 
 use crate::err::PolicySetError;
 use crate::fresh::fresh_ids;
+use crate::grow::{Parted, part};
 use crate::lists::is_link;
 use crate::policy_set::PolicySet;
 use cedar_ids::policy_id::PolicyID;
@@ -35,9 +37,11 @@ impl<S: BuildHasher + Copy> PolicySet<S> {
     /// original moves those that both bind to the back, and takes a template without slots for an equal static policy. What
     /// both bind alike takes the other's value, which differs in locations alone.
     ///
-    /// Takes memory for the three maps, what is renamed and the answer. A refused call, for memory too, leaves both orders
-    /// as they were: the result is built apart and put in at the end. It costs look-ups for each id of the two sets, and
-    /// a look at each of the ids `policyN` that are bound.
+    /// Takes memory for a copy of what the other set binds, for room in the maps and in the lists of links that grow, for what is
+    /// renamed and for the answer. A refused call, for memory too, leaves both orders as they were: all that can be refused
+    /// is done first. It costs what the other set costs: look-ups for each of its ids, in both sets, the copies, and a look at
+    /// each of the ids `policyN` that are bound. What this set binds is neither walked nor copied; a map that is full moves to
+    /// one of twice its places.
     #[tactic(auto, using(crate::specs::laws::RenamingLaws::once_free, crate::specs::laws::RenamingLaws::none_bound_of, crate::specs::laws::RenamingLaws::numbers_below))]
     pub fn merge_policyset(
         &mut self,
@@ -83,9 +87,9 @@ impl<S: BuildHasher + Copy> PolicySet<S> {
         // No effect at run time: these borrows say how the maps agree.
         let _ = &self.templates;
         let _ = &other.templates;
-        let bodies = merged_bodies(alloc, self, other, renaming)?;
-        match merged_policies(alloc, self, other, renaming) {
-            Ok(policies) => self.replace(alloc, bodies, policies),
+        let bodies = parted_bodies(alloc, self, other, renaming)?;
+        match parted_policies(alloc, self, other, renaming) {
+            Ok(policies) => self.take_in(alloc, bodies, policies),
             Err(error) => {
                 drop(bodies);
                 Err(error)
@@ -261,129 +265,57 @@ fn new_or<'a>(new: Option<&'a PolicyID>, id: &'a PolicyID) -> &'a PolicyID
     }
 }
 
-// The bodies of both sets.
-fn merged_bodies<S: BuildHasher + Copy>(
+// The bodies of the other set, under their new ids.
+fn parted_bodies<S: BuildHasher + Copy>(
     alloc: Global,
     here: &PolicySet<S>,
     other: &PolicySet<S>,
     renaming: &IndexMap<PolicyID, PolicyID, S>,
-) -> Result<Vec<Rc<Template>>, AllocError>
-    ensures { IfOk result (λ v. bodies_of v.items ≡ (merged here.now other.now (new_id renaming.now.entries)).bodies) }
+) -> Result<Parted<Rc<Template>>, AllocError>
+    ensures stand { IfOk result (λ p. bodies_of p.stand.items ≡ standing_bodies here.now (new_id renaming.now.entries) other.now.bodies) }
+    ensures join { IfOk result (λ p. bodies_of p.join.items ≡ joined_bodies here.now (new_id renaming.now.entries) other.now.bodies) }
 {
-    let mut bodies = Vec::with_capacity(alloc, here.shared_bodies().len())?;
-    match fill_bodies(alloc, &mut bodies, here, other, renaming) {
-        Ok(()) => Ok(bodies),
+    let mut parted = Parted::new(alloc);
+    match part_bodies(alloc, &mut parted, here, other.shared_bodies(), renaming) {
+        Ok(()) => Ok(parted),
         Err(error) => {
-            drop(bodies);
+            drop(parted);
             Err(error)
         }
     }
 }
 
-// Puts the bodies of both sets last.
-fn fill_bodies<S: BuildHasher + Copy>(
+// Puts bodies of the other set, under their new ids, last among those that stand here or those that join.
+fn part_bodies<S: BuildHasher + Copy>(
     alloc: Global,
-    bodies: &mut Vec<Rc<Template>>,
-    here: &PolicySet<S>,
-    other: &PolicySet<S>,
-    renaming: &IndexMap<PolicyID, PolicyID, S>,
-) -> Result<(), AllocError>
-    ensures { OnOk result (bodies_of bodies.new.items ≡ (bodies_of bodies.old.items ++ here.now.bodies) ++ joined_bodies here.now (new_id renaming.now.entries) other.now.bodies) }
-{
-    keep_bodies(bodies, here.shared_bodies(), other, renaming)?;
-    join_bodies(alloc, bodies, here, other.shared_bodies(), renaming)
-}
-
-// Puts the bodies of this set last.
-fn keep_bodies<S: BuildHasher + Copy>(
-    bodies: &mut Vec<Rc<Template>>,
-    ours: &[Rc<Template>],
-    other: &PolicySet<S>,
-    renaming: &IndexMap<PolicyID, PolicyID, S>,
-) -> Result<(), AllocError>
-    ensures { OnOk result (bodies_of bodies.new.items ≡ bodies_of bodies.old.items ++ bodies_of ours.now) }
-{
-    for template in ours {
-        keep_body(bodies, template, other, renaming)?;
-    }
-    Ok(())
-}
-
-// Puts a body of this set last.
-fn keep_body<S: BuildHasher + Copy>(
-    bodies: &mut Vec<Rc<Template>>,
-    template: &Rc<Template>,
-    other: &PolicySet<S>,
-    renaming: &IndexMap<PolicyID, PolicyID, S>,
-) -> Result<(), AllocError>
-    ensures { OnOk result (bodies_of bodies.new.items ≡ bodies_of bodies.old.items ++ template.now.value ∷ []) }
-{
-    bodies.push(kept_body(template, other, renaming)?)?;
-    Ok(())
-}
-
-// A body of this set: the other's, if it is the same there.
-fn kept_body<S: BuildHasher + Copy>(
-    template: &Rc<Template>,
-    other: &PolicySet<S>,
-    renaming: &IndexMap<PolicyID, PolicyID, S>,
-) -> Result<Rc<Template>, AllocError>
-    ensures { IfOk result (λ t. t.value ≡ template.now.value) }
-{
-    if renaming.contains_key(template.id()) {
-        return template.clone();
-    }
-    match other.get_template_arc(template.id()) {
-        None => template.clone(),
-        Some(theirs) => {
-            if is_body(theirs, template) {
-                theirs.clone()
-            } else {
-                template.clone()
-            }
-        }
-    }
-}
-
-// Whether a template is another.
-#[tactic(auto, using(crate::specs::laws::MergeSteps::same_body_is))]
-fn is_body(template: &Template, other: &Template) -> bool
-    ensures { IsTrue result → (template.now ≡ other.now) }
-{
-    template == other
-}
-
-// Puts the bodies of the other set last, but those that are bound here.
-fn join_bodies<S: BuildHasher + Copy>(
-    alloc: Global,
-    bodies: &mut Vec<Rc<Template>>,
+    parted: &mut Parted<Rc<Template>>,
     here: &PolicySet<S>,
     theirs: &[Rc<Template>],
     renaming: &IndexMap<PolicyID, PolicyID, S>,
 ) -> Result<(), AllocError>
-    ensures { OnOk result (bodies_of bodies.new.items ≡ bodies_of bodies.old.items ++ joined_bodies here.now (new_id renaming.now.entries) (bodies_of theirs.now)) }
+    ensures stand { OnOk result (bodies_of parted.new.stand.items ≡ bodies_of parted.old.stand.items ++ standing_bodies here.now (new_id renaming.now.entries) (bodies_of theirs.now)) }
+    ensures join { OnOk result (bodies_of parted.new.join.items ≡ bodies_of parted.old.join.items ++ joined_bodies here.now (new_id renaming.now.entries) (bodies_of theirs.now)) }
 {
     for template in theirs {
-        join_body(alloc, bodies, here, template, renaming)?;
+        part_body(alloc, parted, here, template, renaming)?;
     }
     Ok(())
 }
 
-// Puts a body of the other set last, if it is not bound here.
-fn join_body<S: BuildHasher + Copy>(
+// Puts a body of the other set, under its new id, last among those that stand here or those that join.
+fn part_body<S: BuildHasher + Copy>(
     alloc: Global,
-    bodies: &mut Vec<Rc<Template>>,
+    parted: &mut Parted<Rc<Template>>,
     here: &PolicySet<S>,
     template: &Rc<Template>,
     renaming: &IndexMap<PolicyID, PolicyID, S>,
 ) -> Result<(), AllocError>
-    ensures { OnOk result (bodies_of bodies.new.items ≡ bodies_of bodies.old.items ++ joined_bodies here.now (new_id renaming.now.entries) (template.now.value ∷ [])) }
+    ensures stand { OnOk result (bodies_of parted.new.stand.items ≡ bodies_of parted.old.stand.items ++ standing_bodies here.now (new_id renaming.now.entries) (template.now.value ∷ [])) }
+    ensures join { OnOk result (bodies_of parted.new.join.items ≡ bodies_of parted.old.join.items ++ joined_bodies here.now (new_id renaming.now.entries) (template.now.value ∷ [])) }
 {
     let new = renaming.get(template.id());
-    if !here.is_bound(new_or(new, template.id())) {
-        bodies.push(renamed_body(alloc, template, new)?)?;
-    }
-    Ok(())
+    let stands = here.is_bound(new_or(new, template.id()));
+    part(parted, stands, renamed_body(alloc, template, new)?)
 }
 
 // A body under its new id, if it gets one.
@@ -400,129 +332,58 @@ fn renamed_body(
     }
 }
 
-// The policies of both sets.
-fn merged_policies<S: BuildHasher + Copy>(
+// The policies of the other set, under their new ids.
+fn parted_policies<S: BuildHasher + Copy>(
     alloc: Global,
     here: &PolicySet<S>,
     other: &PolicySet<S>,
     renaming: &IndexMap<PolicyID, PolicyID, S>,
-) -> Result<Vec<Policy>, AllocError>
-    ensures { IfOk result (λ v. v.items ≡ (merged here.now other.now (new_id renaming.now.entries)).policies) }
+) -> Result<Parted<Policy>, AllocError>
+    ensures { IfOk result (λ p. p.join.items ≡ joined_policies here.now (new_id renaming.now.entries) other.now.policies) }
 {
-    let mut policies = Vec::with_capacity(alloc, here.all_policies().len())?;
-    match fill_policies(alloc, &mut policies, here, other, renaming) {
-        Ok(()) => Ok(policies),
+    let mut parted = Parted::new(alloc);
+    match part_policies(alloc, &mut parted, here, other.all_policies(), renaming) {
+        Ok(()) => Ok(parted),
         Err(error) => {
-            drop(policies);
+            drop(parted);
             Err(error)
         }
     }
 }
 
-// Puts the policies of both sets last.
-fn fill_policies<S: BuildHasher + Copy>(
+// Puts policies of the other set, under their new ids, last among those that stand here or those that join.
+fn part_policies<S: BuildHasher + Copy>(
     alloc: Global,
-    policies: &mut Vec<Policy>,
-    here: &PolicySet<S>,
-    other: &PolicySet<S>,
-    renaming: &IndexMap<PolicyID, PolicyID, S>,
-) -> Result<(), AllocError>
-    ensures { OnOk result (policies.new.items ≡ (policies.old.items ++ here.now.policies) ++ joined_policies here.now (new_id renaming.now.entries) other.now.policies) }
-{
-    keep_policies(policies, here.all_policies(), other, renaming)?;
-    join_policies(alloc, policies, here, other.all_policies(), renaming)
-}
-
-// Puts the policies of this set last.
-fn keep_policies<S: BuildHasher + Copy>(
-    policies: &mut Vec<Policy>,
-    ours: &[Policy],
-    other: &PolicySet<S>,
-    renaming: &IndexMap<PolicyID, PolicyID, S>,
-) -> Result<(), AllocError>
-    ensures { OnOk result (policies.new.items ≡ policies.old.items ++ ours.now) }
-{
-    for policy in ours {
-        keep_policy(policies, policy, other, renaming)?;
-    }
-    Ok(())
-}
-
-// Puts a policy of this set last.
-fn keep_policy<S: BuildHasher + Copy>(
-    policies: &mut Vec<Policy>,
-    policy: &Policy,
-    other: &PolicySet<S>,
-    renaming: &IndexMap<PolicyID, PolicyID, S>,
-) -> Result<(), AllocError>
-    ensures { OnOk result (policies.new.items ≡ policies.old.items ++ policy.now ∷ []) }
-{
-    policies.push(kept_policy(policy, other, renaming)?)?;
-    Ok(())
-}
-
-// A policy of this set: the other's, if it is the same there.
-fn kept_policy<S: BuildHasher + Copy>(
-    policy: &Policy,
-    other: &PolicySet<S>,
-    renaming: &IndexMap<PolicyID, PolicyID, S>,
-) -> Result<Policy, AllocError>
-    ensures { IfOk result (λ p. p ≡ policy.now) }
-{
-    if renaming.contains_key(policy.id()) {
-        return policy.clone();
-    }
-    match other.get(policy.id()) {
-        None => policy.clone(),
-        Some(theirs) => {
-            if is_policy(theirs, policy) {
-                theirs.clone()
-            } else {
-                policy.clone()
-            }
-        }
-    }
-}
-
-// Whether a policy is another.
-#[tactic(auto, using(crate::specs::laws::MergeSteps::same_policy_is))]
-fn is_policy(policy: &Policy, other: &Policy) -> bool
-    ensures { IsTrue result → (policy.now ≡ other.now) }
-{
-    policy == other
-}
-
-// Puts the policies of the other set last, but those that are bound here.
-fn join_policies<S: BuildHasher + Copy>(
-    alloc: Global,
-    policies: &mut Vec<Policy>,
+    parted: &mut Parted<Policy>,
     here: &PolicySet<S>,
     theirs: &[Policy],
     renaming: &IndexMap<PolicyID, PolicyID, S>,
 ) -> Result<(), AllocError>
-    ensures { OnOk result (policies.new.items ≡ policies.old.items ++ joined_policies here.now (new_id renaming.now.entries) theirs.now) }
+    ensures { OnOk result (parted.new.join.items ≡ parted.old.join.items ++ joined_policies here.now (new_id renaming.now.entries) theirs.now) }
 {
     for policy in theirs {
-        join_policy(alloc, policies, here, policy, renaming)?;
+        part_policy(alloc, parted, here, policy, renaming)?;
     }
     Ok(())
 }
 
-// Puts a policy of the other set last, if it is not bound here.
-fn join_policy<S: BuildHasher + Copy>(
+// Puts a policy of the other set, under its new id, last among those that stand here or those that join.
+fn part_policy<S: BuildHasher + Copy>(
     alloc: Global,
-    policies: &mut Vec<Policy>,
+    parted: &mut Parted<Policy>,
     here: &PolicySet<S>,
     policy: &Policy,
     renaming: &IndexMap<PolicyID, PolicyID, S>,
 ) -> Result<(), AllocError>
-    ensures { OnOk result (policies.new.items ≡ policies.old.items ++ joined_policies here.now (new_id renaming.now.entries) (policy.now ∷ [])) }
+    ensures { OnOk result (parted.new.join.items ≡ parted.old.join.items ++ joined_policies here.now (new_id renaming.now.entries) (policy.now ∷ [])) }
 {
     let new = renaming.get(policy.id());
-    if !here.is_bound(new_or(new, policy.id())) {
-        policies.push(renamed_policy(alloc, policy, new, renaming)?)?;
-    }
-    Ok(())
+    let stands = here.is_bound(new_or(new, policy.id()));
+    part(
+        parted,
+        stands,
+        renamed_policy(alloc, policy, new, renaming)?,
+    )
 }
 
 // A policy under its new id, if it gets one, a link with its template under its own.

@@ -106,7 +106,7 @@ module _ {T P : Type 0} (tid : T → List ℕ) (pid on : P → List ℕ) where
   absent_on : (i j : List ℕ) (ps : List P) → list_any (is_at pid i) ps ≡ false → list_any (same_text i) (ids_on j ps) ≡ false
   absent_on i j ps h = any-map pid (same_text i) (filter (λ p. same_text j (on p)) ps) ∙ any-filter_none (λ p. same_text j (on p)) (is_at pid i) ps h
 
-  pushed_on : (i j : List ℕ) (ps : List P) → list_any (is_at pid i) ps ≡ false → insert_key same_text (ids_on j ps) i ≡ ids_on j ps ++ i ∷ []
+  pub pushed_on : (i j : List ℕ) (ps : List P) → list_any (is_at pid i) ps ≡ false → insert_key same_text (ids_on j ps) i ≡ ids_on j ps ++ i ∷ []
   pushed_on i j ps h = ap (λ v. cond v (ids_on j ps) (ids_on j ps ++ i ∷ [])) (absent_on i j ps h)
 
   join_at : (v : Bool) (t : T) (ts : List T) (ps : List P) (p : P) → same_text (on p) (tid t) ≡ v → list_any (is_at pid (pid p)) ps ≡ false

@@ -26,7 +26,7 @@ pub record Renames (here other : Board) (c : List ℕ → List ℕ) : Type 0 whe
 -- ---- lists
 
 -- each of some things is one
-abbrev AreAll : {X : Type 0} → (X → Type 0) → List X → Type 0
+abbrev pub AreAll : {X : Type 0} → (X → Type 0) → List X → Type 0
 AreAll P [] = Unit {0}
 AreAll P (x ∷ xs) = P x × AreAll P xs
 
@@ -84,14 +84,14 @@ same_renamed h o c r i j a b = alike (same_text (c i) (c j)) (same_text i j) ref
 -- ---- renamed lists, over the things of a board whose ids are bound there
 
 -- what stands under the new ids of some things with other ids, where it stands under none of theirs
-any_renamed : {A : Type 0} (h o : Board) (c : List ℕ → List ℕ) (id : A → List ℕ) (f : A → A) → Renames h o c → ((x : A) → id (f x) ≡ c (id x)) →
+pub any_renamed : {A : Type 0} (h o : Board) (c : List ℕ → List ℕ) (id : A → List ℕ) (f : A → A) → Renames h o c → ((x : A) → id (f x) ≡ c (id x)) →
     (i : List ℕ) → is_bound o i ≡ true → (xs : List A) → AreAll (λ x. is_bound o (id x) ≡ true) xs → list_any (is_at id (c i)) (map f xs) ≡ list_any (is_at id i) xs
 any_renamed h o c id f r e i b [] a = refl
 any_renamed h o c id f r e i b (x ∷ xs) a =
     (λ j. same_text (c i) (e x j) || any_renamed h o c id f r e i b xs a.1 j) ∙ ap (λ v. v || list_any (is_at id i) xs) (same_renamed h o c r i (id x) b a.0)
 
 -- things with ids of their own have new ids of their own
-once_renamed : {A : Type 0} (h o : Board) (c : List ℕ → List ℕ) (id : A → List ℕ) (f : A → A) → Renames h o c → ((x : A) → id (f x) ≡ c (id x)) →
+pub once_renamed : {A : Type 0} (h o : Board) (c : List ℕ → List ℕ) (id : A → List ℕ) (f : A → A) → Renames h o c → ((x : A) → id (f x) ≡ c (id x)) →
     (xs : List A) → AreAll (λ x. is_bound o (id x) ≡ true) xs → AreOnce id xs → AreOnce id (map f xs)
 once_renamed h o c id f r e [] a u = tt
 once_renamed h o c id f r e (x ∷ xs) a u = (
@@ -161,7 +161,7 @@ find_renamed h o c id f p r e i b y k (x ∷ xs) a q =
 
 -- ---- the merged board
 
-body_new : (c : List ℕ → List ℕ) (t : BodyParts) → (renamed_body c t).id ≡ c t.id
+pub body_new : (c : List ℕ → List ℕ) (t : BodyParts) → (renamed_body c t).id ≡ c t.id
 body_new c t = refl
 
 policy_new_by : (o : Option (List ℕ)) (c : List ℕ → List ℕ) (i : List ℕ) → unwrap_or (option_map c o) (c i) ≡ c (unwrap_or o i)

@@ -109,13 +109,7 @@ pub bodies_more : (ts : List (Rc BodyParts Global)) (k : ℕ) (t : Rc BodyParts 
 bodies_more ts k t l e =
     ap bodies_of (take_more ts k t l ∙ ap (λ x. take k ts ++ x ∷ []) (sym e)) ∙ map-append (λ (t : Rc BodyParts Global). t.value) (take k ts) (t ∷ [])
 
--- one body more is kept
-pub kept_body_step : (ts : List (Rc BodyParts Global)) (k : ℕ) (t : Rc BodyParts Global) (old now new : List BodyParts) → k < length ts → t ≡ get_or ts k t →
-    now ≡ old ++ bodies_of (take k ts) → new ≡ now ++ t.value ∷ [] → new ≡ old ++ bodies_of (take (k + 1) ts)
-kept_body_step ts k t old now new l e n m =
-    m ∙ ap (λ x. x ++ t.value ∷ []) n ∙ append_assoc old (bodies_of (take k ts)) (t.value ∷ []) ∙ ap (λ x. old ++ x) (sym (bodies_more ts k t l e))
-
--- and one joins, if it does
+-- one more body joins, if it does
 pub joined_body_step : (h : Board) (c : List ℕ → List ℕ) (ts : List (Rc BodyParts Global)) (k : ℕ) (t : Rc BodyParts Global) (old now new : List BodyParts) → k < length ts → t ≡ get_or ts k t →
     now ≡ old ++ joined_bodies h c (bodies_of (take k ts)) → new ≡ now ++ joined_bodies h c (t.value ∷ []) → new ≡ old ++ joined_bodies h c (bodies_of (take (k + 1) ts))
 joined_body_step h c ts k t old now new l e n m =
@@ -124,11 +118,6 @@ joined_body_step h c ts k t old now new l e n m =
 
 pub policies_more : (ps : List PolicyParts) (k : ℕ) (p : PolicyParts) → k < length ps → p ≡ get_or ps k p → take (k + 1) ps ≡ take k ps ++ p ∷ []
 policies_more ps k p l e = take_more ps k p l ∙ ap (λ x. take k ps ++ x ∷ []) (sym e)
-
-pub kept_policy_step : (ps : List PolicyParts) (k : ℕ) (p : PolicyParts) (old now new : List PolicyParts) → k < length ps → p ≡ get_or ps k p →
-    now ≡ old ++ take k ps → new ≡ now ++ p ∷ [] → new ≡ old ++ take (k + 1) ps
-kept_policy_step ps k p old now new l e n m =
-    m ∙ ap (λ x. x ++ p ∷ []) n ∙ append_assoc old (take k ps) (p ∷ []) ∙ ap (λ x. old ++ x) (sym (policies_more ps k p l e))
 
 pub joined_policy_step : (h : Board) (c : List ℕ → List ℕ) (ps : List PolicyParts) (k : ℕ) (p : PolicyParts) (old now new : List PolicyParts) → k < length ps → p ≡ get_or ps k p →
     now ≡ old ++ joined_policies h c (take k ps) → new ≡ now ++ joined_policies h c (p ∷ []) → new ≡ old ++ joined_policies h c (take (k + 1) ps)

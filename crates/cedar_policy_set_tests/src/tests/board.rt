@@ -296,7 +296,8 @@ fn listed(board: &Board, id: u8) -> u64 {
     letters
 }
 
-fn links(board: &Board, id: u8) -> Said {
+// The ids of the policies on a body, if there is one.
+pub(super) fn links(board: &Board, id: u8) -> Said {
     match body_at(board, id) {
         None => Said::Refused(Why::NoBody, id),
         Some(_) => Said::Listed(listed(board, id)),

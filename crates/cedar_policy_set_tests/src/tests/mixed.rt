@@ -1,8 +1,8 @@
 // Lists of up to twelve calls with merges among them, each on a set and on the board that it stands for.
-use super::board::{Board, Renaming, after, empty, merge};
+use super::board::{Board, Renaming, after, empty, links, merge};
 use super::lists::drawn_call;
 use super::notation::{Said, Why};
-use super::script::{board_of, done, letter_of, said_by_set};
+use super::script::{board_of, done, letter_of, listed_on, said_by_set};
 use super::{fixed, keys};
 use cedar_ids::policy_id::PolicyID;
 use cedar_policy_set::{PolicySet, PolicySetError};
@@ -76,6 +76,20 @@ fn merge_set<S: BuildHasher + Copy>(
     answers(answer, merge(board, &theirs, rename)) && board_of(set) == *board
 }
 
+// Whether under each body stand the ids that stand on it in the plain model.
+fn are_listed<S: BuildHasher + Copy>(
+    alloc: Global,
+    set: &PolicySet<S>,
+    board: &Board,
+) -> Result<bool, Fail> {
+    for body in board.bodies.iter().flatten() {
+        if listed_on(alloc, set, body.id)? != links(board, body.id) {
+            return Ok(false);
+        }
+    }
+    Ok(true)
+}
+
 // Makes three drawn calls.
 fn three<S: BuildHasher + Copy>(
     alloc: Global,
@@ -99,7 +113,7 @@ fn drawn_set<S: BuildHasher + Copy>(
     kept(set, done)
 }
 
-// Merges such a set.
+// Merges such a set; whether all is the same, and so are the ids under each body.
 fn merge_drawn<S: BuildHasher + Copy>(
     alloc: Global,
     hasher: S,
@@ -111,7 +125,7 @@ fn merge_drawn<S: BuildHasher + Copy>(
     let rename = below(seed, 4) != 0;
     let held = merge_set(alloc, set, board, &other, rename);
     drop(other);
-    Ok(held)
+    Ok(held && are_listed(alloc, set, board)?)
 }
 
 // A call, or each fourth time a merge.

@@ -564,8 +564,13 @@ fn said_by_listing(answer: Result<LinkedIds<'_>, PolicySetGetLinksError>) -> Sai
     }
 }
 
-fn links<S: BuildHasher + Copy>(alloc: Global, set: &PolicySet<S>, row: Row) -> Result<Said, Fail> {
-    let id = id_of(alloc, row.id)?;
+// The ids on the body with a letter.
+pub(super) fn listed_on<S: BuildHasher + Copy>(
+    alloc: Global,
+    set: &PolicySet<S>,
+    letter: u8,
+) -> Result<Said, Fail> {
+    let id = id_of(alloc, letter)?;
     let said = said_by_listing(set.get_linked_policies(&id));
     drop(id);
     Ok(said)
@@ -586,7 +591,7 @@ pub(super) fn done<S: BuildHasher + Copy>(
         Verb::Unlink => unlink(alloc, set, row),
         Verb::RemoveStatic => remove_static(alloc, set, row),
         Verb::RemoveTemplate => remove_template(alloc, set, row),
-        Verb::Links => links(alloc, set, row),
+        Verb::Links => listed_on(alloc, set, row.id),
     }
 }
 

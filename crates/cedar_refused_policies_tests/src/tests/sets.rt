@@ -415,6 +415,8 @@ const MERGING: &str = "
     PolicySet::merge_policyset | static a; template t // static t; template u principal; link u v principal=x // rename | merged t policy0
     PolicySet::merge_policyset | static a // static b; template t principal; link t l principal=x // keep | merged
     PolicySet::merge_policyset | static a // static b; static a // keep | merged
+    PolicySet::merge_policyset | static a; template t principal; link t l principal=x; template s // static b; static a; template t principal; link t m principal=y; link t l principal=x; link t n principal=x; template u principal; link u v principal=x; link u w principal=y // keep | merged
+    PolicySet::merge_policyset | template s principal; template t principal; link t l principal=x; link s k principal=x // template t principal; template s principal; link s k principal=x; link t m principal=y; link s l principal=x; link s o principal=y; link t p principal=x; static q // rename | merged l policy0
     PolicySet::merge_policyset | static b; static a // static b; static a forbid // keep | ! duplicate template or policy id `a`
 ";
 
