@@ -3,6 +3,7 @@ mod children;
 mod closing;
 mod entities;
 mod ids;
+mod listed;
 mod looking;
 mod nodes;
 mod parts;

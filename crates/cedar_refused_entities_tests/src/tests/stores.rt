@@ -124,7 +124,7 @@ fn removed(
 }
 
 // One call on a store, made while the request of this number is refused.
-fn step(alloc: Global, number: usize, store: Entities, call: &str) -> Option<Outcome> {
+pub(super) fn step(alloc: Global, number: usize, store: Entities, call: &str) -> Option<Outcome> {
     let (word, mode, rest) = parts_of(call);
     match word {
         "from" | "with" => {
@@ -151,7 +151,7 @@ fn step(alloc: Global, number: usize, store: Entities, call: &str) -> Option<Out
 const NEVER: usize = 1 << 32;
 
 // The store that a call leaves, with ample memory.
-fn next(alloc: Global, store: Option<Entities>, call: &str) -> Option<Entities> {
+pub(super) fn next(alloc: Global, store: Option<Entities>, call: &str) -> Option<Entities> {
     let outcome = match store {
         Some(store) => step(alloc, NEVER, store, call),
         None => None,
