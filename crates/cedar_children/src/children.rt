@@ -132,7 +132,7 @@ impl<S: BuildHasher + Clone> Children<S> {
     }
 
     /// Some uids and all that lies below them: what has one of them as a parent, what has one of these, and so on. `None` where
-    /// more than `most` would have to be looked at.
+    /// there are `most` of them or more.
     ///
     /// It takes memory in what it finds, and is refused only where that is. It looks up each that it finds once, and each once
     /// more for each of its parents among these.
