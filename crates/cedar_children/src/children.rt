@@ -2,7 +2,6 @@
 ghost use Rattle.std.specs.Prelude.{◌≡◌, ◌↔◌, ◌&&◌, ◌||◌, true, false, not, IfOk, OnOk, IsTrue};
 ghost use Rattle.std.specs.FinSet as set;
 ghost use Rattle.std.specs.HashSet.{contains};
-ghost use Rattle.std.specs.Option.{IfSome};
 ghost use Rattle.cedar_ids.specs.UidOf.{same_uid};
 ghost use Rattle.cedar_ids.specs.declared.entity.EntityUID.{EntityUID};
 ghost use Rattle.cedar_children.specs.Children.{IsBelow, is_child, is_parent};
@@ -131,8 +130,7 @@ impl<S: BuildHasher + Clone> Children<S> {
         Ok(children)
     }
 
-    /// Some uids and all that lies below them: what has one of them as a parent, what has one of these, and so on. `None` where
-    /// there are `most` of them or more.
+    /// Some uids and all that lies below them: what has one of them as a parent, what has one of these, and so on.
     ///
     /// It takes memory in what it finds, and is refused only where that is. It looks up each that it finds once, and each once
     /// more for each of its parents among these.
@@ -140,11 +138,10 @@ impl<S: BuildHasher + Clone> Children<S> {
         &self,
         alloc: Global,
         uids: &HashSet<SharedUid, S>,
-        most: usize,
-    ) -> Result<Option<HashSet<SharedUid, S>>, AllocError>
-        ensures { IfOk result (λ o. IfSome o (λ s. (q : EntityUID) →
-            (contains same_uid s q ≡ true) ↔ IsBelow (is_parent self.now) uids.now.keys q)) }
+    ) -> Result<HashSet<SharedUid, S>, AllocError>
+        ensures { IfOk result (λ s. (q : EntityUID) →
+            (contains same_uid s q ≡ true) ↔ IsBelow (is_parent self.now) uids.now.keys q) }
     {
-        walk(alloc, &self.sets, uids, most)
+        walk(alloc, &self.sets, uids)
     }
 }

@@ -1,8 +1,7 @@
 //! The walk from some uids to all that lies below them.
-ghost use Rattle.std.specs.Prelude.{◌≡◌, ◌↔◌, ◌&&◌, ◌||◌, true, not, IfOk, OnOk};
+ghost use Rattle.std.specs.Prelude.{◌≡◌, ◌+◌, ◌↔◌, ◌&&◌, ◌||◌, true, not, length, IfOk, OnOk};
 ghost use Rattle.std.specs.HashMap.{get};
-ghost use Rattle.std.specs.HashSet.{contains};
-ghost use Rattle.std.specs.Option.{IfSome};
+ghost use Rattle.std.specs.HashSet.{contains, hash_set_len};
 ghost use Rattle.std.specs.Set.{is_member};
 ghost use Rattle.cedar_ids.specs.UidOf.{same_uid};
 ghost use Rattle.cedar_ids.specs.declared.entity.EntityUID.{EntityUID};
@@ -23,6 +22,7 @@ fn see<S: BuildHasher>(
         ≡ (contains same_uid seen.old q || same_uid uid.now q)) }
     ensures todo { OnOk result ((q : EntityUID) → is_member same_uid todo.new.items q
         ≡ (is_member same_uid todo.old.items q || (not (contains same_uid seen.old q) && same_uid uid.now q))) }
+    ensures count { OnOk result (hash_set_len seen.new + length todo.old.items ≡ hash_set_len seen.old + length todo.new.items) }
 {
     if seen.contains(uid) {
         return Ok(());
@@ -42,6 +42,7 @@ fn see_all<S: BuildHasher>(
         ≡ (contains same_uid seen.old q || is_member same_uid uids.now q)) }
     ensures todo { OnOk result ((q : EntityUID) → is_member same_uid todo.new.items q
         ≡ (is_member same_uid todo.old.items q || (not (contains same_uid seen.old q) && is_member same_uid uids.now q))) }
+    ensures count { OnOk result (hash_set_len seen.new + length todo.old.items ≡ hash_set_len seen.old + length todo.new.items) }
 {
     for uid in uids {
         see(seen, todo, uid)?;
@@ -60,6 +61,7 @@ fn see_children<S: BuildHasher>(
         ≡ (contains same_uid seen.old q || is_in (get same_uid sets.now uid.now) q)) }
     ensures todo { OnOk result ((q : EntityUID) → is_member same_uid todo.new.items q
         ≡ (is_member same_uid todo.old.items q || (not (contains same_uid seen.old q) && is_in (get same_uid sets.now uid.now) q))) }
+    ensures count { OnOk result (hash_set_len seen.new + length todo.old.items ≡ hash_set_len seen.old + length todo.new.items) }
 {
     match sets.get(uid) {
         Some(set) => see_all(seen, todo, set.pointers()),
@@ -86,21 +88,22 @@ pub(crate) fn walk<S: BuildHasher + Clone>(
     alloc: Global,
     sets: &HashMap<SharedUid, UidSet, S>,
     uids: &HashSet<SharedUid, S>,
-    most: usize,
-) -> Result<Option<HashSet<SharedUid, S>>, AllocError>
-    ensures { IfOk result (λ o. IfSome o (λ s. (q : EntityUID) → (contains same_uid s q ≡ true)
-        ↔ IsBelow (λ a b. is_in (get same_uid sets.now b) a) uids.now.keys q)) }
+) -> Result<HashSet<SharedUid, S>, AllocError>
+    ensures { IfOk result (λ s. (q : EntityUID) → (contains same_uid s q ≡ true)
+        ↔ IsBelow (λ a b. is_in (get same_uid sets.now b) a) uids.now.keys q) }
 {
     let from = listed(alloc, uids)?;
     let mut seen = HashSet::with_hasher(alloc, uids.hasher().clone()?);
     let mut todo = Vec::new(alloc);
     see_all(&mut seen, &mut todo, &from)?;
     drop(from);
-    for _ in 0..most {
+    for _round in 0..usize::MAX {
         match todo.pop() {
-            None => return Ok(Some(seen)),
+            None => return Ok(seen),
             Some(uid) => see_children(&mut seen, &mut todo, sets, &uid)?,
         }
     }
-    Ok(None)
+    // Each round looked at another uid of the set, and no set has so many: nothing is left.
+    let _fewer = seen.len();
+    Ok(seen)
 }

@@ -157,7 +157,7 @@ fn walk_down<S: BuildHasher + Clone>(
         return Ok(None);
     }
     match &index.children {
-        Some(children) => children.below(alloc, uids, usize::MAX),
+        Some(children) => Ok(Some(children.below(alloc, uids)?)),
         None => Ok(None),
     }
 }

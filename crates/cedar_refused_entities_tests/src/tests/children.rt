@@ -76,26 +76,15 @@ fn are_found(alloc: Global, found: &HashSet<SharedUid>, names: &str) -> bool {
     count == found.len()
 }
 
-fn are_below(alloc: Global, found: &Option<HashSet<SharedUid>>, names: &str) -> bool {
-    match found {
-        Some(found) => are_found(alloc, found, names),
-        None => names.trim() == "none",
-    }
-}
-
 // Whether these are the uids below the uid `t`.
 fn has_below(alloc: Global, index: &Index, names: &str) -> bool {
     match uids_of(alloc, "t") {
         Some(uids) => {
-            let found: Result<Option<HashSet<SharedUid>>, AllocError> = index.below(
-                alloc,
-                &uids,
-                usize::MAX,
-            );
+            let found: Result<HashSet<SharedUid>, AllocError> = index.below(alloc, &uids);
             drop(uids);
             match found {
                 Ok(found) => {
-                    let told = are_below(alloc, &found, names);
+                    let told = are_found(alloc, &found, names);
                     drop(found);
                     told
                 }
@@ -116,7 +105,7 @@ const CHILDREN: &str = "
     Children::below | a t, b a, c x; t | a b t
     Children::below | a t, b a, c x; t x | a b c t x
     Children::below | a t, b a, c a, d a, e d, f e, g b; a | a b c d e f g
-    Children::below | a t; none | none
+    Children::below | a t; b | b
 ";
 
 // The index with the last entity of a row, which stands behind a semicolon.
@@ -145,18 +134,13 @@ fn put_in(alloc: Global, number: usize, row: Row<'_>) -> Tried {
 // What is below the uids that stand behind a semicolon.
 fn looked(alloc: Global, number: usize, row: Row<'_>) -> Tried {
     let (texts, names) = row.given.split_once(';').unwrap_or((row.given, ""));
-    let most = if names.trim() == "none" {
-        0
-    } else {
-        usize::MAX
-    };
     on(
         alloc,
         number,
         both(index_of(alloc, texts), uids_of(alloc, names)),
         |(index, uids)| {
-            judged(alloc, index.below(alloc, uids, most), row.want, |found| {
-                are_below(alloc, found, row.want)
+            judged(alloc, index.below(alloc, uids), row.want, |found| {
+                are_found(alloc, found, row.want)
             })
         },
     )

@@ -1,5 +1,5 @@
-use Rattle.std.proofs.Common.{◌∙◌, ◌&&◌, ◌||◌, ◌<◌, ap, arith, sym, not, take, length}
-use Rattle.std.specs.HashSet.{contains}
+use Rattle.std.proofs.Common.{◌≡◌, ◌+◌, ◌∙◌, ◌&&◌, ◌||◌, ◌<◌, ap, arith, refl, sym, not, take, length}
+use Rattle.std.specs.HashSet.{contains, hash_set_len}
 use Rattle.std.specs.Set.{is_member}
 use Rattle.cedar_ids.specs.UidOf.{same_uid}
 use Rattle.cedar_ids.specs.declared.entity.EntityUID.{EntityUID}
@@ -10,6 +10,7 @@ pub loop-uid-init : goal.loop-uid-init
 loop-uid-init g c = record {
   seen = λ q. sym (or_off (contains same_uid c.args.seen.now q));
   todo = λ q. sym (ap (λ b. is_member same_uid c.args.todo.now.items q || b) (and_off (not (contains same_uid c.args.seen.now q))) ∙ or_off (is_member same_uid c.args.todo.now.items q));
+  count = refl;
 }
 
 pub loop-uid-preserved : goal.loop-uid-preserved
@@ -19,6 +20,8 @@ loop-uid-preserved g c =
     let before = λ (q : EntityUID). is_member same_uid (take c.loop-uid.uid-index c.args.uids.now) q in
     let first = contains same_uid c.args.seen.now in
     let todo = is_member same_uid c.args.todo.now.items in
+    let before-count : hash_set_len c.loop-uid.seen + length c.args.todo.now.items ≡ hash_set_len c.args.seen.now + length c.loop-uid.todo.items = c.loop-uid.invariant.count in
+    let step = c.in_ok-see.ensures.count in
     record {
       seen = λ q. c.in_ok-see.ensures.seen q
           ∙ ap (λ b. b || same_uid c.uid-item.result q) (c.loop-uid.invariant.seen q)
@@ -29,4 +32,5 @@ loop-uid-preserved g c =
           ∙ ap (λ b. (todo q || (not (first q) && before q)) || (not b && same_uid c.uid-item.result q)) (c.loop-uid.invariant.seen q)
           ∙ todo_step (todo q) (first q) (before q) (same_uid c.uid-item.result q)
           ∙ ap (λ b. todo q || (not (first q) && b)) (sym (more q));
+      count = omega arith;
     }

@@ -1,5 +1,5 @@
-use Rattle.std.proofs.Common.{◌≡◌, ◌&&◌, ◌||◌, not, take}
-use Rattle.std.specs.HashSet.{contains}
+use Rattle.std.proofs.Common.{◌≡◌, ◌+◌, ◌&&◌, ◌||◌, length, not, take}
+use Rattle.std.specs.HashSet.{contains, hash_set_len}
 use Rattle.std.specs.Set.{is_member}
 use Rattle.cedar_ids.specs.UidOf.{same_uid}
 use Rattle.cedar_ids.specs.declared.entity.EntityUID.{EntityUID}
@@ -9,4 +9,5 @@ abbrev pub invariant-loop-uid : goal.invariant-loop-uid
 invariant-loop-uid g l = record {
   seen : (q : EntityUID) → contains same_uid l.seen q ≡ (contains same_uid l.initial.seen q || is_member same_uid (take l.uid-index l.uids) q);
   todo : (q : EntityUID) → is_member same_uid l.todo.items q ≡ (is_member same_uid l.initial.todo.items q || (not (contains same_uid l.initial.seen q) && is_member same_uid (take l.uid-index l.uids) q));
+  count : hash_set_len l.seen + length l.initial.todo.items ≡ hash_set_len l.initial.seen + length l.todo.items;
 }

@@ -1,15 +1,14 @@
 use Rattle.std.proofs.Common.{subst}
-use Rattle.std.proofs.lemmas.Result.{IfOk-weaker}
 use Rattle.std.specs.FinMap as finmap
 use Rattle.std.specs.HashSet.{contains}
 use Rattle.std.specs.Option.{IfSome}
 use Rattle.cedar_ids.specs.UidOf.{same_uid}
 use Rattle.cedar_children.specs.Children.{is_child}
 use Rattle.cedar_entities.specs.laws.Indexes.{HasChildren, parentage}
-use Rattle.cedar_entities.proofs.Indexes.{below_touched, if_some}
+use Rattle.cedar_entities.proofs.Indexes.{below_touched}
 use Rattle.cedar_entities.proofs.index.walk_down.Goals as goal
 
 pub returns-in-Some : goal.returns-in-Some
 returns-in-Some g c D ix =
     let has = subst (λ o. IfSome o (HasChildren (parentage (finmap.get D)))) c.in-Some.is ix.children in
-    IfOk-weaker c.below.result _ _ (λ o h. if_some _ _ o (λ s t. below_touched D (ix.plain c.if-not-index.false) (is_child c.in-Some.children) has c.args.uids.now.keys (contains same_uid s) t) h) c.below.ensures
+    below_touched D (ix.plain c.if-not-index.false) (is_child c.in-Some.children) has c.args.uids.now.keys (contains same_uid c.in_ok-below-in-Some.field-0) c.in_ok-below-in-Some.ensures
