@@ -441,8 +441,9 @@ impl<S: BuildHasher + Clone> Entities<S> {
     /// Refused by [`EntitiesError::TransitiveClosureError`] as the mode says, and by `Memory`; a refusal gives
     /// no store back. An indirect ancestor that one of these entities was given with counts as one that it has.
     /// It takes memory. It finds what is touched, as [`Entities`] says, once for the whole list. For an entity that is
-    /// touched and none of the list it gathers what goes with each of the uids that this has as ancestors, in memory for a
-    /// pointer each, and takes that out at once. Then it closes what is touched, or checks the whole.
+    /// touched and none of the list it gathers what goes with the uids that this has as ancestors, in memory for a pointer
+    /// each, and takes that out at once; where the store is known to be plain it reads the ancestors of those uids alone that
+    /// go with no other. Then it closes what is touched, or checks the whole.
     ///
     /// Unlike the original it takes neither a schema nor extensions.
     pub fn upsert_entities(
@@ -484,7 +485,7 @@ impl<S: BuildHasher + Clone> Entities<S> {
         note_all(&mut applied, uids)?;
         list_if_it_pays(alloc, &entities, &mut index);
         let touched = touched_by(alloc, &entities, &index, &applied)?;
-        let losses = losses_by(alloc, &entities, &applied, &touched)?;
+        let losses = losses_by(alloc, &entities, &applied, &touched, index.plain)?;
         let joining = listed(alloc, &applied)?;
         leave(&mut index, &entities, &joining);
         let none = UidSet::new(alloc);
@@ -541,7 +542,7 @@ impl<S: BuildHasher + Clone> Entities<S> {
         note_all(&mut applied, copies)?;
         list_if_it_pays(alloc, &entities, &mut index);
         let touched = touched_by(alloc, &entities, &index, &applied)?;
-        let losses = losses_by(alloc, &entities, &applied, &touched)?;
+        let losses = losses_by(alloc, &entities, &applied, &touched, index.plain)?;
         forget(&mut index, &entities, gone.pointers());
         strip_each(&mut entities, losses, &gone)?;
         take_out(&mut entities, gone.into_pointers());

@@ -1,5 +1,5 @@
 //! What goes from each entity by the uids that an edit applies, how it is stripped of that, and which entities are touched.
-ghost use Rattle.std.specs.Prelude.{◌≡◌, Some, cond, ◌&&◌, ◌||◌, not, is_some, IfOk, IfErr, OnOk};
+ghost use Rattle.std.specs.Prelude.{◌≡◌, Some, true, cond, ◌&&◌, ◌||◌, not, is_some, IfOk, IfErr, IsTrue, OnOk};
 ghost use Rattle.std.specs.FinSet as set;
 ghost use Rattle.std.specs.HashSet.{contains};
 ghost use Rattle.std.specs.List.{AllByRecursion, filter, list_any};
@@ -13,9 +13,9 @@ ghost use Rattle.cedar_entities.specs.Modes.{is_ancestor_in};
 ghost use Rattle.cedar_entities.specs.Touching.{is_touched};
 ghost use Rattle.cedar_entities.specs.laws.Edits.{stripped};
 ghost use Rattle.cedar_entities.specs.laws.Held.{held, held_map};
-ghost use Rattle.cedar_entities.specs.laws.Losses.{IsLossOf, is_stripped, loses, loses_uid, takes};
+ghost use Rattle.cedar_entities.specs.laws.Losses.{AreTransitive, IsLossOf, counts, is_stripped, loses, loses_uid, takes};
 
-use crate::sought::Sought;
+use crate::sought::{Sought, listed};
 use cedar_entity::entity::Entity;
 use cedar_entity::err::EntitiesError;
 use cedar_entity::node::SharedEntity;
@@ -98,6 +98,20 @@ fn lost_with<S: BuildHasher>(
     }
 }
 
+// Adds uids to a set.
+fn insert_all<S: BuildHasher>(
+    all: &mut HashSet<SharedUid, S>,
+    uids: Vec<SharedUid>,
+) -> Result<(), AllocError>
+    ensures { OnOk result ((q : EntityUID) → contains same_uid all.new q
+        ≡ (contains same_uid all.old q || is_member same_uid uids.items q)) }
+{
+    for uid in uids {
+        all.insert(uid)?;
+    }
+    Ok(())
+}
+
 // Notes some uids.
 pub(crate) fn note_all<S: BuildHasher>(
     noted: &mut HashSet<SharedUid, S>,
@@ -107,9 +121,7 @@ pub(crate) fn note_all<S: BuildHasher>(
         ≡ (contains same_uid noted.old q || is_member same_uid uids.items q)) }
     ensures err { IfErr result (λ e. e ≡ Memory) }
 {
-    for uid in uids {
-        noted.insert(uid)?;
-    }
+    insert_all(noted, uids)?;
     Ok(())
 }
 
@@ -168,73 +180,146 @@ pub(crate) fn touched_by_any<S: BuildHasher>(
     Ok(copies)
 }
 
-// Adds all of one list to another.
-fn append_all(to: &mut Vec<SharedUid>, uids: Vec<SharedUid>) -> Result<(), AllocError>
-    ensures { OnOk result ((q : EntityUID) → is_member same_uid to.new.items q
-        ≡ (is_member same_uid to.old.items q || is_member same_uid uids.items q)) }
-{
-    for uid in uids {
-        to.push(uid)?;
+// How many ancestors there are at a uid, what is a parent and an indirect one counted twice.
+fn count_at<S: BuildHasher>(
+    entities: &HashMap<SharedUid, SharedEntity, S>,
+    uid: &SharedUid,
+) -> usize {
+    match entities.get(uid) {
+        Some(node) => node.0.shared_ancestors().size_hint().0,
+        None => 0,
     }
-    Ok(())
 }
 
-// What goes with some uids, each as often as it goes.
-fn lost_list<S: BuildHasher>(
+// A uid with the number of its ancestors.
+#[derive(Drop)]
+struct Counted {
+    count: usize,
+    uid: SharedUid,
+}
+
+// Some uids with the numbers of their ancestors.
+fn with_counts<S: BuildHasher>(
+    alloc: Global,
+    entities: &HashMap<SharedUid, SharedEntity, S>,
+    uids: &[SharedUid],
+) -> Result<Vec<Counted>, AllocError>
+    ensures { IfOk result (λ v. (q : EntityUID) → counts v.items q ≡ is_member same_uid uids.now q) }
+{
+    let mut all = Vec::new(alloc);
+    for uid in uids {
+        all.push(Counted {
+            count: count_at(entities, uid),
+            uid: copy_of(uid)?,
+        })?;
+    }
+    Ok(all)
+}
+
+// Some uids, those first that have most ancestors.
+fn by_most<S: BuildHasher>(
     alloc: Global,
     entities: &HashMap<SharedUid, SharedEntity, S>,
     uids: &[SharedUid],
 ) -> Result<Vec<SharedUid>, AllocError>
-    ensures { IfOk result (λ v. (w : EntityUID) → is_member same_uid v.items w
+    ensures { IfOk result (λ v. (q : EntityUID) → is_member same_uid v.items q ≡ is_member same_uid uids.now q) }
+{
+    let mut all = with_counts(alloc, entities, uids)?;
+    all.sort_unstable_by(|one, other| other.count.cmp(&one.count));
+    let mut sorted = Vec::with_capacity(alloc, all.len())?;
+    for entry in all {
+        sorted.push(entry.uid)?;
+    }
+    Ok(sorted)
+}
+
+// Adds what goes with a uid. Where ancestors are transitive, one that has gone already takes nothing more with it.
+fn add_lost<S: BuildHasher>(
+    alloc: Global,
+    entities: &HashMap<SharedUid, SharedEntity, S>,
+    lost: &mut HashSet<SharedUid, S>,
+    uid: &SharedUid,
+    transitive: bool,
+) -> Result<(), AllocError>
+    requires { IsTrue transitive → contains same_uid lost.old uid.now ≡ true
+        → (w : EntityUID) → takes (held entities.now) uid.now w ≡ true → contains same_uid lost.old w ≡ true }
+    ensures { OnOk result ((w : EntityUID) → contains same_uid lost.new w
+        ≡ (contains same_uid lost.old w || takes (held entities.now) uid.now w)) }
+{
+    if transitive && lost.contains(uid) {
+        return Ok(());
+    }
+    insert_all(lost, lost_with(alloc, entities, uid)?)
+}
+
+// What goes with some uids.
+fn lost_by<S: BuildHasher + Clone>(
+    alloc: Global,
+    entities: &HashMap<SharedUid, SharedEntity, S>,
+    uids: &[SharedUid],
+    transitive: bool,
+) -> Result<HashSet<SharedUid, S>, AllocError>
+    requires { IsTrue transitive → AreTransitive (held entities.now) }
+    ensures { IfOk result (λ s. (w : EntityUID) → contains same_uid s w
         ≡ list_any (λ u. takes (held entities.now) u w) uids.now) }
 {
-    let mut lost = Vec::new(alloc);
+    let mut lost = HashSet::with_hasher(alloc, entities.hasher().clone()?);
     for uid in uids {
-        append_all(&mut lost, lost_with(alloc, entities, uid)?)?;
+        add_lost(alloc, entities, &mut lost, uid, transitive)?;
     }
     Ok(lost)
 }
 
-// What goes with some uids.
-fn lost_with_all<S: BuildHasher>(
+// What goes with some uids, as a set. What most go with is read first, so that where ancestors are transitive the others are
+// mostly passed over.
+fn lost_with_all<S: BuildHasher + Clone>(
     alloc: Global,
     entities: &HashMap<SharedUid, SharedEntity, S>,
     uids: &[SharedUid],
+    transitive: bool,
 ) -> Result<UidSet, AllocError>
+    requires { IsTrue transitive → AreTransitive (held entities.now) }
     ensures { IfOk result (λ s. (w : EntityUID) → set.contains s w
         ≡ list_any (λ u. takes (held entities.now) u w) uids.now) }
 {
-    let lost = lost_list(alloc, entities, uids)?;
-    UidSet::from_pointers(lost)
+    if uids.len() == 1 {
+        return UidSet::from_pointers(lost_with(alloc, entities, &uids[0])?);
+    }
+    let sorted = by_most(alloc, entities, uids)?;
+    let lost = lost_by(alloc, entities, &sorted, transitive)?;
+    UidSet::from_pointers(listed(alloc, &lost)?)
 }
 
 // What goes from an entity by some uids.
-fn loss_of<S: BuildHasher>(
+fn loss_of<S: BuildHasher + Clone>(
     alloc: Global,
     entities: &HashMap<SharedUid, SharedEntity, S>,
     key: &SharedUid,
     entity: &Entity,
     uids: &Sought<'_, S>,
+    transitive: bool,
 ) -> Result<Loss, AllocError>
+    requires { IsTrue transitive → AreTransitive (held entities.now) }
     ensures uid { IfOk result (λ a. a.uid ≡ key.now) }
     ensures lost { IfOk result (λ a. (w : EntityUID) → set.contains a.lost w
         ≡ list_any (λ u. has_ancestor entity.now u && takes (held entities.now) u w) uids.now) }
 {
     let hits = uids.hits(alloc, entity)?;
-    let lost = lost_with_all(alloc, entities, &hits)?;
+    let lost = lost_with_all(alloc, entities, &hits, transitive)?;
     let uid = copy_of(key)?;
     Ok(Loss { uid, lost })
 }
 
 // Notes what goes from an entity by some uids, where something does.
-fn note_loss<S: BuildHasher>(
-    alloc: Global,
+fn note_loss<S: BuildHasher + Clone>(
     entities: &HashMap<SharedUid, SharedEntity, S>,
     key: &SharedUid,
     entity: &Entity,
     uids: &Sought<'_, S>,
     losses: &mut Vec<Loss>,
+    transitive: bool,
 ) -> Result<(), AllocError>
+    requires { IsTrue transitive → AreTransitive (held entities.now) }
     ensures who { OnOk result ((q : EntityUID) → loses losses.new.items q
         ≡ (loses losses.old.items q || (same_uid key.now q && is_stripped uids.now key.now (has_ancestor entity.now)))) }
     ensures lost { OnOk result (held entities.now key.now ≡ Some entity.now
@@ -244,38 +329,42 @@ fn note_loss<S: BuildHasher>(
     if !uids.is_hit(key, entity) {
         return Ok(());
     }
-    losses.push(loss_of(alloc, entities, key, entity, uids)?)?;
+    let alloc = *losses.allocator();
+    losses.push(loss_of(alloc, entities, key, entity, uids, transitive)?)?;
     Ok(())
 }
 
 // Notes what goes from the entity at a uid by some uids, where there is one and something does.
-fn note_loss_at<S: BuildHasher>(
-    alloc: Global,
+fn note_loss_at<S: BuildHasher + Clone>(
     entities: &HashMap<SharedUid, SharedEntity, S>,
     key: &SharedUid,
     uids: &Sought<'_, S>,
     losses: &mut Vec<Loss>,
+    transitive: bool,
 ) -> Result<(), AllocError>
+    requires { IsTrue transitive → AreTransitive (held entities.now) }
     ensures who { OnOk result ((q : EntityUID) → loses losses.new.items q
         ≡ (loses losses.old.items q || (same_uid key.now q && is_stripped uids.now key.now (is_ancestor_in (held entities.now key.now))))) }
     ensures lost { OnOk result (AllByRecursion (IsLossOf (held entities.now) uids.now) losses.old.items
         → AllByRecursion (IsLossOf (held entities.now) uids.now) losses.new.items) }
 {
     match entities.get(key) {
-        Some(node) => note_loss(alloc, entities, key, &node.0, uids, losses),
+        Some(node) => note_loss(entities, key, &node.0, uids, losses, transitive),
         None => Ok(()),
     }
 }
 
 // What goes by some uids from each entity that is none of them and has one of them among its ancestors. All these are among
 // the entities that are touched.
-pub(crate) fn losses_by<S: BuildHasher>(
+pub(crate) fn losses_by<S: BuildHasher + Clone>(
     alloc: Global,
     entities: &HashMap<SharedUid, SharedEntity, S>,
     uids: &HashSet<SharedUid, S>,
     touched: &HashSet<SharedUid, S>,
+    transitive: bool,
 ) -> Result<Vec<Loss>, AllocError>
-    requires { (q : EntityUID) → contains same_uid touched.now q ≡ is_touched (held_map entities.now) uids.now.keys q }
+    requires transitive { IsTrue transitive → AreTransitive (held entities.now) }
+    requires touched { (q : EntityUID) → contains same_uid touched.now q ≡ is_touched (held_map entities.now) uids.now.keys q }
     ensures who { IfOk result (λ v. (q : EntityUID) → loses v.items q
         ≡ is_stripped uids.now.keys q (is_ancestor_in (held entities.now q))) }
     ensures lost { IfOk result (λ v. AllByRecursion (IsLossOf (held entities.now) uids.now.keys) v.items) }
@@ -283,7 +372,7 @@ pub(crate) fn losses_by<S: BuildHasher>(
     let sought = Sought::of(alloc, uids)?;
     let mut losses = Vec::new(alloc);
     for key in touched {
-        note_loss_at(alloc, entities, key, &sought, &mut losses)?;
+        note_loss_at(entities, key, &sought, &mut losses, transitive)?;
     }
     Ok(losses)
 }

@@ -1,5 +1,5 @@
 -- What goes from each entity by all uids that an edit applies, read before anything changes.
-use Rattle.std.specs.Prelude.{◌≡◌, Bool, ◌&&◌, ◌||◌, not, List, Option}
+use Rattle.std.specs.Prelude.{◌≡◌, Bool, true, ◌&&◌, ◌||◌, not, List, Option}
 use Rattle.std.specs.Option.{is_some}
 use Rattle.std.specs.List.{list_any}
 use Rattle.std.specs.FinSet as set
@@ -8,11 +8,16 @@ use Rattle.cedar_ids.specs.UidOf.{same_uid}
 use Rattle.cedar_ids.specs.declared.entity.EntityUID.{EntityUID}
 use Rattle.cedar_entity.specs.View.{EntityView}
 use Rattle.cedar_entities.specs.Modes.{is_ancestor_in}
+use Rattle.cedar_entities.specs.declared.touching.Counted.{Counted}
 use Rattle.cedar_entities.specs.declared.touching.Loss.{Loss}
 
 -- whether w goes with u: u is held, and w is u or an ancestor of u
 abbrev pub takes : (EntityUID → Option EntityView) → EntityUID → EntityUID → Bool
 takes f u w = is_some (f u) && (same_uid u w || is_ancestor_in (f u) w)
+
+-- an ancestor of an ancestor is an ancestor
+abbrev pub AreTransitive : (EntityUID → Option EntityView) → Type 0
+AreTransitive f = (a b c : EntityUID) → is_ancestor_in (f a) b ≡ true → is_ancestor_in (f b) c ≡ true → is_ancestor_in (f a) c ≡ true
 
 -- whether an edit by these uids strips q, of which f says what is an ancestor: it is none of them, and has one of them
 abbrev pub is_stripped : List EntityUID → EntityUID → (EntityUID → Bool) → Bool
@@ -29,3 +34,7 @@ loses R q = list_any (λ a. same_uid q a.uid) R
 -- whether w goes from q by the list
 abbrev pub loses_uid : List Loss → EntityUID → EntityUID → Bool
 loses_uid R q w = list_any (λ a. same_uid q a.uid && set.contains a.lost w) R
+
+-- whether the list has q with the number of its ancestors
+abbrev pub counts : List Counted → EntityUID → Bool
+counts L q = list_any (λ a. same_uid q a.uid) L

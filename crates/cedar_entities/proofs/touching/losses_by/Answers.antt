@@ -40,6 +40,6 @@ returns-clause-who g c q =
     let whole = (iter_end deref c.args.touched.now.keys c.loop-key.yielded c.into_iter-key-iterator.result c.loop-key.key-iterator c.next.new.self c.next.result gives.0 c.loop-key.yielded_by c.in-None.is c.next.ensures.steps).0 in
     c.loop-key.invariant.who q
     ∙ ap (λ l. is_member same_uid l q && is_stripped A q (is_ancestor_in (held m q))) whole
-    ∙ ap (λ b. b && is_stripped A q (is_ancestor_in (held m q))) (c.requires q)
+    ∙ ap (λ b. b && is_stripped A q (is_ancestor_in (held m q))) (c.requires.touched q)
     ∙ ap (λ f. (is_member same_uid A q || list_any (is_ancestor_in (f q)) A) && is_stripped A q (is_ancestor_in (held m q))) (sym (stored m (held_map m) refl))
     ∙ stripped_touched (is_member same_uid A q) (list_any (is_ancestor_in (held m q)) A)

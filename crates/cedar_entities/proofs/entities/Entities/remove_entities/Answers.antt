@@ -15,7 +15,7 @@ use Rattle.cedar_entities.specs.Refusals.{MatchRefusal, NamesOneOf}
 use Rattle.cedar_entities.specs.Touching.{removed_from, IsMended, IsMendRefused}
 use Rattle.cedar_entities.proofs.Edited.{gone_leaves, known_touched, taken_from}
 use Rattle.cedar_entities.proofs.Editing.{changed_match}
-use Rattle.cedar_entities.proofs.Indexes.{children_back, children_out, if_some, mended_kept, plain_out}
+use Rattle.cedar_entities.proofs.Indexes.{children_back, children_out, if_some, mended_kept, plain_out, plain_transitive}
 use Rattle.cedar_entities.proofs.Closures.{where_computed}
 use Rattle.cedar_entities.specs.laws.Edits.{stripped}
 use Rattle.cedar_entities.specs.laws.Losses.{loses, loses_uid}
@@ -138,3 +138,6 @@ invariant_of-result g c =
             (c.forget.ensures.children (children_back m E c.list_if_it_pays.new.index.children refl c.list_if_it_pays.ensures.index.children));
       },
     )
+
+pub losses-requires-transitive : goal.losses-requires-transitive
+losses-requires-transitive g c is = plain_transitive c.self.inside.entities (c.list_if_it_pays.ensures.index.plain is)

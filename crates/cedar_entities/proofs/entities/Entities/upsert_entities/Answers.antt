@@ -16,7 +16,7 @@ use Rattle.cedar_entities.proofs.Edited.{known_touched, laid_over}
 use Rattle.cedar_entities.proofs.Adds.{stored}
 use Rattle.cedar_entities.proofs.Closures.{where_computed}
 use Rattle.cedar_entities.proofs.Editing.{changed_match}
-use Rattle.cedar_entities.proofs.Indexes.{children_back, children_over, if_some, plain_over, settled_kept}
+use Rattle.cedar_entities.proofs.Indexes.{children_back, children_over, if_some, plain_over, plain_transitive, settled_kept}
 use Rattle.cedar_entities.specs.Plain.{AreBare}
 use Rattle.cedar_entities.specs.laws.Edits.{stripped}
 use Rattle.cedar_entities.specs.laws.Indexes.{IsPlainHeld, is_parent_at}
@@ -155,3 +155,6 @@ invariant_of-result g c =
             (c.join.ensures.children _ (c.leave.ensures.children (children_back m (held_map m) c.list_if_it_pays.new.index.children refl c.list_if_it_pays.ensures.index.children))));
       },
     )
+
+pub losses-requires-transitive : goal.losses-requires-transitive
+losses-requires-transitive g c is = plain_transitive c.self.inside.entities (c.list_if_it_pays.ensures.index.plain is)

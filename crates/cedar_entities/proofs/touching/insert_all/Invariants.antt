@@ -3,7 +3,7 @@ use Rattle.std.specs.HashSet.{contains}
 use Rattle.std.specs.Set.{is_member}
 use Rattle.cedar_ids.specs.UidOf.{same_uid}
 use Rattle.cedar_ids.specs.declared.entity.EntityUID.{EntityUID}
-use Rattle.cedar_entities.proofs.touching.note_all.Given as goal
+use Rattle.cedar_entities.proofs.touching.insert_all.Given as goal
 
 abbrev pub invariant-loop-uid : goal.invariant-loop-uid
-invariant-loop-uid g l = (q : EntityUID) → contains same_uid l.noted q ≡ (contains same_uid l.initial.noted q || is_member same_uid l.yielded q)
+invariant-loop-uid g l = (q : EntityUID) → contains same_uid l.all q ≡ (contains same_uid l.initial.all q || is_member same_uid l.yielded q)
