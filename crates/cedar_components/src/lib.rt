@@ -5,10 +5,10 @@
 //!
 //! [`reach`] does all. A depth-first search gives the order in which the numbers finish; searches
 //! against the arcs, in that order from its end, give each number its strong component; each
-//! component gets one list of what its members reach, those below it first. Where all lists are
-//! short, each is sorted as it is made; else one pass over the entries of the lists, a batch of
-//! lists at a time, brings each of them into one order. The searches keep stacks of their own, so
-//! that none of them recurses, whatever the graph is.
+//! component gets one list of what its members reach, those below it first, and each list is put in
+//! order as it is made: one that has many of the numbers by a walk over all of them, any other by
+//! sorting it. The searches keep stacks of their own, so that none of them recurses, whatever the
+//! graph is.
 #![tactic(auto)]
 
 ghost use Rattle.std.specs.Prelude.{◌≡◌, ℕ, IfOk};
@@ -16,15 +16,13 @@ ghost use Rattle.std.specs.List.{range_with_len};
 ghost use Rattle.std.specs.List.Sorted.{IsPermutation};
 ghost use Rattle.cedar_components.specs.Reach.{AreArcs, HasArc, IsReach};
 
-mod arranging;
-mod batches;
 mod component_lists;
 mod components;
 mod links;
+mod list_order;
 mod search;
 
-use crate::batches::arrange;
-use crate::component_lists::{Lists, make_lists, ranks};
+use crate::component_lists::{Lists, make_lists};
 use crate::components::make_components;
 use crate::links::make_links;
 use crate::search::finish_order;
@@ -50,10 +48,11 @@ pub struct Reached {
 /// each number below `count` once.
 ///
 /// Takes memory for lists in the number of numbers and arcs, and for the lists of what is reached;
-/// refused only where that is. Looks at each arc a few times, copies the list of a component once
-/// for each arc that leads to it from another, and visits each entry of the lists a few times to
-/// bring them into the order. Compares numbers for that only in lists of up to 16, and recurses
-/// nowhere but where one of these is sorted, in the logarithm of its length.
+/// refused only where that is. Looks at each arc a few times, goes through the list of a component
+/// once for each arc that leads to it from another, and puts each list in order once: a list that
+/// has more than 16 numbers, and at least one for each whole 16 of all, by one walk over `order`, any
+/// other by comparing its numbers' places there, in its length times the logarithm of that. Recurses
+/// nowhere but where a list is sorted, in the logarithm of its length.
 pub fn reach(
     alloc: Global,
     from: &[usize],
@@ -79,10 +78,9 @@ pub fn reach(
         &finished,
         count,
     )?;
-    let rank = ranks(alloc, order)?;
-    let made = make_lists(
+    let Lists { start, lists } = make_lists(
         alloc,
-        &rank,
+        order,
         count,
         &component,
         from,
@@ -91,7 +89,6 @@ pub fn reach(
         &forward.link,
         last,
     )?;
-    let Lists { start, lists } = arrange(alloc, made, order, last + 1, count)?;
     Ok(Reached {
         component,
         start,
