@@ -24,7 +24,7 @@ mod search;
 
 use crate::component_lists::{Lists, make_lists};
 use crate::components::make_components;
-use crate::links::make_links;
+use crate::links::{Arcs, make_links};
 use crate::search::finish_order;
 use std::alloc::{AllocError, Global};
 
@@ -65,30 +65,24 @@ pub fn reach(
     ensures { IfOk result (λ r. IsReach (HasArc from.now to.now) count
         r.component.items r.start.items r.lists.items) }
 {
-    let forward = make_links(alloc, from, count)?;
-    let finished = finish_order(alloc, from, to, &forward.head, &forward.link, count)?;
+    let links = make_links(alloc, from, count)?;
+    let forward = Arcs {
+        from,
+        to,
+        head: &links.head,
+        link: &links.link,
+    };
+    let finished = finish_order(alloc, &forward, count)?;
     let last = finished.len();
-    let backward = make_links(alloc, to, count)?;
-    let component = make_components(
-        alloc,
+    let links_back = make_links(alloc, to, count)?;
+    let backward = Arcs {
         from,
         to,
-        &backward.head,
-        &backward.link,
-        &finished,
-        count,
-    )?;
-    let Lists { start, lists } = make_lists(
-        alloc,
-        order,
-        count,
-        &component,
-        from,
-        to,
-        &forward.head,
-        &forward.link,
-        last,
-    )?;
+        head: &links_back.head,
+        link: &links_back.link,
+    };
+    let component = make_components(alloc, &backward, &finished, count)?;
+    let Lists { start, lists } = make_lists(alloc, &forward, &component, order, last, count)?;
     Ok(Reached {
         component,
         start,
