@@ -1,6 +1,5 @@
-pub mod Arranged
 pub mod ComponentSteps
-pub mod Copies
-pub mod Steps
 pub mod Fills
+pub mod Ordered
 pub mod Rows
+pub mod Steps

@@ -3,6 +3,7 @@ ghost use Rattle.std.specs.Prelude.{◌≡◌, ℕ, ◌+◌, ◌-◌, ◌*◌, �
 ghost use Rattle.cedar_components.specs.Reach.{AreArcs, HasArc};
 ghost use Rattle.cedar_components.specs.laws.Search.{AreLinks, IsFinishOrder, AreComponentsFrom, AreComponents, is_zero};
 
+use crate::links::Arcs;
 use std::alloc::{AllocError, Global};
 
 #[derive(Drop)]
@@ -24,8 +25,7 @@ fn join(s: &mut Components, v: usize, b: usize) -> Result<(), AllocError>
 
 // Gives a number that leads to the queue's number at `i` its component, if it has none.
 fn meet(
-    from: &[usize],
-    to: &[usize],
+    arcs: &Arcs,
     order: &[usize],
     s: &mut Components,
     n: usize,
@@ -33,15 +33,15 @@ fn meet(
     i: usize,
     v: usize,
 ) -> Result<(), AllocError>
-    requires arcs { AreArcs from.now to.now n }
-    requires order { IsFinishOrder (HasArc from.now to.now) n order.now }
+    requires arcs { AreArcs arcs.now.from.now arcs.now.to.now n }
+    requires order { IsFinishOrder (HasArc arcs.now.from.now arcs.now.to.now) n order.now }
     requires some { 0 < b }
     requires in_order { b ≤ length order.now }
     requires in_queue { i < length s.old.queue.items }
-    requires components { AreComponentsFrom (HasArc from.now to.now) n order.now b s.old.component.items s.old.queue.items i }
+    requires components { AreComponentsFrom (HasArc arcs.now.from.now arcs.now.to.now) n order.now b s.old.component.items s.old.queue.items i }
     requires within { v < n }
-    requires edge { HasArc from.now to.now v (slice_index s.old.queue.items i) }
-    ensures components { OnOk result (AreComponentsFrom (HasArc from.now to.now) n order.now b s.new.component.items s.new.queue.items i) }
+    requires edge { HasArc arcs.now.from.now arcs.now.to.now v (slice_index s.old.queue.items i) }
+    ensures components { OnOk result (AreComponentsFrom (HasArc arcs.now.from.now arcs.now.to.now) n order.now b s.new.component.items s.new.queue.items i) }
     ensures less { OnOk result (2 * sum_by is_zero s.new.component.items + length s.new.queue.items ≤ 2 * sum_by is_zero s.old.component.items + length s.old.queue.items) }
     ensures longer { OnOk result (length s.old.queue.items ≤ length s.new.queue.items) }
     ensures stays { OnOk result ((x : ℕ) → 0 < slice_index s.old.component.items x → 0 < slice_index s.new.component.items x) }
@@ -57,63 +57,57 @@ fn meet(
 
 // Gives all that leads to the queue's number at `i` its component.
 fn spread(
-    from: &[usize],
-    to: &[usize],
-    head: &[usize],
-    link: &[usize],
+    arcs: &Arcs,
     order: &[usize],
     s: &mut Components,
     n: usize,
     b: usize,
     i: usize,
 ) -> Result<(), AllocError>
-    requires arcs { AreArcs from.now to.now n }
-    requires links { AreLinks to.now head.now link.now n }
-    requires order { IsFinishOrder (HasArc from.now to.now) n order.now }
+    requires arcs { AreArcs arcs.now.from.now arcs.now.to.now n }
+    requires links { AreLinks arcs.now.to.now arcs.now.head.now arcs.now.link.now n }
+    requires order { IsFinishOrder (HasArc arcs.now.from.now arcs.now.to.now) n order.now }
     requires some { 0 < b }
     requires in_order { b ≤ length order.now }
     requires in_queue { i < length s.old.queue.items }
-    requires components { AreComponentsFrom (HasArc from.now to.now) n order.now b s.old.component.items s.old.queue.items i }
-    ensures components { OnOk result (AreComponentsFrom (HasArc from.now to.now) n order.now b s.new.component.items s.new.queue.items (i + 1)) }
+    requires components { AreComponentsFrom (HasArc arcs.now.from.now arcs.now.to.now) n order.now b s.old.component.items s.old.queue.items i }
+    ensures components { OnOk result (AreComponentsFrom (HasArc arcs.now.from.now arcs.now.to.now) n order.now b s.new.component.items s.new.queue.items (i + 1)) }
     ensures less { OnOk result (2 * sum_by is_zero s.new.component.items + length s.new.queue.items ≤ 2 * sum_by is_zero s.old.component.items + length s.old.queue.items) }
     ensures longer { OnOk result (length s.old.queue.items ≤ length s.new.queue.items) }
     ensures stays { OnOk result ((x : ℕ) → 0 < slice_index s.old.component.items x → 0 < slice_index s.new.component.items x) }
 {
     let x = s.queue[i];
-    let mut p = head[x];
+    let mut p = arcs.head[x];
     while p > 0 {
-        meet(from, to, order, s, n, b, i, from[p - 1])?;
-        p = link[p - 1];
+        meet(arcs, order, s, n, b, i, arcs.from[p - 1])?;
+        p = arcs.link[p - 1];
     }
     Ok(())
 }
 
 // Makes the component of a root.
 fn gather(
-    from: &[usize],
-    to: &[usize],
-    head: &[usize],
-    link: &[usize],
+    arcs: &Arcs,
     order: &[usize],
     s: &mut Components,
     n: usize,
     b: usize,
 ) -> Result<(), AllocError>
-    requires arcs { AreArcs from.now to.now n }
-    requires links { AreLinks to.now head.now link.now n }
-    requires order { IsFinishOrder (HasArc from.now to.now) n order.now }
+    requires arcs { AreArcs arcs.now.from.now arcs.now.to.now n }
+    requires links { AreLinks arcs.now.to.now arcs.now.head.now arcs.now.link.now n }
+    requires order { IsFinishOrder (HasArc arcs.now.from.now arcs.now.to.now) n order.now }
     requires some { 0 < b }
     requires in_order { b ≤ length order.now }
     requires empty { s.old.queue.items ≡ [] }
     requires fresh { slice_index s.old.component.items (slice_index order.now (b - 1)) ≡ 0 }
-    requires components { AreComponentsFrom (HasArc from.now to.now) n order.now b s.old.component.items [] 0 }
-    ensures components { OnOk result (AreComponentsFrom (HasArc from.now to.now) n order.now (b - 1) s.new.component.items [] 0) }
+    requires components { AreComponentsFrom (HasArc arcs.now.from.now arcs.now.to.now) n order.now b s.old.component.items [] 0 }
+    ensures components { OnOk result (AreComponentsFrom (HasArc arcs.now.from.now arcs.now.to.now) n order.now (b - 1) s.new.component.items [] 0) }
     ensures empty { OnOk result (s.new.queue.items ≡ []) }
 {
     join(s, order[b - 1], b)?;
     let mut i = 0;
     while i < s.queue.len() {
-        spread(from, to, head, link, order, s, n, b, i)?;
+        spread(arcs, order, s, n, b, i)?;
         i += 1;
     }
     s.queue.clear();
@@ -123,17 +117,14 @@ fn gather(
 // The component of each number: those of one component lead to one another, and an edge never leads to a higher component.
 pub(crate) fn make_components(
     alloc: Global,
-    from: &[usize],
-    to: &[usize],
-    head: &[usize],
-    link: &[usize],
+    arcs: &Arcs,
     order: &[usize],
     n: usize,
 ) -> Result<Vec<usize>, AllocError>
-    requires arcs { AreArcs from.now to.now n }
-    requires links { AreLinks to.now head.now link.now n }
-    requires order { IsFinishOrder (HasArc from.now to.now) n order.now }
-    ensures { IfOk result (λ component. AreComponents (HasArc from.now to.now) n (length order.now) component.items) }
+    requires arcs { AreArcs arcs.now.from.now arcs.now.to.now n }
+    requires links { AreLinks arcs.now.to.now arcs.now.head.now arcs.now.link.now n }
+    requires order { IsFinishOrder (HasArc arcs.now.from.now arcs.now.to.now) n order.now }
+    ensures { IfOk result (λ component. AreComponents (HasArc arcs.now.from.now arcs.now.to.now) n (length order.now) component.items) }
 {
     let mut s = Components {
         component: vec![in alloc; 0; n]?,
@@ -142,7 +133,7 @@ pub(crate) fn make_components(
     let mut b = order.len();
     while b > 0 {
         if s.component[order[b - 1]] == 0 {
-            gather(from, to, head, link, order, &mut s, n, b)?;
+            gather(arcs, order, &mut s, n, b)?;
         }
         b -= 1;
     }

@@ -5,10 +5,10 @@
 //!
 //! [`reach`] does all. A depth-first search gives the order in which the numbers finish; searches
 //! against the arcs, in that order from its end, give each number its strong component; each
-//! component gets one list of what its members reach, those below it first. Where all lists are
-//! short, each is sorted as it is made; else one pass over the entries of the lists, a batch of
-//! lists at a time, brings each of them into one order. The searches keep stacks of their own, so
-//! that none of them recurses, whatever the graph is.
+//! component gets one list of what its members reach, those below it first, and each list is put in
+//! order as it is made: one that has many of the numbers by a walk over all of them, any other by
+//! sorting it. The searches keep stacks of their own, so that none of them recurses, whatever the
+//! graph is.
 #![tactic(auto)]
 
 ghost use Rattle.std.specs.Prelude.{◌≡◌, ℕ, IfOk};
@@ -16,17 +16,15 @@ ghost use Rattle.std.specs.List.{range_with_len};
 ghost use Rattle.std.specs.List.Sorted.{IsPermutation};
 ghost use Rattle.cedar_components.specs.Reach.{AreArcs, HasArc, IsReach};
 
-mod arranging;
-mod batches;
 mod component_lists;
 mod components;
 mod links;
+mod list_order;
 mod search;
 
-use crate::batches::arrange;
-use crate::component_lists::{Lists, make_lists, ranks};
+use crate::component_lists::{Lists, make_lists};
 use crate::components::make_components;
-use crate::links::make_links;
+use crate::links::{Arcs, make_links};
 use crate::search::finish_order;
 use std::alloc::{AllocError, Global};
 
@@ -50,10 +48,11 @@ pub struct Reached {
 /// each number below `count` once.
 ///
 /// Takes memory for lists in the number of numbers and arcs, and for the lists of what is reached;
-/// refused only where that is. Looks at each arc a few times, copies the list of a component once
-/// for each arc that leads to it from another, and visits each entry of the lists a few times to
-/// bring them into the order. Compares numbers for that only in lists of up to 16, and recurses
-/// nowhere but where one of these is sorted, in the logarithm of its length.
+/// refused only where that is. Looks at each arc a few times, goes through the list of a component
+/// once for each arc that leads to it from another, and puts each list in order once: a list that
+/// has more than 16 numbers, and at least one for each whole 16 of all, by one walk over `order`, any
+/// other by comparing its numbers' places there, in its length times the logarithm of that. Recurses
+/// nowhere but where a list is sorted, in the logarithm of its length.
 pub fn reach(
     alloc: Global,
     from: &[usize],
@@ -66,32 +65,24 @@ pub fn reach(
     ensures { IfOk result (λ r. IsReach (HasArc from.now to.now) count
         r.component.items r.start.items r.lists.items) }
 {
-    let forward = make_links(alloc, from, count)?;
-    let finished = finish_order(alloc, from, to, &forward.head, &forward.link, count)?;
+    let links = make_links(alloc, from, count)?;
+    let forward = Arcs {
+        from,
+        to,
+        head: &links.head,
+        link: &links.link,
+    };
+    let finished = finish_order(alloc, &forward, count)?;
     let last = finished.len();
-    let backward = make_links(alloc, to, count)?;
-    let component = make_components(
-        alloc,
+    let links_back = make_links(alloc, to, count)?;
+    let backward = Arcs {
         from,
         to,
-        &backward.head,
-        &backward.link,
-        &finished,
-        count,
-    )?;
-    let rank = ranks(alloc, order)?;
-    let made = make_lists(
-        alloc,
-        &rank,
-        count,
-        &component,
-        from,
-        to,
-        &forward.head,
-        &forward.link,
-        last,
-    )?;
-    let Lists { start, lists } = arrange(alloc, made, order, last + 1, count)?;
+        head: &links_back.head,
+        link: &links_back.link,
+    };
+    let component = make_components(alloc, &backward, &finished, count)?;
+    let Lists { start, lists } = make_lists(alloc, &forward, &component, order, last, count)?;
     Ok(Reached {
         component,
         start,

@@ -12,6 +12,15 @@ pub(crate) struct Links {
     pub(crate) link: Vec<usize>,
 }
 
+// The arcs of a graph, and the chains of the places at which each number is the one end of an arc.
+#[derive(Drop)]
+pub(crate) struct Arcs<'a> {
+    pub(crate) from: &'a [usize],
+    pub(crate) to: &'a [usize],
+    pub(crate) head: &'a [usize],
+    pub(crate) link: &'a [usize],
+}
+
 // The places of each value of a list of numbers below n, as chains from the last to the first.
 pub(crate) fn make_links(alloc: Global, ends: &[usize], n: usize) -> Result<Links, AllocError>
     requires { (k : ℕ) → k < length ends.now → slice_index ends.now k < n }

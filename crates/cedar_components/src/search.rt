@@ -3,6 +3,7 @@ ghost use Rattle.std.specs.Prelude.{◌≡◌, ℕ, ◌+◌, ◌-◌, ◌*◌, s
 ghost use Rattle.cedar_components.specs.Reach.{AreArcs, HasArc};
 ghost use Rattle.cedar_components.specs.laws.Search.{AreLinks, AreRead, IsSearch, IsFinishOrder};
 
+use crate::links::Arcs;
 use std::alloc::{AllocError, Global};
 
 #[derive(Drop)]
@@ -41,32 +42,26 @@ fn close(s: &mut Search) -> Result<(), AllocError>
 }
 
 // Reads the next edge of the last open number, or finishes it.
-fn step(
-    from: &[usize],
-    to: &[usize],
-    head: &[usize],
-    link: &[usize],
-    s: &mut Search,
-) -> Result<(), AllocError>
-    requires arcs { AreArcs from.now to.now (length s.old.start.items) }
-    requires links { AreLinks from.now head.now link.now (length s.old.start.items) }
+fn step(arcs: &Arcs, s: &mut Search) -> Result<(), AllocError>
+    requires arcs { AreArcs arcs.now.from.now arcs.now.to.now (length s.old.start.items) }
+    requires links { AreLinks arcs.now.from.now arcs.now.head.now arcs.now.link.now (length s.old.start.items) }
     requires path { 0 < length s.old.path.items }
-    requires search { IsSearch (HasArc from.now to.now) (length s.old.start.items) s.old.start.items s.old.path.items s.old.out.items }
-    requires read { AreRead from.now to.now (length s.old.start.items) s.old.start.items s.old.next.items }
+    requires search { IsSearch (HasArc arcs.now.from.now arcs.now.to.now) (length s.old.start.items) s.old.start.items s.old.path.items s.old.out.items }
+    requires read { AreRead arcs.now.from.now arcs.now.to.now (length s.old.start.items) s.old.start.items s.old.next.items }
     ensures len { OnOk result (length s.new.start.items ≡ length s.old.start.items) }
-    ensures search { OnOk result (IsSearch (HasArc from.now to.now) (length s.old.start.items) s.new.start.items s.new.path.items s.new.out.items) }
-    ensures read { OnOk result (AreRead from.now to.now (length s.old.start.items) s.new.start.items s.new.next.items) }
+    ensures search { OnOk result (IsSearch (HasArc arcs.now.from.now arcs.now.to.now) (length s.old.start.items) s.new.start.items s.new.path.items s.new.out.items) }
+    ensures read { OnOk result (AreRead arcs.now.from.now arcs.now.to.now (length s.old.start.items) s.new.start.items s.new.next.items) }
     ensures stays { OnOk result ((x : ℕ) → 0 < slice_index s.old.start.items x → 0 < slice_index s.new.start.items x) }
     ensures less { OnOk result (2 * sum s.new.next.items + length s.new.path.items < 2 * sum s.old.next.items + length s.old.path.items) }
 {
     let v = s.path[s.path.len() - 1];
     let m = s.next[v];
     if m > 0 {
-        let w = to[m - 1];
+        let w = arcs.to[m - 1];
         if s.start[w] == 0 {
             open(s, w)?;
         }
-        s.next[v] = link[m - 1];
+        s.next[v] = arcs.link[m - 1];
     } else {
         close(s)?;
     }
@@ -74,57 +69,43 @@ fn step(
 }
 
 // Finishes all that is reached from a number.
-fn search_from(
-    from: &[usize],
-    to: &[usize],
-    head: &[usize],
-    link: &[usize],
-    s: &mut Search,
-    root: usize,
-) -> Result<(), AllocError>
-    requires arcs { AreArcs from.now to.now (length s.old.start.items) }
-    requires links { AreLinks from.now head.now link.now (length s.old.start.items) }
+fn search_from(arcs: &Arcs, s: &mut Search, root: usize) -> Result<(), AllocError>
+    requires arcs { AreArcs arcs.now.from.now arcs.now.to.now (length s.old.start.items) }
+    requires links { AreLinks arcs.now.from.now arcs.now.head.now arcs.now.link.now (length s.old.start.items) }
     requires root { root < length s.old.start.items }
     requires fresh { slice_index s.old.start.items root ≡ 0 }
     requires no_path { s.old.path.items ≡ [] }
-    requires search { IsSearch (HasArc from.now to.now) (length s.old.start.items) s.old.start.items s.old.path.items s.old.out.items }
-    requires read { AreRead from.now to.now (length s.old.start.items) s.old.start.items s.old.next.items }
+    requires search { IsSearch (HasArc arcs.now.from.now arcs.now.to.now) (length s.old.start.items) s.old.start.items s.old.path.items s.old.out.items }
+    requires read { AreRead arcs.now.from.now arcs.now.to.now (length s.old.start.items) s.old.start.items s.old.next.items }
     ensures len { OnOk result (length s.new.start.items ≡ length s.old.start.items) }
     ensures no_path { OnOk result (s.new.path.items ≡ []) }
-    ensures search { OnOk result (IsSearch (HasArc from.now to.now) (length s.old.start.items) s.new.start.items s.new.path.items s.new.out.items) }
-    ensures read { OnOk result (AreRead from.now to.now (length s.old.start.items) s.new.start.items s.new.next.items) }
+    ensures search { OnOk result (IsSearch (HasArc arcs.now.from.now arcs.now.to.now) (length s.old.start.items) s.new.start.items s.new.path.items s.new.out.items) }
+    ensures read { OnOk result (AreRead arcs.now.from.now arcs.now.to.now (length s.old.start.items) s.new.start.items s.new.next.items) }
     ensures stays { OnOk result ((x : ℕ) → 0 < slice_index s.old.start.items x → 0 < slice_index s.new.start.items x) }
     ensures root { OnOk result (0 < slice_index s.new.start.items root) }
 {
     open(s, root)?;
     while !s.path.is_empty() {
-        step(from, to, head, link, s)?;
+        step(arcs, s)?;
     }
     Ok(())
 }
 
 // All numbers, in the order in which a search finishes them.
-pub(crate) fn finish_order(
-    alloc: Global,
-    from: &[usize],
-    to: &[usize],
-    head: &[usize],
-    link: &[usize],
-    n: usize,
-) -> Result<Vec<usize>, AllocError>
-    requires arcs { AreArcs from.now to.now n }
-    requires links { AreLinks from.now head.now link.now n }
-    ensures { IfOk result (λ out. IsFinishOrder (HasArc from.now to.now) n out.items) }
+pub(crate) fn finish_order(alloc: Global, arcs: &Arcs, n: usize) -> Result<Vec<usize>, AllocError>
+    requires arcs { AreArcs arcs.now.from.now arcs.now.to.now n }
+    requires links { AreLinks arcs.now.from.now arcs.now.head.now arcs.now.link.now n }
+    ensures { IfOk result (λ out. IsFinishOrder (HasArc arcs.now.from.now arcs.now.to.now) n out.items) }
 {
     let mut s = Search {
         start: vec![in alloc; 0; n]?,
-        next: Vec::from_slice(alloc, head)?,
+        next: Vec::from_slice(alloc, arcs.head)?,
         path: Vec::with_capacity(alloc, n)?,
         out: Vec::with_capacity(alloc, n)?,
     };
     for root in 0..n {
         if s.start[root] == 0 {
-            search_from(from, to, head, link, &mut s, root)?;
+            search_from(arcs, &mut s, root)?;
         }
     }
     let Search {

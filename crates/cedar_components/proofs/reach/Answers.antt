@@ -2,7 +2,6 @@ use Rattle.std.proofs.Common.{rules, arith, ◌≡◌, ℕ, ◌+◌, length, sub
 use Rattle.cedar_components.specs.Reach.{HasArc}
 use Rattle.cedar_components.specs.laws.Search.{AreReached}
 use Rattle.cedar_components.proofs.Rows.{reach_from}
-use Rattle.cedar_components.proofs.Arranged.{same_reached}
 use Rattle.cedar_components.proofs.reach.Goals as goal
 
 pub returns : goal.returns
@@ -10,12 +9,10 @@ returns c =
     let n = c.args.count in
     let E : ℕ → ℕ → Type 0 = HasArc c.args.from.now c.args.to.now in
     let component = c.in_ok-component.component.items in
-    let made = c.in_ok-made.made in
     let start = c.in_ok-start.field-0.start.items in
     let lists = c.in_ok-start.field-0.lists.items in
     let found = c.in_ok-component.ensures in
     let len : c.len-last.result ≡ length c.deref-5.result.now = search rules in
     reach_from E n c.len-last.result component start lists found.component_len (λ x h. omega (arith, (found.component_in x h).1, len))
     c.in_ok-start.ensures.lists
-    (same_reached E n (c.len-last.result + 1) component made.start.items made.lists.items start lists
-    (subst (λ v. AreReached E n v (c.len-last.result + 1) made.start.items made.lists.items) c.deref-7.ensures.value c.in_ok-made.ensures.reached) c.in_ok-start.ensures.same)
+    (subst (λ v. AreReached E n v (c.len-last.result + 1) start lists) c.deref-6.ensures.value c.in_ok-start.ensures.reached)

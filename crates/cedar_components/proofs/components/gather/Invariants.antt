@@ -8,7 +8,7 @@ abbrev pub invariant-loop-i : goal.invariant-loop-i
 invariant-loop-i l =
     record {
       bound : l.i ≤ length l.s.queue.items;
-      components : AreComponentsFrom (HasArc l.from l.to) l.n l.order l.b l.s.component.items l.s.queue.items l.i;
+      components : AreComponentsFrom (HasArc l.arcs.from.now l.arcs.to.now) l.n l.order l.b l.s.component.items l.s.queue.items l.i;
       root : 0 < slice_index l.s.component.items (slice_index l.order (l.b - 1));
     }
 

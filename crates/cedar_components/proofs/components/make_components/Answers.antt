@@ -7,13 +7,13 @@ use Rattle.cedar_components.proofs.components.make_components.Goals.{then-index-
 
 pub returns : goal.returns
 returns c =
-    let E : ℕ → ℕ → Type 0 = HasArc c.args.from.now c.args.to.now in
+    let E : ℕ → ℕ → Type 0 = HasArc c.args.arcs.now.from.now c.args.arcs.now.to.now in
     let done : c.loop-b.b ≡ 0 = omega arith in
     components_from_all E c.args.n c.args.order.now c.loop-b.s.component.items (rw done at c.loop-b.invariant.components) c.requires.order
 
 pub loop-b-preserved : goal.loop-b-preserved
 loop-b-preserved c =
-    let E : ℕ → ℕ → Type 0 = HasArc c.args.from.now c.args.to.now in
+    let E : ℕ → ℕ → Type 0 = HasArc c.args.arcs.now.from.now c.args.arcs.now.to.now in
     let i = c.loop-b.invariant in
     let s = c.loop-b.s in
     let order = c.args.order.now in

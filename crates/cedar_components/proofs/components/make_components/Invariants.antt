@@ -8,7 +8,7 @@ invariant-loop-b l =
     record {
       bound : l.b ≤ length l.order;
       empty : l.s.queue.items ≡ [];
-      components : AreComponentsFrom (HasArc l.from l.to) l.n l.order l.b l.s.component.items [] 0;
+      components : AreComponentsFrom (HasArc l.arcs.from.now l.arcs.to.now) l.n l.order l.b l.s.component.items [] 0;
     }
 
 abbrev pub decreases-loop-b : goal.decreases-loop-b

@@ -12,4 +12,4 @@ returns-clause-components c =
     let x = get_or s.queue.items c.args.i 0 in
     let q = r.components.queue_in c.args.i r.in_queue in
     let unseen : get_or s.component.items c.args.v 0 ≡ 0 = grind (arith, common_steps) in
-    rw (e.component, e.queue) (joined_before (HasArc c.args.from.now c.args.to.now) c.args.n c.args.order.now c.args.b s.component.items s.queue.items c.args.i c.args.v x r.components r.order r.within unseen r.some r.in_order (omega (arith, r.in_queue)) q.0 q.1 r.edge)
+    rw (e.component, e.queue) (joined_before (HasArc c.args.arcs.now.from.now c.args.arcs.now.to.now) c.args.n c.args.order.now c.args.b s.component.items s.queue.items c.args.i c.args.v x r.components r.order r.within unseen r.some r.in_order (omega (arith, r.in_queue)) q.0 q.1 r.edge)

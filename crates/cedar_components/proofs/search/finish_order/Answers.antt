@@ -7,4 +7,4 @@ pub returns : goal.returns
 returns c =
     let s = c.loop-root.s in
     let i = c.loop-root.invariant in
-    order_from_search (HasArc c.args.from.now c.args.to.now) c.args.n s.start.items s.path.items s.out.items i.search i.no_path (λ x h. i.so_far x (omega arith))
+    order_from_search (HasArc c.args.arcs.now.from.now c.args.arcs.now.to.now) c.args.n s.start.items s.path.items s.out.items i.search i.no_path (λ x h. i.so_far x (omega arith))

@@ -7,8 +7,8 @@ abbrev pub invariant-loop-root : goal.invariant-loop-root
 invariant-loop-root l =
     record {
       len : length l.s.start.items ≡ l.n;
-      search : IsSearch (HasArc l.from l.to) l.n l.s.start.items l.s.path.items l.s.out.items;
-      read : AreRead l.from l.to l.n l.s.start.items l.s.next.items;
+      search : IsSearch (HasArc l.arcs.from.now l.arcs.to.now) l.n l.s.start.items l.s.path.items l.s.out.items;
+      read : AreRead l.arcs.from.now l.arcs.to.now l.n l.s.start.items l.s.next.items;
       no_path : l.s.path.items ≡ [];
       so_far : (x : ℕ) → x < l.root → 0 < slice_index l.s.start.items x;
     }

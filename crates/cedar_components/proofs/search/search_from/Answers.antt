@@ -11,7 +11,7 @@ loop-s-init c =
     let n = length s.start.items in
     record {
       len = grind (arith, common_steps);
-      search = rw (e.start, e.path, e.out) (opened_root (HasArc c.args.from.now c.args.to.now) n s.start.items s.path.items s.out.items c.args.root c.requires.search c.requires.root c.requires.fresh c.requires.no_path);
+      search = rw (e.start, e.path, e.out) (opened_root (HasArc c.args.arcs.now.from.now c.args.arcs.now.to.now) n s.start.items s.path.items s.out.items c.args.root c.requires.search c.requires.root c.requires.fresh c.requires.no_path);
       read = rw (e.start, e.next) (read_kept _ _ _ _ _ c.args.root (length s.out.items) c.requires.read);
       stays = λ x h. rw e.start (positive_kept s.start.items c.args.root (length s.out.items) x h);
       root = rw (e.start, get_or-set_same s.start.items c.args.root (length s.out.items + 1) 0 c.requires.root) (omega arith);

@@ -8,8 +8,8 @@ invariant-loop-s l =
     let n = length l.fn.s.start.items in
     record {
       len : length l.s.start.items ≡ n;
-      search : IsSearch (HasArc l.from l.to) n l.s.start.items l.s.path.items l.s.out.items;
-      read : AreRead l.from l.to n l.s.start.items l.s.next.items;
+      search : IsSearch (HasArc l.arcs.from.now l.arcs.to.now) n l.s.start.items l.s.path.items l.s.out.items;
+      read : AreRead l.arcs.from.now l.arcs.to.now n l.s.start.items l.s.next.items;
       stays : (x : ℕ) → 0 < slice_index l.fn.s.start.items x → 0 < slice_index l.s.start.items x;
       root : 0 < slice_index l.s.start.items l.root;
     }

@@ -9,8 +9,8 @@ pub returns-after-index-eq0-clause-search : goal.returns-after-index-eq0-clause-
 returns-after-index-eq0-clause-search c =
     let s = c.args.s.now in
     let r = c.requires in
-    let from = c.args.from.now in
-    let to = c.args.to.now in
+    let from = c.args.arcs.now.from.now in
+    let to = c.args.arcs.now.to.now in
     let n = length s.start.items in
     let v = c.index-v.result.now in
     let m = c.index-m.result.now in
@@ -18,7 +18,7 @@ returns-after-index-eq0-clause-search c =
     let inside : v < n = rw last (r.search.path_in (length s.path.items - 1) (omega (arith, r.path))).0 in
     let in_next : v < length s.next.items = omega (arith, r.read.next_len) in
     let is : m ≡ get_or s.next.items v 0 = c.index-m.ensures ∙ get_or_default_zero s.next.items v m in_next in
-    let arc = next_arc from to n r.arcs c.args.head.now c.args.link.now r.links s.start.items s.next.items r.read v m inside is c.if-m-gt0.true in
+    let arc = next_arc from to n r.arcs c.args.arcs.now.head.now c.args.arcs.now.link.now r.links s.start.items s.next.items r.read v m inside is c.if-m-gt0.true in
     let within = arc_inside from to n r.arcs v _ arc in
     elim c.if-index-eq0.branch [
       | then-index-eq0+in_ok-open w ↦
@@ -32,8 +32,8 @@ pub returns-after-index-eq0-clause-read : goal.returns-after-index-eq0-clause-re
 returns-after-index-eq0-clause-read c =
     let s = c.args.s.now in
     let r = c.requires in
-    let from = c.args.from.now in
-    let to = c.args.to.now in
+    let from = c.args.arcs.now.from.now in
+    let to = c.args.arcs.now.to.now in
     let n = length s.start.items in
     let v = c.index-v.result.now in
     let m = c.index-m.result.now in
@@ -42,16 +42,16 @@ returns-after-index-eq0-clause-read c =
     let inside : v < n = rw last (r.search.path_in (length s.path.items - 1) (omega (arith, r.path))).0 in
     let in_next : v < length s.next.items = omega (arith, r.read.next_len) in
     let is : m ≡ get_or s.next.items v 0 = c.index-m.ensures ∙ get_or_default_zero s.next.items v m in_next in
-    let arc = next_arc from to n r.arcs c.args.head.now c.args.link.now r.links s.start.items s.next.items r.read v m inside is c.if-m-gt0.true in
+    let arc = next_arc from to n r.arcs c.args.arcs.now.head.now c.args.arcs.now.link.now r.links s.start.items s.next.items r.read v m inside is c.if-m-gt0.true in
     let within : w < n = arc_inside from to n r.arcs v _ arc in
     elim c.if-index-eq0.branch [
       | then-index-eq0+in_ok-open b ↦
           let e = b.in_ok-open.ensures in
           let in_start : w < length s.start.items = within in
-          rw (b.s-is, e.start, e.next) (read_next from to n r.arcs c.args.head.now c.args.link.now r.links s.start.items s.next.items r.read (set s.start.items w (length s.out.items + 1)) v m inside is c.if-m-gt0.true (λ x h. positive_kept s.start.items w (length s.out.items) x h) (rw (get_or-set_same s.start.items w (length s.out.items + 1) 0 in_start) (omega arith)))
+          rw (b.s-is, e.start, e.next) (read_next from to n r.arcs c.args.arcs.now.head.now c.args.arcs.now.link.now r.links s.start.items s.next.items r.read (set s.start.items w (length s.out.items + 1)) v m inside is c.if-m-gt0.true (λ x h. positive_kept s.start.items w (length s.out.items) x h) (rw (get_or-set_same s.start.items w (length s.out.items + 1) 0 in_start) (omega arith)))
       | else-index-eq0 b ↦
           let seen : 0 < get_or s.start.items w 0 = let x = c.index.result.now in let same : x ≡ get_or s.start.items w 0 = c.index.ensures ∙ get_or_default_zero s.start.items w x within in omega (arith, b.if-index-eq0.false) in
-          rw b.s-is (read_next from to n r.arcs c.args.head.now c.args.link.now r.links s.start.items s.next.items r.read s.start.items v m inside is c.if-m-gt0.true (λ x h. h) seen)
+          rw b.s-is (read_next from to n r.arcs c.args.arcs.now.head.now c.args.arcs.now.link.now r.links s.start.items s.next.items r.read s.start.items v m inside is c.if-m-gt0.true (λ x h. h) seen)
     ]
 
 pub returns-after-index-eq0-clause-less : goal.returns-after-index-eq0-clause-less
@@ -66,12 +66,12 @@ returns-after-index-eq0-clause-less c =
     let in_next : v < length s.next.items = omega (arith, r.read.next_len) in
     let is : m ≡ get_or s.next.items v 0 = c.index-m.ensures ∙ get_or_default_zero s.next.items v m in_next in
     let some : 0 < m = c.if-m-gt0.true in
-    let k_in : m - 1 < length c.args.from.now = omega (arith, r.read.next_in v inside) in
-    let y = get_or c.args.link.now (m - 1) 0 in
+    let k_in : m - 1 < length c.args.arcs.now.from.now = omega (arith, r.read.next_in v inside) in
+    let y = get_or c.args.arcs.now.link.now (m - 1) 0 in
     let less : y < m = omega (arith, r.links.link_in (m - 1) k_in) in
     let e = sum_less s.next.items v m y in_next is less in
     elim c.if-index-eq0.branch [
-      | then-index-eq0+in_ok-open w ↦ rw (w.s-is, w.in_ok-open.ensures.path, w.in_ok-open.ensures.next, length-append s.path.items (get_or c.args.to.now (m - 1) 0 ∷ [])) (omega (arith, e))
+      | then-index-eq0+in_ok-open w ↦ rw (w.s-is, w.in_ok-open.ensures.path, w.in_ok-open.ensures.next, length-append s.path.items (get_or c.args.arcs.now.to.now (m - 1) 0 ∷ [])) (omega (arith, e))
       | else-index-eq0 w ↦ rw w.s-is (omega (arith, e))
     ]
 
@@ -79,8 +79,8 @@ pub returns-in_ok-close-clause-search : goal.returns-in_ok-close-clause-search
 returns-in_ok-close-clause-search c =
     let s = c.args.s.now in
     let r = c.requires in
-    let from = c.args.from.now in
-    let to = c.args.to.now in
+    let from = c.args.arcs.now.from.now in
+    let to = c.args.arcs.now.to.now in
     let n = length s.start.items in
     let e = c.in_ok-close.ensures in
     let v = c.index-v.result.now in
@@ -92,5 +92,5 @@ returns-in_ok-close-clause-search c =
     let is : m ≡ get_or s.next.items v 0 = c.index-m.ensures ∙ get_or_default_zero s.next.items v m in_next in
     let none : get_or s.next.items last 0 ≡ 0 = rw (← at_last) (omega (arith, is, c.if-m-gt0.false)) in
     rw (e.start, e.out) (finished_last (HasArc from to) n s.start.items s.path.items c.close.new.s.path.items s.out.items last r.search e.path
-    (λ y h. all_seen from to n r.arcs c.args.head.now c.args.link.now r.links s.start.items s.next.items r.read last y inside none h)
+    (λ y h. all_seen from to n r.arcs c.args.arcs.now.head.now c.args.arcs.now.link.now r.links s.start.items s.next.items r.read last y inside none h)
     (λ y h. arc_inside from to n r.arcs last y h))
