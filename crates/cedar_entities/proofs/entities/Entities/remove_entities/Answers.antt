@@ -139,5 +139,5 @@ invariant_of-result g c =
       },
     )
 
-pub losses-requires-transitive : goal.losses-requires-transitive
-losses-requires-transitive g c is = plain_transitive c.self.inside.entities (c.list_if_it_pays.ensures.index.plain is)
+pub losses_by-requires-clause-transitive : goal.losses_by-requires-clause-transitive
+losses_by-requires-clause-transitive g c is = plain_transitive c.self.inside.entities (c.list_if_it_pays.ensures.index.plain is)
