@@ -10,7 +10,7 @@ ghost use Rattle.cedar_action.specs.Views.{rule_of};
 ghost use Rattle.cedar_binding.specs.Bindings.{BindsExactly, wrong_action};
 ghost use Rattle.cedar_binding.specs.Views.{env_of};
 ghost use Rattle.cedar_body.specs.Bodies.{condition, body_slots};
-ghost use Rattle.cedar_policy.specs.Policies.{policy_id, static_policy, unconstrained, with_policy_id, with_template_id, principal_of, action_of, resource_of};
+ghost use Rattle.cedar_policy.specs.Policies.{IsPolicy, policy_id, static_policy, unconstrained, with_policy_id, with_template_id, principal_of, action_of, resource_of};
 ghost use Rattle.cedar_policy.specs.PolicyEquality.{same_policy};
 ghost use Rattle.cedar_policy.specs.PolicyTexts.{policy_output};
 ghost use Rattle.cedar_policy.specs.Unknowns.{AreUnknownEntities};
@@ -34,6 +34,7 @@ use cedar_scope::{PrincipalConstraint, ResourceConstraint};
 use cedar_terms::expr::Expr;
 use cedar_terms::slot::SlotId;
 use std::alloc::{AllocError, Global};
+use std::boxed::Box;
 use std::collections::HashSet;
 use std::fmt;
 use std::hash::{BuildHasher, BuildHasherDefault};
@@ -44,14 +45,22 @@ use std::rc::Rc;
 /// or a static policy, whose template has no slots.
 ///
 /// Contracts see the parts of the template, the id of the link and the bindings, without locations. Equality is
-/// theirs, looks at no location and takes no memory. `clone` shares the template and takes memory for the id and
-/// the bindings. `Display` writes a static policy as its template; a link by the id of its template and its
-/// bindings, in the order of slots. It takes no memory.
-#[derive(Debug, Drop)]
+/// theirs, looks at no location and takes no memory. `clone` shares the template and takes memory for the policy's
+/// own block, the id and the bindings. `Display` writes a static policy as its template; a link by the id of its
+/// template and its bindings, in the order of slots. It takes no memory.
+///
+/// A policy is one pointer, to a block of its own, so that moving one moves little however much stands in it.
+#[derive(Drop)]
 pub struct Policy {
-    pub(crate) template: Rc<Template>,
-    pub(crate) link: Option<PolicyID>,
-    pub(crate) values: SlotEnv,
+    parts: Box<Parts>,
+}
+
+// What a policy holds.
+#[derive(Drop)]
+struct Parts {
+    template: Rc<Template>,
+    link: Option<PolicyID>,
+    values: SlotEnv,
 }
 
 impl Model for Policy {
@@ -63,38 +72,55 @@ impl Model for Policy {
 
     ghost coded = { policy_code };
 
-    ghost view = { λ p. record { template = p.template.value; link = p.link; env = env_of p.values } };
+    ghost view = { λ p. record { template = p.parts.value.template.value; link = p.parts.value.link; env = env_of p.parts.value.values } };
 
-    ghost invariant = { λ p. IsPolicy (record { template = p.template.value; link = p.link; env = env_of p.values }) };
+    ghost invariant = { λ p. IsPolicy (record { template = p.parts.value.template.value; link = p.parts.value.link; env = env_of p.parts.value.values }) };
 }
 
 impl Policy {
-    // The static policy of a template without slots.
-    pub(crate) fn unlinked(alloc: Global, template: Rc<Template>) -> Policy
-        requires { body_slots template.value ≡ [] }
-        ensures { result ≡ static_policy template.value }
+    // The policy of these parts. Takes memory for its block, and is refused only where that is.
+    pub(crate) fn of(
+        alloc: Global,
+        template: Rc<Template>,
+        link: Option<PolicyID>,
+        values: SlotEnv,
+    ) -> Result<Policy, AllocError>
+        requires { IsPolicy (record { template = template.value; link = link; env = env_of values }) }
+        ensures { IfOk result (λ p. p ≡ record { template = template.value; link = link; env = env_of values }) }
     {
-        Policy {
-            template,
-            link: None,
-            values: no_bindings(alloc),
-        }
+        let parts = Box::new(
+            alloc,
+            Parts {
+                template,
+                link,
+                values,
+            },
+        )?;
+        Ok(Policy { parts })
     }
 
-    /// The policy of a static policy. Takes memory to share its body, and is refused only where that is. In the
-    /// original this is a conversion.
+    // The static policy of a template without slots. Takes memory as `of` does.
+    pub(crate) fn unlinked(alloc: Global, template: Rc<Template>) -> Result<Policy, AllocError>
+        requires { body_slots template.value ≡ [] }
+        ensures { IfOk result (λ p. p ≡ static_policy template.value) }
+    {
+        Policy::of(alloc, template, None, no_bindings(alloc))
+    }
+
+    /// The policy of a static policy. Takes memory to share its body and for the policy's block, and is refused only
+    /// where that is. In the original this is a conversion.
     pub fn from_static(alloc: Global, policy: StaticPolicy) -> Result<Policy, AllocError>
         ensures { IfOk result (λ p. p ≡ static_policy policy) }
     {
         let template = Rc::new(alloc, Template::of_static(alloc, policy))?;
-        Ok(Policy::unlinked(alloc, template))
+        Policy::unlinked(alloc, template)
     }
 
     /// The static policy with this effect, clause and id, that constrains nothing and has no annotations. No slot
     /// may stand in the clause: in a debug build the original looks and panics.
     ///
-    /// Takes memory to share the clause and the template, and to look for slots, linear in the clause; it is
-    /// refused only where that is.
+    /// Takes memory to share the clause and the template, to look for slots, linear in the clause, and for the policy's
+    /// block; it is refused only where that is.
     pub fn from_when_clause(
         alloc: Global,
         effect: Effect,
@@ -113,8 +139,8 @@ impl Policy {
     /// The static policy with this effect, clause and id and these annotations, that constrains nothing. No slot
     /// may stand in the clause: in a debug build the original looks and panics.
     ///
-    /// Takes memory to share the template and to look for slots, linear in the clause; it is refused only where
-    /// that is.
+    /// Takes memory to share the template, to look for slots, linear in the clause, and for the policy's block; it is
+    /// refused only where that is.
     pub fn from_when_clause_annos(
         alloc: Global,
         effect: Effect,
@@ -139,35 +165,35 @@ impl Policy {
             Some(when),
         )?;
         let template = Rc::new(alloc, template)?;
-        Ok(Policy::unlinked(alloc, template))
+        Policy::unlinked(alloc, template)
     }
 
     /// The template. Takes no memory, as no reader here does but for those of constraints and the condition.
     pub fn template(&self) -> &Template
         ensures { result.now ≡ self.now.template }
     {
-        &self.template
+        &self.parts.template
     }
 
     /// The template as it is shared. The original shares it once more, and calls this within its crate alone.
     pub fn template_arc(&self) -> &Rc<Template>
         ensures { result.now.value ≡ self.now.template }
     {
-        &self.template
+        &self.parts.template
     }
 
     /// The effect.
     pub fn effect(&self) -> Effect
         ensures { result ≡ self.now.template.effect }
     {
-        self.template.effect()
+        self.parts.template.effect()
     }
 
     /// The annotation at a key, if there is one; the cost is logarithmic in their number.
     pub fn annotation(&self, key: &AnyId) -> Option<&Annotation>
         ensures { option_map (λ a. a.now) result ≡ value_at key.now self.now.template.annotations }
     {
-        self.template.annotation(key)
+        self.parts.template.annotation(key)
     }
 
     /// All annotations with their keys, by key.
@@ -175,14 +201,14 @@ impl Policy {
         ensures pairs { result ≡ self.now.template.annotations }
         ensures ascending { KeysAscend self.now.template.annotations }
     {
-        self.template.annotations()
+        self.parts.template.annotations()
     }
 
     /// The annotations as they are shared.
     pub fn annotations_arc(&self) -> &Rc<Annotations>
         ensures { result.now.value ≡ self.now.template.annotations }
     {
-        self.template.annotations_arc()
+        self.parts.template.annotations_arc()
     }
 
     /// What the principal has to be: what the template says, with the bound uid in place of the slot. No slot
@@ -191,8 +217,8 @@ impl Policy {
         ensures fills { IfOk result (λ c. c ≡ principal_of self.now) }
         ensures no_slot { IfOk result (λ c. has_slot c ≡ false) }
     {
-        let constraint = self.template.principal_constraint().clone()?;
-        match bound_to(&self.values, SlotId::Principal) {
+        let constraint = self.parts.template.principal_constraint().clone()?;
+        match bound_to(&self.parts.values, SlotId::Principal) {
             None => Ok(constraint),
             Some(uid) => Ok(constraint.with_filled_slot(Rc::new(alloc, uid.clone()?)?)),
         }
@@ -205,8 +231,8 @@ impl Policy {
         ensures fills { IfOk result (λ c. rule_of c ≡ action_of self.now) }
         ensures no_slot { IfOk result (λ c. rule_has_slot (rule_of c) ≡ false) }
     {
-        let constraint = self.template.action_constraint().clone()?;
-        match bound_to(&self.values, SlotId::Action) {
+        let constraint = self.parts.template.action_constraint().clone()?;
+        match bound_to(&self.parts.values, SlotId::Action) {
             None => Ok(constraint),
             Some(uid) => constraint.with_filled_slot(alloc, Rc::new(alloc, uid.clone()?)?),
         }
@@ -218,8 +244,8 @@ impl Policy {
         ensures fills { IfOk result (λ c. c ≡ resource_of self.now) }
         ensures no_slot { IfOk result (λ c. has_slot c ≡ false) }
     {
-        let constraint = self.template.resource_constraint().clone()?;
-        match bound_to(&self.values, SlotId::Resource) {
+        let constraint = self.parts.template.resource_constraint().clone()?;
+        match bound_to(&self.parts.values, SlotId::Resource) {
             None => Ok(constraint),
             Some(uid) => Ok(constraint.with_filled_slot(Rc::new(alloc, uid.clone()?)?)),
         }
@@ -229,21 +255,21 @@ impl Policy {
     pub fn non_scope_constraints(&self) -> Option<&Expr>
         ensures { option_copied result ≡ self.now.template.clause }
     {
-        self.template.non_scope_constraints()
+        self.parts.template.non_scope_constraints()
     }
 
     /// The clause as it is shared, if there is one.
     pub fn non_scope_constraints_arc(&self) -> Option<&Rc<Expr>>
         ensures { option_map (λ e. e.now.value) result ≡ self.now.template.clause }
     {
-        self.template.non_scope_constraints_arc()
+        self.parts.template.non_scope_constraints_arc()
     }
 
     /// The condition of the template, its slots as they are. Takes memory as `TemplateBody::condition` does.
     pub fn condition(&self, alloc: Global) -> Result<Expr, AllocError>
         ensures { IfOk result (λ e. e ≡ condition self.now.template) }
     {
-        self.template.condition(alloc)
+        self.parts.template.condition(alloc)
     }
 
     /// What the slots are bound to: the bound ids are the ids of the template's slots, and the action's is bound to an action.
@@ -252,16 +278,16 @@ impl Policy {
         ensures total { BindsExactly (body_slots self.now.template) self.now.env }
         ensures action { wrong_action self.now.env ≡ None }
     {
-        &self.values
+        &self.parts.values
     }
 
     /// The id: that of the link, or of the template where it is no link.
     pub fn id(&self) -> &PolicyID
         ensures { result.now ≡ policy_id self.now }
     {
-        match &self.link {
+        match &self.parts.link {
             Some(link) => link,
-            None => self.template.id(),
+            None => self.parts.template.id(),
         }
     }
 
@@ -271,20 +297,17 @@ impl Policy {
     pub fn new_id(&self, alloc: Global, id: PolicyID) -> Result<Policy, AllocError>
         ensures { IfOk result (λ p. p ≡ with_policy_id id self.now) }
     {
-        match &self.link {
+        match &self.parts.link {
             None => {
-                let template = Rc::new(alloc, self.template.new_id(id)?)?;
-                Ok(Policy {
-                    template,
-                    link: None,
-                    values: copy_of_bindings(&self.values)?,
-                })
+                let template = Rc::new(alloc, self.parts.template.new_id(id)?)?;
+                let values = copy_of_bindings(&self.parts.values)?;
+                Policy::of(alloc, template, None, values)
             }
-            Some(_) => Ok(Policy {
-                template: self.template.clone()?,
-                link: Some(id),
-                values: copy_of_bindings(&self.values)?,
-            }),
+            Some(_) => {
+                let template = self.parts.template.clone()?;
+                let values = copy_of_bindings(&self.parts.values)?;
+                Policy::of(alloc, template, Some(id), values)
+            }
         }
     }
 
@@ -293,22 +316,12 @@ impl Policy {
     pub fn new_template_id(self, alloc: Global, id: PolicyID) -> Result<Option<Policy>, AllocError>
         ensures { IfOk result (λ p. p ≡ with_template_id id self) }
     {
-        let Policy {
-            template,
-            link,
-            values,
-        } = self;
-        match link {
-            None => Ok(None),
-            Some(link) => {
-                let template = Rc::new(alloc, template.new_id(id)?)?;
-                Ok(Some(Policy {
-                    template,
-                    link: Some(link),
-                    values,
-                }))
-            }
+        let Policy { mut parts } = self;
+        if parts.link.is_none() {
+            return Ok(None);
         }
+        parts.template = Rc::new(alloc, parts.template.new_id(id)?)?;
+        Ok(Some(Policy { parts }))
     }
 
     /// The template, the id of the link if it is one, and the bindings. Takes no memory; the original calls this
@@ -316,17 +329,18 @@ impl Policy {
     pub fn into_components(self) -> (Rc<Template>, Option<PolicyID>, SlotEnv)
         ensures { record { template = result.0.value; link = result.1; env = env_of result.2 } ≡ self }
     {
-        let Policy {
+        let Policy { parts } = self;
+        let Parts {
             template,
             link,
             values,
-        } = self;
+        } = Box::into_inner(parts);
         (template, link, values)
     }
 
     /// The location of the whole template, if it is known.
     pub fn loc(&self) -> Option<&Loc> {
-        self.template.loc()
+        self.parts.template.loc()
     }
 
     /// Whether it is a static policy, and so no link: its template has no slots then, and it binds nothing.
@@ -336,8 +350,8 @@ impl Policy {
         ensures whole { self.now.link ≡ None → self.now ≡ static_policy self.now.template }
     {
         // No effect at run time: this borrow says what holds of every policy.
-        let _ = &self.values;
-        self.link.is_none()
+        let _ = &self.parts;
+        self.parts.link.is_none()
     }
 
     /// The uids that unknowns of the condition name: those of the unknowns that have an entity type and whose
@@ -374,11 +388,11 @@ impl Clone for Policy {
     ghost is_clone = { λ x y. y ≡ x };
 
     fn clone(&self) -> Result<Policy, AllocError> {
-        Ok(Policy {
-            template: self.template.clone()?,
-            link: self.link.clone()?,
-            values: copy_of_bindings(&self.values)?,
-        })
+        let alloc = *Box::allocator(&self.parts);
+        let template = self.parts.template.clone()?;
+        let link = self.parts.link.clone()?;
+        let values = copy_of_bindings(&self.parts.values)?;
+        Policy::of(alloc, template, link, values)
     }
 }
 
@@ -388,9 +402,11 @@ impl PartialEq for Policy {
     ghost laws = { partial_equiv_from_equiv same_policy_equiv };
 
     fn eq(&self, other: &Policy) -> bool {
-        let template: &Template = &self.template;
-        let others: &Template = &other.template;
-        template == others && self.link == other.link && same_bindings(&self.values, &other.values)
+        let template: &Template = &self.parts.template;
+        let others: &Template = &other.parts.template;
+        template == others
+            && self.parts.link == other.parts.link
+            && same_bindings(&self.parts.values, &other.parts.values)
     }
 }
 
@@ -398,15 +414,26 @@ impl Eq for Policy {
     ghost laws = { same_policy_equiv };
 }
 
+// As if the parts stood in the policy itself.
+impl fmt::Debug for Policy {
+    fn fmt<W: fmt::Write>(&self, f: &mut fmt::Formatter<W>) -> fmt::Result {
+        f.debug_struct("Policy")
+            .field("template", &self.parts.template)
+            .field("link", &self.parts.link)
+            .field("values", &self.parts.values)
+            .finish()
+    }
+}
+
 impl fmt::Display for Policy {
     ghost output = { policy_output };
 
     fn fmt<W: fmt::Write>(&self, f: &mut fmt::Formatter<W>) -> fmt::Result {
-        match &self.link {
-            None => self.template.fmt(f),
+        match &self.parts.link {
+            None => self.parts.template.fmt(f),
             Some(_) => {
-                let id = self.template.id();
-                let bindings = JoinedBindings(&self.values);
+                let id = self.parts.template.id();
+                let bindings = JoinedBindings(&self.parts.values);
                 write!(f, "Template Instance of {id}, slots: [{bindings}]")
             }
         }

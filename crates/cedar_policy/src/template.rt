@@ -277,7 +277,8 @@ impl Template {
     }
 
     /// The policy of this template, this id and these bindings, which it takes over; else the refusal of
-    /// `check_binding`. Takes memory as that does; what it took is dropped where it is refused.
+    /// `check_binding`. Takes memory as that does, and for the policy's block where it is not refused so; what it took is
+    /// dropped where it is refused.
     pub fn link(
         alloc: Global,
         template: Rc<Template>,
@@ -287,25 +288,21 @@ impl Template {
         ensures { Links result template.value new_id (env_of values) }
     {
         Template::check_binding(alloc, &template, &values)?;
-        Ok(Policy {
-            template,
-            link: Some(new_id),
-            values,
-        })
+        Ok(Policy::of(alloc, template, Some(new_id), values)?)
     }
 
     /// The static policy of this template, if it has no slots; else the refusal of binding nothing to them.
-    /// Takes memory as `check_binding` does.
+    /// Takes memory as `link` does.
     pub fn try_as_policy(alloc: Global, template: Rc<Template>) -> Result<Policy, LinkingError>
         ensures { MakesPolicy result template.value }
     {
         let nothing = no_bindings(alloc);
         Template::check_binding(alloc, &template, &nothing)?;
-        Ok(Policy::unlinked(alloc, template))
+        Ok(Policy::unlinked(alloc, template)?)
     }
 
     /// The template of a static policy, and the policy of that template: both have the policy's id. Takes
-    /// memory to share the template, and is refused only where that is.
+    /// memory to share the template and for the policy's block, and is refused only where that is.
     pub fn link_static_policy(
         alloc: Global,
         policy: StaticPolicy,
@@ -314,7 +311,7 @@ impl Template {
         ensures policy { IfOk result (λ r. r.1 ≡ static_policy policy) }
     {
         let template = Rc::new(alloc, Template::of_static(alloc, policy))?;
-        let policy = Policy::unlinked(alloc, template.clone()?);
+        let policy = Policy::unlinked(alloc, template.clone()?)?;
         Ok((template, policy))
     }
 

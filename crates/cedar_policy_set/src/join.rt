@@ -52,8 +52,8 @@ impl<S: BuildHasher + Copy> PolicySet<S> {
 
     /// Takes in a static policy, its body last in the order of bodies and the policy last in the other.
     ///
-    /// `Occupied` comes where its id is bound. Takes memory to share the body and for the two places; a refused call, for
-    /// memory too, leaves both orders as they were.
+    /// `Occupied` comes where its id is bound. Takes memory to share the body, for the policy's block and for the two
+    /// places; a refused call, for memory too, leaves both orders as they were.
     pub fn add_static(&mut self, alloc: Global, policy: StaticPolicy) -> Result<(), PolicySetError>
         ensures { Steps told_by_set result self.old self.new (add_static_step self.old policy) }
     {

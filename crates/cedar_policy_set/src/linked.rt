@@ -29,8 +29,8 @@ impl<S: BuildHasher + Copy> PolicySet<S> {
     ///
     /// Refused in this order: `NoSuchTemplate` where the first id is no template's, also where it is a static policy's;
     /// `ArityError` and then `NotAnAction` as `Template::check_binding` says; `PolicyIdConflict` where the new id is bound. Takes memory for the
-    /// place and for the lists of a refusal; a refused call, for memory too, leaves both orders as they were. To unlink
-    /// the new link gives it back and leaves the former set, orders included.
+    /// link, its place and the lists of a refusal; a refused call, for memory too, leaves both orders as they were. To
+    /// unlink the new link gives it back and leaves the former set, orders included.
     pub fn link(
         &mut self,
         alloc: Global,

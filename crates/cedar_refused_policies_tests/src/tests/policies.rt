@@ -60,7 +60,7 @@ const POLICIES: &str = "
     Policy::unknown_entities_with_hasher | a unknown | 1
     Policy::unknown_entities_with_hasher | a clause | 0
     Policy::clone | t principal, principal=x
-    - Policy::clone | a clause
+    Policy::clone | a clause
 ";
 
 // The clause `true`, in which no slot stands.

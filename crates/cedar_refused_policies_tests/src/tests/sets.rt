@@ -373,7 +373,7 @@ const SETS: &str = "
     PolicySet::link | template t acting; link t l action=x | ! the action slot is bound to `A::\"x\"`, which is not an action
     PolicySet::link | template t acting principal; link t l action=Action.x principal=x | l
     - PolicySet::link | static s; link s l | ! failed to find a template with id `s`
-    - PolicySet::link | template t; static l; link t l | ! template-linked policy id `l` conflicts with an existing policy id
+    PolicySet::link | template t; static l; link t l | ! template-linked policy id `l` conflicts with an existing policy id
     - PolicySet::unlink | template t; link t l; unlink l | Template Instance of t, slots: []
     PolicySet::unlink | template t; static l; unlink l | ! unable to remove link with policy id `l` because it is a static policy
     PolicySet::unlink | template t; unlink l | ! unable to unlink policy id `l` because it does not exist

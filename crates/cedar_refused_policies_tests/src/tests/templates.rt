@@ -163,10 +163,10 @@ const LINKING: &str = "
     Template::check_binding | t, resource=x | ! the following slots were provided as arguments, but did not exist in the template: ?resource
     - Template::check_binding | t acting, action=Action.x | ok
     Template::check_binding | t acting, action=x | ! the action slot is bound to `A::\"x\"`, which is not an action
-    - Template::link | t principal, principal=x | Template Instance of t, slots: [?principal -> A::\"x\"]
+    Template::link | t principal, principal=x | Template Instance of t, slots: [?principal -> A::\"x\"]
     Template::link | t principal, resource=x | ! the following slots were not provided as arguments: ?principal. The following slots were provided as arguments, but did not exist in the template: ?resource
     Template::link | t acting, action=x | ! the action slot is bound to `A::\"x\"`, which is not an action
-    - Template::try_as_policy | t clause | permit( principal, action, resource ) when { true };
+    Template::try_as_policy | t clause | permit( principal, action, resource ) when { true };
     Template::try_as_policy | t principal | ! the following slots were not provided as arguments: ?principal
     - TemplateValidationError::clone | slot | found slot `?principal` in a condition clause
     TemplateValidationError::clone | user | the action constraint holds uids that are not actions: User::\"x\",User::\"y\"
