@@ -31,6 +31,13 @@ fn put<V: Drop, S: BuildHasher + Copy>(
     Ok(())
 }
 
+// The id of a template.
+fn id_of(template: &Template) -> Result<PolicyID, Fail>
+    ensures { IfOk result (λ i. i ≡ template.now.id) }
+{
+    Ok(template.id().clone()?)
+}
+
 // A share of a copy of a template.
 fn shared(alloc: Global, template: &Template) -> Result<Rc<Template>, Fail>
     ensures { IfOk result (λ t. t.value ≡ template.now) }
@@ -46,8 +53,8 @@ fn put_template<S: BuildHasher + Copy>(
 ) -> Result<(), Fail>
     ensures { OnOk result (shared_of templates.new.entries ≡ insert_entry same_text (shared_of templates.old.entries) template.now.id template.now) }
 {
-    let id = template.id().clone()?;
-    put(templates, id, shared(alloc, template)?)
+    put(templates, id_of(template)?, shared(alloc, template)?)?;
+    Ok(())
 }
 
 // The bodies of a set under their ids.
@@ -138,8 +145,8 @@ fn put_list<S: BuildHasher + Copy>(
     requires { AreOnce policy_id set.now.policies }
     ensures { OnOk result (lists_of lists.new.entries ≡ insert_entry same_text (lists_of lists.old.entries) template.now.id (ids_in template.now.id set.now.policies)) }
 {
-    let id = template.id().clone()?;
-    put(lists, id, ids_on(alloc, hasher, set, template.id())?)
+    put(lists, id_of(template)?, ids_on(alloc, hasher, set, template.id())?)?;
+    Ok(())
 }
 
 // The ids of the policies of a set under the ids of its bodies.

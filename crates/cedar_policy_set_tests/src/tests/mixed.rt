@@ -7,7 +7,9 @@ use super::cases::{
 };
 use super::lists::{drawn_call, is_refusal};
 use super::notation::{Call, Said, Why};
-use super::places::{drawn_binding, drawn_gone, drawn_id, drawn_of_kind, drawn_taking};
+use super::places::{
+    drawn_binding, drawn_following, drawn_gone, drawn_id, drawn_of_kind, drawn_taking,
+};
 use super::script::{board_of, done, letter_of, listed_on, said_by_set};
 use super::{fixed, keys};
 use cedar_ids::policy_id::PolicyID;
@@ -79,6 +81,19 @@ fn take_out<S: BuildHasher + Copy>(
             }
             Ok(same)
         }
+    }
+}
+
+// Asks for the links of what stands, or takes it out; where there is none, binds an id.
+fn follow<S: BuildHasher + Copy>(
+    alloc: Global,
+    set: &mut PolicySet<S>,
+    board: &mut Board,
+    course: &mut Course,
+) -> Result<bool, Fail> {
+    match drawn_following(board, &mut course.seed) {
+        None => bind(alloc, set, board, course, false),
+        Some(call) => make(alloc, set, board, course, &call),
     }
 }
 
@@ -273,6 +288,7 @@ fn act<S: BuildHasher + Copy>(
             let call = drawn_call(&mut course.seed);
             make(alloc, set, board, course, &call)
         }
+        5..8 if course.anew => follow(alloc, set, board, course),
         5..10 => bind(alloc, set, board, course, number == 5),
         10..12 if !is_wide(board) => merge_drawn(alloc, keys.1, set, board, course),
         12 => remake(alloc, keys, set),

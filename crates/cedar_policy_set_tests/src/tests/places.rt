@@ -24,11 +24,11 @@ fn put_templates(board: &Board, left: &mut Board) {
     }
 }
 
-// What a verb takes out, in its order, as policies: links, static policies or templates.
+// What a verb takes out, in its order, as policies: links, static policies or templates, whose links may be asked for too.
 pub(super) fn standing(board: &Board, verb: Verb) -> Board {
     let mut left = empty();
     match verb {
-        Verb::RemoveTemplate => put_templates(board, &mut left),
+        Verb::RemoveTemplate | Verb::Links => put_templates(board, &mut left),
         _ => put_policies(board, verb == Verb::Unlink, &mut left),
     }
     left
@@ -84,6 +84,18 @@ pub(super) fn drawn_taking(board: &Board, seed: &mut u64) -> Option<(Call, u8)> 
     let row = policy_at(&there, index_at(place, count(&there), seed)?)?;
     let number = kind.wrapping_mul(3).wrapping_add(place);
     Some((Call { verb, row }, number))
+}
+
+// A call that asks for the links of a template that stands, or takes out what stands, in any place; nothing where there
+// is none.
+pub(super) fn drawn_following(board: &Board, seed: &mut u64) -> Option<Call> {
+    let verb = match below(seed, 4) {
+        0 => Verb::Links,
+        kind => verb_at(kind.wrapping_sub(1)),
+    };
+    let there = standing(board, verb);
+    let row = policy_at(&there, below(seed, count(&there)))?;
+    Some(Call { verb, row })
 }
 
 // One of ten letters.
