@@ -145,7 +145,11 @@ fn put_list<S: BuildHasher + Copy>(
     requires { AreOnce policy_id set.now.policies }
     ensures { OnOk result (lists_of lists.new.entries ≡ insert_entry same_text (lists_of lists.old.entries) template.now.id (ids_in template.now.id set.now.policies)) }
 {
-    put(lists, id_of(template)?, ids_on(alloc, hasher, set, template.id())?)?;
+    put(
+        lists,
+        id_of(template)?,
+        ids_on(alloc, hasher, set, template.id())?,
+    )?;
     Ok(())
 }
 
