@@ -72,7 +72,7 @@ fn body_at(board: &Board, id: u8) -> Option<Body> {
 }
 
 // The policy with an id.
-fn row_at(board: &Board, id: u8) -> Option<Row> {
+pub(super) fn row_at(board: &Board, id: u8) -> Option<Row> {
     for row in board.policies.iter().flatten() {
         if row.id == id {
             return Some(*row);
@@ -96,7 +96,7 @@ fn bound_at(board: &Board, id: u8) -> Option<Bound> {
     }
 }
 
-fn is_bound(board: &Board, id: u8) -> bool {
+pub(super) fn is_bound(board: &Board, id: u8) -> bool {
     bound_at(board, id).is_some()
 }
 

@@ -33,7 +33,7 @@ fn more(count: &mut u32) {
     *count = count.wrapping_add(1);
 }
 
-fn is_refusal(said: Said) -> bool {
+pub(super) fn is_refusal(said: Said) -> bool {
     matches!(
         said,
         Said::Refused(_, _) | Said::NotAction(_) | Said::Arity(_, _) | Said::Memory
@@ -202,7 +202,7 @@ fn drawn_letter(seed: &mut u64) -> u8 {
 }
 
 // No slot, one, two, or all three, and now and then one that forbids.
-fn drawn_body(seed: &mut u64) -> Body {
+pub(super) fn drawn_body(seed: &mut u64) -> Body {
     let slots = match below(seed, 8) {
         0..4 => 0,
         4 => 1,
@@ -218,7 +218,7 @@ fn drawn_body(seed: &mut u64) -> Body {
 }
 
 // A body without slots.
-fn drawn_static(seed: &mut u64) -> Row {
+pub(super) fn drawn_static(seed: &mut u64) -> Row {
     let body = drawn_body(seed);
     unlinked(Body {
         id: body.id,
@@ -233,10 +233,8 @@ fn drawn_value(seed: &mut u64, bound: bool) -> u8 {
     if bound { letter } else { 0 }
 }
 
-// A link of which the bindings fit.
-fn drawn_link(seed: &mut u64) -> Row {
-    let body = drawn_body(seed);
-    let id = drawn_letter(seed);
+// A link of this template under this id, of which the bindings fit.
+pub(super) fn drawn_link_of(body: Body, id: u8, seed: &mut u64) -> Row {
     let principal = drawn_value(seed, has_digit(body.slots, 1));
     let action = drawn_value(seed, has_digit(body.slots, 3));
     let resource = drawn_value(seed, has_digit(body.slots, 2));
@@ -248,6 +246,13 @@ fn drawn_link(seed: &mut u64) -> Row {
         action,
         resource,
     }
+}
+
+// A link of which the bindings fit.
+pub(super) fn drawn_link(seed: &mut u64) -> Row {
+    let body = drawn_body(seed);
+    let id = drawn_letter(seed);
+    drawn_link_of(body, id, seed)
 }
 
 // Such a link, and now and then one whose action's slot is bound to what is no action.
@@ -266,7 +271,7 @@ fn drawn_row(seed: &mut u64) -> Row {
     drawn_link(seed)
 }
 
-fn drawn_template(seed: &mut u64) -> Row {
+pub(super) fn drawn_template(seed: &mut u64) -> Row {
     unlinked(drawn_body(seed))
 }
 

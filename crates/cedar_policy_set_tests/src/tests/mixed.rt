@@ -1,7 +1,15 @@
-// Lists of up to twelve calls with merges among them, each on a set and on the board that it stands for.
+// Lists of calls, merges and sets made anew of their maps, each on a set and on the board that it stands for. Beside calls that
+// are drawn by letters there are such that are drawn along the board, and which cases came is counted.
+use super::apart::made_anew;
 use super::board::{Board, Renaming, after, empty, links, merge};
-use super::lists::drawn_call;
-use super::notation::{Said, Why};
+use super::cases::{
+    Cases, all_came, count_back, followed, has_places, is_wide, merged, more, no_cases, note_gone,
+};
+use super::lists::{drawn_call, is_refusal};
+use super::notation::{Call, Said, Why};
+use super::places::{
+    drawn_binding, drawn_following, drawn_gone, drawn_id, drawn_of_kind, drawn_taking,
+};
 use super::script::{board_of, done, letter_of, listed_on, said_by_set};
 use super::{fixed, keys};
 use cedar_ids::policy_id::PolicyID;
@@ -11,18 +19,82 @@ use cedar_test_helpers::tried::kept;
 use indexmap::IndexMap;
 use std::alloc::Global;
 use std::hash::BuildHasher;
+use std::mem::swap;
 use std::test::Fail;
 
-// One drawn call; whether the answers and both orders are the same.
-fn call<S: BuildHasher + Copy>(
+// What lists draw from, which ids went in this one, whether its set was just made anew, and which cases came.
+#[derive(Clone, Copy, Drop)]
+struct Course {
+    seed: u64,
+    gone: Board,
+    anew: bool,
+    cases: Cases,
+}
+
+// Makes a call; whether the answers are the same.
+fn make<S: BuildHasher + Copy>(
     alloc: Global,
     set: &mut PolicySet<S>,
     board: &mut Board,
-    seed: &mut u64,
+    course: &mut Course,
+    call: &Call,
 ) -> Result<bool, Fail> {
-    let call = drawn_call(seed);
-    let said = done(alloc, set, &call)?;
-    Ok(said == after(board, &call) && board_of(set) == *board)
+    let said = done(alloc, set, call)?;
+    if course.anew && !is_refusal(said) {
+        followed(&mut course.cases, Some(call.verb));
+    }
+    Ok(said == after(board, call))
+}
+
+// Binds an id that is drawn, or one that went.
+fn bind<S: BuildHasher + Copy>(
+    alloc: Global,
+    set: &mut PolicySet<S>,
+    board: &mut Board,
+    course: &mut Course,
+    again: bool,
+) -> Result<bool, Fail> {
+    let seed = &mut course.seed;
+    let id = if again {
+        drawn_gone(&course.gone, seed)
+    } else {
+        drawn_id(seed)
+    };
+    let call = drawn_binding(board, id, seed);
+    make(alloc, set, board, course, &call)
+}
+
+// Takes out what stands at a drawn place; where there is no such place, binds an id.
+fn take_out<S: BuildHasher + Copy>(
+    alloc: Global,
+    set: &mut PolicySet<S>,
+    board: &mut Board,
+    course: &mut Course,
+) -> Result<bool, Fail> {
+    match drawn_taking(board, &mut course.seed) {
+        None => bind(alloc, set, board, course, false),
+        Some((call, number)) => {
+            let before = *board;
+            let same = make(alloc, set, board, course, &call)?;
+            if *board != before {
+                more(&mut course.cases.taken, number);
+            }
+            Ok(same)
+        }
+    }
+}
+
+// Asks for the links of what stands, or takes it out; where there is none, binds an id.
+fn follow<S: BuildHasher + Copy>(
+    alloc: Global,
+    set: &mut PolicySet<S>,
+    board: &mut Board,
+    course: &mut Course,
+) -> Result<bool, Fail> {
+    match drawn_following(board, &mut course.seed) {
+        None => bind(alloc, set, board, course, false),
+        Some(call) => make(alloc, set, board, course, &call),
+    }
 }
 
 // Whether ids are renamed as a renaming says, each in its turn, and no others.
@@ -63,17 +135,129 @@ fn answers<S: BuildHasher + Copy>(
     }
 }
 
-// Merges a set, which has this board; whether the answers, with the ids that are renamed, and both orders are the same.
+// Merges a set, which has this board; whether the answers are the same, with the ids that are renamed, and the other set stays.
 fn merge_set<S: BuildHasher + Copy>(
     alloc: Global,
     set: &mut PolicySet<S>,
     board: &mut Board,
     other: &PolicySet<S>,
+    theirs: &Board,
     rename: bool,
-) -> bool {
-    let theirs = board_of(other);
+) -> (bool, Result<Renaming, u8>) {
     let answer = set.merge_policyset(alloc, other, rename);
-    answers(answer, merge(board, &theirs, rename)) && board_of(set) == *board
+    let want = merge(board, theirs, rename);
+    (answers(answer, want) && board_of(other) == *theirs, want)
+}
+
+// Another set with its board. A half of the time the two change their places.
+#[derive(Drop)]
+struct Other<S: BuildHasher + Copy> {
+    set: PolicySet<S>,
+    board: Board,
+    copied: bool,
+}
+
+fn turn<S: BuildHasher + Copy>(set: &mut PolicySet<S>, board: &mut Board, other: &mut Other<S>) {
+    swap(set, &mut other.set);
+    swap(board, &mut other.board);
+}
+
+// Merges one of two sets into the other, which is at hand then; whether the answers are the same.
+fn merge_either<S: BuildHasher + Copy>(
+    alloc: Global,
+    set: &mut PolicySet<S>,
+    board: &mut Board,
+    course: &mut Course,
+    other: &mut Other<S>,
+) -> bool {
+    if below(&mut course.seed, 2) == 0 {
+        turn(set, board, other);
+    }
+    let rename = below(&mut course.seed, 2) == 0;
+    let before = *board;
+    let (same, answer) = merge_set(alloc, set, board, &other.set, &other.board, rename);
+    merged(&mut course.cases, &before, other.copied, rename, &answer);
+    if course.anew && answer.is_ok() {
+        followed(&mut course.cases, None);
+    }
+    same
+}
+
+// Makes up to four calls of a kind on a set and its board.
+fn fill<S: BuildHasher + Copy>(
+    alloc: Global,
+    set: &mut PolicySet<S>,
+    board: &mut Board,
+    kind: u8,
+    seed: &mut u64,
+) -> Result<(), Fail> {
+    let count = below(seed, 4).wrapping_add(1);
+    for _call in 0..count {
+        let call = drawn_of_kind(kind, seed);
+        let _said = done(alloc, set, &call)?;
+        let _said = after(board, &call);
+    }
+    Ok(())
+}
+
+// The empty set, or one that up to four calls of a kind leave.
+fn other_of<S: BuildHasher + Copy>(
+    alloc: Global,
+    hasher: S,
+    kind: u8,
+    seed: &mut u64,
+) -> Result<Other<S>, Fail> {
+    let mut set = PolicySet::with_hasher(alloc, hasher);
+    let mut board = empty();
+    let done = if kind == 0 {
+        Ok(())
+    } else {
+        fill(alloc, &mut set, &mut board, kind, seed)
+    };
+    Ok(Other {
+        set: kept(set, done)?,
+        board,
+        copied: false,
+    })
+}
+
+// A copy of a set.
+fn copy_of<S: BuildHasher + Copy>(set: &PolicySet<S>, board: &Board) -> Result<Other<S>, Fail> {
+    Ok(Other {
+        set: set.clone()?,
+        board: *board,
+        copied: true,
+    })
+}
+
+// Merges a drawn set, or a copy, into this one or the other way; whether the answers are the same.
+fn merge_drawn<S: BuildHasher + Copy>(
+    alloc: Global,
+    hasher: S,
+    set: &mut PolicySet<S>,
+    board: &mut Board,
+    course: &mut Course,
+) -> Result<bool, Fail> {
+    let mut other = match below(&mut course.seed, 6) {
+        5 => copy_of(set, board)?,
+        kind => other_of(alloc, hasher, kind, &mut course.seed)?,
+    };
+    let same = merge_either(alloc, set, board, course, &mut other);
+    drop(other);
+    Ok(same)
+}
+
+// Puts the set that is made anew of its maps in a set's place; whether it is equal.
+fn remake<S: BuildHasher + Copy>(
+    alloc: Global,
+    keys: (S, S),
+    set: &mut PolicySet<S>,
+) -> Result<bool, Fail> {
+    let mut made = made_anew(alloc, keys, set)?;
+    let same = made == *set;
+    swap(set, &mut made);
+    drop(made);
+    Ok(same)
 }
 
 // Whether under each body stand the ids that stand on it in the plain model.
@@ -90,100 +274,122 @@ fn are_listed<S: BuildHasher + Copy>(
     Ok(true)
 }
 
-// Makes three drawn calls.
-fn three<S: BuildHasher + Copy>(
+// Makes what a number says; whether the answers are the same.
+fn act<S: BuildHasher + Copy>(
     alloc: Global,
-    set: &mut PolicySet<S>,
-    seed: &mut u64,
-) -> Result<(), Fail> {
-    for _call in 0..3 {
-        let _said = done(alloc, set, &drawn_call(seed))?;
-    }
-    Ok(())
-}
-
-// The set that three drawn calls leave.
-fn drawn_set<S: BuildHasher + Copy>(
-    alloc: Global,
-    hasher: S,
-    seed: &mut u64,
-) -> Result<PolicySet<S>, Fail> {
-    let mut set = PolicySet::with_hasher(alloc, hasher);
-    let done = three(alloc, &mut set, seed);
-    kept(set, done)
-}
-
-// Merges such a set; whether all is the same, and so are the ids under each body.
-fn merge_drawn<S: BuildHasher + Copy>(
-    alloc: Global,
-    hasher: S,
+    keys: (S, S),
     set: &mut PolicySet<S>,
     board: &mut Board,
-    seed: &mut u64,
-) -> Result<bool, Fail> {
-    let other = drawn_set(alloc, hasher, seed)?;
-    let rename = below(seed, 4) != 0;
-    let held = merge_set(alloc, set, board, &other, rename);
-    drop(other);
-    Ok(held && are_listed(alloc, set, board)?)
-}
-
-// A call, or each fourth time a merge.
-fn step<S: BuildHasher + Copy>(
-    alloc: Global,
-    hasher: S,
-    set: &mut PolicySet<S>,
-    board: &mut Board,
-    seed: &mut u64,
+    course: &mut Course,
     number: u8,
 ) -> Result<bool, Fail> {
-    if number % 4 == 3 {
-        return merge_drawn(alloc, hasher, set, board, seed);
+    match number {
+        0..5 => {
+            let call = drawn_call(&mut course.seed);
+            make(alloc, set, board, course, &call)
+        }
+        5..8 if course.anew => follow(alloc, set, board, course),
+        5..10 => bind(alloc, set, board, course, number == 5),
+        10..12 if !is_wide(board) => merge_drawn(alloc, keys.1, set, board, course),
+        12 => remake(alloc, keys, set),
+        _ => take_out(alloc, set, board, course),
     }
-    call(alloc, set, board, seed)
+}
+
+// One step; whether the answers, both orders and the ids under each body are the same.
+fn step<S: BuildHasher + Copy>(
+    alloc: Global,
+    keys: (S, S),
+    set: &mut PolicySet<S>,
+    board: &mut Board,
+    course: &mut Course,
+) -> Result<bool, Fail> {
+    let before = *board;
+    let number = below(&mut course.seed, 16);
+    let same = act(alloc, keys, set, board, course, number)?;
+    course.anew = number == 12;
+    count_back(&mut course.cases, &course.gone, &before, board);
+    note_gone(&mut course.gone, &before, board);
+    Ok(same && has_places(board) && board_of(set) == *board && are_listed(alloc, set, board)?)
 }
 
 // Makes this many steps.
 fn steps<S: BuildHasher + Copy>(
     alloc: Global,
-    hasher: S,
+    keys: (S, S),
     set: &mut PolicySet<S>,
     board: &mut Board,
-    seed: &mut u64,
+    course: &mut Course,
     count: u8,
 ) -> Result<bool, Fail> {
-    for number in 0..count {
-        if !step(alloc, hasher, set, board, seed, number)? {
+    for _step in 0..count {
+        if !step(alloc, keys, set, board, course)? {
             return Ok(false);
         }
     }
     Ok(true)
 }
 
-// One list of up to twelve.
-fn list<S: BuildHasher + Copy>(alloc: Global, keys: (S, S), seed: &mut u64) -> Result<bool, Fail> {
+// One list of four to eighteen.
+fn list<S: BuildHasher + Copy>(
+    alloc: Global,
+    keys: (S, S),
+    course: &mut Course,
+) -> Result<bool, Fail> {
     let mut set = PolicySet::with_hasher(alloc, keys.0);
     let mut board = empty();
-    let count = below(seed, 12).wrapping_add(1);
-    let told = steps(alloc, keys.1, &mut set, &mut board, seed, count);
+    course.gone = empty();
+    course.anew = false;
+    let count = below(&mut course.seed, 15).wrapping_add(4);
+    let told = steps(alloc, keys, &mut set, &mut board, course, count);
     drop(set);
     told
 }
 
-// The number of the first list after which the set is another than the board, or this many.
-fn differing<S: BuildHasher + Copy>(alloc: Global, keys: (S, S), count: u16) -> Result<u16, Fail> {
-    let mut seed = 1_956;
+// The number of the first list after which the set is another than the board, or this many; and which cases came.
+fn differing<S: BuildHasher + Copy>(
+    alloc: Global,
+    keys: (S, S),
+    seed: u64,
+    count: u16,
+) -> Result<(u16, Cases), Fail> {
+    let mut course = Course {
+        seed,
+        gone: empty(),
+        anew: false,
+        cases: no_cases(),
+    };
     for number in 0..count {
-        if !list(alloc, keys, &mut seed)? {
-            return Ok(number);
+        if !list(alloc, keys, &mut course)? {
+            return Ok((number, course.cases));
         }
     }
-    Ok(count)
+    Ok((count, course.cases))
+}
+
+// Fails where a list leaves another set than its board, or where a case came less than a hundred times.
+fn all_leave_their_board<S: BuildHasher + Copy>(
+    alloc: Global,
+    keys: (S, S),
+    seed: u64,
+    count: u16,
+) -> Result<(), Fail> {
+    let (number, cases) = differing(alloc, keys, seed, count)?;
+    if number != count {
+        return Err(Fail::new(format_args!("list {number} leaves another set")));
+    }
+    if !all_came(&cases, 100) {
+        return Err(Fail::new(format_args!("a case came too seldom")));
+    }
+    Ok(())
 }
 
 #[test]
 fn lists_of_calls_and_merges_leave_their_board(rt: HostRuntime) -> Result<(), Fail> {
-    assert!(rt; differing(rt.alloc(), (fixed(), fixed()), 3_000)? == 3_000);
-    assert!(rt; differing(rt.alloc(), keys(), 3_000)? == 3_000);
-    Ok(())
+    all_leave_their_board(rt.alloc(), (fixed(), fixed()), 1_956, 10_000)
+}
+
+#[test]
+fn lists_of_calls_and_merges_leave_their_board_under_keys(rt: HostRuntime) -> Result<(), Fail> {
+    all_leave_their_board(rt.alloc(), keys(), 1_957, 10_000)
 }
