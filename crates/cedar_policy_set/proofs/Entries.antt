@@ -1,7 +1,7 @@
 -- Entries that go last, and lists that change.
-use Rattle.std.specs.Prelude.{◌≡◌, ℕ, ◌+◌, ◌<◌, suc, length, List, [], ◌∷◌, ◌++◌, Bool, true, false, ◌||◌, Option, Some, None, refl, map, is_some}
+use Rattle.std.specs.Prelude.{◌≡◌, ℕ, ◌+◌, ◌<◌, suc, length, List, [], ◌∷◌, ◌++◌, Bool, true, false, not, ◌||◌, Option, Some, None, refl, map, is_some}
 use Rattle.std.proofs.Common.{cond, sym, ap, ◌∙◌, subst, take, drop, get_or, Bor}
-use Rattle.std.specs.List.{find, list_any, AllZip}
+use Rattle.std.specs.List.{filter, find, list_any, AllZip}
 use Rattle.std.specs.Map.{values_of, lookup, set_value, remove_entry}
 use Rattle.std.specs.Option.{option_map, option_copied}
 use Rattle.std.specs.declared.rc.Rc.{Rc}
@@ -9,6 +9,7 @@ use Rattle.std.specs.declared.alloc.Global.{Global}
 use Rattle.std.proofs.lemmas.Bool.{or_parts}
 use Rattle.std.proofs.lemmas.List.{map-append, append_assoc, append-nil}
 use Rattle.std.proofs.lemmas.List.Folds.{list_any-append}
+use Rattle.std.proofs.lemmas.List.Elements.{filter-append}
 use Rattle.std.proofs.lemmas.List.Sums.{fold-append}
 use Rattle.std.proofs.lemmas.Map.Made.{lookup-map_values}
 use Rattle.indexmap.specs.IndexSet.{IndexSet}
@@ -18,14 +19,14 @@ use Rattle.cedar_body.specs.Bodies.{BodyParts}
 use Rattle.cedar_policy.specs.Policies.{PolicyParts, policy_id}
 use Rattle.cedar_policy_set.specs.Boards.{AreOnce, is_bound, is_body_at, is_policy_at}
 use Rattle.cedar_policy_set.specs.Lists.{ids_in}
-use Rattle.cedar_policy_set.specs.Maps.{Maps, shared_of, lists_of, board_in, ids_by_body, DoAgree}
+use Rattle.cedar_policy_set.specs.Maps.{Maps, shared_of, lists_of, board_in, ids_by_body, templates_in, DoAgree}
 use Rattle.cedar_policy_set.specs.Views.{bodies_of}
 use Rattle.cedar_policy_set.specs.laws.BoardLaws.{no_body_at, no_policy_at}
 use Rattle.cedar_policy_set.specs.laws.ListedLaws.{changed, with_listed, IsKeyed, lookup_is, keyed_last, join_listed}
 use Rattle.cedar_policy_set.specs.laws.ListSteps.{parted}
 use Rattle.cedar_policy_set.specs.laws.MapLaws.{listed_at, all_listed}
 use Rattle.cedar_policy_set.specs.laws.MergeSteps.{bodies_more, policies_more}
-use Rattle.cedar_policy_set.specs.laws.OnceLaws.{is_at, find-unless, any-map}
+use Rattle.cedar_policy_set.specs.laws.OnceLaws.{is_at, find-unless, any-filter_none, any-map}
 
 unchanged_at : (v : Bool) (e : List ℕ × List (List ℕ)) (es gs : List (List ℕ × List (List ℕ))) → gs ≡ es → cond v ((e.0, e.1) ∷ es) (e ∷ gs) ≡ e ∷ es
 unchanged_at true e es gs h = refl
@@ -166,6 +167,9 @@ body_known m es i h q = some_mapped body (lookup (same_text i) es) ∙ ap is_som
 pub policy_known : (m : Maps) (i : List ℕ) → DoAgree m → is_some (lookup (same_text i) m.policies) ≡ list_any (is_policy_at i) (board_in m).policies
 policy_known m i h = ap is_some (policy_read m i h) ∙ some_find (is_policy_at i) (board_in m).policies
 
+no_template_at : (i : List ℕ) (ts : List BodyParts) (ps : List PolicyParts) → list_any (is_body_at i) ts ≡ false → find (is_body_at i) (templates_in ps ts) ≡ None
+no_template_at i ts ps n = find-unless (is_body_at i) (templates_in ps ts) (any-filter_none (λ (t : BodyParts). not (list_any (is_policy_at t.id) ps)) (is_body_at i) ts n)
+
 module _ {S : Type 0} where
   abbrev ids : IndexSet (List ℕ) S → List (List ℕ)
   ids s = s.keys
@@ -176,16 +180,16 @@ module _ {S : Type 0} where
 
   -- the ids that are looked up
   pub ids_lent : (m : Maps) (es : List (List ℕ × IndexSet (List ℕ) S)) (i : List ℕ) (o : Option (Bor (IndexSet (List ℕ) S))) → DoAgree m → m.listed ≡ lists_of es → option_copied o ≡ lookup (same_text i) es →
-      option_map (λ s. s.now.keys) o ≡ option_map (λ t. ids_in t.id (board_in m).policies) (find (is_body_at i) (board_in m).bodies)
+      option_map (λ s. s.now.keys) o ≡ option_map (λ t. ids_in t.id (board_in m).policies) (find (is_body_at i) (templates_in (board_in m).policies (board_in m).bodies))
   ids_lent m es i o h q e =
-      lent o ∙ ap (option_map ids) e ∙ sym (lookup-map_values ids (same_text i) es) ∙ ap (lookup (same_text i)) (sym q ∙ h.all_listed) ∙ listed_at i (board_in m).bodies (board_in m).policies
+      lent o ∙ ap (option_map ids) e ∙ sym (lookup-map_values ids (same_text i) es) ∙ ap (lookup (same_text i)) (sym q ∙ h.all_listed) ∙ listed_at i (templates_in (board_in m).policies (board_in m).bodies) (board_in m).policies
 
   -- what is no key
   pub absent_list : (m : Maps) (es : List (List ℕ × IndexSet (List ℕ) S)) (i : List ℕ) → DoAgree m → m.listed ≡ lists_of es → is_bound (board_in m) i ≡ false → lookup (same_text i) es ≡ None
   absent_list m es i h q n =
       none_unread ids (same_text i) es
-      (ap (lookup (same_text i)) (sym q ∙ h.all_listed) ∙ listed_at i (board_in m).bodies (board_in m).policies
-      ∙ ap (option_map (λ t. ids_in t.id (board_in m).policies)) (find-unless (is_body_at i) (board_in m).bodies (no_body_at (board_in m) i n)))
+      (ap (lookup (same_text i)) (sym q ∙ h.all_listed) ∙ listed_at i (templates_in (board_in m).policies (board_in m).bodies) (board_in m).policies
+      ∙ ap (option_map (λ t. ids_in t.id (board_in m).policies)) (no_template_at i (board_in m).bodies (board_in m).policies (no_body_at (board_in m) i n)))
 
 pub absent_body : (m : Maps) (es : List (List ℕ × Rc BodyParts Global)) (i : List ℕ) → DoAgree m → m.bodies ≡ shared_of es → is_bound (board_in m) i ≡ false → lookup (same_text i) es ≡ None
 absent_body m es i h q n =
@@ -234,23 +238,63 @@ shared_keyed (e ∷ es) h =
     let r : IsKeyed shared_id es = cc in
     λ j. k j ∷ shared_keyed es r j
 
--- no id under one more body
-pub no_ids_more : {S : Type 0} (ts : List (Rc BodyParts Global)) (k : ℕ) (t : Rc BodyParts Global) (es fs : List (List ℕ × IndexSet (List ℕ) S)) (i : List ℕ) (s : IndexSet (List ℕ) S) →
-    k < length ts → t ≡ get_or ts k t → lists_of es ≡ ids_by_body (bodies_of (take k ts)) [] → fs ≡ es ++ (i, s) ∷ [] → i ≡ t.value.id → s.keys ≡ [] →
-    lists_of fs ≡ ids_by_body (bodies_of (take (k + 1) ts)) []
-no_ids_more {S} ts k t es fs i s n g h p q e =
-    ap lists_of p ∙ map-append (λ (e : List ℕ × IndexSet (List ℕ) S). (e.0, e.1.keys)) es ((i, s) ∷ [])
-    ∙ (λ j. h j ++ (q j, e j) ∷ [])
-    ∙ sym (ap (λ bs. ids_by_body bs []) (bodies_more ts k t n g) ∙ map-append (λ (b : BodyParts). (b.id, ids_in b.id [])) (bodies_of (take k ts)) (t.value ∷ []))
+-- whether a policy is known under an id
+pub known_by : (es : List (List ℕ × PolicyParts)) (i : List ℕ) → IsKeyed policy_id es → is_some (lookup (same_text i) es) ≡ list_any (is_policy_at i) (values_of es)
+known_by es i h = ap is_some (lookup_is policy_id (same_text i) es h) ∙ some_find (is_policy_at i) (values_of es)
 
-pub no_ids_absent : {S : Type 0} (ts : List (Rc BodyParts Global)) (k : ℕ) (t : Rc BodyParts Global) (es : List (List ℕ × IndexSet (List ℕ) S)) (i : List ℕ) → AreOnce body_id (bodies_of ts) →
-    k < length ts → t ≡ get_or ts k t → lists_of es ≡ ids_by_body (bodies_of (take k ts)) [] → i ≡ t.value.id → lookup (same_text i) es ≡ None
-no_ids_absent {S} ts k t es i o n g h q =
-    none_unread (λ (s : IndexSet (List ℕ) S). s.keys) (same_text i) es
-    (ap (lookup (same_text i)) h ∙ listed_at i (bodies_of (take k ts)) []
-    ∙ ap (option_map (λ b. ids_in b.id []))
-    (find-unless (is_body_at i) (bodies_of (take k ts))
-    (ap (λ j. list_any (is_body_at j) (bodies_of (take k ts))) q ∙ before_at body_id (bodies_of (take k ts)) t.value (bodies_of (drop (suc k) ts)) (subst (AreOnce body_id) (parted ts k t n g) o))))
+-- no id under one body, which is a template or not
+pub no_list : (ps : List PolicyParts) (t : BodyParts) (v : Bool) → v ≡ true → v ≡ list_any (is_policy_at t.id) ps → [] ≡ ids_by_body (templates_in ps (t ∷ [])) []
+no_list ps t v e h = ap (λ v. ids_by_body (cond (not v) (t ∷ []) []) []) (sym e ∙ h)
+
+pub one_list : (ps : List PolicyParts) (t : BodyParts) (v : Bool) → v ≡ false → v ≡ list_any (is_policy_at t.id) ps → (t.id, []) ∷ [] ≡ ids_by_body (templates_in ps (t ∷ [])) []
+one_list ps t v e h = ap (λ v. ids_by_body (cond (not v) (t ∷ []) []) []) (sym e ∙ h)
+
+module _ {S : Type 0} where
+  -- nothing more is listed
+  pub none_listed : (es : List (List ℕ × IndexSet (List ℕ) S)) (ls : List (List ℕ × List (List ℕ))) → [] ≡ ls → lists_of es ≡ lists_of es ++ ls
+  none_listed es ls h = sym (append-nil (lists_of es)) ∙ ap (λ ls. lists_of es ++ ls) h
+
+  -- one more id with nothing under it
+  pub one_listed : (es fs : List (List ℕ × IndexSet (List ℕ) S)) (k i : List ℕ) (s : IndexSet (List ℕ) S) (ls : List (List ℕ × List (List ℕ))) → fs ≡ es ++ (k, s) ∷ [] → k ≡ i → s.keys ≡ [] → (i, []) ∷ [] ≡ ls →
+      lists_of fs ≡ lists_of es ++ ls
+  one_listed es fs k i s ls p q e h =
+      ap lists_of p ∙ map-append (λ (e : List ℕ × IndexSet (List ℕ) S). (e.0, e.1.keys)) es ((k, s) ∷ []) ∙ (λ j. lists_of es ++ (q j, e j) ∷ []) ∙ ap (λ ls. lists_of es ++ ls) h
+
+  -- the lists that are kept
+  pub lists_kept : (es fs : List (List ℕ × IndexSet (List ℕ) S)) (qs : List (List ℕ × PolicyParts)) → IsKeyed policy_id qs → fs ≡ filter (λ e. not (is_some (lookup (same_text e.0) qs))) es →
+      lists_of fs ≡ filter (λ e. not (list_any (is_policy_at e.0) (values_of qs))) (lists_of es)
+  lists_kept es fs qs h p = ap lists_of p ∙ kept es
+    where
+      kept_at : (v w : Bool) (e : List ℕ × IndexSet (List ℕ) S) (gs : List (List ℕ × IndexSet (List ℕ) S)) (ls : List (List ℕ × List (List ℕ))) → v ≡ w → lists_of gs ≡ ls →
+          lists_of (cond (not v) (e ∷ gs) gs) ≡ cond (not w) ((e.0, e.1.keys) ∷ ls) ls
+      kept_at v true e gs ls p h = ap (λ v. lists_of (cond (not v) (e ∷ gs) gs)) p ∙ h
+      kept_at v false e gs ls p h = ap (λ v. lists_of (cond (not v) (e ∷ gs) gs)) p ∙ ap (λ ls. (e.0, e.1.keys) ∷ ls) h
+
+      kept : (es : List (List ℕ × IndexSet (List ℕ) S)) → lists_of (filter (λ e. not (is_some (lookup (same_text e.0) qs))) es) ≡ filter (λ e. not (list_any (is_policy_at e.0) (values_of qs))) (lists_of es)
+      kept [] = refl
+      kept (e ∷ es) =
+          kept_at (is_some (lookup (same_text e.0) qs)) (list_any (is_policy_at e.0) (values_of qs)) e (filter (λ e. not (is_some (lookup (same_text e.0) qs))) es)
+          (filter (λ e. not (list_any (is_policy_at e.0) (values_of qs))) (lists_of es)) (known_by qs e.0 h) (kept es)
+
+  -- no id under one more template
+  pub no_ids_more : (ts : List (Rc BodyParts Global)) (k : ℕ) (t : Rc BodyParts Global) (ps : List PolicyParts) (es fs : List (List ℕ × IndexSet (List ℕ) S)) →
+      k < length ts → t ≡ get_or ts k t → lists_of es ≡ ids_by_body (templates_in ps (bodies_of (take k ts))) [] → lists_of fs ≡ lists_of es ++ ids_by_body (templates_in ps (t.value ∷ [])) [] →
+      lists_of fs ≡ ids_by_body (templates_in ps (bodies_of (take (k + 1) ts))) []
+  no_ids_more ts k t ps es fs n g h p =
+      p ∙ ap (λ ls. ls ++ ids_by_body (templates_in ps (t.value ∷ [])) []) h
+      ∙ sym
+      (ap (λ bs. ids_by_body (templates_in ps bs) []) (bodies_more ts k t n g)
+      ∙ ap (λ us. ids_by_body us []) (filter-append (λ (t : BodyParts). not (list_any (is_policy_at t.id) ps)) (bodies_of (take k ts)) (t.value ∷ []))
+      ∙ map-append (λ (b : BodyParts). (b.id, ids_in b.id [])) (templates_in ps (bodies_of (take k ts))) (templates_in ps (t.value ∷ [])))
+
+  pub no_ids_absent : (ts : List (Rc BodyParts Global)) (k : ℕ) (t : Rc BodyParts Global) (ps : List PolicyParts) (es : List (List ℕ × IndexSet (List ℕ) S)) (i : List ℕ) → AreOnce body_id (bodies_of ts) →
+      k < length ts → t ≡ get_or ts k t → lists_of es ≡ ids_by_body (templates_in ps (bodies_of (take k ts))) [] → i ≡ t.value.id → lookup (same_text i) es ≡ None
+  no_ids_absent ts k t ps es i o n g h q =
+      none_unread (λ (s : IndexSet (List ℕ) S). s.keys) (same_text i) es
+      (ap (lookup (same_text i)) h ∙ listed_at i (templates_in ps (bodies_of (take k ts))) []
+      ∙ ap (option_map (λ b. ids_in b.id []))
+      (no_template_at i (bodies_of (take k ts)) ps
+      (ap (λ j. list_any (is_body_at j) (bodies_of (take k ts))) q ∙ before_at body_id (bodies_of (take k ts)) t.value (bodies_of (drop (suc k) ts)) (subst (AreOnce body_id) (parted ts k t n g) o))))
 
 -- one more policy is listed
 pub listed_more : (ps : List PolicyParts) (k : ℕ) (p : PolicyParts) (ls ms ns : List (List ℕ × List (List ℕ))) → k < length ps → p ≡ get_or ps k p → ms ≡ all_listed ls (take k ps) →

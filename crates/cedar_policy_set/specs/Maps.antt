@@ -1,6 +1,6 @@
 -- The three maps that a policy set is kept in, and how they agree.
-use Rattle.std.specs.Prelude.{◌≡◌, ℕ, List, [], ◌∷◌, map, Option, Some, None, false}
-use Rattle.std.specs.List.{find, list_any}
+use Rattle.std.specs.Prelude.{◌≡◌, ℕ, List, [], ◌∷◌, map, Option, Some, None, false, not}
+use Rattle.std.specs.List.{filter, find, list_any}
 use Rattle.std.specs.Map.{keys_of, values_of}
 use Rattle.std.specs.declared.rc.Rc.{Rc}
 use Rattle.std.specs.declared.alloc.Global.{Global}
@@ -34,13 +34,17 @@ board_in m = record { bodies = values_of m.bodies; policies = values_of m.polici
 abbrev pub ids_by_body : List BodyParts → List PolicyParts → List (List ℕ × List (List ℕ))
 ids_by_body ts ps = map (λ t. (t.id, ids_in t.id ps)) ts
 
--- they state a board, bodies and policies stand under their own ids, and in the third map stand the ids of all bodies,
--- in their order, with the ids of the policies on each, in theirs
+-- the bodies that are templates: those whose id no policy has
+abbrev pub templates_in : List PolicyParts → List BodyParts → List BodyParts
+templates_in ps ts = filter (λ t. not (list_any (is_policy_at t.id) ps)) ts
+
+-- they state a board, bodies and policies stand under their own ids, and in the third map stand the ids of all templates,
+-- in the order of bodies, with the ids of the links of each, in that of policies
 pub record DoAgree (m : Maps) : Type 0 where
   pub board : IsBoard (board_in m)
   pub bodies_by_id : keys_of m.bodies ≡ map (λ t. t.id) (values_of m.bodies)
   pub policies_by_id : keys_of m.policies ≡ map policy_id (values_of m.policies)
-  pub all_listed : m.listed ≡ ids_by_body (values_of m.bodies) (values_of m.policies)
+  pub all_listed : m.listed ≡ ids_by_body (templates_in (values_of m.policies) (values_of m.bodies)) (values_of m.policies)
 
 -- ---- maps that a caller hands over
 

@@ -18,3 +18,4 @@ pub mod OnceLaws
 pub mod RawMaps
 pub mod RenamingLaws
 pub mod TakenIn
+pub mod TemplateLaws

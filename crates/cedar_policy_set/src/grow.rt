@@ -5,7 +5,7 @@ ghost use Rattle.cedar_ids.specs.Texts.{same_text};
 ghost use Rattle.cedar_body.specs.Bodies.{BodyParts};
 ghost use Rattle.cedar_policy.specs.Policies.{policy_id};
 ghost use Rattle.cedar_policy_set.specs.Boards.{AreOnce};
-ghost use Rattle.cedar_policy_set.specs.Maps.{lists_of, shared_of, ids_by_body};
+ghost use Rattle.cedar_policy_set.specs.Maps.{lists_of, shared_of, ids_by_body, templates_in};
 ghost use Rattle.cedar_policy_set.specs.Views.{bodies_of};
 ghost use Rattle.cedar_policy_set.specs.laws.GrowLaws.{HasRoom, HaveRoom, grown_by, HaveOwnKeys};
 ghost use Rattle.cedar_policy_set.specs.laws.ListedLaws.{changed, IsKeyed};
@@ -14,7 +14,7 @@ ghost use Rattle.indexmap.specs.IndexMap.{spare};
 ghost use Rattle.indexmap.specs.IndexSet.{insert_all};
 ghost use Rattle.indexmap.specs.IndexSet as sets;
 
-use crate::maps::{bodies_by_id, ids_by_body, policies_by_id};
+use crate::maps::{bodies_by_id, ids_by_template, policies_by_id};
 use crate::policy_set::PolicySet;
 use cedar_ids::policy_id::PolicyID;
 use cedar_policy::{Policy, Template};
@@ -81,13 +81,12 @@ impl<S: BuildHasher + Copy> PolicySet<S> {
         ensures ok { OnOk result (self.new ≡ taken_in self.old (bodies_of bodies.join.items) policies.join.items) }
         ensures err { OnErr result (self.new ≡ self.old) }
     {
-        let hasher = *self.templates.hasher();
         let Parted { stand, join } = bodies;
         let Parted {
             stand: alike,
             join: policies,
         } = policies;
-        match what_enters(alloc, hasher, &stand, join, policies) {
+        match what_enters(alloc, &self.links, &stand, join, policies) {
             Ok(entering) => self.put_in(entering, stand, alike),
             Err(error) => {
                 drop(stand);
@@ -107,8 +106,8 @@ impl<S: BuildHasher + Copy> PolicySet<S> {
         requires can { CanTakeIn self.old (bodies_of bodies.items) (bodies_of (values_of entering.templates.entries)) (values_of entering.links.entries) }
         requires bodies { IsKeyed (λ t. t.value.id) entering.templates.entries }
         requires policies { IsKeyed policy_id entering.links.entries }
-        requires listed { lists_of entering.listed.entries ≡ ids_by_body (bodies_of (values_of entering.templates.entries)) (values_of entering.links.entries) }
-        requires grown { lists_of entering.grown.entries ≡ ids_by_body (bodies_of bodies.items) (values_of entering.links.entries) }
+        requires listed { lists_of entering.listed.entries ≡ ids_by_body (templates_in (values_of entering.links.entries) (bodies_of (values_of entering.templates.entries))) (values_of entering.links.entries) }
+        requires grown { lists_of entering.grown.entries ≡ ids_by_body (templates_in self.old.policies (bodies_of bodies.items)) (values_of entering.links.entries) }
         ensures ok { OnOk result (self.new ≡ taken_in self.old (bodies_of (values_of entering.templates.entries)) (values_of entering.links.entries)) }
         ensures err { OnErr result (self.new ≡ self.old) }
     {
@@ -143,14 +142,15 @@ impl<S: BuildHasher + Copy> PolicySet<S> {
     }
 }
 
-// What enters where some bodies stand and others join, with policies on both.
+// What enters a set with these policies where some bodies stand and others join, with policies on both.
 fn what_enters<S: BuildHasher + Copy>(
     alloc: Global,
-    hasher: S,
+    known: &IndexMap<PolicyID, Policy, S>,
     stand: &[Rc<Template>],
     bodies: Vec<Rc<Template>>,
     policies: Vec<Policy>,
 ) -> Result<Entering<S>, AllocError>
+    requires keyed { IsKeyed policy_id known.now.entries }
     requires stand { AreOnce (λ (t : BodyParts). t.id) (bodies_of stand.now) }
     requires bodies { AreOnce (λ (t : BodyParts). t.id) (bodies_of bodies.items) }
     requires policies { AreOnce policy_id policies.items }
@@ -158,10 +158,10 @@ fn what_enters<S: BuildHasher + Copy>(
     ensures bodies { IfOk result (λ e. values_of e.templates.entries ≡ bodies.items) }
     ensures policies_keyed { IfOk result (λ e. IsKeyed policy_id e.links.entries) }
     ensures policies { IfOk result (λ e. values_of e.links.entries ≡ policies.items) }
-    ensures listed { IfOk result (λ e. lists_of e.listed.entries ≡ ids_by_body (bodies_of bodies.items) policies.items) }
-    ensures grown { IfOk result (λ e. lists_of e.grown.entries ≡ ids_by_body (bodies_of stand.now) policies.items) }
+    ensures listed { IfOk result (λ e. lists_of e.listed.entries ≡ ids_by_body (templates_in policies.items (bodies_of bodies.items)) policies.items) }
+    ensures grown { IfOk result (λ e. lists_of e.grown.entries ≡ ids_by_body (templates_in (values_of known.now.entries) (bodies_of stand.now)) policies.items) }
 {
-    let grown = match ids_by_body(alloc, hasher, stand, &policies) {
+    let grown = match ids_by_template(alloc, stand, known, &policies) {
         Ok(grown) => grown,
         Err(error) => {
             drop(bodies);
@@ -169,30 +169,29 @@ fn what_enters<S: BuildHasher + Copy>(
             return Err(error);
         }
     };
-    let listed = match ids_by_body(alloc, hasher, &bodies, &policies) {
+    let links = match policies_by_id(alloc, *known.hasher(), policies) {
+        Ok(links) => links,
+        Err(error) => {
+            drop(bodies);
+            drop(grown);
+            return Err(error);
+        }
+    };
+    let listed = match ids_by_template(alloc, &bodies, &links, links.values().as_slice()) {
         Ok(listed) => listed,
         Err(error) => {
             drop(bodies);
-            drop(policies);
             drop(grown);
+            drop(links);
             return Err(error);
         }
     };
-    let templates = match bodies_by_id(alloc, hasher, bodies) {
+    let templates = match bodies_by_id(alloc, *known.hasher(), bodies) {
         Ok(templates) => templates,
         Err(error) => {
-            drop(policies);
             drop(grown);
+            drop(links);
             drop(listed);
-            return Err(error);
-        }
-    };
-    let links = match policies_by_id(alloc, hasher, policies) {
-        Ok(links) => links,
-        Err(error) => {
-            drop(grown);
-            drop(listed);
-            drop(templates);
             return Err(error);
         }
     };

@@ -9,7 +9,7 @@ ghost use Rattle.cedar_policy_set.specs.Lists.{slotted_in, statics_in};
 use crate::lists::{has_no_slots, is_link};
 use cedar_ids::policy_id::PolicyID;
 use cedar_policy::{Policy, Template};
-use indexmap::{IndexMap, IndexSet, map, set};
+use indexmap::{IndexMap, map};
 use std::hash::BuildHasher;
 use std::marker::Model;
 use std::rc::Rc;
@@ -263,20 +263,21 @@ fn next_static<'a>(inner: &mut Policies<'a>) -> Option<&'a Policy>
 /// The ids of the policies on a body, in the order in which they joined.
 #[derive(Drop)]
 pub struct LinkedIds<'a> {
-    inner: set::Iter<'a, PolicyID>,
+    inner: slice::Iter<'a, PolicyID>,
 }
 
 impl<'a> Model for LinkedIds<'a> {
     ghost use Rattle.std.specs.Prelude.{List, ℕ};
+    ghost use Rattle.std.specs.Slice.Iter.{iter_rest};
 
     ghost Value = { List (List ℕ) };
 
-    ghost view = { λ s. s.inner };
+    ghost view = { λ s. iter_rest s.inner };
 }
 
 impl<'a> LinkedIds<'a> {
-    pub(crate) fn of<S: BuildHasher>(ids: &'a IndexSet<PolicyID, S>) -> LinkedIds<'a>
-        ensures { result ≡ ids.now.keys }
+    pub(crate) fn of(ids: &'a [PolicyID]) -> LinkedIds<'a>
+        ensures { result ≡ ids.now }
     {
         LinkedIds { inner: ids.iter() }
     }

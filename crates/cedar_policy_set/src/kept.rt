@@ -1,16 +1,18 @@
 //! How a policy set is kept: what reads and changes its three maps.
-ghost use Rattle.std.specs.Prelude.{◌≡◌, OnOk, OnErr, Some, false, length, ◌<◌};
+ghost use Rattle.std.specs.Prelude.{◌≡◌, OnOk, OnErr, None, Some, false, length, ◌<◌};
 ghost use Rattle.std.specs.List.{find, list_any};
 ghost use Rattle.std.specs.Option.{option_copied, option_map};
 ghost use Rattle.cedar_policy_set.specs.Boards.{bound_at, is_bound, is_body_at, is_policy_at, has_links, with_template, with_policy, with_both, without_id, last_policy};
 ghost use Rattle.cedar_policy_set.specs.Lists.{ids_in};
+ghost use Rattle.cedar_policy_set.specs.Maps.{templates_in};
 ghost use Rattle.cedar_policy_set.specs.Views.{bodies_of};
 ghost use Rattle.cedar_policy_set.specs.laws.Founds.{found_binding};
 ghost use Rattle.cedar_policy_set.specs.laws.Joins.{CanJoin, CanJoinBoth};
-ghost use Rattle.cedar_policy_set.specs.laws.MapLaws.{has_other};
+ghost use Rattle.cedar_policy_set.specs.laws.MapLaws.{has_ids};
 
 use crate::found::Found;
-use crate::maps::{list_policy, put_last, room_for_body, room_for_both, unlist};
+use crate::lists::is_link;
+use crate::maps::{list_policy, put_last, room_for_body, room_for_both, room_for_link, unlist};
 use crate::policy_set::PolicySet;
 use cedar_ids::policy_id::PolicyID;
 use cedar_policy::{Policy, Template};
@@ -18,6 +20,7 @@ use indexmap::IndexSet;
 use std::alloc::AllocError;
 use std::hash::BuildHasher;
 use std::rc::Rc;
+use std::slice;
 
 impl<S: BuildHasher + Copy> PolicySet<S> {
     // The bodies, in their order.
@@ -62,11 +65,32 @@ impl<S: BuildHasher + Copy> PolicySet<S> {
         self.links.contains_key(id)
     }
 
-    // The ids of the policies on the body with this id, if there is one.
-    pub(crate) fn ids_on(&self, id: &PolicyID) -> Option<&IndexSet<PolicyID, S>>
-        ensures { option_map (λ s. s.now.keys) result ≡ option_map (λ t. ids_in t.id self.now.policies) (find (is_body_at id.now) self.now.bodies) }
+    // The ids of the links of the template with this id, if there is one.
+    pub(crate) fn links_of(&self, id: &PolicyID) -> Option<&IndexSet<PolicyID, S>>
+        ensures { option_map (λ s. s.now.keys) result ≡ option_map (λ t. ids_in t.id self.now.policies) (find (is_body_at id.now) (templates_in self.now.policies self.now.bodies)) }
     {
         self.template_to_links_map.get(id)
+    }
+
+    // The ids of the policies on the body with this id, if there is one: of a static policy its own.
+    pub(crate) fn ids_on(&self, id: &PolicyID) -> Option<&[PolicyID]>
+        ensures { option_copied result ≡ option_map (λ t. ids_in t.id self.now.policies) (find (is_body_at id.now) self.now.bodies) }
+    {
+        // No effect at run time: this borrow says that the set is a board.
+        let _ = &self.templates;
+        match self.policy_at(id) {
+            None => match self.links_of(id) {
+                None => None,
+                Some(ids) => Some(ids.as_slice()),
+            },
+            Some(policy) => {
+                if is_link(policy) {
+                    None
+                } else {
+                    Some(slice::from_ref(policy.id()))
+                }
+            }
+        }
     }
 
     // What an id is bound to.
@@ -89,16 +113,13 @@ impl<S: BuildHasher + Copy> PolicySet<S> {
         self.has_policy(id) || self.has_body(id)
     }
 
-    // Whether the template with this id has links. A static policy stands on its own body alone.
+    // Whether the template with this id has links.
     pub(crate) fn is_linked(&self, id: &PolicyID) -> bool
         ensures { result ≡ has_links self.now id.now }
     {
         // No effect at run time: this borrow says how the maps agree.
         let _ = &self.templates;
-        match self.ids_on(id) {
-            None => false,
-            Some(ids) => is_other(ids, self.has_policy(id)),
-        }
+        has_ids(self.links_of(id))
     }
 
     // Puts a template last.
@@ -152,13 +173,47 @@ impl<S: BuildHasher + Copy> PolicySet<S> {
         ensures ok { OnOk result (self.new ≡ with_both self.old policy.template policy) }
         ensures err { OnErr result (self.new ≡ self.old) }
     {
-        match room_for_both(
+        if is_link(&policy) {
+            self.put_link_on_its_own(policy)
+        } else {
+            self.put_static(policy)
+        }
+    }
+
+    // Puts a static policy and its body last, each in its order.
+    fn put_static(&mut self, policy: Policy) -> Result<(), AllocError>
+        requires joins { CanJoinBoth self.old policy }
+        requires no_link { policy.link ≡ None }
+        ensures ok { OnOk result (self.new ≡ with_both self.old policy.template policy) }
+        ensures err { OnErr result (self.new ≡ self.old) }
+    {
+        match room_for_both(&mut self.templates, &mut self.links, &policy) {
+            Ok((body, own, template)) => {
+                put_last(&mut self.templates, body, template);
+                put_last(&mut self.links, own, policy);
+                Ok(())
+            }
+            Err(error) => {
+                drop(policy);
+                Err(error)
+            }
+        }
+    }
+
+    // Puts a link and its template last, each in its order.
+    fn put_link_on_its_own(&mut self, policy: Policy) -> Result<(), AllocError>
+        requires joins { CanJoinBoth self.old policy }
+        requires link { policy.link ≡ None → ⊥ }
+        ensures ok { OnOk result (self.new ≡ with_both self.old policy.template policy) }
+        ensures err { OnErr result (self.new ≡ self.old) }
+    {
+        match room_for_link(
             &mut self.templates,
             &mut self.links,
             &mut self.template_to_links_map,
             &policy,
         ) {
-            Ok((body, under, own, ids, template)) => {
+            Ok((body, own, template, under, ids)) => {
                 put_last(&mut self.templates, body, template);
                 put_last(&mut self.links, own, policy);
                 put_last(&mut self.template_to_links_map, under, ids);
@@ -195,9 +250,12 @@ impl<S: BuildHasher + Copy> PolicySet<S> {
     }
 }
 
-// Whether there are ids, and no policy has the id that they stand under.
-fn is_other<S: BuildHasher + Copy>(ids: &IndexSet<PolicyID, S>, is_policy: bool) -> bool
-    ensures { result ≡ has_other (Some ids.now.keys) is_policy }
+// Whether there are ids.
+fn has_ids<S: BuildHasher + Copy>(ids: Option<&IndexSet<PolicyID, S>>) -> bool
+    ensures { result ≡ has_ids (option_map (λ s. s.now.keys) ids.entry) }
 {
-    !ids.is_empty() && !is_policy
+    match ids {
+        None => false,
+        Some(ids) => !ids.is_empty(),
+    }
 }

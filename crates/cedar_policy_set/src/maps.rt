@@ -1,11 +1,12 @@
 //! One map at a time: what goes last, what is listed under an id, and maps that are made from lists.
-ghost use Rattle.std.specs.Prelude.{◌≡◌, ◌<◌, ◌++◌, ◌∷◌, [], None, OnOk, OnErr, IfOk};
+ghost use Rattle.std.specs.Prelude.{◌≡◌, ◌<◌, ◌++◌, ◌∷◌, [], None, not, is_some, OnOk, OnErr, IfOk};
+ghost use Rattle.std.specs.List.{filter};
 ghost use Rattle.std.specs.Map.{values_of};
 ghost use Rattle.cedar_ids.specs.Texts.{same_text};
 ghost use Rattle.cedar_body.specs.Bodies.{BodyParts};
 ghost use Rattle.cedar_policy.specs.Policies.{policy_id};
 ghost use Rattle.cedar_policy_set.specs.Boards.{AreOnce};
-ghost use Rattle.cedar_policy_set.specs.Maps.{lists_of, shared_of, ids_by_body};
+ghost use Rattle.cedar_policy_set.specs.Maps.{lists_of, shared_of, ids_by_body, templates_in};
 ghost use Rattle.cedar_policy_set.specs.Views.{bodies_of};
 ghost use Rattle.cedar_policy_set.specs.laws.ListedLaws.{with_listed, without_listed, IsKeyed};
 ghost use Rattle.cedar_policy_set.specs.laws.MapLaws.{unlisted, all_listed};
@@ -135,15 +136,35 @@ pub(crate) fn list_policy<S: BuildHasher + Copy>(
 pub(crate) fn room_for_both<S: BuildHasher + Copy>(
     templates: &mut IndexMap<PolicyID, Rc<Template>, S>,
     links: &mut IndexMap<PolicyID, Policy, S>,
+    policy: &Policy,
+) -> Result<(PolicyID, PolicyID, Rc<Template>), AllocError>
+    ensures bodies { templates.new.entries ≡ templates.old.entries }
+    ensures policies { links.new.entries ≡ links.old.entries }
+    ensures room { OnOk result ((0 < spare templates.new) × (0 < spare links.new)) }
+    ensures ids { IfOk result (λ r. (r.0 ≡ policy.now.template.id) × (r.1 ≡ policy_id policy.now)) }
+    ensures share { IfOk result (λ r. r.2.value ≡ policy.now.template) }
+{
+    templates.reserve(1)?;
+    links.reserve(1)?;
+    let body = policy.template().id().clone()?;
+    let (body, own) = with_copy(body, policy.id())?;
+    let ((body, own), template) = with_share((body, own), policy)?;
+    Ok((body, own, template))
+}
+
+// Room for one more link and its template, what they go under, a further share of the template, and the list under its id.
+pub(crate) fn room_for_link<S: BuildHasher + Copy>(
+    templates: &mut IndexMap<PolicyID, Rc<Template>, S>,
+    links: &mut IndexMap<PolicyID, Policy, S>,
     map: &mut IndexMap<PolicyID, IndexSet<PolicyID, S>, S>,
     policy: &Policy,
 ) -> Result<
     (
         PolicyID,
         PolicyID,
+        Rc<Template>,
         PolicyID,
         IndexSet<PolicyID, S>,
-        Rc<Template>,
     ),
     AllocError,
 >
@@ -151,18 +172,35 @@ pub(crate) fn room_for_both<S: BuildHasher + Copy>(
     ensures policies { links.new.entries ≡ links.old.entries }
     ensures lists { map.new.entries ≡ map.old.entries }
     ensures room { OnOk result ((0 < spare templates.new) × (0 < spare links.new) × (0 < spare map.new)) }
-    ensures body { IfOk result (λ r. (r.0 ≡ policy.now.template.id) × (r.1 ≡ policy.now.template.id)) }
-    ensures own { IfOk result (λ r. (r.2 ≡ policy_id policy.now) × (r.3.keys ≡ policy_id policy.now ∷ [])) }
-    ensures share { IfOk result (λ r. r.4.value ≡ policy.now.template) }
+    ensures ids { IfOk result (λ r. (r.0 ≡ policy.now.template.id) × (r.1 ≡ policy_id policy.now)) }
+    ensures share { IfOk result (λ r. r.2.value ≡ policy.now.template) }
+    ensures list { IfOk result (λ r. (r.3 ≡ policy.now.template.id) × (r.4.keys ≡ policy_id policy.now ∷ [])) }
 {
+    let (under, ids) = room_for_list(map, policy)?;
+    match room_for_both(templates, links, policy) {
+        Ok((body, own, template)) => Ok((body, own, template, under, ids)),
+        Err(error) => {
+            drop(under);
+            drop(ids);
+            Err(error)
+        }
+    }
+}
+
+// Room for one more list, a copy of the id of a link's template, and the list of the link's own id.
+fn room_for_list<S: BuildHasher + Copy>(
+    map: &mut IndexMap<PolicyID, IndexSet<PolicyID, S>, S>,
+    policy: &Policy,
+) -> Result<(PolicyID, IndexSet<PolicyID, S>), AllocError>
+    ensures lists { map.new.entries ≡ map.old.entries }
+    ensures room { OnOk result (0 < spare map.new) }
+    ensures list { IfOk result (λ r. (r.0 ≡ policy.now.template.id) × (r.1.keys ≡ policy_id policy.now ∷ [])) }
+{
+    map.reserve(1)?;
     let alloc = *map.allocator();
     let hasher = *map.hasher();
-    links.reserve(1)?;
-    let ids = room_for_body(templates, map, policy.template())?;
-    let ((body, under), own) = with_copy(ids, policy.id())?;
-    let ((body, under, own), ids) = with_set((body, under, own), alloc, hasher, policy.id())?;
-    let ((body, under, own, ids), template) = with_share((body, under, own, ids), policy)?;
-    Ok((body, under, own, ids, template))
+    let under = policy.template().id().clone()?;
+    with_set(under, alloc, hasher, policy.id())
 }
 
 // The set of one id.
@@ -212,7 +250,7 @@ fn drop_id<S: BuildHasher + Copy>(ids: &mut IndexSet<PolicyID, S>, id: &PolicyID
     ids.shift_remove(id);
 }
 
-// Lists an id last under a body's.
+// Lists an id last under a template's.
 pub(crate) fn list_id<S: BuildHasher + Copy>(
     map: &mut IndexMap<PolicyID, IndexSet<PolicyID, S>, S>,
     body: &PolicyID,
@@ -224,6 +262,20 @@ pub(crate) fn list_id<S: BuildHasher + Copy>(
     match map.get_mut(body) {
         None => Ok(()),
         Some(ids) => put_id(ids, id),
+    }
+}
+
+// Lists a copy of an id last under a body's, where there is a list.
+fn list_copy<S: BuildHasher + Copy>(
+    map: &mut IndexMap<PolicyID, IndexSet<PolicyID, S>, S>,
+    body: &PolicyID,
+    id: &PolicyID,
+) -> Result<(), AllocError>
+    ensures { OnOk result (lists_of map.new.entries ≡ with_listed body.now id.now (lists_of map.old.entries)) }
+{
+    match map.get_mut(body) {
+        None => Ok(()),
+        Some(ids) => put_copy(ids, id),
     }
 }
 
@@ -371,18 +423,20 @@ fn put_policy<S: BuildHasher + Copy>(
     }
 }
 
-// The ids of the policies on each body, under its id, in the order of bodies.
-pub(crate) fn ids_by_body<S: BuildHasher + Copy>(
+// The ids of the policies on each template, under its id, in the order of bodies. Of the bodies those are templates whose ids
+// the first policies do not have.
+pub(crate) fn ids_by_template<S: BuildHasher + Copy>(
     alloc: Global,
-    hasher: S,
     bodies: &[Rc<Template>],
+    known: &IndexMap<PolicyID, Policy, S>,
     policies: &[Policy],
 ) -> Result<IndexMap<PolicyID, IndexSet<PolicyID, S>, S>, AllocError>
     requires bodies { AreOnce (λ (t : BodyParts). t.id) (bodies_of bodies.now) }
+    requires keyed { IsKeyed policy_id known.now.entries }
     requires policies { AreOnce policy_id policies.now }
-    ensures { IfOk result (λ m. lists_of m.entries ≡ ids_by_body (bodies_of bodies.now) policies.now) }
+    ensures { IfOk result (λ m. lists_of m.entries ≡ ids_by_body (templates_in (values_of known.now.entries) (bodies_of bodies.now)) policies.now) }
 {
-    let mut map = no_ids(alloc, hasher, bodies)?;
+    let mut map = no_ids(alloc, bodies, known)?;
     match list_ids(&mut map, policies) {
         Ok(()) => Ok(map),
         Err(error) => {
@@ -392,24 +446,38 @@ pub(crate) fn ids_by_body<S: BuildHasher + Copy>(
     }
 }
 
-// No id under each body's id.
+// No id under each template's id.
 fn no_ids<S: BuildHasher + Copy>(
     alloc: Global,
-    hasher: S,
     bodies: &[Rc<Template>],
+    known: &IndexMap<PolicyID, Policy, S>,
 ) -> Result<IndexMap<PolicyID, IndexSet<PolicyID, S>, S>, AllocError>
-    requires { AreOnce (λ (t : BodyParts). t.id) (bodies_of bodies.now) }
-    ensures { IfOk result (λ m. lists_of m.entries ≡ ids_by_body (bodies_of bodies.now) []) }
+    requires bodies { AreOnce (λ (t : BodyParts). t.id) (bodies_of bodies.now) }
+    requires keyed { IsKeyed policy_id known.now.entries }
+    ensures { IfOk result (λ m. lists_of m.entries ≡ ids_by_body (templates_in (values_of known.now.entries) (bodies_of bodies.now)) []) }
 {
-    let mut map = IndexMap::with_capacity_and_hasher(alloc, bodies.len(), hasher)?;
+    let mut map = IndexMap::with_hasher(alloc, *known.hasher());
     for template in bodies {
-        put_new(
-            &mut map,
-            template.id().clone()?,
-            IndexSet::with_hasher(alloc, hasher),
-        )?;
+        put_no_ids(&mut map, template, known)?;
     }
     Ok(map)
+}
+
+// Puts no id under a template's id last, unless a policy has the id.
+fn put_no_ids<S: BuildHasher + Copy>(
+    map: &mut IndexMap<PolicyID, IndexSet<PolicyID, S>, S>,
+    template: &Rc<Template>,
+    known: &IndexMap<PolicyID, Policy, S>,
+) -> Result<(), AllocError>
+    requires absent { get same_text map.old template.now.value.id ≡ None }
+    requires keyed { IsKeyed policy_id known.now.entries }
+    ensures { OnOk result (lists_of map.new.entries ≡ lists_of map.old.entries ++ ids_by_body (templates_in (values_of known.now.entries) (template.now.value ∷ [])) []) }
+{
+    if known.contains_key(template.id()) {
+        return Ok(());
+    }
+    let ids = IndexSet::with_hasher(*map.allocator(), *map.hasher());
+    put_new(map, template.id().clone()?, ids)
 }
 
 // Lists policies, each last under its body's id.
@@ -420,9 +488,19 @@ fn list_ids<S: BuildHasher + Copy>(
     ensures { OnOk result (lists_of map.new.entries ≡ all_listed (lists_of map.old.entries) policies.now) }
 {
     for policy in policies {
-        list_id(map, policy.template().id(), policy.id().clone()?)?;
+        list_copy(map, policy.template().id(), policy.id())?;
     }
     Ok(())
+}
+
+// Keeps the lists under ids that no policy has, in their order.
+pub(crate) fn keep_templates<S: BuildHasher + Copy>(
+    map: &mut IndexMap<PolicyID, IndexSet<PolicyID, S>, S>,
+    links: &IndexMap<PolicyID, Policy, S>,
+)
+    ensures { map.new.entries ≡ filter (λ e. not (is_some (get same_text links.now e.0))) map.old.entries }
+{
+    map.retain(|id, _| !links.contains_key(id));
 }
 
 // Further shares of bodies, under their ids.

@@ -11,6 +11,7 @@ ghost use Rattle.cedar_policy_set.specs.Steps.{get_linked_step};
 use crate::err::PolicySetGetLinksError;
 use crate::iters::{AllTemplates, IntoPolicies, LinkedIds, Policies, StaticPolicies, Templates};
 use crate::lists::read_policies;
+use crate::maps::keep_templates;
 use cedar_ids::policy_id::PolicyID;
 use cedar_policy::{Policy, Template};
 use indexmap::{IndexMap, IndexSet};
@@ -70,7 +71,8 @@ impl<S: BuildHasher + Copy> PolicySet<S> {
     }
 
     /// The set that is kept in these three maps: bodies, static policies' too, policies, and under each body's id the ids of
-    /// the policies on it. It takes no memory, and passes over the policies once, for its proof alone.
+    /// the policies on it. It takes no memory. It passes over the policies once, for its proof alone, and over the third map,
+    /// of which the set keeps what stands under templates' ids: on a static policy's body stands that policy alone.
     ///
     /// The maps have to agree: bodies and policies stand under their own ids; each policy's template stands among the bodies;
     /// a link has an id that no body has, and its template is no static policy's; and the third map has the ids of all
@@ -88,6 +90,8 @@ impl<S: BuildHasher + Copy> PolicySet<S> {
         let _bodies = templates.len();
         let _policies = links.len();
         read_policies(links.values().as_slice());
+        let mut template_to_links_map = template_to_links_map;
+        keep_templates(&mut template_to_links_map, &links);
         PolicySet {
             templates,
             links,
@@ -174,7 +178,7 @@ impl<S: BuildHasher + Copy> PolicySet<S> {
 
     /// The ids of the policies on the body with this id, in the order in which they joined: of a template its links, of a
     /// static policy itself. `MissingTemplate` comes where no body has the id. It takes memory only for the id that a
-    /// refusal names, and costs one look-up.
+    /// refusal names, and costs two look-ups at most.
     #[tactic(auto, using(crate::specs::laws::BoardLaws::listed))]
     pub fn get_linked_policies(
         &self,

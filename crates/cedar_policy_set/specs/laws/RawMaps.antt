@@ -1,7 +1,7 @@
 -- Maps that a caller hands over agree, by what holds of every map and of every policy.
-use Rattle.std.specs.Prelude.{◌≡◌, ℕ, List, [], ◌∷◌, Bool, false, ◌||◌, Option, Some, None, All, refl, map}
+use Rattle.std.specs.Prelude.{◌≡◌, ℕ, List, [], ◌∷◌, Bool, false, not, ◌||◌, Option, Some, None, All, refl, map}
 use Rattle.std.proofs.Common.{sym, ap, ◌∙◌, subst}
-use Rattle.std.specs.List.{AllByRecursion, IsDistinct, list_any}
+use Rattle.std.specs.List.{AllByRecursion, IsDistinct, filter, list_any}
 use Rattle.std.proofs.lemmas.List.Elements.{recursion_from_All}
 use Rattle.std.specs.Map.{keys_of, values_of}
 use Rattle.std.specs.declared.rc.Rc.{Rc}
@@ -10,9 +10,10 @@ use Rattle.cedar_ids.specs.Texts.{same_text}
 use Rattle.cedar_body.specs.Bodies.{BodyParts, body_slots}
 use Rattle.cedar_binding.specs.Bindings.{FitsSlots}
 use Rattle.cedar_policy.specs.Policies.{PolicyParts, policy_id, static_policy}
-use Rattle.cedar_policy_set.specs.Boards.{Board, AreOnce, AreHeld, IsHeldBy}
+use Rattle.cedar_policy_set.specs.Boards.{Board, AreOnce, AreHeld, IsHeldBy, is_policy_at}
 use Rattle.cedar_policy_set.specs.Maps.{Maps, board_in, shared_of, ArePlaced, IsPlacedBy, CanMakeSet, DoAgree}
 use Rattle.cedar_policy_set.specs.laws.OnceLaws.{any-map}
+use Rattle.cedar_policy_set.specs.laws.TemplateLaws.{templates_listed}
 
 -- what the readers of a policy say of it: what is no link is its body, which has no slots, and what is bound fits the slots
 pub record IsWhole (p : PolicyParts) : Type 0 where
@@ -46,9 +47,10 @@ pub shared_keys : (es : List (List ℕ × Rc BodyParts Global)) → keys_of es �
 shared_keys [] = refl
 shared_keys (e ∷ es) = ap (λ ks. e.0 ∷ ks) (shared_keys es)
 
--- maps without equal keys, of policies of which their readers say what holds
-pub raw_agree : (m : Maps) → IsDistinct same_text (keys_of m.bodies) → IsDistinct same_text (keys_of m.policies) → All IsWhole (values_of m.policies) → CanMakeSet m → DoAgree m
-raw_agree m d e w h = record {
+-- maps without equal keys, of policies of which their readers say what holds, the third without the lists under policies' ids
+pub raw_agree : (m : Maps) (ls : List (List ℕ × List (List ℕ))) → IsDistinct same_text (keys_of m.bodies) → IsDistinct same_text (keys_of m.policies) → All IsWhole (values_of m.policies) → CanMakeSet m →
+    ls ≡ filter (λ e. not (list_any (is_policy_at e.0) (values_of m.policies))) m.listed → DoAgree (record { bodies = m.bodies; policies = m.policies; listed = ls })
+raw_agree m ls d e w h q = record {
   board = record {
     bodies_once = distinct_once (λ (t : BodyParts). t.id) (values_of m.bodies) (subst (IsDistinct same_text) h.bodies_by_id d);
     policies_once = distinct_once policy_id (values_of m.policies) (subst (IsDistinct same_text) h.policies_by_id e);
@@ -56,5 +58,7 @@ raw_agree m d e w h = record {
   };
   bodies_by_id = h.bodies_by_id;
   policies_by_id = h.policies_by_id;
-  all_listed = h.all_listed;
+  all_listed =
+      q ∙ ap (filter (λ e. not (list_any (is_policy_at e.0) (values_of m.policies)))) h.all_listed
+      ∙ templates_listed (values_of m.bodies) (values_of m.policies) (values_of m.policies);
 }
