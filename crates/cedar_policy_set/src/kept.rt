@@ -213,9 +213,9 @@ impl<S: BuildHasher + Copy> PolicySet<S> {
             &mut self.template_to_links_map,
             &policy,
         ) {
-            Ok((body, own, template, under, ids)) => {
-                put_last(&mut self.templates, body, template);
-                put_last(&mut self.links, own, policy);
+            Ok((on, link, template, under, ids)) => {
+                put_last(&mut self.templates, on, template);
+                put_last(&mut self.links, link, policy);
                 put_last(&mut self.template_to_links_map, under, ids);
                 Ok(())
             }

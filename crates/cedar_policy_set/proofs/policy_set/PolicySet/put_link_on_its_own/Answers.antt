@@ -13,7 +13,7 @@ put_last-requires-clause-absent g c =
     let m : Maps = maps_of c.self.inside.templates.entries c.self.inside.links.entries c.self.inside.template_to_links_map.entries in
     let p = c.args.policy in
     let j : CanJoinBoth (board_in m) p = subst (λ b. CanJoinBoth b p) (sym c.self.view_is) c.requires.joins in
-    let k : c.in-Ok.body ≡ p.template.id = c.in-Ok.ensures.ids.0 in
+    let k : c.in-Ok.on ≡ p.template.id = c.in-Ok.ensures.ids.0 in
     rw (k, c.room_for_link.ensures.bodies) (absent_body m c.self.inside.templates.entries p.template.id c.self.invariant refl j.0)
 
 pub put_last-requires-in-Ok-clause-absent : goal.put_last-requires-in-Ok-clause-absent
@@ -21,7 +21,7 @@ put_last-requires-in-Ok-clause-absent g c =
     let m : Maps = maps_of c.self.inside.templates.entries c.self.inside.links.entries c.self.inside.template_to_links_map.entries in
     let p = c.args.policy in
     let j : CanJoinBoth (board_in m) p = subst (λ b. CanJoinBoth b p) (sym c.self.view_is) c.requires.joins in
-    let k : c.in-Ok.own ≡ policy_id p = c.in-Ok.ensures.ids.1 in
+    let k : c.in-Ok.link ≡ policy_id p = c.in-Ok.ensures.ids.1 in
     rw (k, c.room_for_link.ensures.policies) (absent_policy m (policy_id p) c.self.invariant (both_free p.link (board_in m) p refl j.0 j.1))
 
 pub put_last-requires-in-Ok-2-clause-absent : goal.put_last-requires-in-Ok-2-clause-absent
@@ -37,9 +37,9 @@ invariant_of-self g c =
     let m : Maps = maps_of c.self.inside.templates.entries c.self.inside.links.entries c.self.inside.template_to_links_map.entries in
     let p = c.args.policy in
     let j : CanJoinBoth (board_in m) p = subst (λ b. CanJoinBoth b p) (sym c.self.view_is) c.requires.joins in
-    let k : c.in-Ok.body ≡ p.template.id = c.in-Ok.ensures.ids.0 in
+    let k : c.in-Ok.on ≡ p.template.id = c.in-Ok.ensures.ids.0 in
     let l : c.in-Ok.under ≡ p.template.id = c.in-Ok.ensures.list.0 in
-    let n : c.in-Ok.own ≡ policy_id p = c.in-Ok.ensures.ids.1 in
+    let n : c.in-Ok.link ≡ policy_id p = c.in-Ok.ensures.ids.1 in
     let one : c.in-Ok.ids.keys ≡ policy_id p ∷ [] = c.in-Ok.ensures.list.1 in
     (link_kept m p _ _ _ c.self.invariant j c.requires.link
     (read_last (λ v. v.value) c.self.inside.templates.entries c.room_for_link.new.templates.entries c.put_last.new.map.entries _ p.template.id c.in-Ok.template p.template c.room_for_link.ensures.bodies c.put_last.ensures k c.in-Ok.ensures.share)
