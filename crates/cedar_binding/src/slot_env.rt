@@ -42,6 +42,17 @@ pub fn copy_of_bindings(values: &SlotEnv) -> Result<SlotEnv, AllocError>
     Ok(copy)
 }
 
+/// The same bindings without the room that they do not need: a map of one binding has room for nine, of which each is as
+/// large as a uid. It asks for memory for a smaller table, and keeps the larger where that is refused, so it always
+/// succeeds.
+pub fn fitted_bindings(values: SlotEnv) -> SlotEnv
+    ensures { env_of result ≡ env_of values }
+{
+    let mut values = values;
+    values.shrink_to_fit();
+    values
+}
+
 /// Whether both bind the same slots to equal uids, in whatever order the maps give them. It looks at no
 /// location and takes no memory.
 pub fn same_bindings(one: &SlotEnv, other: &SlotEnv) -> bool

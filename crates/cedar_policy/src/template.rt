@@ -23,7 +23,7 @@ use crate::validate::check;
 use cedar_action::ActionConstraint;
 use cedar_annotation::annotation::Iter;
 use cedar_annotation::{Annotation, Annotations};
-use cedar_binding::{LinkingError, SlotEnv, check_bindings, no_bindings};
+use cedar_binding::{LinkingError, SlotEnv, check_bindings, fitted_bindings, no_bindings};
 use cedar_body::{Effect, TemplateBody};
 use cedar_ids::id::AnyId;
 use cedar_ids::loc::Loc;
@@ -278,7 +278,7 @@ impl Template {
 
     /// The policy of this template, this id and these bindings, which it takes over; else the refusal of
     /// `check_binding`. Takes memory as that does, and for the policy's block where it is not refused so; what it took is
-    /// dropped where it is refused.
+    /// dropped where it is refused. Of the map of bindings it gives back the room that they do not need.
     pub fn link(
         alloc: Global,
         template: Rc<Template>,
@@ -288,6 +288,7 @@ impl Template {
         ensures { Links result template.value new_id (env_of values) }
     {
         Template::check_binding(alloc, &template, &values)?;
+        let values = fitted_bindings(values);
         Ok(Policy::of(alloc, template, Some(new_id), values)?)
     }
 

@@ -34,6 +34,7 @@ use std::rc::Rc;
 pub struct PolicySet<S: BuildHasher = BuildHasherDefault<FoldHasher>> {
     pub(crate) templates: IndexMap<PolicyID, Rc<Template>, S>,
     pub(crate) links: IndexMap<PolicyID, Policy, S>,
+    // Of templates alone: on the body of a static policy stands that policy.
     pub(crate) template_to_links_map: IndexMap<PolicyID, IndexSet<PolicyID, S>, S>,
 }
 
