@@ -10,7 +10,6 @@ ghost use Rattle.cedar_policy_set.specs.laws.Joins.{HasNoTemplate, Stands, Stand
 
 use crate::err::PolicySetError;
 use crate::found::Found;
-use crate::lists::either;
 use crate::policy_set::PolicySet;
 use cedar_ids::policy_id::PolicyID;
 use cedar_policy::{LinkingError, Policy, SlotEnv, StaticPolicy, Template};
@@ -167,10 +166,8 @@ impl<S: BuildHasher + Copy> PolicySet<S> {
     {
         // No effect at run time: this call says that exactly the slots of its template are bound.
         let _total = policy.env();
-        if either(
-            policy.id() == policy.template().id(),
-            self.is_bound(policy.id()),
-        ) {
+        let is_taken = policy.id() == policy.template().id() || self.is_bound(policy.id());
+        if is_taken {
             let id: Result<PolicyID, AllocError> = policy.id().clone();
             drop(policy);
             return Err(PolicySetError::Occupied { id: id? });
@@ -179,16 +176,18 @@ impl<S: BuildHasher + Copy> PolicySet<S> {
         Ok(())
     }
 
-    // Puts a link of a template in the set last.
-    #[tactic(auto, using(crate::specs::laws::BoardLaws::no_template_step))]
-    fn put_link(
+    // Puts a link of a template in the set last: to take it out again leaves the former set.
+    #[tactic(auto, using(crate::specs::laws::BoardLaws::no_template_step, crate::specs::laws::LinkLaws::link_undone, crate::specs::laws::LinkLaws::link_there))]
+    pub(crate) fn join_link(
         &mut self,
         alloc: Global,
         template_id: PolicyID,
         new_id: PolicyID,
         values: SlotEnv,
     ) -> Result<(), LinkingError>
-        ensures { Steps told_by_linking result self.old self.new (link_step self.old template_id new_id (env_of values)) }
+        ensures steps { Steps told_by_linking result self.old self.new (link_step self.old template_id new_id (env_of values)) }
+        ensures undone { OnOk result (UnlinksTo self.old template_id new_id (env_of values) self.new) }
+        ensures there { OnOk result (0 < length self.new.policies) }
     {
         match self.template(&template_id) {
             Ok(None) => {
@@ -207,22 +206,6 @@ impl<S: BuildHasher + Copy> PolicySet<S> {
                 Err(LinkingError::from(error))
             }
         }
-    }
-
-    // Puts a link of a template in the set last: to take it out again leaves the former set.
-    #[tactic(auto, using(crate::specs::laws::LinkLaws::link_undone, crate::specs::laws::LinkLaws::link_there))]
-    pub(crate) fn join_link(
-        &mut self,
-        alloc: Global,
-        template_id: PolicyID,
-        new_id: PolicyID,
-        values: SlotEnv,
-    ) -> Result<(), LinkingError>
-        ensures steps { Steps told_by_linking result self.old self.new (link_step self.old template_id new_id (env_of values)) }
-        ensures undone { OnOk result (UnlinksTo self.old template_id new_id (env_of values) self.new) }
-        ensures there { OnOk result (0 < length self.new.policies) }
-    {
-        self.put_link(alloc, template_id, new_id, values)
     }
 
     // A further share of the template with this id, where a template stands there.

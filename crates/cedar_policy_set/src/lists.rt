@@ -1,5 +1,5 @@
 //! Small readers of policies and templates.
-ghost use Rattle.std.specs.Prelude.{◌≡◌, ◌||◌, is_some, All, IfOk};
+ghost use Rattle.std.specs.Prelude.{◌≡◌, is_some, All, IfOk};
 ghost use Rattle.cedar_body.specs.Bodies.{body_slots};
 ghost use Rattle.cedar_policy_set.specs.Validity.{is_slotless};
 ghost use Rattle.cedar_policy_set.specs.laws.RawMaps.{IsWhole};
@@ -30,13 +30,6 @@ pub(crate) fn template_of(policy: &Policy) -> Result<Rc<Template>, AllocError>
     ensures { IfOk result (λ t. t.value ≡ policy.now.template) }
 {
     policy.template_arc().clone()
-}
-
-// Whether one or the other holds.
-pub(crate) fn either(one: bool, other: bool) -> bool
-    ensures { result ≡ (one || other) }
-{
-    one || other
 }
 
 // Has the readers of a policy say what holds of it. They change nothing.

@@ -1,5 +1,5 @@
 -- What linking leaves: a link under an id that was free, last.
-use Rattle.std.specs.Prelude.{◌≡◌, ℕ, ◌<◌, length, List, [], ◌∷◌, ◌++◌, Bool, true, false, Option, Some, None, Result, Ok, Err, refl, if◌then◌else◌, ◌||◌}
+use Rattle.std.specs.Prelude.{◌≡◌, ℕ, ◌<◌, length, List, [], ◌∷◌, ◌++◌, Bool, true, false, Option, Some, None, Result, Ok, Err, OnOk, refl, if◌then◌else◌, ◌||◌}
 use Rattle.std.proofs.Common.{sym, ap, ◌∙◌, arith, subst, cond}
 use Rattle.std.specs.List.{find, list_any}
 use Rattle.std.proofs.lemmas.Bool.{or_parts}
@@ -10,7 +10,9 @@ use Rattle.cedar_body.specs.Bodies.{BodyParts, body_slots}
 use Rattle.cedar_binding.specs.Bindings.{EnvParts, unbound, extra, wrong_action}
 use Rattle.cedar_policy.specs.Policies.{PolicyParts}
 use Rattle.cedar_policy_set.specs.Boards.{Board, Binding, Static, Template, Link, bound_at, bound_among, is_bound, is_body_at, is_policy_at, with_policy, without_id}
-use Rattle.cedar_policy_set.specs.Steps.{Refusal, id_conflict, fitting, link_at, link_step, unlinked_at, unlink_step, UnlinksTo}
+use Rattle.cedar_policy_set.specs.Steps.{Refusal, id_conflict, fitting, link_onto, link_at, link_step, unlinked_at, unlink_step, UnlinksTo}
+use Rattle.cedar_binding.specs.declared.err.LinkingError.{LinkingError}
+use Rattle.cedar_policy_set.specs.Refusals.{Steps, told_by_linking}
 use Rattle.cedar_policy_set.specs.laws.BoardLaws.{undone}
 
 abbrev link_of : BodyParts → List ℕ → EnvParts → PolicyParts
@@ -73,3 +75,9 @@ pub link_there : (b c : Board) (i l : List ℕ) (e : EnvParts) → link_step b i
 link_there b c i l e h =
     let j = joined (bound_at b i) b c i l e h in
     subst (λ (d : Board). 0 < length d.policies) j.3 (pushed b.policies (link_of j.0 l e))
+
+-- so it does after linking a template that stands under an id
+pub link_of_there : {A : Type 0} (r : Result A LinkingError) (b c : Board) (i l : List ℕ) (e : EnvParts) (t : BodyParts) → bound_at b i ≡ Some (Template t) → Steps told_by_linking r b c (link_onto t b l e) →
+    OnOk r (0 < length c.policies)
+link_of_there (Ok a) b c i l e t q h = link_there b c i l e (ap (λ x. link_at x b i l e) q ∙ h)
+link_of_there (Err d) b c i l e t q h = tt
