@@ -1,2 +1,3 @@
 pub mod CommandOf
+pub mod FirstLine
 pub mod Sessions

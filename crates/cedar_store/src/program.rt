@@ -1,11 +1,14 @@
 //! The program's work, from bytes to bytes.
-ghost use Rattle.std.specs.Prelude.{◌≡◌, ◌==◌, List, ℕ, IfOk, OnOk, IfSome, IfErr, map};
+ghost use Rattle.std.specs.Prelude.{◌≡◌, ◌<◌, ◌==◌, ◌∷◌, List, ℕ, length, IfOk, OnOk, IfSome, IfErr, map};
+ghost use Rattle.std.specs.Option.{option_copied};
 ghost use Rattle.std.specs.List.{slice_split};
 ghost use Rattle.std.specs.Io.KnownBytes.{IsAtEnd, Appends};
+ghost use Rattle.cedar_store.specs.laws.FirstLine.{lines_left};
 ghost use Rattle.cedar_store.specs.Output.{IsOutput, HasOneOutput};
 ghost use Rattle.cedar_store.specs.Faults.{Leaves};
 
 use crate::session::{Session, push_not_command};
+use memchr::memchr;
 use std::alloc::{AllocError, Global};
 use std::hash::{BuildHasher, BuildHasherDefault, FoldHasher};
 use std::io::{Read, Write};
@@ -45,11 +48,35 @@ fn read_all<R: Read>(alloc: Global, reader: &mut R) -> Result<Vec<u8>, RunError>
     Err(RunError::Read)
 }
 
+// What stands before the first line feed, and what stands behind it, if there is one.
+fn first_line(input: &[u8]) -> (&[u8], Option<&[u8]>)
+    ensures lines { slice_split (λ b. b == 10) input.now ≡ result.0.now ∷ lines_left (option_copied result.1) }
+    ensures shorter { IfSome result.1 (λ rest. length rest.now < length input.now) }
+{
+    match memchr(b'\n', input) {
+        None => (input, None),
+        Some(i) => {
+            let (line, rest) = input.split_at(i);
+            match rest.split_first() {
+                None => (input, None),
+                Some((_feed, rest)) => (line, Some(rest)),
+            }
+        }
+    }
+}
+
 // The lines of an input, between its line feeds.
 fn lines_of(alloc: Global, input: &[u8]) -> Result<Vec<&[u8]>, AllocError>
     ensures { IfOk result (λ v. map (λ x. x.now) v.items ≡ slice_split (λ b. b == 10) input.now) }
 {
-    input.split(|b| *b == b'\n').collect(alloc)
+    let mut lines = Vec::new(alloc);
+    let mut left = Some(input);
+    while let Some(rest) = left {
+        let (line, behind) = first_line(rest);
+        lines.push(line)?;
+        left = behind;
+    }
+    Ok(lines)
 }
 
 // What is written for an input, the status, and the session as it stands then.
