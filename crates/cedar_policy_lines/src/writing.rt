@@ -75,14 +75,14 @@ fn push_refused_uid(
 }
 
 // Whether each byte is written as it is.
-fn is_plain(text: &[u8]) -> bool
+fn is_own_text(text: &[u8]) -> bool
     ensures { result ≡ list_all is_plain_byte text.now }
 {
-    text.iter().all(|b| is_plain_byte(*b))
+    text.iter().all(|b| is_own_escape(*b))
 }
 
 // Whether a byte is written as it is.
-fn is_plain_byte(b: u8) -> bool
+fn is_own_escape(b: u8) -> bool
     ensures { result ≡ is_plain_byte b }
 {
     b >= 0x20 && b < 0x7f && b != b'\'' && b != b'"' && b != b'\\'
@@ -93,7 +93,7 @@ fn push_id_text(alloc: Global, out: &mut Vec<u8>, id: &PolicyID) -> Result<(), A
     ensures { OnOk result (out.new.items ≡ out.old.items ++ id_text id.now) }
 {
     let own = id.as_ref().as_bytes();
-    if is_plain(own) {
+    if is_own_text(own) {
         out.extend_from_slice(own)?;
         return Ok(());
     }
