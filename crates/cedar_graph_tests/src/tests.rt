@@ -8,3 +8,19 @@ mod random;
 mod reached;
 mod small;
 mod told;
+
+use cedar_keyed_hash::KeyedState;
+use std::hash::{BuildHasherDefault, FoldHasher};
+
+// The builder of hashers of a map that is given none.
+fn fixed() -> BuildHasherDefault<FoldHasher> {
+    BuildHasherDefault::new()
+}
+
+// Two builders of hashers with keys.
+fn keyed() -> (KeyedState, KeyedState) {
+    (
+        KeyedState::with_keys(1, 2),
+        KeyedState::with_keys(u64::MAX, 3),
+    )
+}

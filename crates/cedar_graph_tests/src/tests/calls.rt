@@ -2,11 +2,13 @@
 ghost use Rattle.std.specs.Prelude.{nat_eq};
 ghost use Rattle.cedar_graph.specs.Graph.{KeysMatch};
 
+use super::{fixed, keyed};
 use crate::tests::nodes::{Apart, Edges, Plain, graph, graph_apart, in_order, put};
 use crate::tests::told::{Told, check, close, has_edges, names_one, repair};
 use cedar_graph::{MissingTcEdge, TCNode, TcError, enforce_tc_and_dag};
 use std::alloc::{AllocError, Global};
 use std::collections::HashMap;
+use std::hash::BuildHasher;
 
 // A name, the keys of the map as they are put in, the edges, and the edges of the closure.
 type Case<'a> = (&'a str, &'a [u64], Edges<'a>, Edges<'a>);
@@ -287,8 +289,14 @@ const CYCLIC: [Cyclic<'static>; 7] = [
 ];
 
 // Whether a graph that lacks edges is closed to these, and passes then.
-fn is_closed(alloc: Global, keys: &[u64], edges: Edges<'_>, closure: Edges<'_>) -> bool {
-    match graph(alloc, keys, edges) {
+fn is_closed<S: BuildHasher + Copy>(
+    alloc: Global,
+    hasher: S,
+    keys: &[u64],
+    edges: Edges<'_>,
+    closure: Edges<'_>,
+) -> bool {
+    match graph(alloc, hasher, keys, edges) {
         Ok(mut nodes) => {
             let before = check(alloc, &nodes);
             let closed = close(alloc, &mut nodes, true);
@@ -305,8 +313,14 @@ fn is_closed(alloc: Global, keys: &[u64], edges: Edges<'_>, closure: Edges<'_>) 
 }
 
 // Whether the same in nodes that keep their own edges apart is closed to these.
-fn is_closed_apart(alloc: Global, keys: &[u64], edges: Edges<'_>, closure: Edges<'_>) -> bool {
-    match graph_apart(alloc, keys, edges) {
+fn is_closed_apart<S: BuildHasher + Copy>(
+    alloc: Global,
+    hasher: S,
+    keys: &[u64],
+    edges: Edges<'_>,
+    closure: Edges<'_>,
+) -> bool {
+    match graph_apart(alloc, hasher, keys, edges) {
         Ok(mut nodes) => {
             let closed = close(alloc, &mut nodes, false);
             let same = has_edges(alloc, &nodes, closure);
@@ -317,24 +331,38 @@ fn is_closed_apart(alloc: Global, keys: &[u64], edges: Edges<'_>, closure: Edges
     }
 }
 
+// Whether both are so.
+fn are_closed<S: BuildHasher + Copy>(alloc: Global, hasher: S, case: &Case<'_>) -> bool {
+    let (_, keys, edges, closure) = case;
+    is_closed(alloc, hasher, keys, edges, closure)
+        && is_closed_apart(alloc, hasher, keys, edges, closure)
+}
+
 #[test]
 fn graphs_without_cycles_are_closed(rt: HostRuntime) {
     let alloc = rt.alloc();
-    for (name, keys, edges, closure) in ACYCLIC {
-        assert!(rt; is_closed(alloc, keys, edges, closure), "{name}");
-        assert!(rt; is_closed_apart(alloc, keys, edges, closure), "{name}");
+    let (one, other) = keyed();
+    for case in &ACYCLIC {
+        let name = case.0;
+        assert!(rt; are_closed(alloc, fixed(), case), "{name}");
+        assert!(rt; are_closed(alloc, one, case), "{name} under the first key");
+        assert!(rt;
+            are_closed(alloc, other, case),
+            "{name} under the second key"
+        );
     }
 }
 
 // Whether a graph is closed to these edges, and the check then names one of these keys.
-fn is_closed_and_named(
+fn is_closed_and_named<S: BuildHasher + Copy>(
     alloc: Global,
+    hasher: S,
     keys: &[u64],
     edges: Edges<'_>,
     closure: Edges<'_>,
     on_cycle: &[u64],
 ) -> bool {
-    match graph(alloc, keys, edges) {
+    match graph(alloc, hasher, keys, edges) {
         Ok(mut nodes) => {
             let closed = close(alloc, &mut nodes, false);
             let same = has_edges(alloc, &nodes, closure);
@@ -348,14 +376,15 @@ fn is_closed_and_named(
 
 // Whether closing a graph in nodes that keep their own edges apart names one of these keys, and it is closed
 // to these edges.
-fn is_named_and_closed(
+fn is_named_and_closed<S: BuildHasher + Copy>(
     alloc: Global,
+    hasher: S,
     keys: &[u64],
     edges: Edges<'_>,
     closure: Edges<'_>,
     on_cycle: &[u64],
 ) -> bool {
-    match graph_apart(alloc, keys, edges) {
+    match graph_apart(alloc, hasher, keys, edges) {
         Ok(mut nodes) => {
             let answer = close(alloc, &mut nodes, true);
             let same = has_edges(alloc, &nodes, closure);
@@ -366,23 +395,33 @@ fn is_named_and_closed(
     }
 }
 
+// Whether both are so.
+fn are_named<S: BuildHasher + Copy>(alloc: Global, hasher: S, case: &Cyclic<'_>) -> bool {
+    let (_, keys, edges, closure, on_cycle) = case;
+    is_closed_and_named(alloc, hasher, keys, edges, closure, on_cycle)
+        && is_named_and_closed(alloc, hasher, keys, edges, closure, on_cycle)
+}
+
 #[test]
 fn graphs_with_cycles_are_closed_and_the_cycle_is_named(rt: HostRuntime) {
     let alloc = rt.alloc();
-    for (name, keys, edges, closure, on_cycle) in CYCLIC {
+    let (one, other) = keyed();
+    for case in &CYCLIC {
+        let name = case.0;
+        assert!(rt; are_named(alloc, fixed(), case), "{name}");
+        assert!(rt; are_named(alloc, one, case), "{name} under the first key");
         assert!(rt;
-            is_closed_and_named(alloc, keys, edges, closure, on_cycle),
-            "{name}"
-        );
-        assert!(rt;
-            is_named_and_closed(alloc, keys, edges, closure, on_cycle),
-            "{name}"
+            are_named(alloc, other, case),
+            "{name} under the second key"
         );
     }
 }
 
 // Puts in the nodes 1, 2 and 4 with other edges.
-fn change(alloc: Global, nodes: &mut HashMap<u64, Plain>) -> Result<(), AllocError>
+fn change<S: BuildHasher + Copy>(
+    alloc: Global,
+    nodes: &mut HashMap<u64, Plain, S>,
+) -> Result<(), AllocError>
     requires { KeysMatch nat_eq (λ n. n.number) nodes.old }
     ensures { KeysMatch nat_eq (λ n. n.number) nodes.new }
 {
@@ -392,8 +431,8 @@ fn change(alloc: Global, nodes: &mut HashMap<u64, Plain>) -> Result<(), AllocErr
 }
 
 // Whether a chain that is closed, changed and closed again has these edges, and passes then alone.
-fn is_closed_anew(alloc: Global, closure: Edges<'_>) -> bool {
-    match graph(alloc, &[1, 2, 3], CHAIN) {
+fn is_closed_anew<S: BuildHasher + Copy>(alloc: Global, hasher: S, closure: Edges<'_>) -> bool {
+    match graph(alloc, hasher, &[1, 2, 3], CHAIN) {
         Ok(mut nodes) => {
             let first = close(alloc, &mut nodes, true);
             let changed = change(alloc, &mut nodes).is_ok();
@@ -415,18 +454,27 @@ fn is_closed_anew(alloc: Global, closure: Edges<'_>) -> bool {
 
 #[test]
 fn changed_nodes_are_closed_anew(rt: HostRuntime) {
-    assert!(rt; is_closed_anew(rt.alloc(), &[(1, 2), (1, 4), (2, 4)]));
+    let alloc = rt.alloc();
+    let (one, other) = keyed();
+    let closure: Edges<'_> = &[(1, 2), (1, 4), (2, 4)];
+    assert!(rt; is_closed_anew(alloc, fixed(), closure));
+    assert!(rt; is_closed_anew(alloc, one, closure), "under the first key");
+    assert!(rt;
+        is_closed_anew(alloc, other, closure),
+        "under the second key"
+    );
 }
 
 // Whether a graph without cycles is repaired at these keys to these edges.
-fn is_repaired(
+fn is_repaired<S: BuildHasher + Copy>(
     alloc: Global,
+    hasher: S,
     keys: &[u64],
     edges: Edges<'_>,
     to_fix: &[u64],
     closure: Edges<'_>,
 ) -> bool {
-    match graph(alloc, keys, edges) {
+    match graph(alloc, hasher, keys, edges) {
         Ok(mut nodes) => {
             let answer = repair(alloc, to_fix, &mut nodes, true);
             let same = has_edges(alloc, &nodes, closure);
@@ -437,13 +485,34 @@ fn is_repaired(
     }
 }
 
+// Whether repair of a chain at its first key completes that.
+fn first_is_completed<S: BuildHasher + Copy>(alloc: Global, hasher: S) -> bool {
+    is_repaired(
+        alloc,
+        hasher,
+        &[1, 2],
+        CHAIN,
+        &[1],
+        &[(1, 2), (1, 3), (2, 3)],
+    )
+}
+
 #[test]
 fn repair_completes_the_nodes_to_fix(rt: HostRuntime) {
-    assert!(rt; is_repaired(rt.alloc(), &[1, 2], CHAIN, &[1], &[(1, 2), (1, 3), (2, 3)]));
+    let alloc = rt.alloc();
+    let (one, other) = keyed();
+    assert!(rt; first_is_completed(alloc, fixed()));
+    assert!(rt; first_is_completed(alloc, one), "under the first key");
+    assert!(rt; first_is_completed(alloc, other), "under the second key");
 }
 
 // Whether a node of a graph has the first of two edges, and not the second.
-fn has_one(nodes: &HashMap<u64, Plain>, from: u64, to: u64, not_to: u64) -> bool {
+fn has_one<S: BuildHasher>(
+    nodes: &HashMap<u64, Plain, S>,
+    from: u64,
+    to: u64,
+    not_to: u64,
+) -> bool {
     match nodes.get(&from) {
         Some(node) => node.has_edge_to(&to) && !node.has_edge_to(&not_to),
         None => false,
@@ -451,8 +520,8 @@ fn has_one(nodes: &HashMap<u64, Plain>, from: u64, to: u64, not_to: u64) -> bool
 }
 
 // Whether repair of a longer chain at its first key leaves the second alone.
-fn second_stays(alloc: Global) -> bool {
-    match graph(alloc, &[1, 2, 3], &[(1, 2), (2, 3), (3, 4)]) {
+fn second_stays<S: BuildHasher + Copy>(alloc: Global, hasher: S) -> bool {
+    match graph(alloc, hasher, &[1, 2, 3], &[(1, 2), (2, 3), (3, 4)]) {
         Ok(mut nodes) => {
             let answer = repair(alloc, &[1, 9], &mut nodes, false);
             let stays = has_one(&nodes, 2, 3, 4);
@@ -465,12 +534,16 @@ fn second_stays(alloc: Global) -> bool {
 
 #[test]
 fn repair_leaves_the_other_nodes_alone(rt: HostRuntime) {
-    assert!(rt; second_stays(rt.alloc()));
+    let alloc = rt.alloc();
+    let (one, other) = keyed();
+    assert!(rt; second_stays(alloc, fixed()));
+    assert!(rt; second_stays(alloc, one), "under the first key");
+    assert!(rt; second_stays(alloc, other), "under the second key");
 }
 
 // Whether repair of a cycle of two names a key of it, and passes where it is not asked to.
-fn cycle_is_named(alloc: Global) -> bool {
-    match graph(alloc, &[1, 2], &[(1, 2), (2, 1)]) {
+fn cycle_is_named<S: BuildHasher + Copy>(alloc: Global, hasher: S) -> bool {
+    match graph(alloc, hasher, &[1, 2], &[(1, 2), (2, 1)]) {
         Ok(mut nodes) => {
             let first = repair(alloc, &[1, 2], &mut nodes, true);
             let second = repair(alloc, &[1, 2], &mut nodes, false);
@@ -483,12 +556,21 @@ fn cycle_is_named(alloc: Global) -> bool {
 
 #[test]
 fn repair_names_a_cycle_where_it_is_asked_to(rt: HostRuntime) {
-    assert!(rt; cycle_is_named(rt.alloc()));
+    let alloc = rt.alloc();
+    let (one, other) = keyed();
+    assert!(rt; cycle_is_named(alloc, fixed()));
+    assert!(rt; cycle_is_named(alloc, one), "under the first key");
+    assert!(rt; cycle_is_named(alloc, other), "under the second key");
 }
 
 // What the check of a graph tells.
-fn checked(alloc: Global, keys: &[u64], edges: Edges<'_>) -> Told {
-    match graph(alloc, keys, edges) {
+fn checked<S: BuildHasher + Copy>(
+    alloc: Global,
+    hasher: S,
+    keys: &[u64],
+    edges: Edges<'_>,
+) -> Told {
+    match graph(alloc, hasher, keys, edges) {
         Ok(nodes) => {
             let answer = check(alloc, &nodes);
             drop(nodes);
@@ -498,13 +580,26 @@ fn checked(alloc: Global, keys: &[u64], edges: Edges<'_>) -> Told {
     }
 }
 
+// Whether the check of a cycle of two names an edge that either key has to itself.
+fn loop_is_missing<S: BuildHasher + Copy>(alloc: Global, hasher: S) -> bool {
+    let found = checked(alloc, hasher, &[1, 2], &[(1, 2), (2, 1)]);
+    found == Told::Missing(1, 2, 1) || found == Told::Missing(2, 1, 2)
+}
+
+// Whether the check names the loop, the edge that a chain lacks, and one that a cycle lacks.
+fn rules_are_named<S: BuildHasher + Copy>(alloc: Global, hasher: S) -> bool {
+    checked(alloc, hasher, &[1], &[(1, 1)]) == Told::Cycle(1)
+        && checked(alloc, hasher, &[1, 2], CHAIN) == Told::Missing(1, 2, 3)
+        && loop_is_missing(alloc, hasher)
+}
+
 #[test]
 fn first_broken_rule_is_named(rt: HostRuntime) {
     let alloc = rt.alloc();
-    assert!(rt; checked(alloc, &[1], &[(1, 1)]) == Told::Cycle(1));
-    assert!(rt; checked(alloc, &[1, 2], CHAIN) == Told::Missing(1, 2, 3));
-    let found = checked(alloc, &[1, 2], &[(1, 2), (2, 1)]);
-    assert!(rt; found == Told::Missing(1, 2, 1) || found == Told::Missing(2, 1, 2));
+    let (one, other) = keyed();
+    assert!(rt; rules_are_named(alloc, fixed()));
+    assert!(rt; rules_are_named(alloc, one), "under the first key");
+    assert!(rt; rules_are_named(alloc, other), "under the second key");
 }
 
 // The refusal of a missing edge.
@@ -517,8 +612,13 @@ fn missing() -> TcError<u64> {
 }
 
 // The refusal of a graph by the check.
-fn refused(alloc: Global, keys: &[u64], edges: Edges<'_>) -> Option<TcError<u64>> {
-    match graph(alloc, keys, edges) {
+fn refused<S: BuildHasher + Copy>(
+    alloc: Global,
+    hasher: S,
+    keys: &[u64],
+    edges: Edges<'_>,
+) -> Option<TcError<u64>> {
+    match graph(alloc, hasher, keys, edges) {
         Ok(nodes) => {
             let answer = enforce_tc_and_dag(alloc, &nodes);
             drop(nodes);
@@ -529,8 +629,8 @@ fn refused(alloc: Global, keys: &[u64], edges: Edges<'_>) -> Option<TcError<u64>
 }
 
 // The refusal of the loop on 7.
-fn looped(alloc: Global) -> Option<TcError<u64>> {
-    refused(alloc, &[7], &[(7, 7)])
+fn looped<S: BuildHasher + Copy>(alloc: Global, hasher: S) -> Option<TcError<u64>> {
+    refused(alloc, hasher, &[7], &[(7, 7)])
 }
 
 // Whether a refusal is written so.
@@ -569,18 +669,26 @@ fn equal(first: Option<TcError<u64>>, second: TcError<u64>) -> Option<bool> {
     }
 }
 
+// Whether the refusal of a loop is written so, and is another than that of a missing edge, which the check of a chain answers.
+fn are_told<S: BuildHasher + Copy>(alloc: Global, hasher: S) -> bool {
+    let want = "input graph has a cycle containing vertex `7`";
+    shows(alloc, looped(alloc, hasher), want)
+        && equal(refused(alloc, hasher, &[1, 2], CHAIN), missing()) == Some(true)
+        && equal(looped(alloc, hasher), missing()) == Some(false)
+}
+
 #[test]
 fn refusals_are_told(rt: HostRuntime) {
     let alloc = rt.alloc();
     let want =
         "expected all transitive edges to exist, but `1` -> `2` and `2` -> `3` exists, while `1` -> `3` does not";
     assert!(rt; shows(alloc, Some(missing()), want));
-    let want = "input graph has a cycle containing vertex `7`";
-    assert!(rt; shows(alloc, looped(alloc), want));
     assert!(rt; shows(alloc, Some(TcError::Memory), "out of memory"));
-    assert!(rt; equal(refused(alloc, &[1, 2], CHAIN), missing()) == Some(true));
-    assert!(rt; equal(looped(alloc), missing()) == Some(false));
     assert!(rt; equal(Some(missing()), TcError::Memory) == Some(false));
+    let (one, other) = keyed();
+    assert!(rt; are_told(alloc, fixed()));
+    assert!(rt; are_told(alloc, one), "under the first key");
+    assert!(rt; are_told(alloc, other), "under the second key");
 }
 
 // Whether keys that could be listed are these, in order.
@@ -608,8 +716,8 @@ fn lists<V: TCNode<u64>>(alloc: Global, node: &V, edges: &[u64], direct: &[u64])
 }
 
 // Whether the first node of a chain has its key, and lists its edges once it is closed.
-fn plain_lists(alloc: Global) -> bool {
-    match graph(alloc, &[1, 2], CHAIN) {
+fn plain_lists<S: BuildHasher + Copy>(alloc: Global, hasher: S) -> bool {
+    match graph(alloc, hasher, &[1, 2], CHAIN) {
         Ok(mut nodes) => {
             let closed = close(alloc, &mut nodes, true);
             let told = match nodes.get(&1) {
@@ -633,8 +741,8 @@ fn is_set_back(alloc: Global, node: &mut Apart) -> bool {
 }
 
 // Whether the first node of a chain, once it is closed, lists its own edges, takes one on, and is set back.
-fn apart_is_set_back(alloc: Global) -> bool {
-    match graph_apart(alloc, &[1, 2], CHAIN) {
+fn apart_is_set_back<S: BuildHasher + Copy>(alloc: Global, hasher: S) -> bool {
+    match graph_apart(alloc, hasher, &[1, 2], CHAIN) {
         Ok(mut nodes) => {
             let closed = close(alloc, &mut nodes, true);
             let told = match nodes.get_mut(&1) {
@@ -648,9 +756,16 @@ fn apart_is_set_back(alloc: Global) -> bool {
     }
 }
 
+// Whether both are so.
+fn both_list<S: BuildHasher + Copy>(alloc: Global, hasher: S) -> bool {
+    plain_lists(alloc, hasher) && apart_is_set_back(alloc, hasher)
+}
+
 #[test]
 fn nodes_list_their_edges(rt: HostRuntime) {
     let alloc = rt.alloc();
-    assert!(rt; plain_lists(alloc));
-    assert!(rt; apart_is_set_back(alloc));
+    let (one, other) = keyed();
+    assert!(rt; both_list(alloc, fixed()));
+    assert!(rt; both_list(alloc, one), "under the first key");
+    assert!(rt; both_list(alloc, other), "under the second key");
 }

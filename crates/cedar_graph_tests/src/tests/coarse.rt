@@ -5,12 +5,12 @@ ghost use Rattle.std.specs.HashSet.{contains};
 ghost use Rattle.std.specs.Set.{ClonesAreEqual};
 ghost use Rattle.cedar_graph.specs.Graph.{KeysMatch};
 
+use super::{fixed, keyed};
 use cedar_graph::{TCNode, TcError, compute_tc};
 use std::alloc::{AllocError, Global};
 use std::collections::{HashMap, HashSet};
 use std::fmt::{self, Debug, Display, Formatter};
-use std::hash::Hash;
-use std::test::Fail;
+use std::hash::{BuildHasher, Hash};
 
 /// A key that is compared by its number alone; its place says where it was written.
 #[derive(Clone, Debug, Drop)]
@@ -93,9 +93,9 @@ impl TCNode<Label> for Labelled {
 }
 
 // Closes a graph with any lawful nodes and keys, and asks for one edge.
-fn closed_edge<K: Clone + Eq + Hash + Debug + Display, V: TCNode<K>>(
+fn closed_edge<K: Clone + Eq + Hash + Debug + Display, V: TCNode<K>, S: BuildHasher + Clone>(
     alloc: Global,
-    nodes: &mut HashMap<K, V>,
+    nodes: &mut HashMap<K, V, S>,
     from: &K,
     to: &K,
 ) -> cedar_graph::Result<bool, K>
@@ -110,13 +110,14 @@ fn closed_edge<K: Clone + Eq + Hash + Debug + Display, V: TCNode<K>>(
 }
 
 // A map with these nodes: the numbers of a key and of its only target. Each place differs.
-fn graph_of_labels(
+fn graph_of_labels<S: BuildHasher + Copy>(
     alloc: Global,
+    hasher: S,
     rows: &[(u64, u64)],
-) -> Result<HashMap<Label, Labelled>, AllocError>
+) -> Result<HashMap<Label, Labelled, S>, AllocError>
     ensures { IfOk result (λ m. KeysMatch (λ a b. nat_eq a.number b.number) (λ n. n.label) m) }
 {
-    let mut nodes = HashMap::new(alloc);
+    let mut nodes = HashMap::with_hasher(alloc, hasher);
     let mut place = 0;
     for row in rows {
         let mut targets = HashSet::new(alloc);
@@ -140,31 +141,72 @@ fn graph_of_labels(
     Ok(nodes)
 }
 
-#[test]
-fn equal_keys_are_one_key(rt: HostRuntime) -> Result<(), Fail> {
-    let alloc = rt.alloc();
-    let mut nodes = graph_of_labels(alloc, &[(1, 2), (2, 3)])?;
+// Whether a chain of three, once it is closed, has an edge between keys of these numbers, or has none.
+fn leads<S: BuildHasher + Copy>(alloc: Global, hasher: S, from: u64, to: u64, want: bool) -> bool {
     let from = Label {
-        number: 1,
+        number: from,
         place: 8,
     };
     let to = Label {
-        number: 3,
+        number: to,
         place: 9,
     };
-    assert!(rt; closed_edge(alloc, &mut nodes, &from, &to)?);
-    let mut nodes = graph_of_labels(alloc, &[(1, 2), (2, 3)])?;
-    assert!(rt; !closed_edge(alloc, &mut nodes, &to, &from)?);
-    Ok(())
+    match graph_of_labels(alloc, hasher, &[(1, 2), (2, 3)]) {
+        Ok(mut nodes) => {
+            let edge = closed_edge(alloc, &mut nodes, &from, &to).ok();
+            drop(nodes);
+            edge == Some(want)
+        }
+        Err(_) => false,
+    }
+}
+
+// Whether it leads from its first key to its last alone.
+fn leads_one_way<S: BuildHasher + Copy>(alloc: Global, hasher: S) -> bool {
+    leads(alloc, hasher, 1, 3, true) && leads(alloc, hasher, 3, 1, false)
 }
 
 #[test]
-fn cycle_over_equal_keys_is_named(rt: HostRuntime) -> Result<(), Fail> {
+fn equal_keys_are_one_key(rt: HostRuntime) {
     let alloc = rt.alloc();
-    let mut nodes = graph_of_labels(alloc, &[(1, 2), (2, 1), (3, 1)])?;
-    match compute_tc(alloc, &mut nodes, true) {
-        Err(TcError::HasCycle(cycle)) => assert_ne!(rt; cycle.vertex_with_loop().number, 3),
-        _ => return Err("no cycle".into()),
+    let (one, other) = keyed();
+    assert!(rt; leads_one_way(alloc, fixed()));
+    assert!(rt; leads_one_way(alloc, one), "under the first key");
+    assert!(rt; leads_one_way(alloc, other), "under the second key");
+}
+
+// The number of the key on a cycle that a refusal names, if it names one.
+fn number_of(answer: cedar_graph::Result<(), Label>) -> Option<u64> {
+    match answer {
+        Err(TcError::HasCycle(cycle)) => {
+            let number = cycle.vertex_with_loop().number;
+            drop(cycle);
+            Some(number)
+        }
+        others => {
+            drop(others);
+            None
+        }
     }
-    Ok(())
+}
+
+// Whether closing a cycle of two with a way in names a key of the two.
+fn cycle_is_named<S: BuildHasher + Copy>(alloc: Global, hasher: S) -> bool {
+    match graph_of_labels(alloc, hasher, &[(1, 2), (2, 1), (3, 1)]) {
+        Ok(mut nodes) => {
+            let named = number_of(compute_tc(alloc, &mut nodes, true));
+            drop(nodes);
+            named == Some(1) || named == Some(2)
+        }
+        Err(_) => false,
+    }
+}
+
+#[test]
+fn cycle_over_equal_keys_is_named(rt: HostRuntime) {
+    let alloc = rt.alloc();
+    let (one, other) = keyed();
+    assert!(rt; cycle_is_named(alloc, fixed()));
+    assert!(rt; cycle_is_named(alloc, one), "under the first key");
+    assert!(rt; cycle_is_named(alloc, other), "under the second key");
 }

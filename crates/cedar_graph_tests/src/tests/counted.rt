@@ -2,6 +2,7 @@
 ghost use Rattle.std.specs.Prelude.{nat_eq, IfOk};
 ghost use Rattle.cedar_graph.specs.Graph.{KeysMatch};
 
+use super::{fixed, keyed};
 use crate::tests::counting::{
     Counting, chain, counting_graph, edge_count, listed, put_counting, star,
 };
@@ -10,6 +11,7 @@ use crate::tests::told::{Told, close, close_counted, names_one, repair, repair_c
 use cedar_graph::{TCNode, Work};
 use std::alloc::{AllocError, Global};
 use std::collections::HashMap;
+use std::hash::BuildHasher;
 use std::test::Fail;
 
 // Whether a call did so much.
@@ -21,8 +23,9 @@ fn did(work: Option<Work>, reads: usize, closings: usize) -> bool {
 }
 
 // Whether the edges of a cycle of three with a way in are listed once.
-fn are_listed_once(alloc: Global) -> bool {
-    match counting_graph(alloc, &[1, 2, 3, 4], &[(1, 2), (2, 3), (3, 1), (4, 1)]) {
+fn are_listed_once<S: BuildHasher + Copy>(alloc: Global, hasher: S) -> bool {
+    let edges: Edges<'_> = &[(1, 2), (2, 3), (3, 1), (4, 1)];
+    match counting_graph(alloc, hasher, &[1, 2, 3, 4], edges) {
         Ok(mut nodes) => {
             let work = close_counted(alloc, &mut nodes, false);
             let told = did(work, 4, 4) && listed(&nodes) == (4, 1) && edge_count(&nodes) == 12;
@@ -35,11 +38,15 @@ fn are_listed_once(alloc: Global) -> bool {
 
 #[test]
 fn edges_are_listed_once(rt: HostRuntime) {
-    assert!(rt; are_listed_once(rt.alloc()));
+    let alloc = rt.alloc();
+    let (one, other) = keyed();
+    assert!(rt; are_listed_once(alloc, fixed()));
+    assert!(rt; are_listed_once(alloc, one), "under the first key");
+    assert!(rt; are_listed_once(alloc, other), "under the second key");
 }
 
-fn no_nodes_take_nothing(alloc: Global) -> bool {
-    match counting_graph(alloc, &[], &[]) {
+fn no_nodes_take_nothing<S: BuildHasher + Copy>(alloc: Global, hasher: S) -> bool {
+    match counting_graph(alloc, hasher, &[], &[]) {
         Ok(mut nodes) => {
             let closed = close_counted(alloc, &mut nodes, true);
             let repaired = repair_counted(alloc, &[1], &mut nodes, true);
@@ -53,19 +60,24 @@ fn no_nodes_take_nothing(alloc: Global) -> bool {
 
 #[test]
 fn nothing_is_done_for_no_nodes(rt: HostRuntime) {
-    assert!(rt; no_nodes_take_nothing(rt.alloc()));
+    let alloc = rt.alloc();
+    let (one, other) = keyed();
+    assert!(rt; no_nodes_take_nothing(alloc, fixed()));
+    assert!(rt; no_nodes_take_nothing(alloc, one), "under the first key");
+    assert!(rt; no_nodes_take_nothing(alloc, other), "under the second key");
 }
 
 // Each key of a range with an edge to the next, and the key behind them with these edges.
-fn ended_chain(
+fn ended_chain<S: BuildHasher + Copy>(
     alloc: Global,
+    hasher: S,
     first: u64,
     end: u64,
     row: &[u64],
-) -> Result<HashMap<u64, Counting>, AllocError>
+) -> Result<HashMap<u64, Counting, S>, AllocError>
     ensures { IfOk result (λ m. KeysMatch nat_eq (λ n. n.number) m) }
 {
-    let mut nodes = chain(alloc, first, end)?;
+    let mut nodes = chain(alloc, hasher, first, end)?;
     match put_counting(alloc, &mut nodes, end, row) {
         Ok(()) => Ok(nodes),
         Err(error) => {
@@ -75,8 +87,8 @@ fn ended_chain(
     }
 }
 
-fn chain_takes(alloc: Global, count: usize) -> bool {
-    match ended_chain(alloc, 1, 2000, &[]) {
+fn chain_takes<S: BuildHasher + Copy>(alloc: Global, hasher: S, count: usize) -> bool {
+    match ended_chain(alloc, hasher, 1, 2000, &[]) {
         Ok(mut nodes) => {
             let work = close_counted(alloc, &mut nodes, true);
             let told = edge_count(&nodes) == 1_999_000
@@ -91,11 +103,15 @@ fn chain_takes(alloc: Global, count: usize) -> bool {
 
 #[test]
 fn chain_of_two_thousand(rt: HostRuntime) {
-    assert!(rt; chain_takes(rt.alloc(), 2000));
+    let alloc = rt.alloc();
+    let (one, other) = keyed();
+    assert!(rt; chain_takes(alloc, fixed(), 2000));
+    assert!(rt; chain_takes(alloc, one, 2000), "under the first key");
+    assert!(rt; chain_takes(alloc, other, 2000), "under the second key");
 }
 
 // Whether each node has so many edges.
-fn have_rows_of(nodes: &HashMap<u64, Counting>, count: usize) -> bool {
+fn have_rows_of<S: BuildHasher>(nodes: &HashMap<u64, Counting, S>, count: usize) -> bool {
     let mut all = true;
     for node in nodes.values() {
         all = all && node.targets.len() == count;
@@ -104,8 +120,13 @@ fn have_rows_of(nodes: &HashMap<u64, Counting>, count: usize) -> bool {
 }
 
 // Whether fifty keys that lead to each other are closed to all edges, each listed once.
-fn all_lead_to_all(alloc: Global, keys: &[u64], edges: Edges<'_>) -> bool {
-    match counting_graph(alloc, keys, edges) {
+fn all_lead_to_all<S: BuildHasher + Copy>(
+    alloc: Global,
+    hasher: S,
+    keys: &[u64],
+    edges: Edges<'_>,
+) -> bool {
+    match counting_graph(alloc, hasher, keys, edges) {
         Ok(mut nodes) => {
             let closed = close(alloc, &mut nodes, false);
             let told = closed == Told::Passed
@@ -120,8 +141,13 @@ fn all_lead_to_all(alloc: Global, keys: &[u64], edges: Edges<'_>) -> bool {
 }
 
 // Whether closing a graph without cycles is refused for one.
-fn has_cycle(alloc: Global, keys: &[u64], edges: Edges<'_>) -> bool {
-    match counting_graph(alloc, keys, edges) {
+fn has_cycle<S: BuildHasher + Copy>(
+    alloc: Global,
+    hasher: S,
+    keys: &[u64],
+    edges: Edges<'_>,
+) -> bool {
+    match counting_graph(alloc, hasher, keys, edges) {
         Ok(mut nodes) => {
             let answer = close(alloc, &mut nodes, true);
             let told = matches!(answer, Told::Cycle(_));
@@ -130,6 +156,16 @@ fn has_cycle(alloc: Global, keys: &[u64], edges: Edges<'_>) -> bool {
         }
         Err(_) => false,
     }
+}
+
+// Whether such keys are closed and refused so.
+fn is_cycle_of_all<S: BuildHasher + Copy>(
+    alloc: Global,
+    hasher: S,
+    keys: &[u64],
+    edges: Edges<'_>,
+) -> bool {
+    all_lead_to_all(alloc, hasher, keys, edges) && has_cycle(alloc, hasher, keys, edges)
 }
 
 #[test]
@@ -145,13 +181,18 @@ fn each_of_fifty_leads_to_the_others(rt: HostRuntime) -> Result<(), Fail> {
             }
         }
     }
-    assert!(rt; all_lead_to_all(alloc, &keys, &edges));
-    assert!(rt; has_cycle(alloc, &keys, &edges));
+    let (one, other) = keyed();
+    let told = is_cycle_of_all(alloc, fixed(), &keys, &edges)
+        && is_cycle_of_all(alloc, one, &keys, &edges)
+        && is_cycle_of_all(alloc, other, &keys, &edges);
+    drop(keys);
+    drop(edges);
+    assert!(rt; told);
     Ok(())
 }
 
 // Whether the edges between some keys stay among the first five.
-fn stay_among_five(alloc: Global, nodes: &HashMap<u64, Counting>) -> bool {
+fn stay_among_five<S: BuildHasher>(alloc: Global, nodes: &HashMap<u64, Counting, S>) -> bool {
     match edges_of(alloc, nodes) {
         Ok(all) => {
             let told = all.iter().all(|e| e.0 <= 5 && e.1 <= 5);
@@ -162,8 +203,13 @@ fn stay_among_five(alloc: Global, nodes: &HashMap<u64, Counting>) -> bool {
     }
 }
 
-fn two_cycles_are_repaired(alloc: Global, keys: &[u64], edges: Edges<'_>) -> bool {
-    match counting_graph(alloc, keys, edges) {
+fn two_cycles_are_repaired<S: BuildHasher + Copy>(
+    alloc: Global,
+    hasher: S,
+    keys: &[u64],
+    edges: Edges<'_>,
+) -> bool {
+    match counting_graph(alloc, hasher, keys, edges) {
         Ok(mut nodes) => {
             let answer = repair(alloc, keys, &mut nodes, true);
             let told = names_one(answer, keys)
@@ -178,12 +224,26 @@ fn two_cycles_are_repaired(alloc: Global, keys: &[u64], edges: Edges<'_>) -> boo
 
 #[test]
 fn two_cycles_that_share_a_key_are_repaired(rt: HostRuntime) {
+    let alloc = rt.alloc();
+    let (one, other) = keyed();
+    let keys = &[1, 2, 3, 4, 5];
     let edges: Edges<'_> = &[(1, 2), (2, 3), (3, 1), (3, 4), (4, 5), (5, 3)];
-    assert!(rt; two_cycles_are_repaired(rt.alloc(), &[1, 2, 3, 4, 5], edges));
+    assert!(rt; two_cycles_are_repaired(alloc, fixed(), keys, edges));
+    assert!(rt;
+        two_cycles_are_repaired(alloc, one, keys, edges),
+        "under the first key"
+    );
+    assert!(rt;
+        two_cycles_are_repaired(alloc, other, keys, edges),
+        "under the second key"
+    );
 }
 
 // Puts in the nodes 3, 1 and 7 anew.
-fn change(alloc: Global, nodes: &mut HashMap<u64, Counting>) -> Result<(), AllocError>
+fn change<S: BuildHasher + Copy>(
+    alloc: Global,
+    nodes: &mut HashMap<u64, Counting, S>,
+) -> Result<(), AllocError>
     requires { KeysMatch nat_eq (λ n. n.number) nodes.old }
     ensures { KeysMatch nat_eq (λ n. n.number) nodes.new }
 {
@@ -203,8 +263,8 @@ fn visits_each(work: Option<Work>, before: usize, after: usize) -> bool {
 }
 
 // Whether the keys to fix of a closed chain that is changed are visited, and no absent ones.
-fn are_visited(alloc: Global) -> bool {
-    match chain(alloc, 0, 9) {
+fn are_visited<S: BuildHasher + Copy>(alloc: Global, hasher: S) -> bool {
+    match chain(alloc, hasher, 0, 9) {
         Ok(mut nodes) => {
             let closed = close(alloc, &mut nodes, true);
             let changed = change(alloc, &mut nodes).is_ok();
@@ -227,19 +287,28 @@ fn are_visited(alloc: Global) -> bool {
 
 #[test]
 fn each_key_to_fix_is_visited(rt: HostRuntime) {
-    assert!(rt; are_visited(rt.alloc()));
+    let alloc = rt.alloc();
+    let (one, other) = keyed();
+    assert!(rt; are_visited(alloc, fixed()));
+    assert!(rt; are_visited(alloc, one), "under the first key");
+    assert!(rt; are_visited(alloc, other), "under the second key");
 }
 
 // Whether a node of a graph has the first of two edges, and not the second.
-fn has_one(nodes: &HashMap<u64, Counting>, from: u64, to: u64, not_to: u64) -> bool {
+fn has_one<S: BuildHasher>(
+    nodes: &HashMap<u64, Counting, S>,
+    from: u64,
+    to: u64,
+    not_to: u64,
+) -> bool {
     match nodes.get(&from) {
         Some(node) => node.has_edge_to(&to) && !node.has_edge_to(&not_to),
         None => false,
     }
 }
 
-fn end_is_closed(alloc: Global) -> bool {
-    match ended_chain(alloc, 99_951, 100_000, &[]) {
+fn end_is_closed<S: BuildHasher + Copy>(alloc: Global, hasher: S) -> bool {
+    match ended_chain(alloc, hasher, 99_951, 100_000, &[]) {
         Ok(mut nodes) => {
             let closed = close(alloc, &mut nodes, false);
             let told = closed == Told::Passed
@@ -255,11 +324,15 @@ fn end_is_closed(alloc: Global) -> bool {
 // The part of a chain of 100,000 keys whose last 50 have nodes.
 #[test]
 fn end_of_a_long_chain(rt: HostRuntime) {
-    assert!(rt; end_is_closed(rt.alloc()));
+    let alloc = rt.alloc();
+    let (one, other) = keyed();
+    assert!(rt; end_is_closed(alloc, fixed()));
+    assert!(rt; end_is_closed(alloc, one), "under the first key");
+    assert!(rt; end_is_closed(alloc, other), "under the second key");
 }
 
-fn star_takes(alloc: Global, count: usize) -> bool {
-    match star(alloc, 100_000) {
+fn star_takes<S: BuildHasher + Copy>(alloc: Global, hasher: S, count: usize) -> bool {
+    match star(alloc, hasher, 100_000) {
         Ok(mut nodes) => {
             let work = close_counted(alloc, &mut nodes, true);
             let told = did(work, count, count) && edge_count(&nodes) == 200_001;
@@ -272,11 +345,15 @@ fn star_takes(alloc: Global, count: usize) -> bool {
 
 #[test]
 fn large_star(rt: HostRuntime) {
-    assert!(rt; star_takes(rt.alloc(), 100_001));
+    let alloc = rt.alloc();
+    let (one, other) = keyed();
+    assert!(rt; star_takes(alloc, fixed(), 100_001));
+    assert!(rt; star_takes(alloc, one, 100_001), "under the first key");
+    assert!(rt; star_takes(alloc, other, 100_001), "under the second key");
 }
 
-fn cycle_is_closed(alloc: Global) -> bool {
-    match ended_chain(alloc, 0, 1999, &[0]) {
+fn cycle_is_closed<S: BuildHasher + Copy>(alloc: Global, hasher: S) -> bool {
+    match ended_chain(alloc, hasher, 0, 1999, &[0]) {
         Ok(mut nodes) => {
             let closed = close(alloc, &mut nodes, false);
             let told = closed == Told::Passed && edge_count(&nodes) == 4_000_000;
@@ -289,5 +366,9 @@ fn cycle_is_closed(alloc: Global) -> bool {
 
 #[test]
 fn large_cycle(rt: HostRuntime) {
-    assert!(rt; cycle_is_closed(rt.alloc()));
+    let alloc = rt.alloc();
+    let (one, other) = keyed();
+    assert!(rt; cycle_is_closed(alloc, fixed()));
+    assert!(rt; cycle_is_closed(alloc, one), "under the first key");
+    assert!(rt; cycle_is_closed(alloc, other), "under the second key");
 }

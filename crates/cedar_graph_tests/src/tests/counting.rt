@@ -8,6 +8,7 @@ use cedar_graph::TCNode;
 use std::alloc::{AllocError, Global};
 use std::cell::Cell;
 use std::collections::{HashMap, HashSet};
+use std::hash::BuildHasher;
 use std::mem::replace;
 
 /// A node that counts the calls that list its edges, and the rows of edges that it is given; and
@@ -94,15 +95,16 @@ impl TCNode<u64> for Counting {
     ghost direct_are_edges = { λ n q h. h };
 }
 
-/// The graph with these edges, in a map with a node for each of the keys.
-pub fn counting_graph(
+/// The graph with these edges, in a map with a node for each of the keys, which hashes by what `hasher` builds.
+pub fn counting_graph<S: BuildHasher + Copy>(
     alloc: Global,
+    hasher: S,
     keys: &[u64],
     edges: Edges<'_>,
-) -> Result<HashMap<u64, Counting>, AllocError>
+) -> Result<HashMap<u64, Counting, S>, AllocError>
     ensures { IfOk result (λ m. KeysMatch nat_eq (λ n. n.number) m) }
 {
-    let mut nodes = HashMap::new(alloc);
+    let mut nodes = HashMap::with_hasher(alloc, hasher);
     for key in keys {
         let number = *key;
         let targets = targets(alloc, edges, number)?;
@@ -112,10 +114,15 @@ pub fn counting_graph(
 }
 
 /// The keys from `first` to before `end`, each with an edge to the next one.
-pub fn chain(alloc: Global, first: u64, end: u64) -> Result<HashMap<u64, Counting>, AllocError>
+pub fn chain<S: BuildHasher + Copy>(
+    alloc: Global,
+    hasher: S,
+    first: u64,
+    end: u64,
+) -> Result<HashMap<u64, Counting, S>, AllocError>
     ensures { IfOk result (λ m. KeysMatch nat_eq (λ n. n.number) m) }
 {
-    let mut nodes = HashMap::new(alloc);
+    let mut nodes = HashMap::with_hasher(alloc, hasher);
     for number in first..end {
         let mut targets = HashSet::new(alloc);
         targets.insert(number + 1)?;
@@ -125,9 +132,9 @@ pub fn chain(alloc: Global, first: u64, end: u64) -> Result<HashMap<u64, Countin
 }
 
 /// Puts in a node with these edges, in the place of one that is there.
-pub fn put_counting(
+pub fn put_counting<S: BuildHasher + Copy>(
     alloc: Global,
-    nodes: &mut HashMap<u64, Counting>,
+    nodes: &mut HashMap<u64, Counting, S>,
     number: u64,
     row: &[u64],
 ) -> Result<(), AllocError>
@@ -143,11 +150,15 @@ pub fn put_counting(
 }
 
 /// The keys from 1 to `count`, each with an edge to 0, which has one to the absent key `count + 1`.
-pub fn star(alloc: Global, count: u64) -> Result<HashMap<u64, Counting>, AllocError>
+pub fn star<S: BuildHasher + Copy>(
+    alloc: Global,
+    hasher: S,
+    count: u64,
+) -> Result<HashMap<u64, Counting, S>, AllocError>
     requires { count < 1000000 }
     ensures { IfOk result (λ m. KeysMatch nat_eq (λ n. n.number) m) }
 {
-    let mut nodes = HashMap::new(alloc);
+    let mut nodes = HashMap::with_hasher(alloc, hasher);
     put_counting(alloc, &mut nodes, 0, &[count + 1])?;
     for number in 1..count + 1 {
         put_counting(alloc, &mut nodes, number, &[0])?;
@@ -156,7 +167,7 @@ pub fn star(alloc: Global, count: u64) -> Result<HashMap<u64, Counting>, AllocEr
 }
 
 /// How often edges were listed in all, and the most often of one node.
-pub fn listed(nodes: &HashMap<u64, Counting>) -> (usize, usize) {
+pub fn listed<S: BuildHasher>(nodes: &HashMap<u64, Counting, S>) -> (usize, usize) {
     let mut all: usize = 0;
     let mut most: usize = 0;
     for node in nodes.values() {
@@ -170,7 +181,7 @@ pub fn listed(nodes: &HashMap<u64, Counting>) -> (usize, usize) {
 }
 
 /// How many edges there are in all.
-pub fn edge_count(nodes: &HashMap<u64, Counting>) -> usize {
+pub fn edge_count<S: BuildHasher>(nodes: &HashMap<u64, Counting, S>) -> usize {
     let mut all: usize = 0;
     for node in nodes.values() {
         all = all.saturating_add(node.targets.len());
@@ -179,7 +190,7 @@ pub fn edge_count(nodes: &HashMap<u64, Counting>) -> usize {
 }
 
 /// Whether no node was given more than one row, and none that did not descend.
-pub fn rows_in_order(nodes: &HashMap<u64, Counting>) -> bool {
+pub fn rows_in_order<S: BuildHasher>(nodes: &HashMap<u64, Counting, S>) -> bool {
     for node in nodes.values() {
         if node.rows > 1 || !node.in_order {
             return false;

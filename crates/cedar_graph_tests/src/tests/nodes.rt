@@ -4,10 +4,11 @@ ghost use Rattle.std.specs.HashSet.{contains};
 ghost use Rattle.std.specs.Set.{is_member};
 ghost use Rattle.cedar_graph.specs.Graph.{KeysMatch};
 
+use super::fixed;
 use cedar_graph::TCNode;
 use std::alloc::{AllocError, Global};
 use std::collections::{HashMap, HashSet};
-use std::hash::{BuildHasher, BuildHasherDefault};
+use std::hash::BuildHasher;
 
 /// A node with a set of edges, all of them direct: it takes the default `direct_edges`.
 #[derive(Drop)]
@@ -139,19 +140,8 @@ pub fn targets(alloc: Global, edges: Edges<'_>, from: u64) -> Result<HashSet<u64
     Ok(all)
 }
 
-/// The graph with these edges, in a map with a node for each of the keys.
-pub fn graph(
-    alloc: Global,
-    keys: &[u64],
-    edges: Edges<'_>,
-) -> Result<HashMap<u64, Plain>, AllocError>
-    ensures { IfOk result (λ m. KeysMatch nat_eq (λ n. n.number) m) }
-{
-    graph_by(alloc, BuildHasherDefault::new(), keys, edges)
-}
-
-/// As [`graph`], in a map that hashes by what `hasher` builds.
-pub fn graph_by<S: BuildHasher + Drop>(
+/// The graph with these edges, in a map with a node for each of the keys, which hashes by what `hasher` builds.
+pub fn graph<S: BuildHasher + Copy>(
     alloc: Global,
     hasher: S,
     keys: &[u64],
@@ -168,15 +158,16 @@ pub fn graph_by<S: BuildHasher + Drop>(
     Ok(nodes)
 }
 
-/// A graph of these keys and edges in nodes that keep their own edges apart.
-pub fn graph_apart(
+/// As [`graph`], in nodes that keep their own edges apart.
+pub fn graph_apart<S: BuildHasher + Copy>(
     alloc: Global,
+    hasher: S,
     keys: &[u64],
     edges: Edges<'_>,
-) -> Result<HashMap<u64, Apart>, AllocError>
+) -> Result<HashMap<u64, Apart, S>, AllocError>
     ensures { IfOk result (λ m. KeysMatch nat_eq (λ n. n.number) m) }
 {
-    let mut nodes = HashMap::new(alloc);
+    let mut nodes = HashMap::with_hasher(alloc, hasher);
     for key in keys {
         let number = *key;
         let own = targets(alloc, edges, number)?;
@@ -195,23 +186,27 @@ pub fn graph_apart(
 }
 
 /// Puts a node with these edges at its key, in the place of a node that is there.
-pub fn put(
+pub fn put<S: BuildHasher + Copy>(
     alloc: Global,
-    nodes: &mut HashMap<u64, Plain>,
+    nodes: &mut HashMap<u64, Plain, S>,
     number: u64,
     row: &[u64],
 ) -> Result<(), AllocError>
     requires { KeysMatch nat_eq (λ n. n.number) nodes.old }
     ensures { KeysMatch nat_eq (λ n. n.number) nodes.new }
 {
-    let targets = set_of(alloc, row)?;
+    let targets = set_of(alloc, fixed(), row)?;
     nodes.insert(number, Plain { number, targets })?;
     Ok(())
 }
 
-/// A set of these keys.
-pub fn set_of(alloc: Global, keys: &[u64]) -> Result<HashSet<u64>, AllocError> {
-    let mut all = HashSet::new(alloc);
+/// A set of these keys, which hashes by what `hasher` builds.
+pub fn set_of<S: BuildHasher + Copy>(
+    alloc: Global,
+    hasher: S,
+    keys: &[u64],
+) -> Result<HashSet<u64, S>, AllocError> {
+    let mut all = HashSet::with_hasher(alloc, hasher);
     for key in keys {
         all.insert(*key)?;
     }

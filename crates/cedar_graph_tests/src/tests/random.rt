@@ -1,12 +1,14 @@
 // Many graphs on up to eight keys, some without nodes, beside a plain closure.
 ghost use Rattle.std.specs.Prelude.{◌<◌};
 
+use super::{fixed, keyed};
 use crate::tests::counting::{Counting, counting_graph, listed, rows_in_order};
 use crate::tests::nodes::Edges;
 use crate::tests::told::{Told, close, close_counted, has_edges, repair, repair_counted};
 use cedar_graph::Work;
 use std::alloc::{AllocError, Global};
 use std::collections::HashMap;
+use std::hash::BuildHasher;
 use std::test::Fail;
 
 const KEYS: [u64; 8] = [1, 2, 3, 4, 5, 6, 7, 8];
@@ -128,9 +130,9 @@ fn is_named(answer: Told, keys: &[u64], closure: Edges<'_>, has_cycle: bool) -> 
 }
 
 // What is wrong where a graph of so many nodes was closed with this work.
-fn wrong_closed(
+fn wrong_closed<S: BuildHasher>(
     alloc: Global,
-    nodes: &HashMap<u64, Counting>,
+    nodes: &HashMap<u64, Counting, S>,
     work: Option<Work>,
     count: usize,
     closure: Edges<'_>,
@@ -151,8 +153,14 @@ fn wrong_closed(
 }
 
 // Closes the graph: what is wrong with its edges and counts, beside the plain closure.
-fn check_edges(alloc: Global, keys: &[u64], edges: Edges<'_>, closure: Edges<'_>) -> &'static str {
-    match counting_graph(alloc, keys, edges) {
+fn check_edges<S: BuildHasher + Copy>(
+    alloc: Global,
+    hasher: S,
+    keys: &[u64],
+    edges: Edges<'_>,
+    closure: Edges<'_>,
+) -> &'static str {
+    match counting_graph(alloc, hasher, keys, edges) {
         Ok(mut nodes) => {
             let work = close_counted(alloc, &mut nodes, false);
             let told = wrong_closed(alloc, &nodes, work, keys.len(), closure);
@@ -164,9 +172,15 @@ fn check_edges(alloc: Global, keys: &[u64], edges: Edges<'_>, closure: Edges<'_>
 }
 
 // Closes the graph where no cycle is to be: what is wrong with its edges, the refusal and the named key.
-fn check_cycle(alloc: Global, keys: &[u64], edges: Edges<'_>, closure: Edges<'_>) -> &'static str {
+fn check_cycle<S: BuildHasher + Copy>(
+    alloc: Global,
+    hasher: S,
+    keys: &[u64],
+    edges: Edges<'_>,
+    closure: Edges<'_>,
+) -> &'static str {
     let has_cycle = closure.iter().any(|e| e.0 == e.1);
-    match counting_graph(alloc, keys, edges) {
+    match counting_graph(alloc, hasher, keys, edges) {
         Ok(mut nodes) => {
             let answer = close(alloc, &mut nodes, true);
             let told = wrong(&[
@@ -187,23 +201,24 @@ fn check_cycle(alloc: Global, keys: &[u64], edges: Edges<'_>, closure: Edges<'_>
 }
 
 // Both in turn: what is wrong first, or nothing.
-fn check_closing(
+fn check_closing<S: BuildHasher + Copy>(
     alloc: Global,
+    hasher: S,
     keys: &[u64],
     edges: Edges<'_>,
     closure: Edges<'_>,
 ) -> &'static str {
-    let first = check_edges(alloc, keys, edges, closure);
+    let first = check_edges(alloc, hasher, keys, edges, closure);
     if !first.is_empty() {
         return first;
     }
-    check_cycle(alloc, keys, edges, closure)
+    check_cycle(alloc, hasher, keys, edges, closure)
 }
 
 // What is wrong where a graph was repaired at so many keys with this work.
-fn wrong_repaired(
+fn wrong_repaired<S: BuildHasher>(
     alloc: Global,
-    nodes: &HashMap<u64, Counting>,
+    nodes: &HashMap<u64, Counting, S>,
     work: Option<Work>,
     present: usize,
     closure: Edges<'_>,
@@ -221,15 +236,16 @@ fn wrong_repaired(
 }
 
 // Repairs the graph at some keys, where the other nodes are closed: what is wrong with its edges and counts.
-fn check_repaired(
+fn check_repaired<S: BuildHasher + Copy>(
     alloc: Global,
+    hasher: S,
     keys: &[u64],
     trusted: Edges<'_>,
     closure: Edges<'_>,
     to_fix: &[u64],
 ) -> &'static str {
     let present = to_fix.iter().filter(|key| keys.contains(*key)).count();
-    match counting_graph(alloc, keys, trusted) {
+    match counting_graph(alloc, hasher, keys, trusted) {
         Ok(mut nodes) => {
             let work = repair_counted(alloc, to_fix, &mut nodes, false);
             let told = wrong_repaired(alloc, &nodes, work, present, closure);
@@ -241,15 +257,16 @@ fn check_repaired(
 }
 
 // Repairs the graph at some keys, where no cycle is to be: what is wrong with its edges, the refusal and the named key.
-fn check_repair_of_cycle(
+fn check_repair_of_cycle<S: BuildHasher + Copy>(
     alloc: Global,
+    hasher: S,
     keys: &[u64],
     trusted: Edges<'_>,
     closure: Edges<'_>,
     to_fix: &[u64],
 ) -> &'static str {
     let has_cycle = closure.iter().any(|e| e.0 == e.1 && to_fix.contains(&e.0));
-    match counting_graph(alloc, keys, trusted) {
+    match counting_graph(alloc, hasher, keys, trusted) {
         Ok(mut nodes) => {
             let answer = repair(alloc, to_fix, &mut nodes, true);
             let told = wrong(&[
@@ -270,8 +287,9 @@ fn check_repair_of_cycle(
 }
 
 // Both in turn: what is wrong first, or nothing.
-fn check_repair(
+fn check_repair<S: BuildHasher + Copy>(
     alloc: Global,
+    hasher: S,
     keys: &[u64],
     edges: Edges<'_>,
     closure: Edges<'_>,
@@ -279,8 +297,8 @@ fn check_repair(
 ) -> &'static str {
     match joined(alloc, to_fix, edges, closure) {
         Ok(trusted) => {
-            let first = check_repaired(alloc, keys, &trusted, closure, to_fix);
-            let second = check_repair_of_cycle(alloc, keys, &trusted, closure, to_fix);
+            let first = check_repaired(alloc, hasher, keys, &trusted, closure, to_fix);
+            let second = check_repair_of_cycle(alloc, hasher, keys, &trusted, closure, to_fix);
             drop(trusted);
             wrong(&[(first.is_empty(), first), (second.is_empty(), second)])
         }
@@ -289,16 +307,35 @@ fn check_repair(
 }
 
 // Closes a graph, and repairs it at some keys: what is wrong first, or nothing.
-fn check_both(alloc: Global, keys: &[u64], edges: Edges<'_>, to_fix: &[u64]) -> &'static str {
+fn check_both<S: BuildHasher + Copy>(
+    alloc: Global,
+    hasher: S,
+    keys: &[u64],
+    edges: Edges<'_>,
+    to_fix: &[u64],
+) -> &'static str {
     match plain_closure(alloc, edges) {
         Ok(closure) => {
-            let first = check_closing(alloc, keys, edges, &closure);
-            let second = check_repair(alloc, keys, edges, &closure, to_fix);
+            let first = check_closing(alloc, hasher, keys, edges, &closure);
+            let second = check_repair(alloc, hasher, keys, edges, &closure, to_fix);
             drop(closure);
             wrong(&[(first.is_empty(), first), (second.is_empty(), second)])
         }
         Err(_) => "out of memory",
     }
+}
+
+// The same under the default builder of hashers and under two keys.
+fn check_all(alloc: Global, keys: &[u64], edges: Edges<'_>, to_fix: &[u64]) -> &'static str {
+    let (one, other) = keyed();
+    let first = check_both(alloc, fixed(), keys, edges, to_fix);
+    let second = check_both(alloc, one, keys, edges, to_fix);
+    let third = check_both(alloc, other, keys, edges, to_fix);
+    wrong(&[
+        (first.is_empty(), first),
+        (second.is_empty(), second),
+        (third.is_empty(), third),
+    ])
 }
 
 // The keys with nodes, and the edges.
@@ -345,8 +382,8 @@ const SHAPES: [(&'static [u64], Edges<'static>); 7] = [
 fn cycles_of_several_shapes(rt: HostRuntime) {
     let alloc = rt.alloc();
     for (keys, edges) in SHAPES {
-        assert_eq!(rt; check_both(alloc, keys, edges, keys), "");
-        assert_eq!(rt; check_both(alloc, keys, edges, &[1, 8]), "");
+        assert_eq!(rt; check_all(alloc, keys, edges, keys), "");
+        assert_eq!(rt; check_all(alloc, keys, edges, &[1, 8]), "");
     }
 }
 
@@ -357,7 +394,7 @@ fn check_next(alloc: Global, random: &mut Random) -> Result<&'static str, AllocE
     let keys = some_keys(alloc, random, count, 3)?;
     let edges = some_edges(alloc, random, &keys, count, odds)?;
     let to_fix = some_keys(alloc, random, 8, 2)?;
-    Ok(check_both(alloc, &keys, &edges, &to_fix))
+    Ok(check_all(alloc, &keys, &edges, &to_fix))
 }
 
 #[test]
@@ -388,7 +425,7 @@ fn check_numbered(alloc: Global, number: u64) -> Result<&'static str, AllocError
             bits /= 2;
         }
     }
-    Ok(check_both(alloc, &keys, &edges, &[1, 3]))
+    Ok(check_all(alloc, &keys, &edges, &[1, 3]))
 }
 
 // All graphs on three keys, each key with or without its node.

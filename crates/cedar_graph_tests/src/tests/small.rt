@@ -1,9 +1,9 @@
 // All graphs on three keys, against paths that are looked for one by one.
-use crate::tests::nodes::{Edges, graph_by};
+use super::{fixed, keyed};
+use crate::tests::nodes::{Edges, graph};
 use crate::tests::told::{Told, check, close, has_edges, repair};
-use cedar_keyed_hash::KeyedState;
 use std::alloc::{AllocError, Global};
-use std::hash::{BuildHasher, BuildHasherDefault, FoldHasher};
+use std::hash::BuildHasher;
 
 const KEYS: [u64; 3] = [1, 2, 3];
 
@@ -55,7 +55,7 @@ fn is_closed<S: BuildHasher + Copy>(
     edges: Edges<'_>,
     closure: Edges<'_>,
 ) -> bool {
-    match graph_by(alloc, hasher, &KEYS, edges) {
+    match graph(alloc, hasher, &KEYS, edges) {
         Ok(mut nodes) => {
             let answer = close(alloc, &mut nodes, false);
             let same = has_edges(alloc, &nodes, closure);
@@ -73,7 +73,7 @@ fn is_named<S: BuildHasher + Copy>(
     edges: Edges<'_>,
     has_cycle: bool,
 ) -> bool {
-    match graph_by(alloc, hasher, &KEYS, edges) {
+    match graph(alloc, hasher, &KEYS, edges) {
         Ok(mut nodes) => {
             let answer = close(alloc, &mut nodes, true);
             drop(nodes);
@@ -95,7 +95,7 @@ fn is_repaired<S: BuildHasher + Copy>(
     closure: Edges<'_>,
     has_cycle: bool,
 ) -> bool {
-    match graph_by(alloc, hasher, &KEYS, edges) {
+    match graph(alloc, hasher, &KEYS, edges) {
         Ok(mut nodes) => {
             let answer = repair(alloc, &KEYS, &mut nodes, true);
             let same = has_edges(alloc, &nodes, closure);
@@ -133,11 +133,6 @@ fn number_agrees<S: BuildHasher + Copy>(alloc: Global, hasher: S, number: u64) -
     }
 }
 
-// The builder of hashers of a map that is given none.
-fn fixed() -> BuildHasherDefault<FoldHasher> {
-    BuildHasherDefault::new()
-}
-
 #[test]
 fn closes_all_small_graphs(rt: HostRuntime) {
     let alloc = rt.alloc();
@@ -149,10 +144,7 @@ fn closes_all_small_graphs(rt: HostRuntime) {
 #[test]
 fn closes_all_small_graphs_under_two_keys(rt: HostRuntime) {
     let alloc = rt.alloc();
-    let (one, other) = (
-        KeyedState::with_keys(1, 2),
-        KeyedState::with_keys(u64::MAX, 3),
-    );
+    let (one, other) = keyed();
     for number in 0..512 {
         assert!(rt;
             number_agrees(alloc, one, number),
@@ -167,7 +159,7 @@ fn closes_all_small_graphs_under_two_keys(rt: HostRuntime) {
 
 // What the check of a graph tells.
 fn checked<S: BuildHasher + Copy>(alloc: Global, hasher: S, edges: Edges<'_>) -> Told {
-    match graph_by(alloc, hasher, &KEYS, edges) {
+    match graph(alloc, hasher, &KEYS, edges) {
         Ok(nodes) => {
             let answer = check(alloc, &nodes);
             drop(nodes);
@@ -225,10 +217,7 @@ fn checks_all_small_graphs(rt: HostRuntime) {
 #[test]
 fn checks_all_small_graphs_under_two_keys(rt: HostRuntime) {
     let alloc = rt.alloc();
-    let (one, other) = (
-        KeyedState::with_keys(1, 2),
-        KeyedState::with_keys(u64::MAX, 3),
-    );
+    let (one, other) = keyed();
     for number in 0..512 {
         assert!(rt;
             check_of_number_agrees(alloc, one, number),

@@ -41,7 +41,7 @@ pub fn told_of(answer: cedar_graph::Result<(), u64>) -> Told {
 }
 
 /// Closes a graph.
-pub fn close<V: TCNode<u64>, S: BuildHasher + Clone>(
+pub fn close<V: TCNode<u64>, S: BuildHasher + Copy>(
     alloc: Global,
     nodes: &mut HashMap<u64, V, S>,
     is_dag: bool,
@@ -53,9 +53,9 @@ pub fn close<V: TCNode<u64>, S: BuildHasher + Clone>(
 }
 
 /// Closes a graph, and tells how much was done, if it was closed.
-pub fn close_counted<V: TCNode<u64>>(
+pub fn close_counted<V: TCNode<u64>, S: BuildHasher + Copy>(
     alloc: Global,
-    nodes: &mut HashMap<u64, V>,
+    nodes: &mut HashMap<u64, V, S>,
     is_dag: bool,
 ) -> Option<Work>
     requires { KeysMatch nat_eq V.key nodes.old }
@@ -64,8 +64,8 @@ pub fn close_counted<V: TCNode<u64>>(
     compute_tc_counted(alloc, nodes, is_dag).ok()
 }
 
-/// Repairs a graph at some keys.
-pub fn repair<V: TCNode<u64>, S: BuildHasher + Clone>(
+/// Repairs a graph at some keys, which are in a set that hashes as its map does.
+pub fn repair<V: TCNode<u64>, S: BuildHasher + Copy>(
     alloc: Global,
     to_fix: &[u64],
     nodes: &mut HashMap<u64, V, S>,
@@ -74,7 +74,7 @@ pub fn repair<V: TCNode<u64>, S: BuildHasher + Clone>(
     requires { KeysMatch nat_eq V.key nodes.old }
     ensures { KeysMatch nat_eq V.key nodes.new }
 {
-    match set_of(alloc, to_fix) {
+    match set_of(alloc, *nodes.hasher(), to_fix) {
         Ok(fix) => {
             let answer = told_of(repair_tc(alloc, &fix, nodes, is_dag));
             drop(fix);
@@ -84,17 +84,17 @@ pub fn repair<V: TCNode<u64>, S: BuildHasher + Clone>(
     }
 }
 
-/// Repairs a graph at some keys, and tells how much was done, if it was repaired.
-pub fn repair_counted<V: TCNode<u64>>(
+/// As [`repair`], and tells how much was done, if the graph was repaired.
+pub fn repair_counted<V: TCNode<u64>, S: BuildHasher + Copy>(
     alloc: Global,
     to_fix: &[u64],
-    nodes: &mut HashMap<u64, V>,
+    nodes: &mut HashMap<u64, V, S>,
     is_dag: bool,
 ) -> Option<Work>
     requires { KeysMatch nat_eq V.key nodes.old }
     ensures { KeysMatch nat_eq V.key nodes.new }
 {
-    match set_of(alloc, to_fix) {
+    match set_of(alloc, *nodes.hasher(), to_fix) {
         Ok(fix) => {
             let work = repair_tc_counted(alloc, &fix, nodes, is_dag);
             drop(fix);

@@ -3,4 +3,4 @@ use Rattle.cedar_graph.specs.Graph.{KeysMatch}
 use Rattle.cedar_graph_tests.proofs.tests.counting.chain.Given as goal
 
 abbrev pub invariant-loop-number : goal.invariant-loop-number
-invariant-loop-number l = KeysMatch nat_eq (λ n. n.number) l.nodes
+invariant-loop-number g l = KeysMatch nat_eq (λ n. n.number) l.nodes

@@ -3,4 +3,4 @@ use Rattle.cedar_graph.specs.Graph.{KeysMatch}
 use Rattle.cedar_graph_tests.proofs.tests.nodes.graph_apart.Given as goal
 
 abbrev pub invariant-loop-key : goal.invariant-loop-key
-invariant-loop-key l = KeysMatch nat_eq (λ n. n.number) l.nodes
+invariant-loop-key g l = KeysMatch nat_eq (λ n. n.number) l.nodes
