@@ -6,11 +6,11 @@ use cedar_entity::err::EntitiesError;
 use cedar_keyed_hash::KeyedState;
 use cedar_test_helpers::tried::{beside, owned};
 use std::alloc::Global;
-use std::hash::{BuildHasher, BuildHasherDefault, FoldHasher};
+use std::hash::BuildHasher;
 use std::test::Fail;
 
 /// What a list of calls leaves: a store, or why the first call was refused that was.
-pub type Outcome<S = BuildHasherDefault<FoldHasher>> = Result<Entities<S>, EntitiesError>;
+pub type Outcome<S> = Result<Entities<S>, EntitiesError>;
 
 fn mode_of(word: &str) -> TCComputation {
     if word == "assume" {
@@ -78,9 +78,13 @@ fn run_on<S: BuildHasher + Copy>(
     Ok(Ok(store))
 }
 
-/// What these calls leave, from the empty store on that is given no builder of hashers; the first refusal ends them.
-pub fn run(alloc: Global, calls: &str) -> Result<Outcome, Fail> {
-    run_on(alloc, Entities::new(alloc), calls)
+/// What these calls leave, from the empty store on that hashes by what `hasher` builds; the first refusal ends them.
+pub fn run<S: BuildHasher + Copy>(
+    alloc: Global,
+    hasher: S,
+    calls: &str,
+) -> Result<Outcome<S>, Fail> {
+    run_on(alloc, Entities::with_hasher(alloc, hasher), calls)
 }
 
 /// The store that these calls leave, none of which is refused, and which hashes by what `hasher` builds.
@@ -89,7 +93,7 @@ pub fn store_of<S: BuildHasher + Copy>(
     hasher: S,
     calls: &str,
 ) -> Result<Entities<S>, Fail> {
-    Ok(run_on(alloc, Entities::with_hasher(alloc, hasher), calls)??)
+    Ok(run(alloc, hasher, calls)??)
 }
 
 // What calls leave, or the refusal that ends them, as a text.
@@ -108,17 +112,15 @@ fn told_of<S: BuildHasher + Copy>(alloc: Global, outcome: Outcome<S>) -> Result<
     }
 }
 
-/// What these calls leave, or the refusal that ends them, as a text.
+/// What these calls leave, from the empty store on that is given no builder of hashers, or the refusal that ends them, as a
+/// text.
 pub fn told(alloc: Global, calls: &str) -> Result<String, Fail> {
-    told_of(alloc, run(alloc, calls)?)
+    told_of(alloc, run_on(alloc, Entities::new(alloc), calls)?)
 }
 
 // What these calls leave in a store that hashes by what a builder builds.
 fn told_by<S: BuildHasher + Copy>(alloc: Global, hasher: S, calls: &str) -> Result<String, Fail> {
-    told_of(
-        alloc,
-        run_on(alloc, Entities::with_hasher(alloc, hasher), calls)?,
-    )
+    told_of(alloc, run(alloc, hasher, calls)?)
 }
 
 /// Whether a text is this one, or one of several with a slash between them.

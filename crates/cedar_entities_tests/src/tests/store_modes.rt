@@ -1,6 +1,9 @@
 // What building and adding leave where ancestors are checked, and where they are taken as they are.
+use super::{fixed, keys};
 use cedar_store_texts::calls::{run, wrong};
+use cedar_test_helpers::tried::is_told;
 use std::alloc::Global;
+use std::hash::BuildHasher;
 use std::test::Fail;
 
 #[test]
@@ -70,8 +73,8 @@ fn what_was_taken_as_it_is_can_be_computed_later(rt: HostRuntime) -> Result<(), 
 }
 
 // The full text of the refusal that ends these calls, or nothing.
-fn refused(alloc: Global, calls: &str) -> Result<String, Fail> {
-    match run(alloc, calls)? {
+fn refused<S: BuildHasher + Copy>(alloc: Global, hasher: S, calls: &str) -> Result<String, Fail> {
+    match run(alloc, hasher, calls)? {
         Ok(store) => {
             drop(store);
             Ok(String::new(alloc))
@@ -82,6 +85,14 @@ fn refused(alloc: Global, calls: &str) -> Result<String, Fail> {
             Ok(text?)
         }
     }
+}
+
+// Fails where that text is another, under the default builder of hashers or under one of two keys.
+fn refuses(alloc: Global, calls: &str, want: &str) -> Result<(), Fail> {
+    let (one, other) = keys();
+    is_told(calls, refused(alloc, fixed(), calls), want)?;
+    is_told(calls, refused(alloc, one, calls), want)?;
+    is_told(calls, refused(alloc, other, calls), want)
 }
 
 #[test]
@@ -100,7 +111,7 @@ fn refusals_tell_what_is_wrong(rt: HostRuntime) -> Result<(), Fail> {
         ),
         ("from: a, a", ""),
     ] {
-        assert_eq!(rt; refused(rt.alloc(), calls)?.as_str(), *want);
+        refuses(rt.alloc(), calls, want)?;
     }
     Ok(())
 }
