@@ -8,47 +8,92 @@ mod slots;
 mod streams;
 
 use cedar_keyed_hash::KeyedState;
-use cedar_store::{RunError, run, run_with};
+use cedar_store::{RunError, run, run_and_leave, run_and_leave_with, run_with};
 use std::alloc::Global;
 use std::io;
 use std::io::{ErrorKind, Read, Write};
 use std::process::Abort;
 use std::test::Fail;
 
-// Whether a run under a key writes this, and ends with this status.
-fn is_answered_by(
+// Two builders of hashers with keys.
+fn keys() -> (KeyedState, KeyedState) {
+    (
+        KeyedState::with_keys(1, 2),
+        KeyedState::with_keys(u64::MAX, 3),
+    )
+}
+
+// A way to run: by the default builder of hashers or under a key, and giving the memory back or leaving it.
+#[derive(Clone, Copy, Drop)]
+struct Way {
+    key: Option<KeyedState>,
+    leaves: bool,
+}
+
+// The three ways that leave the memory, or that give it back: by the default builder of hashers and under two keys.
+fn ways(leaves: bool) -> [Way; 3] {
+    let (one, other) = keys();
+    [
+        Way { key: None, leaves },
+        Way {
+            key: Some(one),
+            leaves,
+        },
+        Way {
+            key: Some(other),
+            leaves,
+        },
+    ]
+}
+
+// What a run answers.
+fn ran<R: Read, W: Write>(
     alloc: Global,
-    hasher: KeyedState,
-    input: &[u8],
-    output: &[u8],
-    status: u8,
-) -> bool {
+    way: Way,
+    reader: &mut R,
+    writer: &mut W,
+) -> Result<u8, RunError> {
+    match (way.key, way.leaves) {
+        (None, false) => run(alloc, reader, writer),
+        (None, true) => run_and_leave(alloc, reader, writer),
+        (Some(key), false) => run_with(alloc, key, reader, writer),
+        (Some(key), true) => run_and_leave_with(alloc, key, reader, writer),
+    }
+}
+
+// Whether a run in a way writes this, and ends with this status.
+fn is_answered_by(alloc: Global, way: Way, input: &[u8], output: &[u8], status: u8) -> bool {
     let mut reader = input;
     let mut out = Vec::new(alloc);
-    let found = run_with(alloc, hasher, &mut reader, &mut out);
+    let found = ran(alloc, way, &mut reader, &mut out);
     let told = matches!(found, Ok(found) if found == status) && out.as_slice() == output;
     drop(out);
     told
 }
 
+// Whether a run by the default builder of hashers or under a key writes this, and ends with this status.
+fn is_answered_under(
+    alloc: Global,
+    key: Option<KeyedState>,
+    input: &[u8],
+    output: &[u8],
+    status: u8,
+) -> bool {
+    let way = Way { key, leaves: false };
+    is_answered_by(alloc, way, input, output, status)
+}
+
 // Whether runs under two keys write this, and end with this status.
 fn are_answered(alloc: Global, input: &[u8], output: &[u8], status: u8) -> bool {
-    let (one, other) = (
-        KeyedState::with_keys(1, 2),
-        KeyedState::with_keys(u64::MAX, 3),
-    );
-    is_answered_by(alloc, one, input, output, status)
-        && is_answered_by(alloc, other, input, output, status)
+    let (one, other) = keys();
+    is_answered_under(alloc, Some(one), input, output, status)
+        && is_answered_under(alloc, Some(other), input, output, status)
 }
 
 // Whether a run writes this, and ends with this status, and so do runs under two keys.
 fn is_answered(alloc: Global, input: &[u8], output: &[u8], status: u8) -> bool {
-    let mut reader = input;
-    let mut out = Vec::new(alloc);
-    let found = run(alloc, &mut reader, &mut out);
-    let told = matches!(found, Ok(found) if found == status) && out.as_slice() == output;
-    drop(out);
-    told && are_answered(alloc, input, output, status)
+    is_answered_under(alloc, None, input, output, status)
+        && are_answered(alloc, input, output, status)
 }
 
 // Each input, with what is written and the status that are due.
@@ -313,10 +358,10 @@ const READ: usize = 28;
 
 // Whether a run whose reader gives at most so many bytes at a time, and fails after so many good reads, writes nothing and is
 // refused for it, and one that needs no more writes all.
-fn is_read_whole(alloc: Global, most: usize, good: usize) -> bool {
+fn is_read_whole(alloc: Global, way: Way, most: usize, good: usize) -> bool {
     let left = b"ent\tA::\"a\"\nbuild\nanc\tA::\"a\"\n".as_slice();
     let mut out = Vec::new(alloc);
-    let answer = run(alloc, &mut Failing { left, most, good }, &mut out);
+    let answer = ran(alloc, way, &mut Failing { left, most, good }, &mut out);
     // The last read tells that the input is at its end.
     let is_enough = good.saturating_sub(1).saturating_mul(most) >= READ;
     let told = match answer {
@@ -329,9 +374,19 @@ fn is_read_whole(alloc: Global, most: usize, good: usize) -> bool {
 }
 
 // Whether that is so after any number of good reads.
-fn is_refused_for_reads(alloc: Global, most: usize) -> bool {
+fn is_refused_for_reads(alloc: Global, way: Way, most: usize) -> bool {
     for good in 0..32 {
-        if !is_read_whole(alloc, most, good) {
+        if !is_read_whole(alloc, way, most, good) {
+            return false;
+        }
+    }
+    true
+}
+
+// Whether that is so of the ways that leave the memory, or that give it back.
+fn are_refused_for_reads(alloc: Global, leaves: bool, most: usize) -> bool {
+    for way in ways(leaves) {
+        if !is_refused_for_reads(alloc, way, most) {
             return false;
         }
     }
@@ -341,10 +396,9 @@ fn is_refused_for_reads(alloc: Global, most: usize) -> bool {
 #[test]
 fn a_failed_read_writes_nothing(rt: HostRuntime) {
     for most in 1..10 {
-        assert!(rt;
-            is_refused_for_reads(rt.alloc(), most),
-            "{most} bytes at a time"
-        );
+        let told = are_refused_for_reads(rt.alloc(), false, most)
+            && are_refused_for_reads(rt.alloc(), true, most);
+        assert!(rt; told, "{most} bytes at a time");
     }
 }
 
@@ -379,7 +433,7 @@ impl Write for Full {
 
 // Whether a run whose writer takes so many bytes at a time and so many good writes, and flushes or not, is refused for it where
 // it needs more.
-fn is_written_whole(alloc: Global, most: usize, good: usize, flushes: bool) -> bool {
+fn is_written_whole(alloc: Global, way: Way, most: usize, good: usize, flushes: bool) -> bool {
     let mut reader = b"ent\tA::\"a\"\nbuild\nanc\tA::\"a\"\n".as_slice();
     let mut writer = Full {
         taken: 0,
@@ -387,7 +441,7 @@ fn is_written_whole(alloc: Global, most: usize, good: usize, flushes: bool) -> b
         good,
         flushes,
     };
-    let answer = run(alloc, &mut reader, &mut writer);
+    let answer = ran(alloc, way, &mut reader, &mut writer);
     // Nine bytes are written.
     if good.saturating_mul(most) >= 9 && flushes {
         matches!(answer, Ok(0)) && writer.taken == 9
@@ -397,10 +451,20 @@ fn is_written_whole(alloc: Global, most: usize, good: usize, flushes: bool) -> b
 }
 
 // Whether that is so after any number of good writes.
-fn is_refused_for_writes(alloc: Global, most: usize) -> bool {
+fn is_refused_for_writes(alloc: Global, way: Way, most: usize) -> bool {
     for good in 0..11 {
-        let flushed = is_written_whole(alloc, most, good, true);
-        if !flushed || !is_written_whole(alloc, most, good, false) {
+        let flushed = is_written_whole(alloc, way, most, good, true);
+        if !flushed || !is_written_whole(alloc, way, most, good, false) {
+            return false;
+        }
+    }
+    true
+}
+
+// Whether that is so of the ways that leave the memory, or that give it back.
+fn are_refused_for_writes(alloc: Global, leaves: bool, most: usize) -> bool {
+    for way in ways(leaves) {
+        if !is_refused_for_writes(alloc, way, most) {
             return false;
         }
     }
@@ -410,10 +474,9 @@ fn is_refused_for_writes(alloc: Global, most: usize) -> bool {
 #[test]
 fn a_failed_write_or_flush_is_a_write_fault(rt: HostRuntime) {
     for most in 1..10 {
-        assert!(rt;
-            is_refused_for_writes(rt.alloc(), most),
-            "{most} bytes at a time"
-        );
+        let told = are_refused_for_writes(rt.alloc(), false, most)
+            && are_refused_for_writes(rt.alloc(), true, most);
+        assert!(rt; told, "{most} bytes at a time");
     }
 }
 

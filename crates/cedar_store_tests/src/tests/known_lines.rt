@@ -1,7 +1,7 @@
 // Lines of which some tell what others told: types and parents that the program knows from lines before, and fields that stand
 // where those of other lines stood.
-use super::are_answered;
-use cedar_store::{RunError, run, run_and_leave};
+use super::{are_answered, is_answered_by, ways};
+use cedar_store::{RunError, run};
 use cedar_test_helpers::tried::{beside, kept};
 use std::alloc::Global;
 use std::fmt::Write;
@@ -18,16 +18,25 @@ pub(super) fn status_of(ran: Result<u8, RunError>) -> u8 {
     }
 }
 
-// Whether a run that gives its memory back and one that leaves it write the same and answer this status.
-fn is_same(alloc: Global, input: &str, status: u8) -> bool {
-    let mut given_back = Vec::new(alloc);
-    let mut left = Vec::new(alloc);
-    let one = status_of(run(alloc, &mut input.as_bytes(), &mut given_back));
-    let other = status_of(run_and_leave(alloc, &mut input.as_bytes(), &mut left));
-    let same = given_back.as_slice() == left.as_slice();
-    drop(given_back);
-    drop(left);
-    one == status && other == status && same
+// Whether runs that leave their memory, or that give it back, write this and answer this status.
+fn is_same(alloc: Global, leaves: bool, input: &[u8], output: &[u8], status: u8) -> bool {
+    for way in ways(leaves) {
+        if !is_answered_by(alloc, way, input, output, status) {
+            return false;
+        }
+    }
+    true
+}
+
+// Whether runs that give their memory back and runs that leave it write the same and answer this status, by the default builder
+// of hashers and under two keys.
+fn are_same(alloc: Global, input: &str, status: u8) -> bool {
+    let mut out = Vec::new(alloc);
+    let ended = status_of(run(alloc, &mut input.as_bytes(), &mut out));
+    let same = is_same(alloc, false, input.as_bytes(), &out, status)
+        && is_same(alloc, true, input.as_bytes(), &out, status);
+    drop(out);
+    ended == status && same
 }
 
 // Whether a run writes this.
@@ -51,7 +60,7 @@ fn what_is_left_was_written_all_the_same(rt: HostRuntime) {
         ("build\nnothing\nbuild", 2),
         ("ent\tA::\"a\"\nanc\n", 2),
     ] {
-        assert!(rt; is_same(alloc, input, *status), "{input}");
+        assert!(rt; are_same(alloc, input, *status), "{input}");
     }
 }
 

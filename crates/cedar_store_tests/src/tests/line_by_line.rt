@@ -1,6 +1,6 @@
 // A session that takes lines one by one. A row has a line and, behind an arrow, whether it is a command and what is
 // added for it.
-use cedar_keyed_hash::KeyedState;
+use super::keys;
 use cedar_store::{Session, push_not_command};
 use std::alloc::{AllocError, Global};
 use std::hash::BuildHasher;
@@ -60,24 +60,41 @@ ids => yes bodies>p;policies>p;";
 #[test]
 fn a_session_takes_lines_one_by_one(rt: HostRuntime) {
     let alloc = rt.alloc();
+    let (one, other) = keys();
     assert!(rt; are_taken(alloc, Session::new(alloc), ROWS));
     assert!(rt;
-        are_taken(
-            alloc,
-            Session::with_hasher(alloc, KeyedState::with_keys(1, 2)),
-            ROWS
-        )
+        are_taken(alloc, Session::with_hasher(alloc, one), ROWS),
+        "under the first key"
     );
+    assert!(rt;
+        are_taken(alloc, Session::with_hasher(alloc, other), ROWS),
+        "under the second key"
+    );
+}
+
+// Whether a session adds to what stands, and so does a line that is no command.
+fn is_added<S: BuildHasher + Copy>(alloc: Global, session: Session<S>) -> bool {
+    let mut session = session;
+    let mut out = Vec::new(alloc);
+    let told = session.take_line(alloc, b"build", &mut out).is_ok()
+        && push_not_command(alloc, &mut out, 7).is_ok();
+    let well = told && are_spelled(out.as_slice(), "ok 0;line 7: not a command;");
+    drop(session);
+    drop(out);
+    well
 }
 
 #[test]
 fn what_is_added_comes_behind_what_stands(rt: HostRuntime) {
-    let mut out = Vec::new(rt.alloc());
-    let mut session = Session::new(rt.alloc());
-    let told = session.take_line(rt.alloc(), b"build", &mut out).is_ok()
-        && push_not_command(rt.alloc(), &mut out, 7).is_ok();
-    let well = told && are_spelled(out.as_slice(), "ok 0;line 7: not a command;");
-    drop(session);
-    drop(out);
-    assert!(rt; well);
+    let alloc = rt.alloc();
+    let (one, other) = keys();
+    assert!(rt; is_added(alloc, Session::new(alloc)));
+    assert!(rt;
+        is_added(alloc, Session::with_hasher(alloc, one)),
+        "under the first key"
+    );
+    assert!(rt;
+        is_added(alloc, Session::with_hasher(alloc, other)),
+        "under the second key"
+    );
 }

@@ -1,5 +1,5 @@
 // Readers and writers of several buffers, and a writer that sends out at the flush alone.
-use cedar_store::run;
+use super::{Way, ran, ways};
 use cedar_test_helpers::tried::{beside, kept};
 use std::alloc::Global;
 use std::io;
@@ -72,23 +72,33 @@ impl Read for Slow<'_> {
     }
 }
 
-// Whether more than an input's buffer is read, and all written, so many bytes at a read.
-fn is_whole(alloc: Global, input: &str, want: &str, most: usize) -> bool {
+// Whether a run in a way reads more than an input's buffer, and writes all, so many bytes at a read.
+fn is_whole(alloc: Global, way: Way, input: &str, want: &str, most: usize) -> bool {
     let mut reader = Slow {
         left: input.as_bytes(),
         most,
     };
     let mut out = Vec::new(alloc);
-    let status = run(alloc, &mut reader, &mut out);
+    let status = ran(alloc, way, &mut reader, &mut out);
     let told = matches!(status, Ok(0)) && out.as_slice() == want.as_bytes();
     drop(out);
     told && input.len() > 32_769
 }
 
+// Whether runs by the default builder of hashers and under two keys do so.
+fn are_whole(alloc: Global, input: &str, want: &str, most: usize) -> bool {
+    for way in ways(false) {
+        if !is_whole(alloc, way, input, want, most) {
+            return false;
+        }
+    }
+    true
+}
+
 // Whether 1,200 entities are read and written whole, so many bytes at a read, and the ancestors of one so often.
 fn many_are_whole(alloc: Global, most: usize, often: usize) -> Result<bool, Fail> {
     let (input, want) = many(alloc, 1200, often)?;
-    let told = is_whole(alloc, &input, &want, most) && want.len() > often.saturating_mul(700);
+    let told = are_whole(alloc, &input, &want, most) && want.len() > often.saturating_mul(700);
     drop(input);
     drop(want);
     Ok(told)
@@ -144,24 +154,34 @@ impl Write for Kept {
     }
 }
 
-// Whether all is sent at the flush, and nothing is kept then.
-fn is_sent(alloc: Global, input: &str, want: &str) -> bool {
+// Whether a run in a way sends all at the flush, and nothing is kept then.
+fn is_sent(alloc: Global, way: Way, input: &str, want: &str) -> bool {
     let mut reader = input.as_bytes();
     let mut writer = Kept {
         kept: Vec::new(alloc),
         sent: Vec::new(alloc),
     };
-    let status = run(alloc, &mut reader, &mut writer);
+    let status = ran(alloc, way, &mut reader, &mut writer);
     let told = matches!(status, Ok(0)) && writer.sent.as_slice() == want.as_bytes();
     let kept = writer.kept.is_empty();
     drop(writer);
     told && kept
 }
 
+// Whether runs that leave their memory, or that give it back, do so.
+fn are_sent(alloc: Global, leaves: bool, input: &str, want: &str) -> bool {
+    for way in ways(leaves) {
+        if !is_sent(alloc, way, input, want) {
+            return false;
+        }
+    }
+    true
+}
+
 // Whether all of three entities is sent at the flush, and nothing is kept then.
 fn three_are_sent(alloc: Global) -> Result<bool, Fail> {
     let (input, want) = many(alloc, 3, 3)?;
-    let told = is_sent(alloc, &input, &want);
+    let told = are_sent(alloc, false, &input, &want) && are_sent(alloc, true, &input, &want);
     drop(input);
     drop(want);
     Ok(told)
