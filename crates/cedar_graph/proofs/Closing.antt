@@ -1,14 +1,18 @@
 -- Over the graph, what the written rows say over numbers.
 use Rattle.std.specs.Cmp.{IsEquivalence}
 use Rattle.std.specs.HashMap.{HashMap, get}
-use Rattle.std.specs.List.{slice_get}
 use Rattle.std.specs.Option.{is_some}
 use Rattle.std.specs.Set.{is_member}
-use Rattle.std.proofs.Common.{◌≡◌, Bool, true, ℕ, ◌<◌, ◌&&◌, ◌⊎◌, inl, inr, List, Some, ap, sym, ◌∙◌}
-use Rattle.cedar_graph.specs.Graph.{graph_of, Reach, KeepsEdges, AddsOnlyReached, IsTrusted}
-use Rattle.cedar_graph.specs.laws.Reaches.{HasReached, reach_edge}
-use Rattle.cedar_graph.specs.laws.Arcs.{AreSameEdges, HasNumberBelow, ReachesKey, IsRowEdgeBelow, near_graph}
-use Rattle.cedar_graph.proofs.Reaches.{graph_from, graph_to, edge_found, lookup_alike, first_edge, both}
+use Rattle.std.proofs.Common.{◌≡◌, Bool, true, ℕ, ◌&&◌, ◌⊎◌, inl, inr, List, Result, Err, OnOk, IfErr, IsTrue, ap, subst, sym, ◌∙◌}
+use Rattle.cedar_graph.specs.Calls.{Closes, OnlyAdds}
+use Rattle.cedar_graph.specs.Faults.{MatchFault, NamesCycleAt}
+use Rattle.cedar_graph.specs.Graph.{graph_of, Reach, KeepsEdges, AddsOnlyReached, HasNoCycle, IsTrusted, ReachesSame}
+use Rattle.cedar_graph.specs.declared.err.TcError.{TcError}
+use Rattle.cedar_graph.specs.declared.err.TcError.TheVariants.{Memory}
+use Rattle.cedar_graph.specs.laws.Reaches.{HasReached, closed_once, reach_between, reach_edge}
+use Rattle.cedar_graph.specs.laws.Arcs.{AreSameEdges, HasNumberBelow, IsRowEdgeBelow, near_graph}
+use Rattle.cedar_graph.proofs.Members.{MatchFault-weaker, unless_memory}
+use Rattle.cedar_graph.proofs.Reaches.{graph_to, edge_found, first_edge, both, reach_found}
 use Rattle.cedar_graph.proofs.Keyed.{row_sound, row_complete, reach_alike, reach_of_near, near_reach}
 
 module _ {K V S : Type 0} {eq : K → K → Bool} (laws : IsEquivalence eq) (edges : V → K → Bool) (alike : (n : V) (x y : K) → eq x y ≡ true → edges n x ≡ edges n y) (old new : HashMap K V S) (keys : List K) (E : ℕ → ℕ → Type 0) (fixed : ℕ)
@@ -29,13 +33,11 @@ module _ {K V S : Type 0} {eq : K → K → Bool} (laws : IsEquivalence eq) (edg
   ]
 
 module _ {K V S : Type 0} {eq : K → K → Bool} (laws : IsEquivalence eq) (edges : V → K → Bool) (alike : (n : V) (x y : K) → eq x y ≡ true → edges n x ≡ edges n y) (old new : HashMap K V S) (keys : List K) (E : ℕ → ℕ → Type 0) (fixed : ℕ)
-    (done : (i : ℕ) (k b : K) → i < fixed → slice_get keys i ≡ Some k → is_some (get eq old k) ≡ true → ReachesKey eq keys E i b → graph_of eq edges new k b ≡ true) where
+    (done : (a b : K) → IsRowEdgeBelow eq fixed keys E a b → is_some (get eq old a) ≡ true → graph_of eq edges new a b ≡ true) where
   -- what a key with a number below `fixed` reaches over the arcs has an edge
   row_done : (H : K → K → Bool) → AreSameEdges eq H keys E → (a b : K) → HasNumberBelow eq fixed keys a → is_some (get eq old a) ≡ true → Reach H a b → graph_of eq edges new a b ≡ true
   row_done H same a b n found p =
-      let alike_found : get eq old a ≡ get eq old n.1 = lookup_alike laws a n.1 n.4 old.entries in
-      graph_from laws edges alike new a n.1 b n.4
-      ∙ done n.0 n.1 b n.2 n.3 (ap is_some (sym alike_found) ∙ found) (row_complete eq H keys E same n.0 n.1 b n.3 (reach_alike eq H keys E same a n.1 b n.4 p))
+      done a b (n.0, n.2, (n.1, n.3, laws.symm n.1 a ∙ n.4, row_complete eq H keys E same n.0 n.1 b n.3 (reach_alike eq H keys E same a n.1 b n.4 p))) found
 
   reached_found : (a b : K) → Reach (graph_of eq edges old) a b → is_some (get eq old a) ≡ true
   reached_found a b p = let f = first_edge (graph_of eq edges old) a b p.0 p.1 in edge_found eq edges old a f.0 f.1
@@ -55,3 +57,28 @@ module _ {K V S : Type 0} {eq : K → K → Bool} (laws : IsEquivalence eq) (edg
     | inl t ↦ row_done (near_graph eq (graph_of eq edges old) ks) same a b (all a t) (reached_found a b p) (near_reach eq (graph_of eq edges old) ks fix near fixed_near trusted a b t p)
     | inr t ↦ stays a b (trusted a b t p)
   ]
+
+-- edges that only add what was reached, and what an answer says beside them
+module _ {K V S : Type 0} (eq : K → K → Bool) (edges : V → K → Bool) (asked : Bool) (old new : HashMap K V S) (adds : OnlyAdds (graph_of eq edges old) (graph_of eq edges new)) where
+  reach_stays : ReachesSame (graph_of eq edges old) (graph_of eq edges new)
+  reach_stays = reach_between (graph_of eq edges old) (graph_of eq edges new) adds.stays adds.only
+
+  -- memory was refused
+  pub closes_in_part : {T : Type 0} (r : Result T (TcError K)) → r ≡ Err Memory → Closes eq edges asked old new r
+  closes_in_part r is = subst (λ v. Closes eq edges asked old new v) (sym is) (record { adds = adds; same = reach_stays; closed = tt; once = tt; ok = tt; err = tt })
+
+  -- all that was reached has an edge
+  pub closes_whole : {T : Type 0} → HasReached (graph_of eq edges old) (graph_of eq edges new) → (r : Result T (TcError K)) → OnOk r (IsTrue asked → HasNoCycle (graph_of eq edges old))
+      → IfErr r (NamesCycleAt asked (λ v. is_some (get eq old v)) (graph_of eq edges old)) → Closes eq edges asked old new r
+  closes_whole has r ok err = record {
+    adds = adds;
+    same = reach_stays;
+    closed = unless_memory r (λ a b. (adds.only a b, has a b));
+    once = unless_memory r (closed_once (graph_of eq edges old) (graph_of eq edges new) adds.only has);
+    ok = ok;
+    err = err;
+  }
+
+  -- a loop that was asked for and found lies on a cycle
+  pub loop_named : IsTrue asked → (e : TcError K) → MatchFault e (λ _ _ _. ⊥) (λ v. graph_of eq edges new v v ≡ true) → NamesCycleAt asked (λ v. is_some (get eq old v)) (graph_of eq edges old) e
+  loop_named is e h = MatchFault-weaker e _ _ _ _ (λ _ _ _ no. no) (λ v loop. let p = adds.only v v loop in (is, reach_found eq edges old v v p, p)) h

@@ -3,3 +3,4 @@ pub mod Keyed
 pub mod Members
 pub mod Numbers
 pub mod Reaches
+pub mod Rows

@@ -1,15 +1,17 @@
 -- Tests on keys, look-ups, and graphs before and after a node is written.
 use Rattle.std.proofs.lemmas.List.Folds.{list_any_more}
 use Rattle.std.specs.List.{list_any}
-use Rattle.std.proofs.Common.{◌≡◌, Bool, true, false, ℕ, ◌<◌, ◌+◌, length, get_or, take, List, [], ◌∷◌, ◌||◌, ◌&&◌, ◌⊎◌, inl, inr, Option, Some, None, Result, Ok, Err, OnOk, IsTrue, cond, refl, sym, ap, ◌∙◌}
+use Rattle.std.proofs.Common.{◌≡◌, Bool, true, false, ℕ, ◌<◌, ◌+◌, length, get_or, take, List, [], ◌∷◌, ◌||◌, ◌&&◌, ◌⊎◌, inl, inr, Option, Some, None, Result, OnOk, cond, refl, sym, ap, ◌∙◌}
 use Rattle.std.specs.Cmp.{IsEquivalence}
 use Rattle.std.specs.HashMap.{HashMap, get, keys}
 use Rattle.std.specs.Option.{is_some}
 use Rattle.std.proofs.lemmas.Map.Made.{is_some-lookup}
 use Rattle.std.specs.Map.{lookup}
-use Rattle.std.proofs.lemmas.Bool.{false≢true}
-use Rattle.cedar_graph.specs.Graph.{graph_of, edge_at, Path, Reach, KeepsNodes, HasNoLoop, HasNoCycle}
-use Rattle.cedar_graph.specs.laws.Reaches.{HasReached}
+use Rattle.std.proofs.lemmas.Result.{on_ok_weaker}
+use Rattle.std.specs.Set.{is_member}
+use Rattle.cedar_graph.specs.Graph.{graph_of, edge_at, Grows, Path, Reach, KeepsNodes}
+use Rattle.cedar_graph.specs.Calls.{KeepsAll}
+use Rattle.cedar_graph.specs.laws.Writings.{IsAt, IsEdgeTo, Writes}
 
 pub or_cases : (x y : Bool) → (x || y) ≡ true → (x ≡ true) ⊎ (y ≡ true)
 or_cases true y h = inl refl
@@ -50,6 +52,19 @@ KeepsNodes-trans eq key rest l m n p q = record {
   rests = λ k. q.rests k ∙ p.rests k;
 }
 
+pub KeepsAll-trans : {K V R T S : Type 0} (eq : K → K → Bool) (key : V → K) (rest : V → R) (stays : V → T) (l m n : HashMap K V S)
+    → KeepsAll eq key rest stays l m → KeepsAll eq key rest stays m n → KeepsAll eq key rest stays l n
+KeepsAll-trans eq key rest stays l m n p q = record {
+  rests = KeepsNodes-trans eq key rest l m n p.rests q.rests;
+  kept = KeepsNodes-trans eq key stays l m n p.kept q.kept;
+}
+
+pub KeepsAll-refl : {K V R T S : Type 0} (eq : K → K → Bool) (key : V → K) (rest : V → R) (stays : V → T) (m : HashMap K V S) → KeepsAll eq key rest stays m m
+KeepsAll-refl eq key rest stays m = record {
+  rests = record { keys_stay = refl; node_keys = λ q. refl; rests = λ q. refl };
+  kept = record { keys_stay = refl; node_keys = λ q. refl; rests = λ q. refl };
+}
+
 found_edge : {K V : Type 0} (edges : V → K → Bool) (v : Option V) (b : K) → edge_at edges v b ≡ true → is_some v ≡ true
 found_edge edges None b h = cc
 found_edge edges (Some v) b h = refl
@@ -75,15 +90,6 @@ first_edge G a b (x ∷ xs) p = (x, p.0)
 pub reach_found : {K V S : Type 0} (eq : K → K → Bool) (edges : V → K → Bool) (m : HashMap K V S) (a b : K) → Reach (graph_of eq edges m) a b → is_some (get eq m a) ≡ true
 reach_found eq edges m a b p = let e = first_edge (graph_of eq edges m) a b p.0 p.1 in edge_found eq edges m a e.0 e.1
 
--- where what was reached has an edge and nothing has a loop, there was no cycle
-pub no_cycle_before : {K : Type 0} (G H : K → K → Bool) → HasReached G H → HasNoLoop H → HasNoCycle G
-no_cycle_before G H has free a p = false≢true (sym (free a) ∙ has a a p)
-
--- what an answer says of loops in the new graph it says of cycles in the old one
-pub no_cycle_where_asked : {T E K : Type 0} (r : Result T E) (G H : K → K → Bool) (asked : Bool) → (HasNoLoop H → HasNoCycle G) → OnOk r (HasNoLoop H) → OnOk r (IsTrue asked → HasNoCycle G)
-no_cycle_where_asked (Ok x) G H asked f h = λ _. f h
-no_cycle_where_asked (Err e) G H asked f h = tt
-
 -- the graph after the node at a key is written
 module _ {K V S : Type 0} (eq : K → K → Bool) (edges : V → K → Bool) (m n : HashMap K V S) (at : K) (v w : V) (updates : (q : K) → get eq n q ≡ cond (eq at q) (Some w) (get eq m q)) (value : (q : K) → eq at q ≡ true → get eq m q ≡ Some v) where
   here : (a b : K) → eq at a ≡ true → graph_of eq edges n a b ≡ edges w b
@@ -95,14 +101,27 @@ module _ {K V S : Type 0} (eq : K → K → Bool) (edges : V → K → Bool) (m 
   away : (a b : K) → eq at a ≡ false → graph_of eq edges n a b ≡ graph_of eq edges m a b
   away a b t = ap (λ o. edge_at edges o b) (updates a ∙ ap (λ c. cond c (Some w) (get eq m a)) t)
 
-  pub written_stays : ((q : K) → edges v q ≡ true → edges w q ≡ true) → (a b : K) → graph_of eq edges m a b ≡ true → graph_of eq edges n a b ≡ true
+  written_stays : ((q : K) → edges v q ≡ true → edges w q ≡ true) → (a b : K) → graph_of eq edges m a b ≡ true → graph_of eq edges n a b ≡ true
   written_stays f a b h = elim (both (eq at a)) [
     | inl t ↦ here a b t ∙ f b (sym (before a b t) ∙ h)
     | inr t ↦ away a b t ∙ h
   ]
 
-  pub written_only : (X : K → Type 0) → ((q : K) → edges w q ≡ true → (edges v q ≡ true) ⊎ X q) → (a b : K) → graph_of eq edges n a b ≡ true → (graph_of eq edges m a b ≡ true) ⊎ ((eq at a ≡ true) × X b)
+  written_only : (X : K → Type 0) → ((q : K) → edges w q ≡ true → (edges v q ≡ true) ⊎ X q) → (a b : K) → graph_of eq edges n a b ≡ true → (graph_of eq edges m a b ≡ true) ⊎ ((eq at a ≡ true) × X b)
   written_only X f a b h = elim (both (eq at a)) [
     | inl t ↦ elim (f b (sym (here a b t) ∙ h)) [ inl o ↦ inl (before a b t ∙ o) | inr x ↦ inr (t, x) ]
     | inr t ↦ inl (sym (away a b t) ∙ h)
   ]
+
+  -- a row of keys that the node was given edges to is written
+  pub written : {T E : Type 0} (row : List K) (r : Result T E) → Grows (edges v) (edges w) (is_member eq row)
+      → OnOk r ((q : K) → is_member eq row q ≡ true → edges w q ≡ true) → Writes eq edges (IsAt eq at) (IsEdgeTo eq at row) m n r
+  written row r grows ok = record {
+    alone = λ q out. elim (both (eq at q)) [
+      | inl t ↦ absurd (out t)
+      | inr t ↦ updates q ∙ ap (λ c. cond c (Some w) (get eq m q)) t
+    ];
+    stays = written_stays grows.stays;
+    only = written_only (λ b. is_member eq row b ≡ true) (λ q h. or_cases (edges v q) (is_member eq row q) (grows.only q h));
+    ok = on_ok_weaker r (λ done a b x found. here a b x.0 ∙ done b x.1) ok;
+  }

@@ -4,3 +4,5 @@ pub mod Checks
 pub mod Deciding
 pub mod Nodes
 pub mod Reaches
+pub mod Readings
+pub mod Writings

@@ -1,11 +1,26 @@
 //! Reading the edges of a map of nodes as arcs between numbers.
-ghost use Rattle.std.specs.Prelude.{List, ◌≡◌, ◌<◌, ◌≤◌, ◌+◌, ◌-◌, ℕ, true, length, is_some, IsSome, IfOk, OnOk, slice_get, Some, ◌++◌, ◌∷◌, [], slice_index, take, false};
-ghost use Rattle.std.specs.Set.{is_member, ClonesAreEqual};
+ghost use Rattle.std.specs.Prelude.{
+  ◌≡◌,
+  ◌<◌,
+  ◌≤◌,
+  ◌+◌,
+  ◌-◌,
+  ℕ,
+  [],
+  true,
+  length,
+  is_some,
+  slice_get,
+  IfOk,
+  OnOk,
+  Some,
+};
+ghost use Rattle.std.specs.Set.{ClonesAreEqual};
 ghost use Rattle.std.specs.HashMap.{get, hash_map_len};
 ghost use Rattle.std.specs.HashSet.{contains, hash_set_len};
 ghost use Rattle.cedar_graph.specs.Graph.{graph_of};
-ghost use Rattle.cedar_graph.specs.laws.Arcs.{AreArcsOf, IsPrefix, HasNumber, HasNumberBelow, AreSameEdges, near_graph};
-ghost use Rattle.cedar_components.specs.Reach.{HasArc, AreArcs};
+ghost use Rattle.cedar_graph.specs.laws.Arcs.{HasNumber};
+ghost use Rattle.cedar_graph.specs.laws.Readings.{IsReadBelow, ReadsAll, ReadsArc, ReadsFix, ReadsOn};
 ghost use Rattle.indexmap.specs.IndexSet.{IsUnique};
 
 use crate::copies::{keys_of, members_of};
@@ -26,7 +41,8 @@ fn number_keys<K: Clone + Eq + Hash, V, S: BuildHasher + Clone>(
 ) -> Result<IndexSet<K, S>, AllocError>
     requires { ClonesAreEqual K.eq K.is_clone }
     ensures unique { IfOk result (IsUnique K.eq) }
-    ensures all { IfOk result (λ s. (q : K) → is_some (get K.eq nodes.now q) ≡ true → HasNumber K.eq s.keys q) }
+    ensures all { IfOk result (λ s. (q : K) →
+        is_some (get K.eq nodes.now q) ≡ true → HasNumber K.eq s.keys q) }
     ensures len { IfOk result (λ s. length s.keys ≤ hash_map_len nodes.now) }
 {
     let all = keys_of(alloc, nodes)?;
@@ -54,12 +70,8 @@ fn add_arc<K: Clone + Eq + Hash, S: BuildHasher>(
 ) -> Result<usize, AllocError>
     requires copies { ClonesAreEqual K.eq K.is_clone }
     requires unique { IsUnique K.eq s.old.keys }
-    ensures unique { OnOk result (IsUnique K.eq s.new.keys) }
-    ensures keys { OnOk result (IsPrefix s.old.keys.keys s.new.keys.keys) }
-    ensures from { OnOk result (s.new.from.items ≡ s.old.from.items ++ a ∷ []) }
-    ensures to { IfOk result (λ b. s.new.to.items ≡ s.old.to.items ++ b ∷ []) }
+    ensures arc { IfOk result (ReadsArc K.eq a key.now s.old s.new) }
     ensures reads { s.new.reads ≡ s.old.reads }
-    ensures found { IfOk result (λ b. (k : K) × (slice_get s.new.keys.keys b ≡ Some k) × (K.eq key.now k ≡ true)) }
 {
     let b = number_of(&mut s.keys, key)?;
     s.from.push(a)?;
@@ -75,13 +87,10 @@ fn read_row<K: Clone + Eq + Hash, V: TCNode<K>, S: BuildHasher>(
     a: usize,
 ) -> Result<(), AllocError>
     requires copies { ClonesAreEqual K.eq K.is_clone }
-    requires unique { IsUnique K.eq s.old.keys }
+    requires read { IsReadBelow K.eq (graph_of K.eq V.edges nodes.now) a s.old }
     requires within { a < length s.old.keys.keys }
-    requires arcs { AreArcsOf K.eq (graph_of K.eq V.edges nodes.now) a s.old.keys.keys s.old.from.items s.old.to.items }
-    ensures unique { OnOk result (IsUnique K.eq s.new.keys) }
-    ensures keys { OnOk result (IsPrefix s.old.keys.keys s.new.keys.keys) }
-    ensures arcs { OnOk result (AreArcsOf K.eq (graph_of K.eq V.edges nodes.now) (a + 1) s.new.keys.keys s.new.from.items s.new.to.items) }
-    ensures reads { OnOk result (s.new.reads ≤ s.old.reads + 1) }
+    ensures read { OnOk result (IsReadBelow K.eq (graph_of K.eq V.edges nodes.now) (a + 1) s.new) }
+    ensures on { OnOk result (ReadsOn 1 s.old s.new) }
 {
     let edges = match nodes.get(&s.keys[a]) {
         Some(node) => {
@@ -105,14 +114,11 @@ fn read_rows<K: Clone + Eq + Hash, V: TCNode<K>, S: BuildHasher>(
     end: usize,
 ) -> Result<(), AllocError>
     requires copies { ClonesAreEqual K.eq K.is_clone }
-    requires unique { IsUnique K.eq s.old.keys }
+    requires read { IsReadBelow K.eq (graph_of K.eq V.edges nodes.now) start s.old }
     requires order { start ≤ end }
     requires within { end ≤ length s.old.keys.keys }
-    requires arcs { AreArcsOf K.eq (graph_of K.eq V.edges nodes.now) start s.old.keys.keys s.old.from.items s.old.to.items }
-    ensures unique { OnOk result (IsUnique K.eq s.new.keys) }
-    ensures keys { OnOk result (IsPrefix s.old.keys.keys s.new.keys.keys) }
-    ensures arcs { OnOk result (AreArcsOf K.eq (graph_of K.eq V.edges nodes.now) end s.new.keys.keys s.new.from.items s.new.to.items) }
-    ensures reads { OnOk result (s.new.reads ≤ s.old.reads + (end - start)) }
+    ensures read { OnOk result (IsReadBelow K.eq (graph_of K.eq V.edges nodes.now) end s.new) }
+    ensures on { OnOk result (ReadsOn (end - start) s.old s.new) }
 {
     for a in start..end {
         read_row(alloc, nodes, s, a)?;
@@ -126,7 +132,8 @@ fn nothing_read<K: Clone + Eq + Hash, S: BuildHasher + Drop>(
     keys: IndexSet<K, S>,
     room: usize,
 ) -> Result<Reading<K, S>, AllocError>
-    ensures { IfOk result (λ s. (s.keys ≡ keys) × (s.from.items ≡ []) × (s.to.items ≡ []) × (s.reads ≡ 0)) }
+    ensures { IfOk result (λ s.
+        (s.keys ≡ keys) × (s.from.items ≡ []) × (s.to.items ≡ []) × (s.reads ≡ 0)) }
 {
     Ok(Reading {
         keys,
@@ -149,13 +156,8 @@ pub(crate) fn read_arcs<K: Clone + Eq + Hash, V: TCNode<K>, S: BuildHasher + Clo
     alloc: Global,
     nodes: &HashMap<K, V, S>,
 ) -> Result<FixReading<K, S>, AllocError>
-    requires copies { ClonesAreEqual K.eq K.is_clone }
-    ensures arcs { IfOk result (λ s. AreArcs s.reading.from.items s.reading.to.items (length s.reading.keys.keys)) }
-    ensures same { IfOk result (λ s. AreSameEdges K.eq (graph_of K.eq V.edges nodes.now) s.reading.keys.keys (HasArc s.reading.from.items s.reading.to.items)) }
-    ensures fixed { IfOk result (λ s. s.fixed ≤ length s.reading.keys.keys) }
-    ensures all { IfOk result (λ s. (q : K) → is_some (get K.eq nodes.now q) ≡ true → HasNumberBelow K.eq s.fixed s.reading.keys.keys q) }
-    ensures nodes { IfOk result (λ s. s.fixed ≤ hash_map_len nodes.now) }
-    ensures reads { IfOk result (λ s. s.reading.reads ≤ s.fixed) }
+    requires { ClonesAreEqual K.eq K.is_clone }
+    ensures { IfOk result (ReadsAll K.eq V.edges nodes.now) }
 {
     let keys = number_keys(alloc, nodes)?;
     let count = keys.len();
@@ -176,8 +178,10 @@ fn number_set<K: Clone + Eq + Hash, S: BuildHasher + Drop, F: BuildHasher>(
 ) -> Result<IndexSet<K, S>, AllocError>
     requires { ClonesAreEqual K.eq K.is_clone }
     ensures unique { IfOk result (IsUnique K.eq) }
-    ensures all { IfOk result (λ s. (q : K) → contains K.eq fix.now q ≡ true → HasNumber K.eq s.keys q) }
-    ensures only { IfOk result (λ s. (i : ℕ) (k : K) → slice_get s.keys i ≡ Some k → contains K.eq fix.now k ≡ true) }
+    ensures all { IfOk result (λ s. (q : K) →
+        contains K.eq fix.now q ≡ true → HasNumber K.eq s.keys q) }
+    ensures only { IfOk result (λ s. (i : ℕ) (k : K) →
+        slice_get s.keys i ≡ Some k → contains K.eq fix.now k ≡ true) }
     ensures len { IfOk result (λ s. length s.keys ≤ hash_set_len fix.now) }
     ensures least { IfOk result (λ s. hash_set_len fix.now ≤ length s.keys) }
 {
@@ -195,16 +199,8 @@ pub(crate) fn read_fix<K: Clone + Eq + Hash, V: TCNode<K>, S: BuildHasher + Clon
     fix: &HashSet<K, F>,
     nodes: &HashMap<K, V, S>,
 ) -> Result<FixReading<K, S>, AllocError>
-    requires copies { ClonesAreEqual K.eq K.is_clone }
-    ensures arcs { IfOk result (λ s. AreArcs s.reading.from.items s.reading.to.items (length s.reading.keys.keys)) }
-    ensures fixed { IfOk result (λ s. s.fixed ≤ length s.reading.keys.keys) }
-    ensures same { IfOk result (λ s. AreSameEdges K.eq (near_graph K.eq (graph_of K.eq V.edges nodes.now) (take s.near s.reading.keys.keys)) s.reading.keys.keys (HasArc s.reading.from.items s.reading.to.items)) }
-    ensures len { IfOk result (λ s. s.fixed ≤ hash_set_len fix.now) }
-    ensures least { IfOk result (λ s. hash_set_len fix.now ≤ s.fixed) }
-    ensures all { IfOk result (λ s. (q : K) → contains K.eq fix.now q ≡ true → HasNumberBelow K.eq s.fixed s.reading.keys.keys q) }
-    ensures only { IfOk result (λ s. (i : ℕ) (k : K) → i < s.fixed → slice_get s.reading.keys.keys i ≡ Some k → contains K.eq fix.now k ≡ true) }
-    ensures near { IfOk result (λ s. (x u : K) → contains K.eq fix.now x ≡ true → graph_of K.eq V.edges nodes.now x u ≡ true → is_member K.eq (take s.near s.reading.keys.keys) u ≡ true) }
-    ensures near_fixed { IfOk result (λ s. (x : K) → contains K.eq fix.now x ≡ true → is_member K.eq (take s.near s.reading.keys.keys) x ≡ true) }
+    requires { ClonesAreEqual K.eq K.is_clone }
+    ensures { IfOk result (ReadsFix K.eq V.edges fix.now nodes.now) }
 {
     let keys = number_set(alloc, nodes.hasher().clone()?, fix)?;
     let fixed = keys.len();

@@ -1,6 +1,7 @@
 //! Numbers for keys: their places in a set that keeps them in the order in which they came.
-ghost use Rattle.std.specs.Prelude.{◌≡◌, ◌≤◌, ◌+◌, ◌⊎◌, ℕ, length, ◌++◌, List, true, Some, IfOk, OnOk, slice_get, IsSomeAnd};
+ghost use Rattle.std.specs.Prelude.{IfOk};
 ghost use Rattle.std.specs.Set.{ClonesAreEqual};
+ghost use Rattle.cedar_graph.specs.laws.Readings.{HasPut};
 ghost use Rattle.indexmap.specs.IndexSet.{IsUnique};
 
 use indexmap::IndexSet;
@@ -13,11 +14,7 @@ pub(crate) fn put_key<K: Clone + Eq + Hash, S: BuildHasher>(
     key: &K,
 ) -> Result<usize, AllocError>
     requires { ClonesAreEqual K.eq K.is_clone }
-    ensures unique { OnOk result (IsUnique K.eq keys.new) }
-    ensures found { IfOk result (λ i. IsSomeAnd (slice_get keys.new.keys i) (λ k. K.eq key.now k ≡ true)) }
-    ensures one { OnOk result (length keys.new.keys ≤ length keys.old.keys + 1) }
-    ensures fresh { OnOk result ((i : ℕ) (k : K) → slice_get keys.new.keys i ≡ Some k → (slice_get keys.old.keys i ≡ Some k) ⊎ (K.eq key.now k ≡ true)) }
-    ensures more { OnOk result ((xs : List K) × (keys.new.keys ≡ keys.old.keys ++ xs)) }
+    ensures { IfOk result (HasPut K.eq key.now keys.old keys.new) }
 {
     let (number, _) = keys.insert_full(key.clone()?)?;
     Ok(number)
@@ -30,11 +27,7 @@ pub(crate) fn number_of<K: Clone + Eq + Hash, S: BuildHasher>(
 ) -> Result<usize, AllocError>
     requires copies { ClonesAreEqual K.eq K.is_clone }
     requires unique { IsUnique K.eq keys.old }
-    ensures unique { OnOk result (IsUnique K.eq keys.new) }
-    ensures found { IfOk result (λ i. IsSomeAnd (slice_get keys.new.keys i) (λ k. K.eq key.now k ≡ true)) }
-    ensures one { OnOk result (length keys.new.keys ≤ length keys.old.keys + 1) }
-    ensures fresh { OnOk result ((i : ℕ) (k : K) → slice_get keys.new.keys i ≡ Some k → (slice_get keys.old.keys i ≡ Some k) ⊎ (K.eq key.now k ≡ true)) }
-    ensures more { OnOk result ((xs : List K) × (keys.new.keys ≡ keys.old.keys ++ xs)) }
+    ensures { IfOk result (HasPut K.eq key.now keys.old keys.new) }
 {
     if let Some(number) = keys.get_index_of(key) {
         return Ok(number);

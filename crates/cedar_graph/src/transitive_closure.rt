@@ -3,26 +3,24 @@ ghost use Rattle.std.specs.Prelude.{
   ◌≡◌,
   Bool,
   true,
-  false,
   map,
   ◌||◌,
   ◌≤◌,
   ◌*◌,
   length,
-  is_some,
   IfOk,
   OnOk,
   OnErr,
   IfErr,
-  IsTrue,
 };
 ghost use Rattle.std.specs.List.{range_with_len};
 ghost use Rattle.std.specs.List.Sorted.{IsPermutation};
 ghost use Rattle.std.specs.Set.{is_member, ClonesAreEqual};
-ghost use Rattle.std.specs.HashMap.{get, hash_map_len};
+ghost use Rattle.std.specs.HashMap.{hash_map_len};
 ghost use Rattle.std.specs.HashSet.{contains, hash_set_len};
-ghost use Rattle.cedar_graph.specs.Graph.{graph_of, Grows, KeepsNodes, KeysMatch, KeepsEdges, AddsOnlyReached, ReachesSame, IsClosure, IsClosed, IsClosedWithoutLoop, IsTrusted, HasNoCycle, HasNoCycleAt};
-ghost use Rattle.cedar_graph.specs.Faults.{MatchFault, NamesCycleAt, UnlessMemory, BreaksClosed};
+ghost use Rattle.cedar_graph.specs.Calls.{Closes, HasAll, KeepsAll, Repairs};
+ghost use Rattle.cedar_graph.specs.Graph.{graph_of, Grows, IsClosedWithoutLoop, KeysMatch};
+ghost use Rattle.cedar_graph.specs.Faults.{DeniesClosed};
 
 use crate::checks::{enforce_no_loop, enforce_no_loop_for, enforce_tc};
 use crate::close::{close, repair};
@@ -220,24 +218,8 @@ pub fn compute_tc<K: Clone + Eq + Hash + Debug + Display, V: TCNode<K>, S: Build
     requires copies { ClonesAreEqual K.eq K.is_clone }
     requires keys { KeysMatch K.eq V.key nodes.old }
     ensures keys { KeysMatch K.eq V.key nodes.new }
-    ensures keeps { KeepsNodes K.eq V.key V.rest nodes.old nodes.new }
-    ensures kept { KeepsNodes K.eq V.key V.kept nodes.old nodes.new }
-    ensures stays { KeepsEdges (graph_of K.eq V.edges nodes.old) (graph_of K.eq V.edges nodes.new) }
-    ensures only { AddsOnlyReached
-        (graph_of K.eq V.edges nodes.old)
-        (graph_of K.eq V.edges nodes.new) }
-    // reach over reach is reach
-    ensures same { ReachesSame (graph_of K.eq V.edges nodes.old) (graph_of K.eq V.edges nodes.new) }
-    ensures closed { UnlessMemory result (IsClosure
-        (graph_of K.eq V.edges nodes.old)
-        (graph_of K.eq V.edges nodes.new)) }
-    // closing it again changes no edge
-    ensures once { UnlessMemory result (IsClosure
-        (graph_of K.eq V.edges nodes.new)
-        (graph_of K.eq V.edges nodes.new)) }
-    ensures ok { OnOk result (IsTrue enforce_dag → HasNoCycle (graph_of K.eq V.edges nodes.old)) }
-    ensures err { IfErr result (NamesCycleAt enforce_dag
-        (λ v. is_some (get K.eq nodes.old v)) (graph_of K.eq V.edges nodes.old)) }
+    ensures keeps { KeepsAll K.eq V.key V.rest V.kept nodes.old nodes.new }
+    ensures closes { Closes K.eq V.edges enforce_dag nodes.old nodes.new result }
 {
     compute_tc_counted(alloc, nodes, enforce_dag)?;
     Ok(())
@@ -247,7 +229,7 @@ pub fn compute_tc<K: Clone + Eq + Hash + Debug + Display, V: TCNode<K>, S: Build
 /// most twice as many visits. The counts stay at `usize::MAX` once there.
 ///
 /// The original counts nothing.
-#[tactic(auto, using(crate::specs::laws::Nodes::keys_match_kept, crate::proofs::Reaches::no_cycle_where_asked))]
+#[tactic(auto, using(crate::specs::laws::Nodes::keys_match_kept))]
 pub fn compute_tc_counted<
     K: Clone + Eq + Hash + Debug + Display,
     V: TCNode<K>,
@@ -256,24 +238,8 @@ pub fn compute_tc_counted<
     requires copies { ClonesAreEqual K.eq K.is_clone }
     requires keys { KeysMatch K.eq V.key nodes.old }
     ensures keys { KeysMatch K.eq V.key nodes.new }
-    ensures keeps { KeepsNodes K.eq V.key V.rest nodes.old nodes.new }
-    ensures kept { KeepsNodes K.eq V.key V.kept nodes.old nodes.new }
-    ensures stays { KeepsEdges (graph_of K.eq V.edges nodes.old) (graph_of K.eq V.edges nodes.new) }
-    ensures only { AddsOnlyReached
-        (graph_of K.eq V.edges nodes.old)
-        (graph_of K.eq V.edges nodes.new) }
-    // reach over reach is reach
-    ensures same { ReachesSame (graph_of K.eq V.edges nodes.old) (graph_of K.eq V.edges nodes.new) }
-    ensures closed { UnlessMemory result (IsClosure
-        (graph_of K.eq V.edges nodes.old)
-        (graph_of K.eq V.edges nodes.new)) }
-    // closing it again changes no edge
-    ensures once { UnlessMemory result (IsClosure
-        (graph_of K.eq V.edges nodes.new)
-        (graph_of K.eq V.edges nodes.new)) }
-    ensures ok { OnOk result (IsTrue enforce_dag → HasNoCycle (graph_of K.eq V.edges nodes.old)) }
-    ensures err { IfErr result (NamesCycleAt enforce_dag
-        (λ v. is_some (get K.eq nodes.old v)) (graph_of K.eq V.edges nodes.old)) }
+    ensures keeps { KeepsAll K.eq V.key V.rest V.kept nodes.old nodes.new }
+    ensures closes { Closes K.eq V.edges enforce_dag nodes.old nodes.new result }
     ensures reads { IfOk result (λ w. w.reads ≤ hash_map_len nodes.old) }
     ensures closings { IfOk result (λ w. w.closings ≤ 2 * hash_map_len nodes.old) }
 {
@@ -318,24 +284,9 @@ pub fn repair_tc<
     requires copies { ClonesAreEqual K.eq K.is_clone }
     requires keys { KeysMatch K.eq V.key nodes.old }
     ensures keys { KeysMatch K.eq V.key nodes.new }
-    ensures keeps { KeepsNodes K.eq V.key V.rest nodes.old nodes.new }
-    ensures kept { KeepsNodes K.eq V.key V.kept nodes.old nodes.new }
-    ensures alone { (q : K) → contains K.eq nodes_to_fix.now q ≡ false →
-        get K.eq nodes.new q ≡ get K.eq nodes.old q }
-    ensures stays { KeepsEdges (graph_of K.eq V.edges nodes.old) (graph_of K.eq V.edges nodes.new) }
-    ensures only { AddsOnlyReached
-        (graph_of K.eq V.edges nodes.old)
-        (graph_of K.eq V.edges nodes.new) }
-    ensures closed { OnOk result (
-        IsTrusted (contains K.eq nodes_to_fix.now) (graph_of K.eq V.edges nodes.old)
-        → HasNoCycleAt (contains K.eq nodes_to_fix.now) (graph_of K.eq V.edges nodes.old)
-        → IsClosure (graph_of K.eq V.edges nodes.old) (graph_of K.eq V.edges nodes.new)) }
-    ensures ok { OnOk result (
-        IsTrusted (contains K.eq nodes_to_fix.now) (graph_of K.eq V.edges nodes.old)
-        → IsTrue enforce_dag
-        → HasNoCycleAt (contains K.eq nodes_to_fix.now) (graph_of K.eq V.edges nodes.old)) }
-    ensures err { IfErr result (NamesCycleAt enforce_dag
-        (contains K.eq nodes_to_fix.now) (graph_of K.eq V.edges nodes.old)) }
+    ensures keeps { KeepsAll K.eq V.key V.rest V.kept nodes.old nodes.new }
+    ensures repairs { Repairs K.eq V.edges enforce_dag (contains K.eq nodes_to_fix.now)
+        nodes.old nodes.new result }
 {
     repair_tc_counted(alloc, nodes_to_fix, nodes, enforce_dag)?;
     Ok(())
@@ -360,28 +311,11 @@ pub fn repair_tc_counted<
     requires copies { ClonesAreEqual K.eq K.is_clone }
     requires keys { KeysMatch K.eq V.key nodes.old }
     ensures keys { KeysMatch K.eq V.key nodes.new }
-    ensures keeps { KeepsNodes K.eq V.key V.rest nodes.old nodes.new }
-    ensures kept { KeepsNodes K.eq V.key V.kept nodes.old nodes.new }
-    ensures alone { (q : K) → contains K.eq nodes_to_fix.now q ≡ false →
-        get K.eq nodes.new q ≡ get K.eq nodes.old q }
-    ensures stays { KeepsEdges (graph_of K.eq V.edges nodes.old) (graph_of K.eq V.edges nodes.new) }
-    ensures only { AddsOnlyReached
-        (graph_of K.eq V.edges nodes.old)
-        (graph_of K.eq V.edges nodes.new) }
-    ensures closed { OnOk result (
-        IsTrusted (contains K.eq nodes_to_fix.now) (graph_of K.eq V.edges nodes.old)
-        → HasNoCycleAt (contains K.eq nodes_to_fix.now) (graph_of K.eq V.edges nodes.old)
-        → IsClosure (graph_of K.eq V.edges nodes.old) (graph_of K.eq V.edges nodes.new)) }
-    ensures ok { OnOk result (
-        IsTrusted (contains K.eq nodes_to_fix.now) (graph_of K.eq V.edges nodes.old)
-        → IsTrue enforce_dag
-        → HasNoCycleAt (contains K.eq nodes_to_fix.now) (graph_of K.eq V.edges nodes.old)) }
-    ensures err { IfErr result (NamesCycleAt enforce_dag
-        (contains K.eq nodes_to_fix.now) (graph_of K.eq V.edges nodes.old)) }
+    ensures keeps { KeepsAll K.eq V.key V.rest V.kept nodes.old nodes.new }
+    ensures repairs { Repairs K.eq V.edges enforce_dag (contains K.eq nodes_to_fix.now)
+        nodes.old nodes.new result }
     ensures closings { IfOk result (λ w. w.closings ≤ 2 * hash_set_len nodes_to_fix.now) }
-    ensures visits { IfOk result (λ w.
-        ((q : K) → contains K.eq nodes_to_fix.now q ≡ true
-        → is_some (get K.eq nodes.old q) ≡ true)
+    ensures visits { IfOk result (λ w. HasAll K.eq nodes_to_fix.now nodes.old
         → hash_set_len nodes_to_fix.now ≤ w.closings) }
 {
     let work = repair(alloc, nodes_to_fix, nodes)?;
@@ -410,11 +344,7 @@ pub fn enforce_tc_and_dag<K: Clone + Eq + Hash + Debug + Display, V: TCNode<K>, 
     requires copies { ClonesAreEqual K.eq K.is_clone }
     requires keys { KeysMatch K.eq V.key nodes.now }
     ensures ok { OnOk result (IsClosedWithoutLoop (graph_of K.eq V.edges nodes.now)) }
-    ensures err { IfErr result (λ e. MatchFault e
-        (BreaksClosed (graph_of K.eq V.edges nodes.now))
-        (λ v. IsClosed (graph_of K.eq V.edges nodes.now)
-        × (graph_of K.eq V.edges nodes.now v v ≡ true))
-        ) }
+    ensures err { IfErr result (DeniesClosed (graph_of K.eq V.edges nodes.now)) }
 {
     enforce_tc(alloc, nodes)?;
     enforce_no_loop(nodes)

@@ -1,43 +1,53 @@
 -- Numbers for keys, and arcs between them.
 use Rattle.std.specs.Prelude.{◌≡◌, ℕ, ◌<◌, ◌+◌, slice_get, slice_index, Bool, true, ◌&&◌, List, ◌++◌, Some, length}
 use Rattle.std.specs.Set.{is_member}
-use Rattle.cedar_components.specs.Reach.{IsWithin, Goes}
+use Rattle.cedar_components.specs.Reach.{Goes}
 
 -- there is an arc from number a to the number of q
 abbrev pub HasArcTo : {K : Type 0} → (K → K → Bool) → List K → List ℕ → List ℕ → ℕ → K → Type 0
-HasArcTo {K} eq keys from to a q = (k : ℕ) × (y : K) × (k < length from) × (slice_index from k ≡ a) × (slice_get keys (slice_index to k) ≡ Some y) × (eq q y ≡ true)
+HasArcTo {K} eq keys from to a q = (k : ℕ) × (y : K) × (k < length from) × (slice_index from k ≡ a)
+    × (slice_get keys (slice_index to k) ≡ Some y) × (eq q y ≡ true)
 
 -- the arcs of the numbers below `done` are the edges of their keys, and the others are edges
-pub record AreArcsOf {K : Type 0} (eq : K → K → Bool) (G : K → K → Bool) (done : ℕ) (keys : List K) (from to : List ℕ) : Type 0 where
+pub record AreArcsOf {K : Type 0} (eq : K → K → Bool) (G : K → K → Bool) (done : ℕ) (keys : List K)
+    (from to : List ℕ) : Type 0 where
   pub same_len : length to ≡ length from
   pub from_in : (k : ℕ) → k < length from → slice_index from k < done
   pub to_in : (k : ℕ) → k < length from → slice_index to k < length keys
-  pub sound : (k : ℕ) (x y : K) → k < length from → slice_get keys (slice_index from k) ≡ Some x → slice_get keys (slice_index to k) ≡ Some y → G x y ≡ true
-  pub complete : (a : ℕ) (x q : K) → a < done → slice_get keys a ≡ Some x → G x q ≡ true → HasArcTo eq keys from to a q
+  pub sound : (k : ℕ) (x y : K) → k < length from → slice_get keys (slice_index from k) ≡ Some x
+      → slice_get keys (slice_index to k) ≡ Some y → G x y ≡ true
+  pub complete : (a : ℕ) (x q : K) → a < done → slice_get keys a ≡ Some x → G x q ≡ true
+      → HasArcTo eq keys from to a q
 
 -- the list goes on
 abbrev pub IsPrefix : {K : Type 0} → List K → List K → Type 0
 IsPrefix {K} keys more = (xs : List K) × (more ≡ keys ++ xs)
 
--- the arcs of the numbers below a are the edges of their keys, those of a so far are edges, and lead to the keys that pass
-pub record AreArcsIn {K : Type 0} (eq : K → K → Bool) (G : K → K → Bool) (a : ℕ) (keys : List K) (from to : List ℕ) (P : K → Bool) : Type 0 where
+-- the arcs of the numbers below a are the edges of their keys, those of a so far are edges, and lead to the keys
+-- that pass
+pub record AreArcsIn {K : Type 0} (eq : K → K → Bool) (G : K → K → Bool) (a : ℕ) (keys : List K) (from to : List ℕ)
+    (P : K → Bool) : Type 0 where
   pub same_len : length to ≡ length from
   pub from_in : (k : ℕ) → k < length from → slice_index from k < a + 1
   pub to_in : (k : ℕ) → k < length from → slice_index to k < length keys
-  pub sound : (k : ℕ) (x y : K) → k < length from → slice_get keys (slice_index from k) ≡ Some x → slice_get keys (slice_index to k) ≡ Some y → G x y ≡ true
+  pub sound : (k : ℕ) (x y : K) → k < length from → slice_get keys (slice_index from k) ≡ Some x
+      → slice_get keys (slice_index to k) ≡ Some y → G x y ≡ true
   pub complete : (i : ℕ) (x q : K) → i < a → slice_get keys i ≡ Some x → G x q ≡ true → HasArcTo eq keys from to i q
   pub here : (q : K) → P q ≡ true → HasArcTo eq keys from to a q
 
 -- an arc between two numbers is an edge between their keys
 abbrev pub AreEdges : {K : Type 0} → (K → K → Bool) → List K → (ℕ → ℕ → Type 0) → Type 0
-AreEdges {K} G keys E = (a b : ℕ) (x y : K) → E a b → slice_get keys a ≡ Some x → slice_get keys b ≡ Some y → G x y ≡ true
+AreEdges {K} G keys E = (a b : ℕ) (x y : K) → E a b → slice_get keys a ≡ Some x → slice_get keys b ≡ Some y
+    → G x y ≡ true
 
 -- the numbers' arcs are the edges of their keys
-pub record AreSameEdges {K : Type 0} (eq : K → K → Bool) (G : K → K → Bool) (keys : List K) (E : ℕ → ℕ → Type 0) : Type 0 where
+pub record AreSameEdges {K : Type 0} (eq : K → K → Bool) (G : K → K → Bool) (keys : List K)
+    (E : ℕ → ℕ → Type 0) : Type 0 where
   pub respects_eq : (x y z : K) → eq x y ≡ true → G x z ≡ G y z
   pub has_key : (a b : ℕ) → E a b → (k : K) × (slice_get keys b ≡ Some k)
   pub sound : AreEdges G keys E
-  pub complete : (a : ℕ) (x q : K) → slice_get keys a ≡ Some x → G x q ≡ true → (b : ℕ) × (y : K) × E a b × (slice_get keys b ≡ Some y) × (eq q y ≡ true)
+  pub complete : (a : ℕ) (x q : K) → slice_get keys a ≡ Some x → G x q ≡ true → (b : ℕ) × (y : K) × E a b
+      × (slice_get keys b ≡ Some y) × (eq q y ≡ true)
 
 -- q is a key of the list
 abbrev pub HasNumber : {K : Type 0} → (K → K → Bool) → List K → K → Type 0
@@ -47,13 +57,9 @@ HasNumber {K} eq keys q = (i : ℕ) × (k : K) × (slice_get keys i ≡ Some k) 
 abbrev pub HasNumberBelow : {K : Type 0} → (K → K → Bool) → ℕ → List K → K → Type 0
 HasNumberBelow {K} eq n keys q = (i : ℕ) × (k : K) × (i < n) × (slice_get keys i ≡ Some k) × (eq q k ≡ true)
 
--- q is the key of a number of the list from place i up to j
-abbrev pub IsPicked : {K : Type 0} → (K → K → Bool) → List K → List ℕ → ℕ → ℕ → K → Type 0
-IsPicked {K} eq keys lists i j q = (y : ℕ) × (k : K) × IsWithin lists i j y × (slice_get keys y ≡ Some k) × (eq q k ≡ true)
-
--- q is the key of a number with this mark
-abbrev pub IsMarked : {K : Type 0} → (K → K → Bool) → List K → List ℕ → ℕ → K → Type 0
-IsMarked {K} eq keys marks mark q = (y : ℕ) × (k : K) × (slice_get keys y ≡ Some k) × (slice_index marks y ≡ mark) × (eq q k ≡ true)
+-- q is the key of number x
+abbrev pub IsKeyAt : {K : Type 0} → (K → K → Bool) → List K → ℕ → K → Type 0
+IsKeyAt {K} eq keys x q = (k : K) × (slice_get keys x ≡ Some k) × (eq k q ≡ true)
 
 -- q is the key of a number that number x reaches
 abbrev pub ReachesKey : {K : Type 0} → (K → K → Bool) → List K → (ℕ → ℕ → Type 0) → ℕ → K → Type 0

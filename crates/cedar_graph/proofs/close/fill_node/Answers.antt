@@ -1,4 +1,4 @@
-use Rattle.std.proofs.Common.{◌≡◌, inl, inr, arith, ◌∙◌, length}
+use Rattle.std.proofs.Common.{◌≡◌, arith, ◌∙◌, length}
 use Rattle.std.specs.Set.{is_member}
 use Rattle.std.proofs.lemmas.Grind.{common_steps}
 use Rattle.std.proofs.lemmas.Option.{slice_get_within}
@@ -9,19 +9,17 @@ use Rattle.cedar_graph.proofs.close.fill_node.Goals as goal
 pub returns-then-is_empty-clause-ok : goal.returns-then-is_empty-clause-ok
 returns-then-is_empty-clause-ok g c =
     let eq = g.K.PartialEq.eq in
-    let row = c.in_ok-row.row.items in
+    let row = c.args.row.now.items in
     let none : length row ≡ 0 = grind (arith, common_steps) in
-    λ q p. elim (c.in_ok-row.ensures.all q p) [
-      | inl m ↦ let n = got_of_member eq row q m in let within = slice_get_within row n.0 n.1 n.2 in absurd (omega arith)
-      | inr k ↦ g.met.V.TCNode.respects_eq c.args.node.now q k.1 k.4 ∙ c.requires.known k.0 k.1 k.2 k.3
-    ]
+    λ q m.
+    let n = got_of_member eq row q m in
+    let within = slice_get_within row n.0 n.1 n.2 in
+    absurd (omega arith)
 
 pub returns-clause-ok : goal.returns-clause-ok
 returns-clause-ok g c =
     let eq = g.K.PartialEq.eq in
     let old = g.V.TCNode.edges c.args.node.now in
-    let row = c.in_ok-row.row.items in
-    on_ok_weaker c.add_edges_to.result (λ ok q p. elim (c.in_ok-row.ensures.all q p) [
-      | inl m ↦ ok q ∙ or_right (old q) (is_member eq row q) m
-      | inr k ↦ c.add_edges_to.ensures.grows.stays q (g.met.V.TCNode.respects_eq c.args.node.now q k.1 k.4 ∙ c.requires.known k.0 k.1 k.2 k.3)
-    ]) c.add_edges_to.ensures.ok
+    let row = c.args.row.now.items in
+    on_ok_weaker c.add_edges_to.result (λ ok q m. ok q ∙ or_right (old q) (is_member eq row q) m)
+    c.add_edges_to.ensures.ok

@@ -1,12 +1,14 @@
 use Rattle.std.proofs.Common.{◌≡◌, ◌<◌, ◌≤◌, ◌+◌, ◌-◌, ℕ, length, slice_index}
 use Rattle.cedar_components.specs.Reach.{HasArc}
+use Rattle.cedar_graph.specs.laws.Writings.{AreAtMost}
 use Rattle.cedar_graph.proofs.close.mark_targets.Given as goal
 
 abbrev pub invariant-loop-k : goal.invariant-loop-k
 invariant-loop-k l = record {
-  len : length l.marks.items ≡ length l.fn.marks.items;
-  below : (y : ℕ) → y < length l.fn.marks.items → slice_index l.marks.items y ≤ l.x + 1;
-  marked : (y : ℕ) → y < length l.fn.marks.items → slice_index l.marks.items y ≡ l.x + 1 → HasArc l.from l.to l.x y;
+  len : length l.known.marks.items ≡ length l.fn.known.marks.items;
+  below : AreAtMost (l.x + 1) l.known.marks.items;
+  marked : (y : ℕ) → y < length l.known.marks.items → slice_index l.known.marks.items y ≡ l.x + 1
+      → HasArc l.from l.to l.x y;
   place : l.k ≤ length l.from;
 }
 

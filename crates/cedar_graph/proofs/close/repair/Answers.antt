@@ -1,30 +1,45 @@
-use Rattle.std.proofs.Common.{arith, ℕ, inl, inr, sym, ◌∙◌, take}
+use Rattle.std.proofs.Common.{arith, sym, ◌∙◌, take}
+use Rattle.std.specs.Set.{is_member}
 use Rattle.std.specs.HashSet.{contains}
 use Rattle.std.proofs.lemmas.Result.{on_ok_weaker, IfOk-weaker}
 use Rattle.std.proofs.lemmas.Bool.{false≢true}
-use Rattle.cedar_components.specs.Reach.{HasArc}
-use Rattle.cedar_graph.proofs.Closing.{repaired_only, repaired_has}
-use Rattle.std.specs.Set.{is_member}
 use Rattle.cedar_graph.specs.Graph.{graph_of}
-use Rattle.cedar_graph.proofs.Reaches.{and_parts, both}
+use Rattle.cedar_graph.specs.laws.Readings.{IsArc}
+use Rattle.cedar_graph.proofs.Closing.{repaired_only, repaired_has}
+use Rattle.cedar_graph.proofs.Reaches.{and_parts}
 use Rattle.cedar_graph.proofs.Keyed.{member_alike}
 use Rattle.cedar_graph.proofs.close.repair.Goals as goal
 
+pub close_read-requires-clause-read : goal.close_read-requires-clause-read
+close_read-requires-clause-read g c =
+    let eq = g.K.PartialEq.eq in
+    let s = c.in_ok-read.read in
+    let f = c.in_ok-read.ensures in
+    let ks = take s.near s.reading.keys.keys in
+    record {
+      arcs = f.arcs;
+      fixed = f.fixed;
+      edges = λ a b x y e p t. (and_parts (is_member eq ks x) (graph_of eq g.V.TCNode.edges c.args.nodes.now x y)
+          (f.same.sound a b x y e p t)).1;
+    }
+
 pub returns-clause-alone : goal.returns-clause-alone
 returns-clause-alone g c =
-    let eq = g.K.PartialEq.eq in
     let fix = c.args.fix.now in
-    λ q n. c.close_read.ensures.alone q (λ i k lt got. elim (both (eq k q)) [
-      | inl e ↦ absurd (false≢true (sym n ∙ sym (member_alike g.met.K.Eq.laws fix.keys k q e) ∙ c.in_ok-read.ensures.only i k lt got))
-      | inr e ↦ e
-    ])
+    λ q out. c.close_read.ensures.writes.alone q (λ at.
+    false≢true (sym out ∙ sym (member_alike g.met.K.Eq.laws fix.keys at.2.0 q at.2.2)
+    ∙ c.in_ok-read.ensures.only at.0 at.2.0 at.1 at.2.1))
 
-pub returns-clause-only : goal.returns-clause-only
-returns-clause-only g c =
+pub returns-clause-adds : goal.returns-clause-adds
+returns-clause-adds g c =
     let s = c.in_ok-read.read in
     let keys = s.reading.keys.keys in
-    let E : ℕ → ℕ → Type 0 = HasArc s.reading.from.items s.reading.to.items in
-    repaired_only g.met.K.Eq.laws g.V.TCNode.edges g.met.V.TCNode.respects_eq c.args.nodes.now c.close_read.new.nodes keys E s.fixed c.close_read.ensures.only (take s.near keys) c.in_ok-read.ensures.same
+    let w = c.close_read.ensures.writes in
+    record {
+      stays = w.stays;
+      only = repaired_only g.met.K.Eq.laws g.V.TCNode.edges g.met.V.TCNode.respects_eq c.args.nodes.now
+          c.close_read.new.nodes keys (IsArc s.reading) s.fixed w.only (take s.near keys) c.in_ok-read.ensures.same;
+    }
 
 pub returns-clause-ok : goal.returns-clause-ok
 returns-clause-ok g c =
@@ -32,21 +47,23 @@ returns-clause-ok g c =
     let s = c.in_ok-read.read in
     let f = c.in_ok-read.ensures in
     let keys = s.reading.keys.keys in
-    let E : ℕ → ℕ → Type 0 = HasArc s.reading.from.items s.reading.to.items in
+    let w = c.close_read.ensures.writes in
     on_ok_weaker c.close_read.result
-    (λ done. repaired_has g.met.K.Eq.laws g.V.TCNode.edges g.met.V.TCNode.respects_eq c.args.nodes.now c.close_read.new.nodes keys E s.fixed done (take s.near keys) f.same (contains eq c.args.fix.now) f.all f.near f.near_fixed c.close_read.ensures.stays)
-    c.close_read.ensures.ok
+    (λ done. repaired_has g.met.K.Eq.laws g.V.TCNode.edges g.met.V.TCNode.respects_eq c.args.nodes.now
+    c.close_read.new.nodes keys (IsArc s.reading) s.fixed done (take s.near keys) f.same
+    (contains eq c.args.fix.now) f.all f.near f.near_fixed w.stays)
+    w.ok
+
+pub returns-clause-closings : goal.returns-clause-closings
+returns-clause-closings g c =
+    IfOk-weaker c.close_read.result _ _ (λ w work. omega (arith, work.closings.most, c.in_ok-read.ensures.len))
+    c.close_read.ensures.work
 
 pub returns-clause-visits : goal.returns-clause-visits
 returns-clause-visits g c =
     let f = c.in_ok-read.ensures in
-    IfOk-weaker c.close_read.result _ _ (λ w visits all.
-    let same = visits (λ i k lt got. all k (f.only i k lt got)) in
-    omega (arith, f.least)) c.close_read.ensures.visits
-
-pub close_read-requires-clause-edges : goal.close_read-requires-clause-edges
-close_read-requires-clause-edges g c =
-    let eq = g.K.PartialEq.eq in
-    let s = c.in_ok-read.read in
-    let ks = take s.near s.reading.keys.keys in
-    λ a b x y e f t. (and_parts (is_member eq ks x) (graph_of eq g.V.TCNode.edges c.args.nodes.now x y) (c.in_ok-read.ensures.same.sound a b x y e f t)).1
+    let fix = c.args.fix.now in
+    IfOk-weaker c.close_read.result _ _ (λ w work all.
+    let whole = work.closings.all (λ q at. all q (sym (member_alike g.met.K.Eq.laws fix.keys at.2.0 q at.2.2)
+    ∙ f.only at.0 at.2.0 at.1 at.2.1)) in
+    omega (arith, f.least)) c.close_read.ensures.work

@@ -1,51 +1,130 @@
-use Rattle.std.proofs.Common.{◌≡◌, ℕ, ◌<◌, inl, inr, arith, sym, subst, ◌∙◌, length, Some, slice_get}
-use Rattle.std.proofs.lemmas.Bool.{cases_eq}
+use Rattle.std.proofs.Common.{◌+◌, ◌<◌, ◌≤◌, arith, rules, inl, inr, refl, sym, subst, ◌∙◌, length}
+use Rattle.std.proofs.lemmas.Grind.{common_steps}
+use Rattle.std.proofs.lemmas.Option.{slice_get_within}
 use Rattle.cedar_components.specs.Reach.{HasArc}
-use Rattle.cedar_graph.specs.laws.Arcs.{ReachesKey}
-use Rattle.cedar_graph.proofs.Reaches.{same_found, KeepsNodes-trans}
-use Rattle.cedar_graph.proofs.Keyed.{got_some}
+use Rattle.cedar_graph.specs.laws.Readings.{IsArc}
+use Rattle.cedar_graph.specs.laws.Writings.{IsToFix}
+use Rattle.cedar_graph.proofs.Reaches.{same_found, KeepsAll-refl, KeepsAll-trans}
+use Rattle.cedar_graph.proofs.Rows.{none_written, rows_next, rows_written, rows_wider}
 use Rattle.cedar_graph.proofs.close.write_rows.Goals as goal
 
-pub returns-in_err-closings-clause-only : goal.returns-in_err-closings-clause-only
-returns-in_err-closings-clause-only g c =
+pub loop-x-init : goal.loop-x-init
+loop-x-init g c =
+    let eq = g.K.PartialEq.eq in
+    let node = g.V.TCNode in
+    let read = c.args.read.now in
+    let m = c.args.nodes.now in
+    record {
+      marks_len = search rules;
+      marks_below = λ y h. grind (arith, common_steps);
+      place = omega arith;
+      keeps = KeepsAll-refl eq node.key node.rest node.kept m;
+      writes = none_written eq node.edges read.reading.keys.keys (IsArc read.reading) (IsToFix eq read) m;
+      counts = record { most = omega arith; all = λ _. refl };
+    }
+
+pub mark_targets-place-requires-clause-before : goal.mark_targets-place-requires-clause-before
+mark_targets-place-requires-clause-before g c = c.loop-x.invariant.marks_below
+
+pub mark_targets-place-requires-clause-place : goal.mark_targets-place-requires-clause-place
+mark_targets-place-requires-clause-place g c = subst (λ v. c.loop-x.place ≤ length v)
+    (sym c.deref.ensures.value) c.loop-x.invariant.place
+
+pub write_number-requires-clause-known : goal.write_number-requires-clause-known
+write_number-requires-clause-known g c =
+    let read = c.args.read.now in
     let x = c.loop-x.x in
-    let below : x < c.args.fixed = omega arith in
-    λ a b h. elim (c.in_err-closings.ensures.only a b h) [
-      | inl o ↦ c.loop-x.invariant.only a b o
-      | inr row ↦ inr (x, below, row)
-    ]
+    let marked = c.mark_targets-place.ensures in
+    let i = c.loop-x.invariant in
+    let len = marked.len ∙ i.marks_len in
+    record {
+      len = len;
+      edges = λ y k l at_k at_l mark.
+          let y_in = slice_get_within read.reading.keys.keys y l at_l in
+          let arc = marked.known y (subst (λ n. y < n) (sym len) y_in) mark in
+          let arc_in : HasArc read.reading.from.items read.reading.to.items x y =
+          subst (λ v. HasArc v read.reading.to.items x y) c.deref.ensures.value
+          (subst (λ v. HasArc c.deref.result.now v x y) c.deref-in-loop-x.ensures.value arc) in
+          i.writes.stays k l (c.requires.read.edges x y k l arc_in at_k at_l);
+    }
+
+pub returns-in_err-closings-clause-keeps : goal.returns-in_err-closings-clause-keeps
+returns-in_err-closings-clause-keeps g c =
+    let node = g.V.TCNode in
+    KeepsAll-trans g.K.PartialEq.eq node.key node.rest node.kept c.args.nodes.now c.loop-x.nodes
+    c.write_number.new.nodes c.loop-x.invariant.keeps c.write_number.ensures.keeps
+
+pub returns-in_err-closings-clause-writes : goal.returns-in_err-closings-clause-writes
+returns-in_err-closings-clause-writes g c =
+    let eq = g.K.PartialEq.eq in
+    let edges = g.V.TCNode.edges in
+    let read = c.args.read.now in
+    let keys = read.reading.keys.keys in
+    let E = IsArc read.reading in
+    let A = IsToFix eq read in
+    let m = c.args.nodes.now in
+    let n = c.loop-x.nodes in
+    let o = c.write_number.new.nodes in
+    let r = c.write_number.result in
+    let x = c.loop-x.x in
+    let i = c.loop-x.invariant in
+    let one = rows_written eq edges keys E A m n o r x (λ q at. (x, omega arith, at)) i.keeps.rests.keys_stay i.writes
+    c.write_number.ensures.writes in
+    rows_wider eq edges keys E A m o r c.from_residual-in_err-closings.result (x + 1) read.fixed (omega arith) one
+    (search rules)
 
 pub loop-x-preserved : goal.loop-x-preserved
 loop-x-preserved g c =
     let eq = g.K.PartialEq.eq in
-    let keys = c.args.keys.now in
-    let E : ℕ → ℕ → Type 0 = HasArc c.args.from.now c.args.to.now in
+    let node = g.V.TCNode in
+    let read = c.args.read.now in
+    let keys = read.reading.keys.keys in
+    let m = c.args.nodes.now in
+    let n = c.loop-x.nodes in
+    let o = c.write_number.new.nodes in
     let x = c.loop-x.x in
-    let within : x < length keys = omega (arith, c.requires.fixed) in
-    let old = c.args.nodes.now in
-    let e = c.in_ok-closings.ensures in
+    let marked = c.mark_targets-place.ensures in
     let i = c.loop-x.invariant in
-    let below : x < c.args.fixed = omega arith in
+    let e = c.in_ok-closings.ensures in
+    let same = i.keeps.rests.keys_stay in
     record {
-      marks_len = c.mark_targets-place.ensures.len ∙ i.marks_len;
-      marks_below = λ y h. c.mark_targets-place.ensures.below y (subst (λ n. y < n) (sym i.marks_len) h);
-      place = c.mark_targets-place.ensures.place;
-      keeps = KeepsNodes-trans _ _ _ _ _ _ i.keeps e.keeps;
-      kept = KeepsNodes-trans _ _ _ _ _ _ i.kept e.kept;
-      closings = omega (arith, i.closings, e.one);
-      stays = λ a b h. e.stays a b (i.stays a b h);
-      alone = λ q f. e.alone q (λ k got. f x k below got) ∙ i.alone q f;
-      only = λ a b h. elim (e.only a b h) [
-        | inl o ↦ i.only a b o
-        | inr row ↦ inr (x, below, row)
+      marks_len = marked.len ∙ i.marks_len;
+      marks_below = marked.below;
+      place = subst (λ v. c.mark_targets-place.result ≤ length v) c.deref.ensures.value marked.place;
+      keeps = KeepsAll-trans eq node.key node.rest node.kept m n o i.keeps e.keeps;
+      writes = rows_next eq node.edges keys (IsArc read.reading) (IsToFix eq read) m n o c.write_number.result x
+          (λ q at. (x, omega arith, at)) same i.writes c.write_number.ensures.writes e.writes.ok;
+      counts = record {
+        most = omega (arith, i.counts.most, e.count.most);
+        all = λ has. omega (
+          arith,
+          i.counts.all has,
+          e.count.all
+              (λ q at. same_found eq m n q same ∙ has q (x, omega arith, at)),
+        );
+      };
+    }
+
+pub returns-clause-keeps : goal.returns-clause-keeps
+returns-clause-keeps g c = c.loop-x.invariant.keeps
+
+pub returns-clause-writes : goal.returns-clause-writes
+returns-clause-writes g c =
+    let w = c.loop-x.invariant.writes in
+    record {
+      alone = w.alone;
+      stays = w.stays;
+      only = λ a b h. elim (w.only a b h) [
+        | inl o ↦ inl o
+        | inr e ↦ inr (e.0, omega (arith, e.1), e.2)
       ];
-      visits = λ all.
-          let n = got_some keys x within in
-          let found = all x n.0 below n.1 in
-          omega (arith, i.visits all, e.found n.0 n.1 (same_found eq old c.loop-x.nodes n.0 i.keeps.keys_stay ∙ found));
-      done = λ j k b lt got found p. elim (cases_eq j x) [
-        | inl same ↦ let got2 : slice_get keys x ≡ Some k = subst (λ m. slice_get keys m ≡ Some k) same got in
-            e.ok k b got2 (same_found eq old c.loop-x.nodes k i.keeps.keys_stay ∙ found) (subst (λ m. ReachesKey eq keys E m b) same p)
-        | inr ne ↦ e.stays k b (i.done j k b (omega arith) got found p)
-      ];
+      ok = λ a b e. w.ok a b (e.0, omega (arith, e.1), e.2);
+    }
+
+pub returns-clause-work : goal.returns-clause-work
+returns-clause-work g c =
+    let counts = c.loop-x.invariant.counts in
+    record {
+      reads = search rules;
+      closings = record { most = omega (arith, counts.most); all = λ has. omega (arith, counts.all has) };
     }

@@ -1,0 +1,48 @@
+-- What a closure call does: what stays in the map, which edges come, and what is refused.
+use Rattle.std.specs.Prelude.{◌≡◌, Bool, true, false, Result, IsTrue, OnOk, IfErr}
+use Rattle.std.specs.Option.{is_some}
+use Rattle.std.specs.HashMap.{HashMap, get}
+use Rattle.std.specs.HashSet.{HashSet, contains}
+use Rattle.cedar_graph.specs.Graph.{graph_of, KeepsNodes, KeepsEdges, AddsOnlyReached, ReachesSame, IsClosure, IsTrusted, HasNoCycle, HasNoCycleAt}
+use Rattle.cedar_graph.specs.Faults.{NamesCycleAt, UnlessMemory}
+use Rattle.cedar_graph.specs.declared.err.TcError.{TcError}
+
+-- the map has the same keys, and at each of them a node with the same key and rest, which has what adding keeps
+pub record KeepsAll {K V R T S : Type 0} (eq : K → K → Bool) (key : V → K) (rest : V → R) (stays : V → T)
+    (old new : HashMap K V S) : Type 0 where
+  pub rests : KeepsNodes eq key rest old new
+  pub kept : KeepsNodes eq key stays old new
+
+-- each old edge stays, and each further one leads to what was reached over the old ones
+pub record OnlyAdds {K : Type 0} (old new : K → K → Bool) : Type 0 where
+  pub stays : KeepsEdges old new
+  pub only : AddsOnlyReached old new
+
+-- the map is closed, unless memory was refused, and then it may be so in part; a cycle is told exactly where it is asked
+-- for and there
+pub record Closes {K V S T : Type 0} (eq : K → K → Bool) (edges : V → K → Bool) (asked : Bool)
+    (old new : HashMap K V S) (result : Result T (TcError K)) : Type 0 where
+  pub adds : OnlyAdds (graph_of eq edges old) (graph_of eq edges new)
+  -- reach over reach is reach
+  pub same : ReachesSame (graph_of eq edges old) (graph_of eq edges new)
+  pub closed : UnlessMemory result (IsClosure (graph_of eq edges old) (graph_of eq edges new))
+  -- closing it again changes no edge
+  pub once : UnlessMemory result (IsClosure (graph_of eq edges new) (graph_of eq edges new))
+  pub ok : OnOk result (IsTrue asked → HasNoCycle (graph_of eq edges old))
+  pub err : IfErr result (NamesCycleAt asked (λ v. is_some (get eq old v)) (graph_of eq edges old))
+
+-- no node changes but those at keys to fix; where all others have an edge to what they reach, these are closed, unless
+-- one lies on a cycle, and that is told where it is asked for
+pub record Repairs {K V S T : Type 0} (eq : K → K → Bool) (edges : V → K → Bool) (asked : Bool) (fix : K → Bool)
+    (old new : HashMap K V S) (result : Result T (TcError K)) : Type 0 where
+  pub alone : (q : K) → fix q ≡ false → get eq new q ≡ get eq old q
+  pub adds : OnlyAdds (graph_of eq edges old) (graph_of eq edges new)
+  pub closed : OnOk result (IsTrusted fix (graph_of eq edges old) → HasNoCycleAt fix (graph_of eq edges old)
+      → IsClosure (graph_of eq edges old) (graph_of eq edges new))
+  pub ok : OnOk result (IsTrusted fix (graph_of eq edges old) → IsTrue asked
+      → HasNoCycleAt fix (graph_of eq edges old))
+  pub err : IfErr result (NamesCycleAt asked fix (graph_of eq edges old))
+
+-- the map has a node at each key of the set
+abbrev pub HasAll : {K V S F : Type 0} → (K → K → Bool) → HashSet K F → HashMap K V S → Type 0
+HasAll {K} eq fix nodes = (q : K) → contains eq fix q ≡ true → is_some (get eq nodes q) ≡ true

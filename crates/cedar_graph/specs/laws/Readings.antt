@@ -1,0 +1,74 @@
+-- What is read of a map of nodes: numbers for keys, and arcs between them.
+use Rattle.std.specs.Prelude.{◌≡◌, ℕ, ◌<◌, ◌≤◌, ◌+◌, ◌++◌, ◌∷◌, [], ◌⊎◌, Bool, true, length, take, slice_get, Some, is_some, IsSomeAnd}
+use Rattle.std.specs.Set.{is_member}
+use Rattle.std.specs.HashMap.{HashMap, get, hash_map_len}
+use Rattle.std.specs.HashSet.{HashSet, contains, hash_set_len}
+use Rattle.indexmap.specs.IndexSet.{IndexSet, IsUnique}
+use Rattle.cedar_components.specs.Reach.{HasArc, AreArcs}
+use Rattle.cedar_graph.specs.Graph.{graph_of}
+use Rattle.cedar_graph.specs.laws.Arcs.{AreArcsOf, AreEdges, AreSameEdges, HasNumberBelow, IsPrefix, near_graph}
+use Rattle.cedar_graph.specs.declared.arcs.Reading.{Reading}
+use Rattle.cedar_graph.specs.declared.arcs.FixReading.{FixReading}
+
+-- the set of keys goes on by at most a copy of this key, which has number i there
+pub record HasPut {K S : Type 0} (eq : K → K → Bool) (key : K) (old new : IndexSet K S) (i : ℕ) : Type 0 where
+  pub unique : IsUnique eq new
+  pub found : IsSomeAnd (slice_get new.keys i) (λ k. eq key k ≡ true)
+  pub one : length new.keys ≤ length old.keys + 1
+  pub fresh : (j : ℕ) (k : K) → slice_get new.keys j ≡ Some k → (slice_get old.keys j ≡ Some k) ⊎ (eq key k ≡ true)
+  pub more : IsPrefix old.keys new.keys
+
+-- an arc was read from one number to another
+abbrev pub IsArc : {K S H : Type 0} → Reading K S H → ℕ → ℕ → Type 0
+IsArc s = HasArc s.from.items s.to.items
+
+-- one more arc is read, from number a to b, which is the number of a key
+pub record ReadsArc {K S H : Type 0} (eq : K → K → Bool) (a : ℕ) (key : K) (old new : Reading K S H)
+    (b : ℕ) : Type 0 where
+  pub unique : IsUnique eq new.keys
+  pub keys : IsPrefix old.keys.keys new.keys.keys
+  pub from : new.from.items ≡ old.from.items ++ a ∷ []
+  pub to : new.to.items ≡ old.to.items ++ b ∷ []
+  pub found : (k : K) × (slice_get new.keys.keys b ≡ Some k) × (eq key k ≡ true)
+
+-- no two keys are equal, and the arcs of the numbers below `done` are the edges of their keys, and all arcs
+pub record IsReadBelow {K S H : Type 0} (eq : K → K → Bool) (G : K → K → Bool) (done : ℕ)
+    (s : Reading K S H) : Type 0 where
+  pub unique : IsUnique eq s.keys
+  pub arcs : AreArcsOf eq G done s.keys.keys s.from.items s.to.items
+
+-- the keys keep their numbers, and at most n more nodes were read
+pub record ReadsOn {K S H : Type 0} (n : ℕ) (old new : Reading K S H) : Type 0 where
+  pub keys : IsPrefix old.keys.keys new.keys.keys
+  pub reads : new.reads ≤ old.reads + n
+
+-- the arcs are edges of the graph, between numbers of keys, of which the first are to be fixed
+pub record AreRead {K S H : Type 0} (G : K → K → Bool) (read : FixReading K S H) : Type 0 where
+  pub arcs : AreArcs read.reading.from.items read.reading.to.items (length read.reading.keys.keys)
+  pub fixed : read.fixed ≤ length read.reading.keys.keys
+  pub edges : AreEdges G read.reading.keys.keys (IsArc read.reading)
+
+-- the arcs are all edges of a map, and its keys are to be fixed, each of which was read once at most
+pub record ReadsAll {K V S H : Type 0} (eq : K → K → Bool) (edges : V → K → Bool) (nodes : HashMap K V S)
+    (read : FixReading K S H) : Type 0 where
+  pub arcs : AreArcs read.reading.from.items read.reading.to.items (length read.reading.keys.keys)
+  pub fixed : read.fixed ≤ length read.reading.keys.keys
+  pub same : AreSameEdges eq (graph_of eq edges nodes) read.reading.keys.keys (IsArc read.reading)
+  pub all : (q : K) → is_some (get eq nodes q) ≡ true → HasNumberBelow eq read.fixed read.reading.keys.keys q
+  pub few : read.fixed ≤ hash_map_len nodes
+  pub reads : read.reading.reads ≤ read.fixed
+
+-- the arcs are the edges of the keys to fix, which come first, and of those that these have an edge to
+pub record ReadsFix {K V S F H : Type 0} (eq : K → K → Bool) (edges : V → K → Bool) (fix : HashSet K F)
+    (nodes : HashMap K V S) (read : FixReading K S H) : Type 0 where
+  pub arcs : AreArcs read.reading.from.items read.reading.to.items (length read.reading.keys.keys)
+  pub fixed : read.fixed ≤ length read.reading.keys.keys
+  pub same : AreSameEdges eq (near_graph eq (graph_of eq edges nodes) (take read.near read.reading.keys.keys))
+      read.reading.keys.keys (IsArc read.reading)
+  pub len : read.fixed ≤ hash_set_len fix
+  pub least : hash_set_len fix ≤ read.fixed
+  pub all : (q : K) → contains eq fix q ≡ true → HasNumberBelow eq read.fixed read.reading.keys.keys q
+  pub only : (i : ℕ) (k : K) → i < read.fixed → slice_get read.reading.keys.keys i ≡ Some k → contains eq fix k ≡ true
+  pub near : (x u : K) → contains eq fix x ≡ true → graph_of eq edges nodes x u ≡ true
+      → is_member eq (take read.near read.reading.keys.keys) u ≡ true
+  pub near_fixed : (x : K) → contains eq fix x ≡ true → is_member eq (take read.near read.reading.keys.keys) x ≡ true

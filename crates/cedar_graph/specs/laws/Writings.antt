@@ -1,0 +1,102 @@
+-- What is written into a map of nodes: edges to the keys of the numbers that a number reaches.
+use Rattle.std.specs.Prelude.{◌≡◌, ℕ, ◌<◌, ◌≤◌, ◌⊎◌, Bool, true, List, length, slice_get, slice_index, Some, is_some, Result, OnOk}
+use Rattle.std.specs.Set.{is_member}
+use Rattle.std.specs.HashMap.{HashMap, get}
+use Rattle.cedar_components.specs.Reach.{HasArc, IsReach}
+use Rattle.cedar_components.specs.declared.Reached.{Reached}
+use Rattle.cedar_graph.specs.Graph.{graph_of, KeepsEdges}
+use Rattle.cedar_graph.specs.laws.Arcs.{IsKeyAt, IsRowEdgeBelow}
+use Rattle.cedar_graph.specs.laws.Readings.{IsArc}
+use Rattle.cedar_graph.specs.declared.arcs.Reading.{Reading}
+use Rattle.cedar_graph.specs.declared.arcs.FixReading.{FixReading}
+use Rattle.cedar_graph.specs.declared.close.Known.{Known}
+use Rattle.cedar_graph.specs.declared.transitive_closure.Work.{Work}
+
+-- no number of the list is above n
+abbrev pub AreAtMost : ℕ → List ℕ → Type 0
+AreAtMost n xs = (y : ℕ) → y < length xs → slice_index xs y ≤ n
+
+-- each number of the list is below n
+abbrev pub AllBelow : ℕ → List ℕ → Type 0
+AllBelow n xs = (j : ℕ) → j < length xs → slice_index xs j < n
+
+-- the numbers that are known are targets of number x
+abbrev pub KnowsTargets : List ℕ → List ℕ → ℕ → Known → Type 0
+KnowsTargets from to x known = (y : ℕ) → y < length known.marks.items → slice_index known.marks.items y ≡ known.mark
+    → HasArc from to x y
+
+-- each number has a mark, and the key of number x has an edge to the keys of those that are known
+pub record KnowsEdges {K : Type 0} (G : K → K → Bool) (keys : List K) (x : ℕ) (known : Known) : Type 0 where
+  pub len : length known.marks.items ≡ length keys
+  pub edges : (y : ℕ) (k l : K) → slice_get keys x ≡ Some k → slice_get keys y ≡ Some l
+      → slice_index known.marks.items y ≡ known.mark → G k l ≡ true
+
+-- q is the key of one of the first n of these numbers
+abbrev pub IsKeyBelow : {K : Type 0} → (K → K → Bool) → List K → List ℕ → ℕ → K → Type 0
+IsKeyBelow {K} eq keys numbers n q = (j : ℕ) × (k : K) × (j < n) × (slice_get keys (slice_index numbers j) ≡ Some k)
+    × (eq q k ≡ true)
+
+-- q is the key of a number that is known
+abbrev pub IsKnown : {K : Type 0} → (K → K → Bool) → List K → Known → K → Type 0
+IsKnown {K} eq keys known q = (y : ℕ) × (k : K) × (slice_get keys y ≡ Some k)
+    × (slice_index known.marks.items y ≡ known.mark) × (eq q k ≡ true)
+
+-- the row has keys of the first n of these numbers alone, and all of them but known ones
+pub record IsRowTo {K : Type 0} (eq : K → K → Bool) (keys : List K) (numbers : List ℕ) (n : ℕ) (known : Known)
+    (row : List K) : Type 0 where
+  pub only : (q : K) → is_member eq row q ≡ true → IsKeyBelow eq keys numbers n q
+  pub all : (q : K) → IsKeyBelow eq keys numbers n q → (is_member eq row q ≡ true) ⊎ IsKnown eq keys known q
+
+-- the row has keys of these numbers alone, and all of them but known ones
+abbrev pub IsRowOf : {K : Type 0} → (K → K → Bool) → List K → List ℕ → Known → List K → Type 0
+IsRowOf eq keys numbers = IsRowTo eq keys numbers (length numbers)
+
+-- a key was put into a row, unless it was known
+pub record TakesKey {K : Type 0} (eq : K → K → Bool) (key : K) (known : Bool) (old new : List K) : Type 0 where
+  pub stays : (q : K) → is_member eq old q ≡ true → is_member eq new q ≡ true
+  pub only : (q : K) → is_member eq new q ≡ true → (is_member eq old q ≡ true) ⊎ (eq q key ≡ true)
+  pub has : (q : K) → eq q key ≡ true → (is_member eq new q ≡ true) ⊎ (known ≡ true)
+
+-- q is this key
+abbrev pub IsAt : {K : Type 0} → (K → K → Bool) → K → K → Type 0
+IsAt eq at q = eq at q ≡ true
+
+-- a is this key, and b one of the row
+abbrev pub IsEdgeTo : {K : Type 0} → (K → K → Bool) → K → List K → K → K → Type 0
+IsEdgeTo eq at row a b = (eq at a ≡ true) × (is_member eq row b ≡ true)
+
+-- q is the key of a number to fix
+abbrev pub IsToFix : {K S H : Type 0} → (K → K → Bool) → FixReading K S H → K → Type 0
+IsToFix eq read q = (x : ℕ) × (x < read.fixed) × IsKeyAt eq read.reading.keys.keys x q
+
+-- a is the key of a number to fix, and b that of a number that this one reaches
+abbrev pub IsFixEdge : {K S H : Type 0} → (K → K → Bool) → FixReading K S H → K → K → Type 0
+IsFixEdge eq read = IsRowEdgeBelow eq read.fixed read.reading.keys.keys (IsArc read.reading)
+
+-- it has what each number of the keys that were read reaches
+abbrev pub IsReachOf : {K S H : Type 0} → Reading K S H → Reached → Type 0
+IsReachOf s reached = IsReach (IsArc s) (length s.keys.keys) reached.component.items reached.start.items
+    reached.lists.items
+
+-- nodes at keys that meet A were given edges that meet X, all of these where nothing was refused; all else stays
+pub record Writes {K V S T E : Type 0} (eq : K → K → Bool) (edges : V → K → Bool) (A : K → Type 0)
+    (X : K → K → Type 0) (old new : HashMap K V S) (result : Result T E) : Type 0 where
+  pub alone : (q : K) → (A q → ⊥) → get eq new q ≡ get eq old q
+  pub stays : KeepsEdges (graph_of eq edges old) (graph_of eq edges new)
+  pub only : (a b : K) → graph_of eq edges new a b ≡ true → (graph_of eq edges old a b ≡ true) ⊎ X a b
+  pub ok : OnOk result ((a b : K) → X a b → is_some (get eq old a) ≡ true → graph_of eq edges new a b ≡ true)
+
+-- the map has a node at each key that meets A
+abbrev pub HasNodes : {K V S : Type 0} → (K → K → Bool) → HashMap K V S → (K → Type 0) → Type 0
+HasNodes {K} eq nodes A = (q : K) → A q → is_some (get eq nodes q) ≡ true
+
+-- of so many nodes n were found: all of them under this condition
+pub record CountsFound (whole : ℕ) (condition : Type 0) (n : ℕ) : Type 0 where
+  pub most : n ≤ whole
+  pub all : condition → n ≡ whole
+
+-- what was done to the nodes of the numbers to fix
+pub record CountsWork {K V S H : Type 0} (eq : K → K → Bool) (read : FixReading K S H) (nodes : HashMap K V S)
+    (work : Work) : Type 0 where
+  pub reads : work.reads ≡ read.reading.reads
+  pub closings : CountsFound read.fixed (HasNodes eq nodes (IsToFix eq read)) work.closings
