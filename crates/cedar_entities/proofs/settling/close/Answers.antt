@@ -13,12 +13,15 @@ returns-in_err-compute_tc-clause-err g c =
 pub returns-clause-ok : goal.returns-clause-ok
 returns-clause-ok g c touched all =
     let e = c.in_ok-compute_tc.ensures in (
-      repair_of_whole c.args.entities.now c.compute_tc.new.nodes touched all e.keeps.kept e.closes.adds.stays e.closes.adds.only e.closes.closed,
+      repair_of_whole c.args.entities.now c.compute_tc.new.nodes touched all e.keeps.kept e.closes.adds.stays
+          e.closes.adds.only e.closes.closed,
       acyclic_whole c.args.entities.now touched (e.closes.ok refl),
     )
 
 pub returns-in_err-compute_tc-clause-named : goal.returns-in_err-compute_tc-clause-named
 returns-in_err-compute_tc-clause-named g c =
-    refused_so (λ e. (touched : EntityUID → Bool) → ((q : EntityUID) → is_some (held c.args.entities.now q) ≡ true → touched q ≡ true) → NamesOneOf touched e)
+    refused_so (λ e. (touched : EntityUID → Bool) → ((q : EntityUID) → is_some (held c.args.entities.now q) ≡ true
+        → touched q ≡ true) → NamesOneOf touched e)
     c.from_residual.result c.in_err-compute_tc.field-0.0 c.from_residual.ensures.1
-    (λ touched all. named_for touched _ (whole_named c.args.entities.now touched all c.in_err-compute_tc.field-0.0 c.in_err-compute_tc.ensures.closes.err)) (λ touched all. tt)
+    (λ touched all. named_for touched _ (whole_named c.args.entities.now touched all c.in_err-compute_tc.field-0.0
+        c.in_err-compute_tc.ensures.closes.err)) (λ touched all. tt)
