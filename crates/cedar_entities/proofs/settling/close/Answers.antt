@@ -21,7 +21,7 @@ returns-clause-ok g c touched all =
 pub returns-in_err-compute_tc-clause-named : goal.returns-in_err-compute_tc-clause-named
 returns-in_err-compute_tc-clause-named g c =
     refused_so (λ e. (touched : EntityUID → Bool) → ((q : EntityUID) → is_some (held c.args.entities.now q) ≡ true
-        → touched q ≡ true) → NamesOneOf touched e)
+    → touched q ≡ true) → NamesOneOf touched e)
     c.from_residual.result c.in_err-compute_tc.field-0.0 c.from_residual.ensures.1
     (λ touched all. named_for touched _ (whole_named c.args.entities.now touched all c.in_err-compute_tc.field-0.0
-        c.in_err-compute_tc.ensures.closes.err)) (λ touched all. tt)
+    c.in_err-compute_tc.ensures.closes.err)) (λ touched all. tt)

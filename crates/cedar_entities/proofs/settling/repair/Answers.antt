@@ -8,7 +8,7 @@ pub returns-in_err-repair_tc-clause-err : goal.returns-in_err-repair_tc-clause-e
 returns-in_err-repair_tc-clause-err g c =
     refused_as _ c.from_residual.result c.in_err-repair_tc.field-0.0 c.from_residual.ensures.1
     (cycle_told c.args.entities.now c.args.enforce_dag
-        (contains same_uid c.args.touched.now) c.in_err-repair_tc.field-0.0 c.in_err-repair_tc.ensures.repairs.err)
+    (contains same_uid c.args.touched.now) c.in_err-repair_tc.field-0.0 c.in_err-repair_tc.ensures.repairs.err)
 
 pub returns-clause-ok : goal.returns-clause-ok
 returns-clause-ok g c =
@@ -21,8 +21,8 @@ returns-clause-ok g c =
 pub returns-in_err-repair_tc-clause-named : goal.returns-in_err-repair_tc-clause-named
 returns-in_err-repair_tc-clause-named g c =
     refused_so (NamesOneOf (contains same_uid c.args.touched.now)) c.from_residual.result
-        c.in_err-repair_tc.field-0.0 c.from_residual.ensures.1
+    c.in_err-repair_tc.field-0.0 c.from_residual.ensures.1
     (named_for (contains same_uid c.args.touched.now) _
     (cycle_named c.args.entities.now c.args.enforce_dag
-        (contains same_uid c.args.touched.now) c.in_err-repair_tc.field-0.0 c.in_err-repair_tc.ensures.repairs.err))
-        tt
+    (contains same_uid c.args.touched.now) c.in_err-repair_tc.field-0.0 c.in_err-repair_tc.ensures.repairs.err))
+    tt
