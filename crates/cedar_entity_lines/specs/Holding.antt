@@ -1,5 +1,5 @@
 -- The state that the program's store holds.
-use Rattle.std.specs.Prelude.{◌≡◌, ℕ, true, List, ◌∷◌, ◌++◌, map, IsTrue}
+use Rattle.std.specs.Prelude.{◌≡◌, ℕ, Bool, true, false, List, ◌∷◌, ◌++◌, map, IsTrue}
 use Rattle.std.specs.List.{AllByRecursion}
 use Rattle.std.specs.FinSet as set
 use Rattle.cedar_ids.specs.Escape.{is_ascii}
@@ -8,7 +8,7 @@ use Rattle.cedar_ids.specs.declared.entity.EntityUID.{EntityUID}
 use Rattle.cedar_entity.specs.View.{EntityView}
 use Rattle.cedar_entities.specs.Plain.{StoreView, IsPlainStore, AreBare, given_of}
 use Rattle.cedar_entities.specs.World.{Given, World, graph}
-use Rattle.cedar_entity_lines.specs.EntityCommand.{EntityCommand, Ent, Build, Add, Upsert, Remove, Slice, Anc}
+use Rattle.cedar_entity_lines.specs.EntityCommand.{EntityCommand, Ent, Build, Add, Upsert, Remove, Slice, Anc, IsEntityCommand}
 use Rattle.cedar_entity_lines.specs.EntityOutput.{EntityState, EntityGives}
 
 -- the entities that wait, and what the store has
@@ -54,3 +54,9 @@ HasAsciiUids (Anc u) = Unit {0}
 -- a command gives a state that is held then, and adds what it writes
 abbrev pub EntityWrites : EntityCommand → EntityState → StoreAndWaiting → List ℕ → List ℕ → Type 0
 EntityWrites c s m old new = (t : EntityState) × (out : List ℕ) × EntityGives c s t out × Holds m t × (new ≡ old ++ out)
+
+-- the fields are those of a command that a state is held after, and that writes nothing; or nothing changed
+abbrev pub TakesEntity : Bool → List (List ℕ) → StoreAndWaiting → StoreAndWaiting → Type 0
+TakesEntity true fs old new =
+    (c : EntityCommand) × IsEntityCommand c fs × ((s : EntityState) → Holds old s → (out : List ℕ) → EntityWrites c s new out out)
+TakesEntity false fs old new = new ≡ old

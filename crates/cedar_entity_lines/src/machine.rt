@@ -1,15 +1,16 @@
 //! The store that lines change, and one function for each command on it.
-ghost use Rattle.std.specs.Prelude.{◌≡◌, ◌++◌, [], ◌∷◌, List, ℕ, IfErr, OnOk, codes};
+ghost use Rattle.std.specs.Prelude.{◌≡◌, ◌++◌, [], ◌∷◌, List, ℕ, IfErr, IfOk, OnOk, codes, map};
 ghost use Rattle.std.specs.List.{flat_map};
 ghost use Rattle.std.specs.Fmt.{decimal};
 ghost use Rattle.cedar_lines.specs.Lines.{written_line};
 ghost use Rattle.cedar_entity_lines.specs.EntityCommand.{Ent, Build, Add, Upsert, Remove, Slice};
 ghost use Rattle.cedar_entity_lines.specs.EntityOutput.{EntityState, no_entity, ShowsAncestors, uid_text, field_of};
 ghost use Rattle.cedar_entity_lines.specs.CommandOf.{command_of};
-ghost use Rattle.cedar_entity_lines.specs.Holding.{Holds, EntityWrites, IsAsciiUid, AreAsciiUids, HasAsciiUids};
+ghost use Rattle.cedar_entity_lines.specs.Holding.{Holds, EntityWrites, TakesEntity, IsAsciiUid, AreAsciiUids, HasAsciiUids};
 ghost use Rattle.cedar_entity_lines.specs.laws.Machines.{IsTold, Refused, Settles};
 
-use crate::command::EntityCommand;
+use crate::command::{EntityCommand, ent_fields};
+use crate::parent_fields::KnownUids;
 use cedar_entities::{Entities, EntitiesError, Entity, TCComputation};
 use cedar_graph::TcError;
 use cedar_ids::entity::EntityUID;
@@ -250,6 +251,32 @@ impl<S: BuildHasher + Copy> LineStore<S> {
             None => push_line(out, "no entity"),
             Some(entity) => push_ancestors(alloc, out, entity.ancestors_in_order()),
         }
+    }
+
+    /// Takes the fields of a line if they are those of an entity with its parents, which waits then, and says whether they are;
+    /// any others leave everything as it was. It does what [`LineStore::take`] does with that command, without making one: such
+    /// lines are the most. What is read is known to the next line.
+    ///
+    /// It is refused only where memory was, and then nothing is said of the store and of what waits. It is this project's own.
+    pub fn take_ent(
+        &mut self,
+        alloc: Global,
+        known: &mut KnownUids,
+        fields: &[&str],
+    ) -> Result<bool, AllocError>
+        ensures { IfOk result (λ taken. TakesEntity taken (map (λ f. f.now) fields.now) self.old self.new) }
+    {
+        let Some((word, rest)) = fields.split_first() else {
+            return Ok(false);
+        };
+        if *word == "ent" {
+            let Some((uid, parents)) = ent_fields(alloc, known, rest)? else {
+                return Ok(false);
+            };
+            self.ent(alloc, uid, parents)?;
+            return Ok(true);
+        }
+        Ok(false)
     }
 
     /// Takes a command on the store, and adds what it writes. The uids that it puts in have ASCII eids, as those of a line have.

@@ -1,11 +1,10 @@
 //! Which line of the program is which command.
 ghost use Rattle.std.specs.Prelude.{◌≡◌, ◌↔◌, ◌∷◌, [], IfOk, IsTrue, map};
 ghost use Rattle.cedar_lines.specs.Reads.{ReadsAs};
-ghost use Rattle.cedar_store.specs.Command.{IsCommand, IsLine};
+ghost use Rattle.cedar_store.specs.Command.{IsCommand};
 ghost use Rattle.cedar_store.specs.laws.CommandOf.{command_of};
 
 use cedar_entity_lines::{EntityCommand, KnownUids, read_entity_command};
-use cedar_lines::line::read_fields;
 use cedar_policy_lines::{PolicyCommand, read_policy_command};
 use std::alloc::{AllocError, Global};
 
@@ -31,7 +30,7 @@ fn is_nothing(fields: &[&str]) -> bool
 }
 
 // The command whose fields these are, if there is one. Lines of entities are the most, so it is asked for these first.
-fn command_of_fields(
+pub(crate) fn command_of_fields(
     alloc: Global,
     known: &mut KnownUids,
     fields: &[&str],
@@ -48,19 +47,4 @@ fn command_of_fields(
         return Ok(Some(Command::Nothing));
     }
     Ok(None)
-}
-
-// The command that a line is, if it is one. What is read is known to the next line.
-pub(crate) fn read_line<'a>(
-    alloc: Global,
-    known: &mut KnownUids,
-    fields: &mut Vec<&'a str>,
-    line: &'a [u8],
-) -> Result<Option<Command>, AllocError>
-    ensures { IfOk result (ReadsAs (λ c. IsLine c line.now) command_of) }
-{
-    if !read_fields(fields, line)? {
-        return Ok(None);
-    }
-    command_of_fields(alloc, known, fields)
 }

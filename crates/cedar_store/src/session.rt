@@ -5,8 +5,9 @@ ghost use Rattle.cedar_store.specs.laws.CommandOf.{command_of};
 ghost use Rattle.cedar_store.specs.laws.Sessions.{SessionGives, HasAsciiUids};
 ghost use Rattle.cedar_store.specs.Output.{State, start, not_command};
 
-use crate::line::{Command, read_line};
+use crate::line::{Command, command_of_fields};
 use cedar_entity_lines::{KnownUids, LineStore};
+use cedar_lines::line::read_fields;
 use cedar_lines::writing::push_line;
 use cedar_policy_lines::PolicySets;
 use std::alloc::{AllocError, Global};
@@ -86,7 +87,7 @@ impl<S: BuildHasher + Copy> Session<S> {
     }
 
     // Takes a line, and says whether it is a command. What the fields are before says nothing: they are set to those
-    // of the line.
+    // of the line. Lines of entities are the most, so the store is asked for these first.
     pub(crate) fn take_fields_of<'a>(
         &mut self,
         alloc: Global,
@@ -97,7 +98,15 @@ impl<S: BuildHasher + Copy> Session<S> {
         ensures { IfOk result (λ known. (s : State) → StandsAt self.old s →
             Takes known line.now s self.new out.old.items out.new.items) }
     {
-        match read_line(alloc, &mut self.known, fields, line)? {
+        let is_text = read_fields(fields, line)?;
+        if !is_text {
+            return Ok(false);
+        }
+        let waits = self.entities.take_ent(alloc, &mut self.known, fields)?;
+        if waits {
+            return Ok(true);
+        }
+        match command_of_fields(alloc, &mut self.known, fields)? {
             None => Ok(false),
             Some(command) => {
                 self.take(alloc, command, out)?;
