@@ -20,6 +20,10 @@ const STORES: &str = "
     - read_entity_command | upsert | some
     - read_entity_command | build A::\"a\" | none
     - read_entity_command | frob | none
+    LineStore::take_ent | ent A::\"a\" A::\"b\" A::\"c\" | waits
+    LineStore::take_ent | ent A::\"'\" | left
+    - LineStore::take_ent | ent | left
+    - LineStore::take_ent | anc A::\"a\" | left
     LineStore::take | ent A::\"a\" A::\"b\"
     LineStore::take | ent A::\"a\" A::\"b\"; build | ok 1
     LineStore::take | ent A::\"a\" A::\"a\"; build | refused: cycle
@@ -44,6 +48,28 @@ fn read(alloc: Global, number: usize, row: Row<'_>) -> Tried {
                 row.want,
                 |command| command.is_some() == (row.want == "some"),
             );
+            drop(known);
+            drop(fields);
+            tried
+        }
+        Err(_) => unmade(),
+    }
+}
+
+fn waits(alloc: Global, number: usize, row: Row<'_>) -> Tried {
+    let fields: Result<Vec<&str>, std::alloc::AllocError> = row.given.split(' ').collect(alloc);
+    match fields {
+        Ok(fields) => {
+            let mut known = KnownUids::new(alloc);
+            let mut store = LineStore::new(alloc);
+            refuse(alloc, number);
+            let tried = judged(
+                alloc,
+                store.take_ent(alloc, &mut known, fields.as_slice()),
+                row.want,
+                |waits| *waits == (row.want == "waits"),
+            );
+            drop(store);
             drop(known);
             drop(fields);
             tried
@@ -128,6 +154,7 @@ impl Calls for OnStores {
     fn tried(&self, alloc: Global, number: usize, row: Row<'_>) -> Tried {
         match row.call {
             "read_entity_command" => read(alloc, number, row),
+            "LineStore::take_ent" => waits(alloc, number, row),
             "LineStore::take" => taken(alloc, number, row),
             _ => unmade(),
         }
