@@ -55,8 +55,10 @@ HasAsciiUids (Anc u) = Unit {0}
 abbrev pub EntityWrites : EntityCommand → EntityState → StoreAndWaiting → List ℕ → List ℕ → Type 0
 EntityWrites c s m old new = (t : EntityState) × (out : List ℕ) × EntityGives c s t out × Holds m t × (new ≡ old ++ out)
 
--- the fields are those of a command that a state is held after, and that writes nothing; or nothing changed
+-- the fields are those of an entity with its parents, a state is held after that command, and nothing is written; or they are
+-- those of none, and nothing changed
 abbrev pub TakesEntity : Bool → List (List ℕ) → StoreAndWaiting → StoreAndWaiting → Type 0
 TakesEntity true fs old new =
-    (c : EntityCommand) × IsEntityCommand c fs × ((s : EntityState) → Holds old s → (out : List ℕ) → EntityWrites c s new out out)
-TakesEntity false fs old new = new ≡ old
+    (u : EntityUID) × (ps : List EntityUID) × IsEntityCommand (Ent u ps) fs
+    × ((s : EntityState) → Holds old s → (out : List ℕ) → EntityWrites (Ent u ps) s new out out)
+TakesEntity false fs old new = ((u : EntityUID) (ps : List EntityUID) → IsEntityCommand (Ent u ps) fs → ⊥) × (new ≡ old)
