@@ -2,6 +2,7 @@ pub mod Adding
 pub mod Adds
 pub mod Alike
 pub mod AnyOf
+pub mod Changing
 pub mod Closures
 pub mod Edited
 pub mod Editing

@@ -1,5 +1,6 @@
 pub mod Answers
 pub mod Calls
+pub mod Changes
 pub mod ClosureFaults
 pub mod Codes
 pub mod Edits

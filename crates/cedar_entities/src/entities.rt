@@ -1,29 +1,26 @@
 //! The store of entities.
-ghost use Rattle.std.specs.Prelude.{◌≡◌, Bool, true, false, cond, map, Some, None, IfOk, IfErr, OnOk, OnErr, IsTrue, ⊤, ◌&&◌, is_some, take, ℕ, ◌↔◌};
+ghost use Rattle.std.specs.Prelude.{◌≡◌, true, false, cond, map, Some, None, IfOk, IfErr, OnOk, OnErr, IsTrue, ◌↔◌};
 ghost use Rattle.std.specs.Option.{option_or, option_map, IfSome};
 ghost use Rattle.std.specs.FinMap as finmap;
 ghost use Rattle.std.specs.Set.{is_member};
-ghost use Rattle.cedar_ids.specs.UidOf.{same_uid, uid_order};
+ghost use Rattle.cedar_ids.specs.UidOf.{same_uid};
 ghost use Rattle.cedar_ids.specs.declared.entity.EntityUID.{EntityUID};
-ghost use Rattle.cedar_graph.specs.Graph.{Reach};
-ghost use Rattle.cedar_entities.specs.ClosureFaults.{IsClosureFault};
 ghost use Rattle.cedar_entity.specs.View.{EntityView, IsDeepEqual, IsEquivalenceRelation};
 ghost use Rattle.cedar_entities.specs.Answers.{AreDeepEqual, Finds, ListsHeld};
-ghost use Rattle.std.specs.HashSet.{contains};
-ghost use Rattle.cedar_entities.specs.Edits.{put_over, taken_out, uids_of};
+ghost use Rattle.cedar_entities.specs.Changes.{AddsEntities, AddsPlain, RemovesEntities, RemovesPlain};
+ghost use Rattle.cedar_entities.specs.Changes.{StripsPlain, UpsertsEntities, UpsertsPlain};
+ghost use Rattle.cedar_entities.specs.Edits.{put_over, uids_of};
 ghost use Rattle.cedar_entities.specs.laws.Edits.{last_entity};
 ghost use Rattle.cedar_entities.specs.laws.Indexes.{HasChildren, IsIndexOf, parentage};
 ghost use Rattle.cedar_entities.specs.laws.Held.{held, held_map, shared, UidsMatch};
-ghost use Rattle.cedar_entities.specs.Modes.{IsClosureRefused, IsSound, WhereComputed};
 ghost use Rattle.cedar_entities.specs.Plain.{StoreView, entities_in, IsPlainStore, IsKeyed, AreBare, given_of, no_entities};
-ghost use Rattle.cedar_entities.specs.Present.{first_entity, with_first, AllMatch, FirstMismatch};
-ghost use Rattle.cedar_entities.specs.Refusals.{MatchRefusal, NamesOneOf, IsAddingRefused, IsOverwritingRefused};
+ghost use Rattle.cedar_entities.specs.Present.{first_entity, AllMatch, FirstMismatch};
+ghost use Rattle.cedar_entities.specs.Refusals.{MatchRefusal};
 ghost use Rattle.cedar_entity.specs.declared.err.EntitiesError.TheVariants.{Memory};
 ghost use Rattle.cedar_entities.specs.declared.entities.TCComputation.TheVariants.{EnforceAlreadyComputed, ComputeNow};
 ghost use Rattle.cedar_entities.specs.SameUids.{HaveSameUids, same_uids_and_mode};
 ghost use Rattle.cedar_entities.specs.StoreFaults.{IsStoreFault, IsValidStore};
-ghost use Rattle.cedar_entities.specs.Touching.{IsAcyclicAt, IsMended, IsMendRefused, IsRepairOf, IsSettled, LosesBetween, StaysUntouched, StripsBetween, WhereTaken, inserted_in, is_touched, removed_from};
-ghost use Rattle.cedar_entities.specs.World.{World, empty_world, added, overwritten, deleted, graph, AllAgree, FirstDiffers};
+ghost use Rattle.cedar_entities.specs.World.{World, empty_world, graph};
 
 use crate::dereference::{Dereference, unknown_of};
 use crate::incoming::{Incoming, shared_all, stays_plain, uids_in, with_uids};
@@ -207,17 +204,8 @@ fn fill<S: BuildHasher + Clone>(
     requires keys { UidsMatch entities.old }
     requires empty { (q : EntityUID) → held entities.old q ≡ None }
     ensures keys { UidsMatch entities.new }
-    ensures agree { OnOk result (AllMatch (held entities.old) list.items) }
-    ensures ok { OnOk result (IsSettled tc_computation
-        (is_touched (held_map entities.old) (inserted_in (held_map entities.old) list.items))
-        (with_first (held_map entities.old) list.items) (held_map entities.new)) }
-    ensures err { IfErr result (λ e. MatchRefusal e
-        (FirstMismatch (held entities.old) list.items)
-        (λ t. AllMatch (held entities.old) list.items
-        × IsClosureRefused tc_computation
-        (with_first (held_map entities.old) list.items) t)) }
-    ensures named { IfErr result (λ e. WhereComputed tc_computation (NamesOneOf
-        (is_touched (held_map entities.old) (inserted_in (held_map entities.old) list.items)) e)) }
+    ensures adds { AddsEntities tc_computation (held_map entities.old) list.items result
+        (λ _. held_map entities.new) }
 {
     put_all(entities, list)?;
     settle_whole(alloc, entities, tc_computation)
@@ -236,17 +224,8 @@ fn add_to<S: BuildHasher + Clone>(
     ensures plain { index.new.plain ≡ index.old.plain }
     ensures children { OnOk result (IfSome index.new.children (HasChildren (parentage (held entities.new)))) }
     ensures keys { UidsMatch entities.new }
-    ensures agree { OnOk result (AllMatch (held entities.old) list.items) }
-    ensures ok { OnOk result (IsSettled tc_computation
-        (is_touched (held_map entities.old) (inserted_in (held_map entities.old) list.items))
-        (with_first (held_map entities.old) list.items) (held_map entities.new)) }
-    ensures err { IfErr result (λ e. MatchRefusal e
-        (FirstMismatch (held entities.old) list.items)
-        (λ t. AllMatch (held entities.old) list.items
-        × IsClosureRefused tc_computation
-        (with_first (held_map entities.old) list.items) t)) }
-    ensures named { IfErr result (λ e. WhereComputed tc_computation (NamesOneOf
-        (is_touched (held_map entities.old) (inserted_in (held_map entities.old) list.items)) e)) }
+    ensures adds { AddsEntities tc_computation (held_map entities.old) list.items result
+        (λ _. held_map entities.new) }
 {
     let uids = uids_in(alloc, &list)?;
     let fresh = absent_uids(alloc, entities, uids)?;
@@ -273,17 +252,8 @@ fn add_all<S: BuildHasher + Clone>(
     ensures plain { index.new.plain ≡ index.old.plain }
     ensures children { OnOk result (IfSome index.new.children (HasChildren (parentage (held entities.new)))) }
     ensures keys { UidsMatch entities.new }
-    ensures agree { OnOk result (AllMatch (held entities.old) list.items) }
-    ensures ok { OnOk result (IsSettled tc_computation
-        (is_touched (held_map entities.old) (inserted_in (held_map entities.old) list.items))
-        (with_first (held_map entities.old) list.items) (held_map entities.new)) }
-    ensures err { IfErr result (λ e. MatchRefusal e
-        (FirstMismatch (held entities.old) list.items)
-        (λ t. AllMatch (held entities.old) list.items
-        × IsClosureRefused tc_computation
-        (with_first (held_map entities.old) list.items) t)) }
-    ensures named { IfErr result (λ e. WhereComputed tc_computation (NamesOneOf
-        (is_touched (held_map entities.old) (inserted_in (held_map entities.old) list.items)) e)) }
+    ensures adds { AddsEntities tc_computation (held_map entities.old) list.items result
+        (λ _. held_map entities.new) }
 {
     if entities.is_empty() {
         index.children = None;
@@ -355,22 +325,9 @@ impl<S: BuildHasher + Clone> Entities<S> {
         tc_computation: TCComputation,
     ) -> Result<Entities<S>, EntitiesError>
         ensures partial { IfOk result (λ s. s.partial ≡ false) }
-        ensures agree { OnOk result (AllMatch (finmap.get no_entities) list.items) }
-        ensures ok { IfOk result (λ s. IsSettled tc_computation
-            (is_touched no_entities (inserted_in no_entities list.items))
-            (with_first no_entities list.items) s.held) }
-        ensures err { IfErr result (λ e. MatchRefusal e
-            (FirstMismatch (finmap.get no_entities) list.items)
-            (λ t. AllMatch (finmap.get no_entities) list.items
-            × IsClosureRefused tc_computation (with_first no_entities list.items) t)) }
-        ensures named { IfErr result (λ e. WhereComputed tc_computation (NamesOneOf
-            (is_touched no_entities (inserted_in no_entities list.items)) e)) }
-        ensures plain_agree { OnOk result (AreBare list.items →
-            AllAgree empty_world (map given_of list.items)) }
-        ensures plain { IfOk result (λ s. AreBare list.items → WhereComputed tc_computation
-            (IsPlainStore (added empty_world (map given_of list.items)) s)) }
-        ensures plain_err { IfErr result (λ e. AreBare list.items → WhereComputed tc_computation
-            (IsAddingRefused empty_world (map given_of list.items) e)) }
+        ensures adds { AddsEntities tc_computation no_entities list.items result (λ s. s.held) }
+        ensures plain { AreBare list.items
+            → AddsPlain tc_computation empty_world (map given_of list.items) result }
     {
         let list = shared_all(alloc, list)?;
         Entities::with_hasher(alloc, hasher).add_entities(alloc, list, tc_computation)
@@ -394,29 +351,9 @@ impl<S: BuildHasher + Clone> Entities<S> {
         tc_computation: TCComputation,
     ) -> Result<Entities<S>, EntitiesError>
         ensures partial { IfOk result (λ s. s.partial ≡ self.partial) }
-        ensures agree { OnOk result
-            (AllMatch (finmap.get self.held) (entities_in list.items)) }
-        ensures ok { IfOk result (λ s. IsSettled tc_computation
-            (is_touched self.held (inserted_in self.held (entities_in list.items)))
-            (with_first self.held (entities_in list.items)) s.held) }
-        ensures untouched { IfOk result (λ s. StaysUntouched
-            (inserted_in self.held (entities_in list.items)) self.held s.held) }
-        ensures err { IfErr result (λ e. MatchRefusal e
-            (FirstMismatch (finmap.get self.held) (entities_in list.items))
-            (λ t. AllMatch (finmap.get self.held) (entities_in list.items)
-            × IsClosureRefused tc_computation
-            (with_first self.held (entities_in list.items)) t)) }
-        ensures named { IfErr result (λ e. WhereComputed tc_computation (NamesOneOf
-            (is_touched self.held (inserted_in self.held (entities_in list.items))) e)) }
-        ensures plain_agree { OnOk result ((W : World) → IsPlainStore W self →
-            AreBare (entities_in list.items) →
-            AllAgree W (map given_of (entities_in list.items))) }
-        ensures plain { IfOk result (λ s. (W : World) → IsPlainStore W self →
-            AreBare (entities_in list.items) → WhereComputed tc_computation
-            (IsPlainStore (added W (map given_of (entities_in list.items))) s)) }
-        ensures plain_err { IfErr result (λ e. (W : World) → IsPlainStore W self →
-            AreBare (entities_in list.items) → WhereComputed tc_computation
-            (IsAddingRefused W (map given_of (entities_in list.items)) e)) }
+        ensures adds { AddsEntities tc_computation self.held (entities_in list.items) result (λ s. s.held) }
+        ensures plain { (W : World) → IsPlainStore W self → AreBare (entities_in list.items)
+            → AddsPlain tc_computation W (map given_of (entities_in list.items)) result }
     {
         let Entities {
             mut entities,
@@ -453,26 +390,11 @@ impl<S: BuildHasher + Clone> Entities<S> {
         tc_computation: TCComputation,
     ) -> Result<Entities<S>, EntitiesError>
         ensures partial { IfOk result (λ s. s.partial ≡ self.partial) }
-        ensures ok { IfOk result (λ s. IsSettled tc_computation
-            (is_touched self.held (uids_of (entities_in list.items)))
-            (put_over self.held (entities_in list.items)) s.held) }
-        ensures err { IfErr result (λ e. MatchRefusal e (λ _. ⊥) (IsClosureRefused tc_computation
-            (put_over self.held (entities_in list.items)))) }
-        ensures named { IfErr result (λ e. WhereComputed tc_computation (NamesOneOf
-            (is_touched self.held (uids_of (entities_in list.items))) e)) }
-        ensures untouched { IfOk result (λ s. StaysUntouched
-            (uids_of (entities_in list.items)) self.held s.held) }
-        // of the first uids of the list, however many: what they strip, before any repair
-        ensures so_far { OnOk result ((W : World) → IsPlainStore W self → (k : ℕ) →
-            StripsBetween W (take k (uids_of (entities_in list.items))) self.held) }
-        ensures between { IfOk result (λ s. (W : World) → IsPlainStore W self → WhereTaken tc_computation
-            (LosesBetween W (uids_of (entities_in list.items)) self.held s.held)) }
-        ensures plain { IfOk result (λ s. (W : World) → IsPlainStore W self →
-            AreBare (entities_in list.items) → WhereComputed tc_computation
-            (IsPlainStore (overwritten W (map given_of (entities_in list.items))) s)) }
-        ensures plain_err { IfErr result (λ e. (W : World) → IsPlainStore W self →
-            AreBare (entities_in list.items) → WhereComputed tc_computation
-            (IsOverwritingRefused W (map given_of (entities_in list.items)) e)) }
+        ensures upserts { UpsertsEntities tc_computation self.held (entities_in list.items) result }
+        ensures strips { (W : World) → IsPlainStore W self
+            → StripsPlain tc_computation W self.held (uids_of (entities_in list.items)) result }
+        ensures plain { (W : World) → IsPlainStore W self → AreBare (entities_in list.items)
+            → UpsertsPlain tc_computation W (map given_of (entities_in list.items)) result }
     {
         let coming = with_uids(alloc, list)?;
         let uids = uids_in(alloc, &coming)?;
@@ -516,19 +438,8 @@ impl<S: BuildHasher + Clone> Entities<S> {
         tc_computation: TCComputation,
     ) -> Result<Entities<S>, EntitiesError>
         ensures partial { IfOk result (λ s. s.partial ≡ self.partial) }
-        ensures ok { IfOk result (λ s. IsMended tc_computation
-            (is_touched self.held (removed_from self.held list.items))
-            (taken_out self.held list.items) s.held) }
-        ensures err { IfErr result (λ e. MatchRefusal e (λ _. ⊥) (IsMendRefused tc_computation
-            (is_touched self.held (removed_from self.held list.items))
-            (taken_out self.held list.items))) }
-        ensures named { IfErr result (λ e. WhereComputed tc_computation (NamesOneOf
-            (is_touched self.held (removed_from self.held list.items)) e)) }
-        ensures untouched { IfOk result (λ s. StaysUntouched
-            (removed_from self.held list.items) self.held s.held) }
-        ensures plain { IfOk result (λ s. (W : World) → IsPlainStore W self →
-            IsPlainStore (deleted W list.items) s) }
-        ensures plain_err { IfErr result (λ e. (W : World) → IsPlainStore W self → e ≡ Memory) }
+        ensures removes { RemovesEntities tc_computation self.held list.items result }
+        ensures plain { (W : World) → IsPlainStore W self → RemovesPlain W list.items result }
     {
         let listed = held_uids(alloc, &self.entities, list)?;
         let gone = UidSet::from_pointers(listed)?;

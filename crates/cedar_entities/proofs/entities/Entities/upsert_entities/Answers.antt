@@ -1,6 +1,6 @@
-use Rattle.std.proofs.Common.{ap, not, refl, subst, sym, take, map, ◌∙◌, ◌≡◌, ◌&&◌, ◌||◌}
-use Rattle.std.proofs.lemmas.Result.{err_from_is_err_and}
+use Rattle.std.proofs.Common.{ap, not, refl, subst, sym, map, ◌∙◌, ◌≡◌, ◌&&◌, ◌||◌}
 use Rattle.std.specs.HashSet.{contains}
+use Rattle.std.specs.Result.{IsErrAnd}
 use Rattle.std.specs.Set.{is_member}
 use Rattle.cedar_ids.specs.UidOf.{same_uid}
 use Rattle.cedar_ids.specs.declared.entity.EntityUID.{EntityUID}
@@ -11,10 +11,11 @@ use Rattle.cedar_entities.specs.laws.Held.{held, held_map}
 use Rattle.cedar_entities.specs.Modes.{IsClosureRefused, WhereComputed}
 use Rattle.cedar_entities.specs.Plain.{StoreView}
 use Rattle.cedar_entities.specs.Refusals.{MatchRefusal, NamesOneOf}
-use Rattle.cedar_entities.specs.Touching.{is_touched, IsSettled}
+use Rattle.cedar_entities.specs.Touching.{IsSettled}
 use Rattle.cedar_entities.proofs.Edited.{known_touched, laid_over}
 use Rattle.cedar_entities.proofs.Adds.{stored}
-use Rattle.cedar_entities.proofs.Closures.{where_computed}
+use Rattle.cedar_entities.proofs.Changing.{none_came, strips_plain}
+use Rattle.cedar_entities.proofs.Changing.{upserts_nothing, upserts_plain, upserts_refused, upserts_settled}
 use Rattle.cedar_entities.proofs.Editing.{changed_match}
 use Rattle.cedar_entities.proofs.Indexes.{children_back, children_over, if_some, plain_over, plain_transitive, settled_kept}
 use Rattle.cedar_entities.specs.Plain.{AreBare}
@@ -22,101 +23,129 @@ use Rattle.cedar_entities.specs.laws.Edits.{stripped}
 use Rattle.cedar_entities.specs.laws.Indexes.{IsPlainHeld, is_parent_at}
 use Rattle.cedar_entities.specs.laws.Losses.{loses, loses_uid}
 use Rattle.std.specs.FinSet as set
-use Rattle.cedar_entities.proofs.Overwriting.{so_far, over_between, over_plain, over_refused, over_untouched, settled_untouched}
 use Rattle.cedar_entities.proofs.entities.Entities.upsert_entities.Goals as goal
 
-pub returns-in_err-settle-clause-err : goal.returns-in_err-settle-clause-err
-returns-in_err-settle-clause-err g c =
+pub returns-in_err-settle-clause-upserts : goal.returns-in_err-settle-clause-upserts
+returns-in_err-settle-clause-upserts g c =
     let is = ap (λ (s : StoreView). s.held) c.self.view_is in
     let L = map (λ r. r.value) c.args.list.items in
-    let same : (q : EntityUID) → is_member same_uid c.note_all.new.noted.keys q ≡ is_member same_uid (uids_of L) q = λ q. c.in_ok-note_all.ensures.ok q ∙ ap (λ ks. is_member same_uid ks q || is_member same_uid c.in_ok-uids.uids.items q) c.with_hasher-applied.ensures.empty
-    ∙ ap (λ us. is_member same_uid us q) (c.in_ok-uids.ensures ∙ ap uids_of (c.deref.ensures.value ∙ c.in_ok-coming.ensures)) in
-    let laid = laid_over c.self.inside.entities c.strip_each.new.entities c.overwrite_all.new.entities c.args.self.held L c.note_all.new.noted.keys c.new-none.result c.in_ok-losses.losses.items is same c.new-none.ensures
-    c.in_ok-losses.ensures.who c.in_ok-losses.ensures.lost c.in_ok-strip_each.ensures.ok (λ q. c.in_ok-overwrite_all.ensures.ok q ∙ ap (λ l. option_or (last_entity l q) (held c.strip_each.new.entities q)) c.in_ok-coming.ensures) in
-    let p = err_from_is_err_and c.from_residual-in_err-settle.result c.from_residual-in_err-settle.ensures.1 in
-    rw (p.1, p.2) (subst (λ D. MatchRefusal c.in_err-settle.field-0.0 (λ _. ⊥) (IsClosureRefused c.args.tc_computation D)) laid c.in_err-settle.ensures.err)
+    let m = c.self.inside.entities in
+    let D = c.args.self.held in
+    let A = c.note_all.new.noted.keys in
+    let same : (q : EntityUID) → is_member same_uid A q ≡ is_member same_uid (uids_of L) q = λ q.
+    c.in_ok-note_all.ensures.ok q
+    ∙ ap (λ ks. is_member same_uid ks q || is_member same_uid c.in_ok-uids.uids.items q)
+    c.with_hasher-applied.ensures.empty
+    ∙ ap (λ us. is_member same_uid us q)
+    (c.in_ok-uids.ensures ∙ ap uids_of (c.deref.ensures.value ∙ c.in_ok-coming.ensures)) in
+    let laid = laid_over m c.strip_each.new.entities c.overwrite_all.new.entities D L A c.new-none.result
+    c.in_ok-losses.losses.items is same c.new-none.ensures c.in_ok-losses.ensures.who c.in_ok-losses.ensures.lost
+    c.in_ok-strip_each.ensures.ok (λ q. c.in_ok-overwrite_all.ensures.ok q
+    ∙ ap (λ l. option_or (last_entity l q) (held c.strip_each.new.entities q)) c.in_ok-coming.ensures) in
+    let touched = known_touched (held_map m) D A (uids_of L) (contains same_uid c.in_ok-touched.touched) is same
+    (c.in_ok-touched.ensures.ok (held_map m) c.list_if_it_pays.ensures.index (λ q. refl)) in
+    let e = c.in_err-settle.field-0.0 in
+    upserts_refused c.args.tc_computation D L _ e c.from_residual-in_err-settle.ensures.1
+    (subst (λ E. MatchRefusal e (λ _. ⊥) (IsClosureRefused c.args.tc_computation E)) laid c.in_err-settle.ensures.err)
+    (subst (λ f. WhereComputed c.args.tc_computation (NamesOneOf f e)) touched c.in_err-settle.ensures.named)
 
-pub returns-in_err-settle-clause-plain_err : goal.returns-in_err-settle-clause-plain_err
-returns-in_err-settle-clause-plain_err g c =
+pub returns-in_err-settle-clause-strips : goal.returns-in_err-settle-clause-strips
+returns-in_err-settle-clause-strips g c =
+    strips_plain c.args.tc_computation c.args.self (map (λ r. r.value) c.args.list.items) _
+    (returns-in_err-settle-clause-upserts g c)
+
+pub returns-in_err-settle-clause-plain : goal.returns-in_err-settle-clause-plain
+returns-in_err-settle-clause-plain g c =
+    upserts_plain c.args.tc_computation c.args.self (map (λ r. r.value) c.args.list.items) _
+    (none_came _ _ c.in_err-settle.field-0.0 c.from_residual-in_err-settle.ensures.1)
+    (returns-in_err-settle-clause-upserts g c)
+
+pub returns-clause-upserts : goal.returns-clause-upserts
+returns-clause-upserts g c =
     let is = ap (λ (s : StoreView). s.held) c.self.view_is in
     let L = map (λ r. r.value) c.args.list.items in
-    let same : (q : EntityUID) → is_member same_uid c.note_all.new.noted.keys q ≡ is_member same_uid (uids_of L) q = λ q. c.in_ok-note_all.ensures.ok q ∙ ap (λ ks. is_member same_uid ks q || is_member same_uid c.in_ok-uids.uids.items q) c.with_hasher-applied.ensures.empty
-    ∙ ap (λ us. is_member same_uid us q) (c.in_ok-uids.ensures ∙ ap uids_of (c.deref.ensures.value ∙ c.in_ok-coming.ensures)) in
-    let laid = laid_over c.self.inside.entities c.strip_each.new.entities c.overwrite_all.new.entities c.args.self.held L c.note_all.new.noted.keys c.new-none.result c.in_ok-losses.losses.items is same c.new-none.ensures
-    c.in_ok-losses.ensures.who c.in_ok-losses.ensures.lost c.in_ok-strip_each.ensures.ok (λ q. c.in_ok-overwrite_all.ensures.ok q ∙ ap (λ l. option_or (last_entity l q) (held c.strip_each.new.entities q)) c.in_ok-coming.ensures) in
-    let p = err_from_is_err_and c.from_residual-in_err-settle.result c.from_residual-in_err-settle.ensures.1 in
-    rw (p.1, p.2) (λ W plain bare. over_refused W c.args.self L plain bare c.args.tc_computation c.in_err-settle.field-0.0
-    (subst (λ D. MatchRefusal c.in_err-settle.field-0.0 (λ _. ⊥) (IsClosureRefused c.args.tc_computation D)) laid c.in_err-settle.ensures.err))
+    let m = c.self.inside.entities in
+    let D = c.args.self.held in
+    let A = c.note_all.new.noted.keys in
+    let same : (q : EntityUID) → is_member same_uid A q ≡ is_member same_uid (uids_of L) q = λ q.
+    c.in_ok-note_all.ensures.ok q
+    ∙ ap (λ ks. is_member same_uid ks q || is_member same_uid c.in_ok-uids.uids.items q)
+    c.with_hasher-applied.ensures.empty
+    ∙ ap (λ us. is_member same_uid us q)
+    (c.in_ok-uids.ensures ∙ ap uids_of (c.deref.ensures.value ∙ c.in_ok-coming.ensures)) in
+    let laid = laid_over m c.strip_each.new.entities c.overwrite_all.new.entities D L A c.new-none.result
+    c.in_ok-losses.losses.items is same c.new-none.ensures c.in_ok-losses.ensures.who c.in_ok-losses.ensures.lost
+    c.in_ok-strip_each.ensures.ok (λ q. c.in_ok-overwrite_all.ensures.ok q
+    ∙ ap (λ l. option_or (last_entity l q) (held c.strip_each.new.entities q)) c.in_ok-coming.ensures) in
+    let touched = known_touched (held_map m) D A (uids_of L) (contains same_uid c.in_ok-touched.touched) is same
+    (c.in_ok-touched.ensures.ok (held_map m) c.list_if_it_pays.ensures.index (λ q. refl)) in
+    let N = held_map c.settle.new.entities in
+    let s : StoreView = record { held = N; partial = c.self.inside.partial } in
+    upserts_settled c.args.tc_computation D L s
+    (subst (λ f. IsSettled c.args.tc_computation f (put_over D L) N) touched
+    (subst (λ E. IsSettled c.args.tc_computation (contains same_uid c.in_ok-touched.touched) E N) laid
+    c.in_ok-settle.ensures.ok))
 
-pub returns-clause-ok : goal.returns-clause-ok
-returns-clause-ok g c =
-    let is = ap (λ (s : StoreView). s.held) c.self.view_is in
-    let L = map (λ r. r.value) c.args.list.items in
-    let same : (q : EntityUID) → is_member same_uid c.note_all.new.noted.keys q ≡ is_member same_uid (uids_of L) q = λ q. c.in_ok-note_all.ensures.ok q ∙ ap (λ ks. is_member same_uid ks q || is_member same_uid c.in_ok-uids.uids.items q) c.with_hasher-applied.ensures.empty
-    ∙ ap (λ us. is_member same_uid us q) (c.in_ok-uids.ensures ∙ ap uids_of (c.deref.ensures.value ∙ c.in_ok-coming.ensures)) in
-    let laid = laid_over c.self.inside.entities c.strip_each.new.entities c.overwrite_all.new.entities c.args.self.held L c.note_all.new.noted.keys c.new-none.result c.in_ok-losses.losses.items is same c.new-none.ensures
-    c.in_ok-losses.ensures.who c.in_ok-losses.ensures.lost c.in_ok-strip_each.ensures.ok (λ q. c.in_ok-overwrite_all.ensures.ok q ∙ ap (λ l. option_or (last_entity l q) (held c.strip_each.new.entities q)) c.in_ok-coming.ensures) in
-    let touched = known_touched (held_map c.self.inside.entities) c.args.self.held c.note_all.new.noted.keys (uids_of L) (contains same_uid c.in_ok-touched.touched) is same
-    (c.in_ok-touched.ensures.ok (held_map c.self.inside.entities) c.list_if_it_pays.ensures.index (λ q. refl)) in
-    subst (λ f. IsSettled c.args.tc_computation f (put_over c.args.self.held L) (held_map c.settle.new.entities)) touched
-    (subst (λ D. IsSettled c.args.tc_computation (contains same_uid c.in_ok-touched.touched) D (held_map c.settle.new.entities)) laid c.in_ok-settle.ensures.ok)
-
-pub returns-clause-untouched : goal.returns-clause-untouched
-returns-clause-untouched g c =
-    let L = map (λ r. r.value) c.args.list.items in
-    settled_untouched c.args.tc_computation (uids_of L) c.args.self.held (put_over c.args.self.held L) (held_map c.settle.new.entities) (over_untouched c.args.self.held L) (returns-clause-ok g c)
-
-pub returns-clause-between : goal.returns-clause-between
-returns-clause-between g c W plain =
-    let L = map (λ r. r.value) c.args.list.items in
-    over_between W c.args.self plain c.args.tc_computation L (is_touched c.args.self.held (uids_of L)) (held_map c.settle.new.entities) (returns-clause-ok g c)
+pub returns-clause-strips : goal.returns-clause-strips
+returns-clause-strips g c =
+    strips_plain c.args.tc_computation c.args.self (map (λ r. r.value) c.args.list.items) _ (returns-clause-upserts g c)
 
 pub returns-clause-plain : goal.returns-clause-plain
-returns-clause-plain g c W plain bare = over_plain W c.args.self (map (λ r. r.value) c.args.list.items) plain bare c.args.tc_computation
-    (record { held = held_map c.settle.new.entities; partial = c.self.inside.partial }) (ap (λ (s : StoreView). s.partial) c.self.view_is) (returns-clause-ok g c)
+returns-clause-plain g c =
+    upserts_plain c.args.tc_computation c.args.self (map (λ r. r.value) c.args.list.items) _
+    (ap (λ (s : StoreView). s.partial) c.self.view_is) (returns-clause-upserts g c)
 
-pub returns-in_err-settle-clause-named : goal.returns-in_err-settle-clause-named
-returns-in_err-settle-clause-named g c =
-    let is = ap (λ (s : StoreView). s.held) c.self.view_is in
-    let L = map (λ r. r.value) c.args.list.items in
-    let same : (q : EntityUID) → is_member same_uid c.note_all.new.noted.keys q ≡ is_member same_uid (uids_of L) q = λ q. c.in_ok-note_all.ensures.ok q ∙ ap (λ ks. is_member same_uid ks q || is_member same_uid c.in_ok-uids.uids.items q) c.with_hasher-applied.ensures.empty
-    ∙ ap (λ us. is_member same_uid us q) (c.in_ok-uids.ensures ∙ ap uids_of (c.deref.ensures.value ∙ c.in_ok-coming.ensures)) in
-    let touched = known_touched (held_map c.self.inside.entities) c.args.self.held c.note_all.new.noted.keys (uids_of L) (contains same_uid c.in_ok-touched.touched) is same
-    (c.in_ok-touched.ensures.ok (held_map c.self.inside.entities) c.list_if_it_pays.ensures.index (λ q. refl)) in
-    let p = err_from_is_err_and c.from_residual-in_err-settle.result c.from_residual-in_err-settle.ensures.1 in
-    rw (p.1, p.2) (subst (λ f. WhereComputed c.args.tc_computation (NamesOneOf f c.in_err-settle.field-0.0)) touched c.in_err-settle.ensures.named)
+pub returns-in_err-losses-clause-upserts : goal.returns-in_err-losses-clause-upserts
+returns-in_err-losses-clause-upserts g c =
+    upserts_nothing c.args.tc_computation c.args.self.held (map (λ r. r.value) c.args.list.items)
+    c.from_residual-in_err-losses.result c.from_residual-in_err-losses.ensures.1
 
-pub returns-clause-so_far : goal.returns-clause-so_far
-returns-clause-so_far g c W plain k = so_far W c.args.self plain (take k (uids_of (map (λ r. r.value) c.args.list.items)))
+pub returns-in_err-losses-clause-plain : goal.returns-in_err-losses-clause-plain
+returns-in_err-losses-clause-plain g c =
+    upserts_plain c.args.tc_computation c.args.self (map (λ r. r.value) c.args.list.items)
+    c.from_residual-in_err-losses.result (none_came _ _ _ c.from_residual-in_err-losses.ensures.1)
+    (returns-in_err-losses-clause-upserts g c)
+
+pub returns-in_err-joining-clause-upserts : goal.returns-in_err-joining-clause-upserts
+returns-in_err-joining-clause-upserts g c =
+    upserts_nothing c.args.tc_computation c.args.self.held (map (λ r. r.value) c.args.list.items)
+    c.from_residual-in_err-joining.result c.from_residual-in_err-joining.ensures.1
+
+pub returns-in_err-joining-clause-plain : goal.returns-in_err-joining-clause-plain
+returns-in_err-joining-clause-plain g c =
+    upserts_plain c.args.tc_computation c.args.self (map (λ r. r.value) c.args.list.items)
+    c.from_residual-in_err-joining.result (none_came _ _ _ c.from_residual-in_err-joining.ensures.1)
+    (returns-in_err-joining-clause-upserts g c)
+
+pub returns-in_err-strip_each-clause-upserts : goal.returns-in_err-strip_each-clause-upserts
+returns-in_err-strip_each-clause-upserts g c =
+    upserts_nothing c.args.tc_computation c.args.self.held (map (λ r. r.value) c.args.list.items)
+    c.from_residual-in_err-strip_each.result
+    (subst (λ e. IsErrAnd c.from_residual-in_err-strip_each.result (λ x. x ≡ e))
+    c.in_err-strip_each.ensures.err c.from_residual-in_err-strip_each.ensures.1)
+
+pub returns-in_err-strip_each-clause-plain : goal.returns-in_err-strip_each-clause-plain
+returns-in_err-strip_each-clause-plain g c =
+    upserts_plain c.args.tc_computation c.args.self (map (λ r. r.value) c.args.list.items)
+    c.from_residual-in_err-strip_each.result (none_came _ _ _ c.from_residual-in_err-strip_each.ensures.1)
+    (returns-in_err-strip_each-clause-upserts g c)
+
+pub returns-in_err-overwrite_all-clause-upserts : goal.returns-in_err-overwrite_all-clause-upserts
+returns-in_err-overwrite_all-clause-upserts g c =
+    upserts_nothing c.args.tc_computation c.args.self.held (map (λ r. r.value) c.args.list.items)
+    c.from_residual-in_err-overwrite_all.result
+    (subst (λ e. IsErrAnd c.from_residual-in_err-overwrite_all.result (λ x. x ≡ e))
+    c.in_err-overwrite_all.ensures.err c.from_residual-in_err-overwrite_all.ensures.1)
+
+pub returns-in_err-overwrite_all-clause-plain : goal.returns-in_err-overwrite_all-clause-plain
+returns-in_err-overwrite_all-clause-plain g c =
+    upserts_plain c.args.tc_computation c.args.self (map (λ r. r.value) c.args.list.items)
+    c.from_residual-in_err-overwrite_all.result (none_came _ _ _ c.from_residual-in_err-overwrite_all.ensures.1)
+    (returns-in_err-overwrite_all-clause-upserts g c)
 
 pub overwrite_all-requires : goal.overwrite_all-requires
 overwrite_all-requires g c = changed_match c.self.inside.entities c.strip_each.new.entities
     (λ q. stripped (λ p. loses c.in_ok-losses.losses.items q && set.contains c.new-none.result p) (loses_uid c.in_ok-losses.losses.items q)) (λ q e. refl) c.in_ok-strip_each.ensures.ok c.self.invariant.0
-
-pub returns-in_err-losses-clause-named : goal.returns-in_err-losses-clause-named
-returns-in_err-losses-clause-named g c =
-    let p = err_from_is_err_and c.from_residual-in_err-losses.result c.from_residual-in_err-losses.ensures.1 in
-    rw (p.1, p.2) (where_computed c.args.tc_computation _ tt)
-
-pub returns-in_err-losses-clause-plain_err : goal.returns-in_err-losses-clause-plain_err
-returns-in_err-losses-clause-plain_err g c =
-    let p = err_from_is_err_and c.from_residual-in_err-losses.result c.from_residual-in_err-losses.ensures.1 in
-    rw (p.1, p.2) (λ W plain bare. where_computed c.args.tc_computation _ tt)
-
-pub returns-in_err-joining-clause-plain_err : goal.returns-in_err-joining-clause-plain_err
-returns-in_err-joining-clause-plain_err g c =
-    let p = err_from_is_err_and c.from_residual-in_err-joining.result c.from_residual-in_err-joining.ensures.1 in
-    rw (p.1, p.2) (λ W plain bare. where_computed c.args.tc_computation _ tt)
-
-pub returns-in_err-strip_each-clause-named : goal.returns-in_err-strip_each-clause-named
-returns-in_err-strip_each-clause-named g c =
-    let p = err_from_is_err_and c.from_residual-in_err-strip_each.result c.from_residual-in_err-strip_each.ensures.1 in
-    rw (p.1, p.2, c.in_err-strip_each.ensures.err) (where_computed c.args.tc_computation _ tt)
-
-pub returns-in_err-strip_each-clause-plain_err : goal.returns-in_err-strip_each-clause-plain_err
-returns-in_err-strip_each-clause-plain_err g c =
-    let p = err_from_is_err_and c.from_residual-in_err-strip_each.result c.from_residual-in_err-strip_each.ensures.1 in
-    rw (p.1, p.2, c.in_err-strip_each.ensures.err) (λ W plain bare. where_computed c.args.tc_computation _ tt)
 
 pub invariant_of-result : goal.invariant_of-result
 invariant_of-result g c =
