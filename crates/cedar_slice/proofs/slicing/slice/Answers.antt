@@ -9,7 +9,7 @@ use Rattle.cedar_slice.proofs.slicing.slice.Goals as goal
 
 pub returns-clause-held : goal.returns-clause-held
 returns-clause-held g c = holds_slice c.args.store.now.held c.in_ok-wanted.wanted.keys c.in_ok-list.ensures.keyed c.in_ok-list.list.items c.in_ok-list.ensures.copies c.args.uids.now c.in_ok-wanted.ensures c.from_entities_with_hasher.result
-    c.from_entities_with_hasher.ensures.partial c.from_entities_with_hasher.ensures.ok
+    c.from_entities_with_hasher.ensures.partial c.from_entities_with_hasher.ensures.adds.ok
 
 pub returns-clause-asked : goal.returns-clause-asked
 returns-clause-asked g c = IfOk-weaker c.from_entities_with_hasher.result _ _
@@ -27,4 +27,4 @@ returns-clause-least g c = IfOk-weaker c.from_entities_with_hasher.result _ _
     (returns-clause-held g c)
 
 pub returns-clause-err : goal.returns-clause-err
-returns-clause-err g c = only_memory c.args.store.now.held c.in_ok-wanted.wanted.keys c.in_ok-list.ensures.keyed c.in_ok-list.list.items c.in_ok-list.ensures.copies c.from_entities_with_hasher.result c.from_entities_with_hasher.ensures.err
+returns-clause-err g c = only_memory c.args.store.now.held c.in_ok-wanted.wanted.keys c.in_ok-list.ensures.keyed c.in_ok-list.list.items c.in_ok-list.ensures.copies c.from_entities_with_hasher.result c.from_entities_with_hasher.ensures.adds.err
