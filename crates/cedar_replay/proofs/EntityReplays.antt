@@ -1,10 +1,14 @@
 -- The world that calls make, one call after another.
-use Rattle.std.specs.Prelude.{◌≡◌, ℕ, suc, ◌+◌, List, [], ◌∷◌, ◌++◌, length, map, Result, Ok, Err, OnOk, IfOk}
+use Rattle.std.specs.Prelude.{◌≡◌, ℕ, suc, ◌+◌, List, [], ◌∷◌, ◌++◌, length, map, Result, Ok, Err, OnOk, IfOk, IfErr}
 use Rattle.std.proofs.Common.{ap, refl, ◌∙◌, arith}
-use Rattle.cedar_entities.specs.Plain.{StoreView, IsPlainStore, AreBare, given_of}
-use Rattle.cedar_entity.specs.View.{EntityView}
-use Rattle.cedar_entities.specs.World.{World, empty_world, added, overwritten, AllAgree, IsCyclic}
+use Rattle.cedar_ids.specs.declared.entity.EntityUID.{EntityUID}
 use Rattle.cedar_entity.specs.declared.err.EntitiesError.{EntitiesError}
+use Rattle.cedar_entity.specs.declared.err.EntitiesError.TheVariants.{Memory}
+use Rattle.cedar_entities.specs.Changes.{AddsPlain, RemovesPlain, UpsertsPlain}
+use Rattle.cedar_entities.specs.Plain.{StoreView, IsPlainStore}
+use Rattle.cedar_entities.specs.Refusals.{IsAddingRefused, IsOverwritingRefused}
+use Rattle.cedar_entities.specs.World.{World, Given, empty_world, added, deleted, overwritten, AllAgree, IsCyclic}
+use Rattle.cedar_entities.specs.declared.entities.TCComputation.TheVariants.{ComputeNow}
 use Rattle.cedar_entities.specs.Calls.{Call, made, all_made, Passes, AllPass, IsRefusedAs, StopsAt}
 use Rattle.std.proofs.lemmas.List.{map-append}
 
@@ -41,20 +45,60 @@ stops f all done c rest n e place count passed refused = record {
 abbrev pub HasNone : World → Type 0
 HasNone W = IsCyclic W → ⊥
 
--- what is built or added passes
-pub from_passes : (r : Result StoreView EntitiesError) (L : List EntityView) → AreBare L → OnOk r (AreBare L → AllAgree empty_world (map given_of L))
-    → IfOk r (λ S. AreBare L → IsPlainStore (added empty_world (map given_of L)) S) → OnOk r (AllAgree empty_world (map given_of L) × HasNone (added empty_world (map given_of L)))
-from_passes (Ok S) L bare agree plain = (agree bare, λ c. (plain bare).acyclic c.0 c.1)
-from_passes (Err e) L bare agree plain = tt
+module _ (T : StoreView) (base : World → World) (L : List Given) where
+  -- what is added to the plain store of a base passes, makes what adding makes of the base, and is refused as the base
+  -- says
+  pub add_passes : (r : Result StoreView EntitiesError)
+      → ((W : World) → IsPlainStore W T → AddsPlain ComputeNow (base W) L r)
+      → OnOk r ((W : World) → IsPlainStore W T → AllAgree (base W) L × HasNone (added (base W) L))
+  add_passes (Ok S) adds = λ W h.
+      let given = adds W h in
+      let plain : IsPlainStore (added (base W) L) S = given.ok in
+      (given.agree, λ c. plain.acyclic c.0 c.1)
+  add_passes (Err e) adds = tt
 
-pub add_passes : (r : Result StoreView EntitiesError) (L : List EntityView) (T : StoreView) → AreBare L → OnOk r ((W : World) → IsPlainStore W T → AreBare L → AllAgree W (map given_of L))
-    → IfOk r (λ S. (W : World) → IsPlainStore W T → AreBare L → IsPlainStore (added W (map given_of L)) S)
-    → OnOk r ((W : World) → IsPlainStore W T → AllAgree W (map given_of L) × HasNone (added W (map given_of L)))
-add_passes (Ok S) L T bare agree plain = λ W h. (agree W h bare, λ c. (plain W h bare).acyclic c.0 c.1)
-add_passes (Err e) L T bare agree plain = tt
+  pub add_makes : (r : Result StoreView EntitiesError)
+      → ((W : World) → IsPlainStore W T → AddsPlain ComputeNow (base W) L r)
+      → IfOk r (λ S. (W : World) → IsPlainStore W T → IsPlainStore (added (base W) L) S)
+  add_makes (Ok S) adds = λ W h. (adds W h).ok
+  add_makes (Err e) adds = tt
 
--- what is put over the rest passes
-pub upsert_passes : (r : Result StoreView EntitiesError) (L : List EntityView) (T : StoreView) → AreBare L → IfOk r (λ S. (W : World) → IsPlainStore W T → AreBare L → IsPlainStore (overwritten W (map given_of L)) S)
-    → OnOk r ((W : World) → IsPlainStore W T → HasNone (overwritten W (map given_of L)))
-upsert_passes (Ok S) L T bare plain = λ W h c. (plain W h bare).acyclic c.0 c.1
-upsert_passes (Err e) L T bare plain = tt
+  pub add_refuses : (r : Result StoreView EntitiesError)
+      → ((W : World) → IsPlainStore W T → AddsPlain ComputeNow (base W) L r)
+      → IfErr r (λ e. (W : World) → IsPlainStore W T → IsAddingRefused (base W) L e)
+  add_refuses (Ok S) adds = tt
+  add_refuses (Err e) adds = λ W h. (adds W h).err
+
+module _ (T : StoreView) (L : List Given) where
+  -- the same of what is put over
+  pub upsert_passes : (r : Result StoreView EntitiesError)
+      → ((W : World) → IsPlainStore W T → UpsertsPlain ComputeNow W L r)
+      → OnOk r ((W : World) → IsPlainStore W T → HasNone (overwritten W L))
+  upsert_passes (Ok S) puts = λ W h c.
+      let plain : IsPlainStore (overwritten W L) S = (puts W h).ok in
+      plain.acyclic c.0 c.1
+  upsert_passes (Err e) puts = tt
+
+  pub upsert_makes : (r : Result StoreView EntitiesError)
+      → ((W : World) → IsPlainStore W T → UpsertsPlain ComputeNow W L r)
+      → IfOk r (λ S. (W : World) → IsPlainStore W T → IsPlainStore (overwritten W L) S)
+  upsert_makes (Ok S) puts = λ W h. (puts W h).ok
+  upsert_makes (Err e) puts = tt
+
+  pub upsert_refuses : (r : Result StoreView EntitiesError)
+      → ((W : World) → IsPlainStore W T → UpsertsPlain ComputeNow W L r)
+      → IfErr r (λ e. (W : World) → IsPlainStore W T → IsOverwritingRefused W L e)
+  upsert_refuses (Ok S) puts = tt
+  upsert_refuses (Err e) puts = λ W h. (puts W h).err
+
+module _ (T : StoreView) (U : List EntityUID) where
+  -- and of what is taken out, which always passes
+  pub remove_makes : (r : Result StoreView EntitiesError) → ((W : World) → IsPlainStore W T → RemovesPlain W U r)
+      → IfOk r (λ S. (W : World) → IsPlainStore W T → IsPlainStore (deleted W U) S)
+  remove_makes (Ok S) out = λ W h. (out W h).ok
+  remove_makes (Err e) out = tt
+
+  pub remove_refuses : (r : Result StoreView EntitiesError) → ((W : World) → IsPlainStore W T → RemovesPlain W U r)
+      → IfErr r (λ e. (W : World) → IsPlainStore W T → e ≡ Memory)
+  remove_refuses (Ok S) out = tt
+  remove_refuses (Err e) out = λ W h. (out W h).err
