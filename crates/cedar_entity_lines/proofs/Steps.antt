@@ -1,5 +1,5 @@
 -- What the store's steps make of its state.
-use Rattle.std.specs.Prelude.{◌≡◌, ◌↔◌, ℕ, List, [], ◌∷◌, ◌++◌, codes, Bool, true, false, ◌||◌, Option, Some, None, map, not, Result, Ok, Err, OnOk, IfOk, IfErr}
+use Rattle.std.specs.Prelude.{◌≡◌, ◌↔◌, ℕ, List, [], ◌∷◌, ◌++◌, codes, Bool, true, false, ◌||◌, Option, Some, None, map, not, Result, Ok, Err, IfOk, IfErr}
 use Rattle.std.proofs.Common.{ap, sym, refl, subst, ◌∙◌, inl, inr}
 use Rattle.std.specs.Prelude.{cond, if◌then◌else◌}
 use Rattle.std.specs.Cmp.Lexicographic.{bytes_decides}
@@ -20,12 +20,14 @@ use Rattle.cedar_ids.specs.laws.UidOfLaws.{same_uid_equiv, same_uid_decides}
 use Rattle.cedar_ids.specs.declared.entity.EntityUID.{EntityUID}
 use Rattle.cedar_entity.specs.Fields.{Fields, AreFieldsOf, field_at}
 use Rattle.cedar_uid_sets.specs.laws.Sets.{contains_listed}
+use Rattle.cedar_entities.specs.Changes.{AddsPlain, RemovesPlain, UpsertsPlain}
 use Rattle.cedar_entities.specs.Plain.{StoreView, IsPlainStore, parts_of, given_of, IsBare, AreBare}
 use Rattle.cedar_entity.specs.View.{EntityView, has_ancestor}
 use Rattle.cedar_entities.specs.Refusals.{IsAddingRefused, IsOverwritingRefused}
-use Rattle.cedar_entities.specs.World.{World, Parts, Given, given, graph, is_parent_in, entry_of, reversed, goes, without, added, overwritten, deleted, empty_world, AllAgree}
+use Rattle.cedar_entities.specs.World.{World, Parts, Given, given, graph, is_parent_in, entry_of, reversed, goes, without, added, overwritten, deleted, empty_world}
 use Rattle.cedar_entity.specs.declared.err.EntitiesError.{EntitiesError}
 use Rattle.cedar_entity.specs.declared.err.EntitiesError.TheVariants as errors
+use Rattle.cedar_entities.specs.declared.entities.TCComputation.TheVariants.{ComputeNow}
 use Rattle.cedar_entities.specs.laws.Worlds.{get_added, get_overwritten, get_deleted}
 use Rattle.cedar_lines.specs.Lines.{written_line}
 use Rattle.cedar_slice.specs.Slices.{IsPlainSlice}
@@ -217,27 +219,27 @@ settled n W none plain ascii = record {
 
 -- the store takes an adding
 pub add_takes : (m n : StoreAndWaiting) (s : EntityState) (list : List EntityView) (store : StoreView) (r : Result StoreView EntitiesError) (old new : List ℕ) → Holds m s → list ≡ m.waiting → store ≡ m.store → n.waiting ≡ []
-    → OnOk r ((W : World) → IsPlainStore W store → AreBare list → AllAgree W (map given_of list))
-    → IfOk r (λ S. (W : World) → IsPlainStore W store → AreBare list → IsPlainStore (added W (map given_of list)) S)
-    → IfErr r (λ e. (W : World) → IsPlainStore W store → AreBare list → IsAddingRefused W (map given_of list) e)
+    → ((W : World) → IsPlainStore W store → AreBare list → AddsPlain ComputeNow W (map given_of list) r)
     → Settles r n old new → EntityWrites Add s n old new
-add_takes m n s list store (Ok S) old new h same at none agrees ok err settles =
+add_takes m n s list store (Ok S) old new h same at none adds settles =
     let L : map given_of list ≡ s.waiting = ap (map given_of) same ∙ h.waiting in
     let bare = subst AreBare (sym same) h.bare in
     let before = subst (IsPlainStore s.world) (sym at) h.plain in
-    let plain = subst (λ l. IsPlainStore (added s.world l) S) L (ok s.world before bare) in
+    let given = subst (λ l. AddsPlain ComputeNow s.world l (Ok S)) L (adds s.world before bare) in
+    let plain : IsPlainStore (added s.world s.waiting) S = given.ok in
     let k = settles (added s.world s.waiting) plain in (
       record { waiting = []; world = added s.world s.waiting },
       count_line (added s.world s.waiting),
-      (refl, inr (inr ((subst (AllAgree s.world) L (agrees s.world before bare), (λ c. plain.acyclic c.0 c.1)), refl, refl))),
+      (refl, inr (inr ((given.agree, (λ c. plain.acyclic c.0 c.1)), refl, refl))),
       settled n (added s.world s.waiting) none k.0 (added_ascii s.world s.waiting h.ascii_world h.ascii_waiting),
       k.1,
     )
-add_takes m n s list store (Err e) old new h same at none agrees ok err settles =
+add_takes m n s list store (Err e) old new h same at none adds settles =
     let L : map given_of list ≡ s.waiting = ap (map given_of) same ∙ h.waiting in
     let bare = subst AreBare (sym same) h.bare in
     let before = subst (IsPlainStore s.world) (sym at) h.plain in
-    let r = refused_adds s.world s.waiting e old new h.ascii_waiting (subst (λ l. IsAddingRefused s.world l e) L (err s.world before bare)) settles.1 in
+    let given = subst (λ l. AddsPlain ComputeNow s.world l (Err e)) L (adds s.world before bare) in
+    let r = refused_adds s.world s.waiting e old new h.ascii_waiting given.err settles.1 in
     (record { waiting = []; world = empty_world }, r.0, (refl, r.1), settled n empty_world none settles.0 empty_ascii, r.2)
 
 -- a build is an adding to the store without entities
@@ -249,12 +251,14 @@ build_takes m n s old new h same plain o takes =
 
 -- the store takes an overwriting
 pub upsert_takes : (m n : StoreAndWaiting) (s : EntityState) (list : List EntityView) (store : StoreView) (r : Result StoreView EntitiesError) (old new : List ℕ) → Holds m s → list ≡ m.waiting → store ≡ m.store → n.waiting ≡ []
-    → IfOk r (λ S. (W : World) → IsPlainStore W store → AreBare list → IsPlainStore (overwritten W (map given_of list)) S)
-    → IfErr r (λ e. (W : World) → IsPlainStore W store → AreBare list → IsOverwritingRefused W (map given_of list) e)
+    → ((W : World) → IsPlainStore W store → AreBare list → UpsertsPlain ComputeNow W (map given_of list) r)
     → Settles r n old new → EntityWrites Upsert s n old new
-upsert_takes m n s list store (Ok S) old new h same at none ok err settles =
+upsert_takes m n s list store (Ok S) old new h same at none upserts settles =
     let L : map given_of list ≡ s.waiting = ap (map given_of) same ∙ h.waiting in
-    let plain = subst (λ l. IsPlainStore (overwritten s.world l) S) L (ok s.world (subst (IsPlainStore s.world) (sym at) h.plain) (subst AreBare (sym same) h.bare)) in
+    let bare = subst AreBare (sym same) h.bare in
+    let before = subst (IsPlainStore s.world) (sym at) h.plain in
+    let given = subst (λ l. UpsertsPlain ComputeNow s.world l (Ok S)) L (upserts s.world before bare) in
+    let plain : IsPlainStore (overwritten s.world s.waiting) S = given.ok in
     let k = settles (overwritten s.world s.waiting) plain in (
       record { waiting = []; world = overwritten s.world s.waiting },
       count_line (overwritten s.world s.waiting),
@@ -262,18 +266,20 @@ upsert_takes m n s list store (Ok S) old new h same at none ok err settles =
       settled n (overwritten s.world s.waiting) none k.0 (overwritten_ascii s.world s.waiting h.ascii_world h.ascii_waiting),
       k.1,
     )
-upsert_takes m n s list store (Err e) old new h same at none ok err settles =
+upsert_takes m n s list store (Err e) old new h same at none upserts settles =
     let L : map given_of list ≡ s.waiting = ap (map given_of) same ∙ h.waiting in
-    let r = refused_overwrites s.world s.waiting e old new (subst (λ l. IsOverwritingRefused s.world l e) L (err s.world (subst (IsPlainStore s.world) (sym at) h.plain) (subst AreBare (sym same) h.bare))) settles.1 in
+    let bare = subst AreBare (sym same) h.bare in
+    let before = subst (IsPlainStore s.world) (sym at) h.plain in
+    let given = subst (λ l. UpsertsPlain ComputeNow s.world l (Err e)) L (upserts s.world before bare) in
+    let r = refused_overwrites s.world s.waiting e old new given.err settles.1 in
     (record { waiting = []; world = empty_world }, r.0, (refl, r.1), settled n empty_world none settles.0 empty_ascii, r.2)
 
 -- the store takes a removal
 pub remove_takes : (m n : StoreAndWaiting) (s : EntityState) (us : List EntityUID) (store : StoreView) (r : Result StoreView EntitiesError) (old new : List ℕ) → Holds m s → store ≡ m.store → n.waiting ≡ m.waiting
-    → IfOk r (λ S. (W : World) → IsPlainStore W store → IsPlainStore (deleted W us) S)
-    → IfErr r (λ e. (W : World) → IsPlainStore W store → e ≡ errors.Memory)
+    → ((W : World) → IsPlainStore W store → RemovesPlain W us r)
     → Settles r n old new → EntityWrites (Remove us) s n old new
-remove_takes m n s us store (Ok S) old new h at same ok err settles =
-    let k = settles (deleted s.world us) (ok s.world (subst (IsPlainStore s.world) (sym at) h.plain)) in (
+remove_takes m n s us store (Ok S) old new h at same removes settles =
+    let k = settles (deleted s.world us) (removes s.world (subst (IsPlainStore s.world) (sym at) h.plain)).ok in (
       record { waiting = s.waiting; world = deleted s.world us },
       count_line (deleted s.world us),
       (refl, (refl, refl)),
@@ -286,7 +292,9 @@ remove_takes m n s us store (Ok S) old new h at same ok err settles =
       },
       k.1,
     )
-remove_takes m n s us store (Err e) old new h at same ok err settles = absurd (subst (λ x. Refused x old new) (err s.world (subst (IsPlainStore s.world) (sym at) h.plain)) settles.1)
+remove_takes m n s us store (Err e) old new h at same removes settles =
+    let given = removes s.world (subst (IsPlainStore s.world) (sym at) h.plain) in
+    absurd (subst (λ x. Refused x old new) given.err settles.1)
 
 -- the store takes a slice
 pub slice_takes : (m n : StoreAndWaiting) (s : EntityState) (us : List EntityUID) (r : Result StoreView EntitiesError) (old new : List ℕ) → Holds m s → n.waiting ≡ m.waiting

@@ -16,5 +16,5 @@ returns g c =
     (ap (λ (v : Vec (Rc EntityView Global) Global). entities_in v.items) c.replace-list.ensures.value)
     c.replace-store.ensures.value
     (c.settle.ensures.waiting ∙ ap (λ (v : Vec (Rc EntityView Global) Global). entities_in v.items) c.replace-list.ensures.after ∙ ap entities_in c.new.ensures.items)
-    c.add_entities-given.ensures.plain_agree c.add_entities-given.ensures.plain c.add_entities-given.ensures.plain_err k)
+    c.add_entities-given.ensures.plain k)
     c.settle.ensures.settles

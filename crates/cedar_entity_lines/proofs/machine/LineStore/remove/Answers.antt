@@ -13,5 +13,5 @@ returns g c =
     (subst (λ m. Holds m s) (sym c.self.view_is) h)
     c.replace-store.ensures.value
     c.settle.ensures.waiting
-    c.remove_entities-given.ensures.plain c.remove_entities-given.ensures.plain_err k)
+    c.remove_entities-given.ensures.plain k)
     c.settle.ensures.settles

@@ -16,5 +16,5 @@ returns g c =
     (ap (λ (v : Vec (Rc EntityView Global) Global). entities_in v.items) c.replace-list.ensures.value)
     c.replace-store.ensures.value
     (c.settle.ensures.waiting ∙ ap (λ (v : Vec (Rc EntityView Global) Global). entities_in v.items) c.replace-list.ensures.after ∙ ap entities_in c.new.ensures.items)
-    c.upsert_entities-given.ensures.plain c.upsert_entities-given.ensures.plain_err k)
+    c.upsert_entities-given.ensures.plain k)
     c.settle.ensures.settles
