@@ -1,7 +1,7 @@
--- What the calls on a store give, and what is kept of it, whatever builds its hashers: B is that builder, and H what it builds. Each
--- `Gives` has the public clauses of the call of `cedar_entities` that is behind a call here, but for `so_far` and `between` of
--- overwriting; `IsSlice` has those of the call of `cedar_slice`.
-use Rattle.std.specs.Prelude.{◌≡◌, ◌↔◌, ◌⊎◌, ℕ, List, [], ◌∷◌, ◌++◌, Bool, true, false, IfOk, IfErr, OnOk, map, Some, None, Result, Ok, Err}
+-- What the calls on a store give, and what is kept of it, whatever builds its hashers: B is that builder, and H what it
+-- builds. Each `Gives` has the public clauses of the call of `cedar_entities` that is behind a call here, but for
+-- `strips` of overwriting; `IsSlice` has those of the call of `cedar_slice`.
+use Rattle.std.specs.Prelude.{◌≡◌, ◌↔◌, ◌⊎◌, ℕ, List, [], ◌∷◌, ◌++◌, Bool, true, false, IfOk, map, Some, None, Result, Ok, Err}
 use Rattle.std.specs.FinMap as finmap
 use Rattle.std.specs.FinSet as set
 use Rattle.std.specs.List.{AllByRecursion, flat_map}
@@ -17,14 +17,11 @@ use Rattle.cedar_graph.specs.declared.err.TcError.TheVariants as tc
 use Rattle.cedar_entity.specs.View.{EntityView, has_ancestor}
 use Rattle.cedar_entity.specs.declared.err.EntitiesError.{EntitiesError}
 use Rattle.cedar_entity.specs.declared.err.EntitiesError.TheVariants as errors
-use Rattle.cedar_entities.specs.Edits.{put_over, taken_out, uids_of}
-use Rattle.cedar_entities.specs.Modes.{IsClosureRefused, WhereComputed}
+use Rattle.cedar_entities.specs.Changes.{AddsEntities, AddsPlain, RemovesEntities, RemovesPlain}
+use Rattle.cedar_entities.specs.Changes.{UpsertsEntities, UpsertsPlain}
 use Rattle.cedar_entities.specs.Plain.{StoreView, no_entities, given_of, AreBare, IsPlainStore}
-use Rattle.cedar_entities.specs.Present.{with_first, AllMatch, FirstMismatch}
-use Rattle.cedar_entities.specs.Refusals.{MatchRefusal, NamesOneOf, IsAddingRefused, IsOverwritingRefused}
 use Rattle.cedar_entities.specs.StoreFaults.{IsStoreFault, IsValidStore}
-use Rattle.cedar_entities.specs.Touching.{IsMended, IsMendRefused, IsSettled, StaysUntouched, inserted_in, is_touched, removed_from}
-use Rattle.cedar_entities.specs.World.{World, graph, added, overwritten, deleted, AllAgree}
+use Rattle.cedar_entities.specs.World.{World, graph, added}
 use Rattle.cedar_entities.specs.declared.entities.TCComputation.{TCComputation}
 use Rattle.cedar_slice.specs.Slices.{sliced, IsPlainSlice}
 use Rattle.cedar_c_stores.specs.Lists.{AreListed, IsMode, IsNoMode, IsUnlisted}
@@ -99,36 +96,25 @@ Settles (Err e) (Err w) k = (k.store ≡ empty_store) × IsToldBy e w k.refusal.
 Settles given answer k = ⊥
 
 -- what adding a list to a store gives
-pub record AddGives (m : TCComputation) (L : List EntityView) (S : StoreView) (given : Result StoreView EntitiesError) : Type 0 where
+pub record AddGives (m : TCComputation) (L : List EntityView) (S : StoreView)
+    (given : Result StoreView EntitiesError) : Type 0 where
   pub partial : IfOk given (λ N. N.partial ≡ S.partial)
-  pub agree : OnOk given (AllMatch (finmap.get S.held) L)
-  pub ok : IfOk given (λ N. IsSettled m (is_touched S.held (inserted_in S.held L)) (with_first S.held L) N.held)
-  pub untouched : IfOk given (λ N. StaysUntouched (inserted_in S.held L) S.held N.held)
-  pub err : IfErr given (λ e. MatchRefusal e (FirstMismatch (finmap.get S.held) L) (λ t. AllMatch (finmap.get S.held) L × IsClosureRefused m (with_first S.held L) t))
-  pub named : IfErr given (λ e. WhereComputed m (NamesOneOf (is_touched S.held (inserted_in S.held L)) e))
-  pub plain_agree : OnOk given ((W : World) → IsPlainStore W S → AreBare L → AllAgree W (map given_of L))
-  pub plain : IfOk given (λ N. (W : World) → IsPlainStore W S → AreBare L → WhereComputed m (IsPlainStore (added W (map given_of L)) N))
-  pub plain_err : IfErr given (λ e. (W : World) → IsPlainStore W S → AreBare L → WhereComputed m (IsAddingRefused W (map given_of L) e))
+  pub adds : AddsEntities m S.held L given (λ N. N.held)
+  pub plain : (W : World) → IsPlainStore W S → AreBare L → AddsPlain m W (map given_of L) given
 
 -- what putting a list over a store gives
-pub record UpsertGives (m : TCComputation) (L : List EntityView) (S : StoreView) (given : Result StoreView EntitiesError) : Type 0 where
+pub record UpsertGives (m : TCComputation) (L : List EntityView) (S : StoreView)
+    (given : Result StoreView EntitiesError) : Type 0 where
   pub partial : IfOk given (λ N. N.partial ≡ S.partial)
-  pub ok : IfOk given (λ N. IsSettled m (is_touched S.held (uids_of L)) (put_over S.held L) N.held)
-  pub untouched : IfOk given (λ N. StaysUntouched (uids_of L) S.held N.held)
-  pub err : IfErr given (λ e. MatchRefusal e (λ _. ⊥) (IsClosureRefused m (put_over S.held L)))
-  pub named : IfErr given (λ e. WhereComputed m (NamesOneOf (is_touched S.held (uids_of L)) e))
-  pub plain : IfOk given (λ N. (W : World) → IsPlainStore W S → AreBare L → WhereComputed m (IsPlainStore (overwritten W (map given_of L)) N))
-  pub plain_err : IfErr given (λ e. (W : World) → IsPlainStore W S → AreBare L → WhereComputed m (IsOverwritingRefused W (map given_of L) e))
+  pub upserts : UpsertsEntities m S.held L given
+  pub plain : (W : World) → IsPlainStore W S → AreBare L → UpsertsPlain m W (map given_of L) given
 
 -- what taking uids out of a store gives
-pub record RemoveGives (m : TCComputation) (U : List EntityUID) (S : StoreView) (given : Result StoreView EntitiesError) : Type 0 where
+pub record RemoveGives (m : TCComputation) (U : List EntityUID) (S : StoreView)
+    (given : Result StoreView EntitiesError) : Type 0 where
   pub partial : IfOk given (λ N. N.partial ≡ S.partial)
-  pub ok : IfOk given (λ N. IsMended m (is_touched S.held (removed_from S.held U)) (taken_out S.held U) N.held)
-  pub untouched : IfOk given (λ N. StaysUntouched (removed_from S.held U) S.held N.held)
-  pub err : IfErr given (λ e. MatchRefusal e (λ _. ⊥) (IsMendRefused m (is_touched S.held (removed_from S.held U)) (taken_out S.held U)))
-  pub named : IfErr given (λ e. WhereComputed m (NamesOneOf (is_touched S.held (removed_from S.held U)) e))
-  pub plain : IfOk given (λ N. (W : World) → IsPlainStore W S → IsPlainStore (deleted W U) N)
-  pub plain_err : IfErr given (λ e. (W : World) → IsPlainStore W S → e ≡ errors.Memory)
+  pub removes : RemovesEntities m S.held U given
+  pub plain : (W : World) → IsPlainStore W S → RemovesPlain W U given
 
 -- a list is added to a store, put over it, or uids are taken out of it, and what that gives is kept
 abbrev pub Adds : {A B H : Type 0} → TCComputation → List EntityView → StoreView → Result A Reason → KeptStore B H → Type 0

@@ -7,16 +7,8 @@ pub returns-clause-adds : goal.returns-clause-adds
 returns-clause-adds g c =
     let e = c.add_entities-given.ensures in (
       c.add_entities-given.result,
-      subst (λ S. AddGives c.args.mode (entities_in c.args.list.items) S c.add_entities-given.result) c.replace-store.ensures.value (record {
-        partial = e.partial;
-        agree = e.agree;
-        ok = e.ok;
-        untouched = e.untouched;
-        err = e.err;
-        named = e.named;
-        plain_agree = e.plain_agree;
-        plain = e.plain;
-        plain_err = e.plain_err;
-      }),
+      subst (λ S. AddGives c.args.mode (entities_in c.args.list.items) S c.add_entities-given.result)
+          c.replace-store.ensures.value
+          (record { partial = e.partial; adds = e.adds; plain = e.plain }),
       c.settle.ensures.settles,
     )

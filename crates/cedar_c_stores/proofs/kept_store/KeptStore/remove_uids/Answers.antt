@@ -6,14 +6,8 @@ pub returns-clause-removes : goal.returns-clause-removes
 returns-clause-removes g c =
     let e = c.remove_entities-given.ensures in (
       c.remove_entities-given.result,
-      subst (λ S. RemoveGives c.args.mode c.args.uids.items S c.remove_entities-given.result) c.replace-store.ensures.value (record {
-        partial = e.partial;
-        ok = e.ok;
-        untouched = e.untouched;
-        err = e.err;
-        named = e.named;
-        plain = e.plain;
-        plain_err = e.plain_err;
-      }),
+      subst (λ S. RemoveGives c.args.mode c.args.uids.items S c.remove_entities-given.result)
+          c.replace-store.ensures.value
+          (record { partial = e.partial; removes = e.removes; plain = e.plain }),
       c.settle.ensures.settles,
     )
