@@ -13,7 +13,8 @@ ghost use Rattle.cedar_ids.specs.UidOf.{uid_parts};
 ghost use Rattle.cedar_terms.specs.ExprTree.{set_node, slot_node, expr_trees};
 ghost use Rattle.cedar_terms.specs.declared.slot.SlotId.TheVariants.{Action};
 ghost use Rattle.cedar_action.specs.Rules.{any_action, among, just, among_slot, just_slot};
-ghost use Rattle.cedar_action.specs.RuleReads.{rule_kind, rule_uids, rule_has_slot, uids_given, is_no_action, filled_rule};
+ghost use Rattle.cedar_action.specs.RuleReads.{rule_kind, rule_uids, rule_has_slot, uids_given, is_no_action};
+ghost use Rattle.cedar_action.specs.RuleReads.{filled_rule};
 ghost use Rattle.cedar_action.specs.RuleOrder.{rule_cmp, same_rule, rule_hash};
 ghost use Rattle.cedar_action.specs.RuleTrees.{rule_expr};
 ghost use Rattle.cedar_terms.specs.UidTrees.{uid_expr};
@@ -41,11 +42,11 @@ use thiserror::Error;
 
 /// What the action of a request has to be.
 ///
-/// The order is by kind, as the kinds are listed here, then by the uids item by item. Equality, order and
-/// hash look at no location and take no memory. `clone` takes memory for a list and shares its uids.
-/// `Display` writes `action`, `action in [U,W]`, `action == U`, `action in ?action` or `action == ?action` and takes no
-/// memory: exactly so where all eids are ASCII, else with an eid past ASCII as `str::escape_debug` writes it. The original
-/// has no slot of the action.
+/// The order is by kind, as the kinds are listed here, then by the uids item by item. Equality, order and hash look at
+/// no location and take no memory. `clone` takes memory for a list and shares its uids. `Display` writes `action`,
+/// `action in [U,W]`, `action == U`, `action in ?action` or `action == ?action` and takes no memory: exactly so where
+/// all eids are ASCII, else with an eid past ASCII as `str::escape_debug` writes it. The original has no slot of the
+/// action.
 #[derive(Debug, Drop)]
 pub enum ActionConstraint {
     /// Anything.
@@ -132,14 +133,16 @@ impl ActionConstraint {
         ActionConstraint::InSlot(None)
     }
 
-    /// Equal to what the action's slot is bound to; the slot has no location. Takes no memory. It is this project's own.
+    /// Equal to what the action's slot is bound to; the slot has no location. Takes no memory. It is this project's
+    /// own.
     pub fn is_eq_slot() -> ActionConstraint
         ensures { rule_of result ≡ just_slot }
     {
         ActionConstraint::EqSlot(None)
     }
 
-    /// The constraint with the uid in the place of the slot: in the list of that one uid, or equal to it. Any other stays.
+    /// The constraint with the uid in the place of the slot: in the list of that one uid, or equal to it. Any other
+    /// stays.
     ///
     /// Takes memory for that list alone, and is refused only where that is; a refusal drops the constraint. It is this
     /// project's own.
@@ -162,9 +165,9 @@ impl ActionConstraint {
         }
     }
 
-    /// The expression of the constraint: `true`, `action in` the set of the uids in their order, `action ==` the uid, or
-    /// `action in` or `==` its slot, which stands where the constraint has it. Takes memory linear in the list; the uids
-    /// are shared.
+    /// The expression of the constraint: `true`, `action in` the set of the uids in their order, `action ==` the uid,
+    /// or `action in` or `==` its slot, which stands where the constraint has it. Takes memory linear in the list; the
+    /// uids are shared.
     pub fn as_expr(&self, alloc: Global) -> Result<Expr, AllocError>
         ensures { IfOk result (λ e. e ≡ rule_expr (rule_of self.now)) }
     {

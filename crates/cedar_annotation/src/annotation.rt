@@ -10,9 +10,11 @@ ghost use Rattle.std.specs.Cmp.Rules.{hashing};
 ghost use Rattle.std.proofs.Common.{rules, refl};
 ghost use Rattle.cedar_ids.specs.Texts.{same_text, text_order};
 ghost use Rattle.cedar_ids.specs.laws.TextLaws.{same_text_equiv, text_order_total};
-ghost use Rattle.cedar_annotation.specs.Annotations.{value_at, KeysAscend, AreAnnotationsOf, value_or_empty, annotation_output, annotations_output};
+ghost use Rattle.cedar_annotation.specs.Annotations.{value_at, KeysAscend, AreAnnotationsOf, value_or_empty};
+ghost use Rattle.cedar_annotation.specs.Annotations.{annotation_output, annotations_output};
 ghost use Rattle.cedar_annotation.specs.AnnotationOrder.{annotations_cmp, same_annotations, annotations_hash};
-ghost use Rattle.cedar_annotation.specs.laws.AnnotationOrders.{annotations_ties, annotations_cmp_total, same_annotations_equiv, annotations_hash_respects};
+ghost use Rattle.cedar_annotation.specs.laws.AnnotationOrders.{annotations_ties, annotations_cmp_total};
+ghost use Rattle.cedar_annotation.specs.laws.AnnotationOrders.{same_annotations_equiv, annotations_hash_respects};
 
 use cedar_ids::escape::Escaped;
 use cedar_ids::id::AnyId;

@@ -21,7 +21,8 @@ bound_before e s = list_any (λ r. is_lt (slot_cmp r s) && binds e r) all_slots
 abbrev pub after_others : Bool → List ℕ → List ℕ
 after_others b t = (if b then codes "," else []) ++ t
 
--- what is written of a slot: its binding, after a comma where a smaller slot is bound too; nothing where it is not bound
+-- what is written of a slot: its binding, after a comma where a smaller slot is bound too; nothing where it is not
+-- bound
 abbrev pub bound_text : SlotId → Bool → Option UidParts → List ℕ
 bound_text s b None = []
 bound_text s b (Some u) = after_others b (binding_text s u)

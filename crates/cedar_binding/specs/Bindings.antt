@@ -38,7 +38,8 @@ unless_action u = if is_action_uid u then None else Some u
 abbrev pub wrong_action : EnvParts → Option UidParts
 wrong_action e = option_and_then unless_action (bound_to e Action)
 
--- the bindings fit the slots: the bound ids are the slots', and the action's slot, if it is bound, is bound to an action
+-- the bindings fit the slots: the bound ids are the slots', and the action's slot, if it is bound, is bound to an
+-- action
 pub record FitsSlots (slots : List SlotId) (e : EnvParts) : Type 0 where
   pub exactly : BindsExactly slots e
   pub action : wrong_action e ≡ None

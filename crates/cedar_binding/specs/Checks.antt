@@ -6,7 +6,8 @@ use Rattle.cedar_binding.specs.Bindings.{EnvParts, BindsExactly, FitsSlots, wron
 use Rattle.cedar_binding.specs.declared.err.LinkingError.{LinkingError}
 use Rattle.cedar_binding.specs.declared.err.LinkingError.TheVariants as errors
 
--- the refusal of bindings that don't fit: that the ids are others, with exactly the two lists, or else that the action's
+-- the refusal of bindings that don't fit: that the ids are others, with exactly the two lists, or else that the
+-- action's
 -- slot is bound to no action; want of memory says nothing of them
 abbrev pub IsUnfit : LinkingError → List SlotId → EnvParts → Type 0
 IsUnfit (errors.ArityError u x) slots e =

@@ -12,12 +12,13 @@ use cedar_ids::entity::EntityUID;
 use cedar_terms::slot::{Slot, SlotId};
 use std::alloc::{AllocError, Global};
 
-/// `Ok` exactly where the bound ids are the ids of the slots, and the action's slot, if it is one of them, is bound to an
-/// action.
+/// `Ok` exactly where the bound ids are the ids of the slots, and the action's slot, if it is one of them, is bound to
+/// an action.
 ///
-/// Where the ids are others, the `ArityError` has exactly the slots that are not bound, in their order, as often as they
-/// stand there, and the bound ids that are no slots, in the order of ids. Where they are not, `NotAnAction` has the uid.
-/// Takes memory for what a refusal has alone; `Memory` comes only where that was refused. Reads each slot a few times.
+/// Where the ids are others, the `ArityError` has exactly the slots that are not bound, in their order, as often as
+/// they stand there, and the bound ids that are no slots, in the order of ids. Where they are not, `NotAnAction` has
+/// the uid. Takes memory for what a refusal has alone; `Memory` comes only where that was refused. Reads each slot a
+/// few times.
 pub fn check_bindings(alloc: Global, slots: &[Slot], values: &SlotEnv) -> Result<(), LinkingError>
     ensures { Binds result slots.now (env_of values.now) }
 {

@@ -6,7 +6,8 @@ ghost use Rattle.std.specs.Option.{option_copied, option_map, option_eq};
 ghost use Rattle.cedar_ids.specs.Uid.{uid_eq};
 ghost use Rattle.cedar_ids.specs.UidOf.{uid_parts};
 ghost use Rattle.cedar_binding.specs.Bindings.{binds, no_env, bound_to};
-ghost use Rattle.cedar_binding.specs.BindingTexts.{after_others, bindings_text, bound_before, bound_text, env_output, is_ascii_bound, binding_text};
+ghost use Rattle.cedar_binding.specs.BindingTexts.{after_others, bindings_text, bound_before, bound_text, env_output};
+ghost use Rattle.cedar_binding.specs.BindingTexts.{is_ascii_bound, binding_text};
 ghost use Rattle.cedar_binding.specs.EnvEquality.{same_env};
 ghost use Rattle.cedar_binding.specs.Views.{env_of};
 
@@ -42,8 +43,8 @@ pub fn copy_of_bindings(values: &SlotEnv) -> Result<SlotEnv, AllocError>
     Ok(copy)
 }
 
-/// The same bindings without the room that they do not need: a map of one binding has room for nine, of which each is as
-/// large as a uid. It asks for memory for a smaller table, and keeps the larger where that is refused, so it always
+/// The same bindings without the room that they do not need: a map of one binding has room for nine, of which each is
+/// as large as a uid. It asks for memory for a smaller table, and keeps the larger where that is refused, so it always
 /// succeeds.
 pub fn fitted_bindings(values: SlotEnv) -> SlotEnv
     ensures { env_of result ≡ env_of values }

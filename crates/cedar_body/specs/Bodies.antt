@@ -54,4 +54,13 @@ clause_slots (Some e) = slots_of e
 -- the same body under another id
 abbrev pub with_id : List ℕ → BodyParts → BodyParts
 with_id i b =
-    record { id = i; annotations = b.annotations; effect = b.effect; principal = b.principal; action = b.action; resource = b.resource; clause = b.clause }
+    record {
+      id = i;
+      annotations = b.annotations;
+      effect = b.effect;
+      principal = b.principal;
+      action =
+          b.action;
+      resource = b.resource;
+      clause = b.clause;
+    }

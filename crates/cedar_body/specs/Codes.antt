@@ -41,10 +41,20 @@ body_row b = (b.id, (b.annotations, (b.effect, (b.principal, (b.action, (b.resou
 -- the body of a row
 abbrev pub body_with : BodyRow → BodyParts
 body_with p =
-    record { id = p.0; annotations = p.1.0; effect = p.1.1.0; principal = p.1.1.1.0; action = p.1.1.1.1.0; resource = p.1.1.1.1.1.0; clause = p.1.1.1.1.1.1 }
+    record {
+      id = p.0;
+      annotations = p.1.0;
+      effect = p.1.1.0;
+      principal = p.1.1.1.0;
+      action = p.1.1.1.1.0;
+      resource =
+          p.1.1.1.1.1.0;
+      clause = p.1.1.1.1.1.1;
+    }
 
 abbrev pub body_code : Coded BodyParts
 body_code =
     code_by BodyRow
-    (coded× text_code (coded× annotations_code (coded× effect_code (coded× constraint_code (coded× rule_code (coded× constraint_code (coded_option expr_code)))))))
+    (coded× text_code (coded× annotations_code (coded× effect_code
+    (coded× constraint_code (coded× rule_code (coded× constraint_code (coded_option expr_code)))))))
     body_row body_with (λ _. refl)

@@ -4,7 +4,8 @@ ghost use Rattle.std.specs.Ordering.{as_partial_cmp};
 ghost use Rattle.std.specs.Cmp.{partial_equiv_from_equiv};
 ghost use Rattle.std.proofs.Common.{refl};
 ghost use Rattle.cedar_body.specs.Effects.{effect_index, same_effect, effect_cmp, effect_hash, effect_text};
-ghost use Rattle.cedar_body.specs.laws.EffectLaws.{same_effect_equiv, effect_cmp_total, effect_ties, effect_po, effect_hash_respects};
+ghost use Rattle.cedar_body.specs.laws.EffectLaws.{same_effect_equiv, effect_cmp_total, effect_ties, effect_po};
+ghost use Rattle.cedar_body.specs.laws.EffectLaws.{effect_hash_respects};
 
 use std::cmp::Ordering;
 use std::fmt;

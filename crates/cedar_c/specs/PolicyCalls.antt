@@ -33,7 +33,8 @@ HasNoTexts o = IsSomeAnd o (λ i. IsUntold i.kept)
 -- a closed handle says so; an open one says what became of a call, and holds what that left
 abbrev pub Changes : (Result (Unit {0}) Reason → Kept → Kept → Type 0) → Option Inner → ℕ → Option Inner → Type 0
 Changes P None n new = (n ≡ closed) × (new ≡ None)
-Changes P (Some i) n new = (r : Result (Unit {0}) Reason) × (n ≡ status_of r) × ((j : Inner) × (new ≡ Some j) × P r i.kept j.kept)
+Changes P (Some i) n new = (r : Result (Unit {0}) Reason) × (n ≡ status_of r)
+    × ((j : Inner) × (new ≡ Some j) × P r i.kept j.kept)
 
 -- a handle holds what was made, or is as it was
 abbrev pub IsFilled : Result Kept Reason → Option Inner → Option Inner → Type 0
@@ -42,7 +43,8 @@ IsFilled (Err w) old new = new ≡ old
 
 -- what was made goes into a handle, or want of memory is told in its place
 abbrev pub FillsBy : Result Kept Reason → Option Inner → ℕ → Option Inner → Type 0
-FillsBy made old n new = (r : Result Kept Reason) × (n ≡ status_of r) × IsFilled r old new × ((r ≡ made) ⊎ (r ≡ Err NoMemory))
+FillsBy made old n new = (r : Result Kept Reason) × (n ≡ status_of r) × IsFilled r old new
+    × ((r ≡ made) ⊎ (r ≡ Err NoMemory))
 
 -- a closed handle says so; of an open one's policy set something is made, which goes into another handle
 abbrev pub Fills : (Board → Result Kept Reason → Type 0) → Option Inner → ℕ → Option Inner → Option Inner → Type 0
@@ -61,12 +63,14 @@ Compares (Some i) None n old new = (n ≡ closed) × (new ≡ old)
 Compares (Some i) (Some j) n old new = (n ≡ ok) × (new ≡ same_board i.kept.set j.kept.set)
 
 -- a call with the set of another handle; where one is closed, that is said
-abbrev pub ChangesBy : (Board → Result (Unit {0}) Reason → Kept → Kept → Type 0) → Option Inner → Option Inner → ℕ → Option Inner → Type 0
+abbrev pub ChangesBy : (Board → Result (Unit {0}) Reason → Kept → Kept → Type 0) → Option Inner → Option Inner → ℕ
+    → Option Inner → Type 0
 ChangesBy P other None n new = (n ≡ closed) × (new ≡ None)
 ChangesBy P None (Some i) n new = (n ≡ closed) × (new ≡ Some i)
 ChangesBy P (Some o) (Some i) n new = Changes (P o.kept.set) (Some i) n new
 
--- the bytes of the texts of the last answer, the places of those texts, and the text of the last refusal are copied out; a closed
+-- the bytes of the texts of the last answer, the places of those texts, and the text of the last refusal are copied
+-- out; a closed
 -- handle has none
 abbrev pub CopiesAnswer : Option Inner → ℕ → List ℕ → ℕ → List ℕ → Type 0
 CopiesAnswer None from old told new = (told ≡ 0) × (new ≡ old)

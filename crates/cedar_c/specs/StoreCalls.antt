@@ -40,7 +40,8 @@ Counts (Some i) n = n ≡ finmap.len i.kept.store.held
 -- a closed handle says so; an open one says what became of a call, and holds what that left
 abbrev pub Changes : (Result (Unit {0}) Reason → Kept → Kept → Type 0) → Option Inner → ℕ → Option Inner → Type 0
 Changes P None n new = (n ≡ closed) × (new ≡ None)
-Changes P (Some i) n new = (r : Result (Unit {0}) Reason) × (n ≡ status_of r) × ((j : Inner) × (new ≡ Some j) × P r i.kept j.kept)
+Changes P (Some i) n new = (r : Result (Unit {0}) Reason) × (n ≡ status_of r)
+    × ((j : Inner) × (new ≡ Some j) × P r i.kept j.kept)
 
 -- a closed handle says so; of an open one's store a truth is told, or why it is not
 abbrev pub AsksHandle : (StoreView → Result Bool Reason → Type 0) → Option Inner → ℕ → Bool → Bool → Type 0
@@ -54,7 +55,8 @@ IsFilled (Err w) old new = new ≡ old
 
 -- what was made goes into a handle, or want of memory is told in its place
 abbrev pub FillsBy : Result Kept Reason → Option Inner → ℕ → Option Inner → Type 0
-FillsBy made old n new = (r : Result Kept Reason) × (n ≡ status_of r) × IsFilled r old new × ((r ≡ made) ⊎ (r ≡ Err NoMemory))
+FillsBy made old n new = (r : Result Kept Reason) × (n ≡ status_of r) × IsFilled r old new
+    × ((r ≡ made) ⊎ (r ≡ Err NoMemory))
 
 -- a closed handle says so; of an open one's store something is made, which goes into another handle
 abbrev pub Fills : (StoreView → Result Kept Reason → Type 0) → Option Inner → ℕ → Option Inner → Option Inner → Type 0
@@ -72,7 +74,8 @@ Compares None other n old new = (n ≡ closed) × (new ≡ old)
 Compares (Some i) None n old new = (n ≡ closed) × (new ≡ old)
 Compares (Some i) (Some j) n old new = (n ≡ ok) × (IsTrue new ↔ AreDeepEqual i.kept.store j.kept.store)
 
--- the bytes of the texts of the last answer, the places of those texts, and the text of the last refusal are copied out; a closed
+-- the bytes of the texts of the last answer, the places of those texts, and the text of the last refusal are copied
+-- out; a closed
 -- handle has none
 abbrev pub CopiesAnswer : Option Inner → ℕ → List ℕ → ℕ → List ℕ → Type 0
 CopiesAnswer None from old told new = (told ≡ 0) × (new ≡ old)

@@ -5,7 +5,8 @@ ghost use Rattle.cedar_policy_set.specs.Boards.{empty_board};
 ghost use Rattle.cedar_policy_set.specs.Steps.{remove_static_step, remove_template_step, unlink_step};
 ghost use Rattle.cedar_c_sets.specs.Sets.{AddsStatic, AddsTemplate, CopiesSet, Links, ListsIds, MergesSet, Takes};
 ghost use Rattle.cedar_c.specs.Statuses.{ok, no_memory};
-ghost use Rattle.cedar_c.specs.PolicyCalls.{Boxes, Changes, ChangesBy, Compares, CopiesAnswer, CopiesRefusal, CopiesSpans, Fills, FillsBy, HasBoard, HasNoTexts};
+ghost use Rattle.cedar_c.specs.PolicyCalls.{Boxes, Changes, ChangesBy, Compares, CopiesAnswer, CopiesRefusal};
+ghost use Rattle.cedar_c.specs.PolicyCalls.{CopiesSpans, Fills, FillsBy, HasBoard, HasNoTexts};
 
 use crate::copying::copy_out;
 use crate::keys::hasher_of;
@@ -87,7 +88,8 @@ fn fill(alloc: Global, handle: &mut Policies, made: Result<KeptSet<KeyedState>, 
     }
 }
 
-/// The set without policies, whose maps hash with two numbers of the caller as their key. What the handle held before is freed.
+/// The set without policies, whose maps hash with two numbers of the caller as their key. What the handle held before
+/// is freed.
 #[unsafe(no_mangle)]
 pub extern "C" fn cedar_policies_new(
     alloc: Global,
@@ -147,8 +149,8 @@ pub extern "C" fn cedar_policies_add_template(
     status_of(answer)
 }
 
-/// A link of the template with one id joins the set under another: three parts of a text say what the slots of the principal, the
-/// action and the resource are bound to, each empty where its slot is not bound.
+/// A link of the template with one id joins the set under another: three parts of a text say what the slots of the
+/// principal, the action and the resource are bound to, each empty where its slot is not bound.
 #[unsafe(no_mangle)]
 pub extern "C" fn cedar_policies_link(
     alloc: Global,
@@ -224,7 +226,8 @@ pub extern "C" fn cedar_policies_merge(
     rename: bool,
 ) -> u32
     ensures same { other.new.held.value ≡ other.old.held.value }
-    ensures merges { ChangesBy (λ b r i j. MergesSet b rename r i j) other.old.held.value handle.old.held.value result handle.new.held.value }
+    ensures merges { ChangesBy
+        (λ b r i j. MergesSet b rename r i j) other.old.held.value handle.old.held.value result handle.new.held.value }
 {
     let Some(mut inner) = take(alloc, handle) else {
         return CLOSED;
@@ -291,8 +294,8 @@ pub extern "C" fn cedar_policies_equal(
     0
 }
 
-/// Copies the bytes of the texts of the last answer, from a place on, as many as there is room for, and tells how many there
-/// are in all; a closed handle has none.
+/// Copies the bytes of the texts of the last answer, from a place on, as many as there is room for, and tells how many
+/// there are in all; a closed handle has none.
 #[unsafe(no_mangle)]
 pub extern "C" fn cedar_policies_answer(
     alloc: Global,
@@ -311,8 +314,8 @@ pub extern "C" fn cedar_policies_answer(
     told
 }
 
-/// Copies where the texts of the last answer stand in its bytes, from the text at a place on, as many as there is room for, and
-/// tells how many there are in all; a closed handle has none.
+/// Copies where the texts of the last answer stand in its bytes, from the text at a place on, as many as there is room
+/// for, and tells how many there are in all; a closed handle has none.
 #[unsafe(no_mangle)]
 pub extern "C" fn cedar_policies_answer_spans(
     alloc: Global,
@@ -331,8 +334,8 @@ pub extern "C" fn cedar_policies_answer_spans(
     told
 }
 
-/// Copies the text of the last refusal of a call on the set, as much as there is room for, and tells its length; a closed handle
-/// has none.
+/// Copies the text of the last refusal of a call on the set, as much as there is room for, and tells its length; a
+/// closed handle has none.
 #[unsafe(no_mangle)]
 pub extern "C" fn cedar_policies_refusal(
     alloc: Global,

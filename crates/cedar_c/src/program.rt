@@ -22,9 +22,9 @@ fn output_of(alloc: Global, hasher: KeyedState, input: &[u8]) -> Result<(Vec<u8>
     Ok((out, status))
 }
 
-/// Takes all lines of an input, by maps that hash with two numbers of the caller as their key, and writes as much of the output as
-/// there is room for; `told` has the length of all of it, and `ended` the status of the run, 0 or 2. Another call with more room
-/// makes the same output.
+/// Takes all lines of an input, by maps that hash with two numbers of the caller as their key, and writes as much of
+/// the output as there is room for; `told` has the length of all of it, and `ended` the status of the run, 0 or 2.
+/// Another call with more room makes the same output.
 #[unsafe(no_mangle)]
 pub extern "C" fn cedar_run(
     alloc: Global,

@@ -3,9 +3,11 @@ ghost use Rattle.std.specs.Prelude.{◌≡◌, ◌≢◌, Option, Some, None};
 ghost use Rattle.std.specs.Option.{is_some, option_map};
 ghost use Rattle.cedar_entities.specs.World.{empty_world};
 ghost use Rattle.cedar_entity.specs.View.{has_ancestor};
-ghost use Rattle.cedar_c_stores.specs.Stores.{AddsListed, Asks, AsksFor, BuildsListed, Copies, IsAbove, IsParent, Listing, RemovesListed, SlicesAt, UpsertsListed, Validates, has_parent};
+ghost use Rattle.cedar_c_stores.specs.Stores.{AddsListed, Asks, AsksFor, BuildsListed, Copies, IsAbove, IsParent};
+ghost use Rattle.cedar_c_stores.specs.Stores.{Listing, RemovesListed, SlicesAt, UpsertsListed, Validates, has_parent};
 ghost use Rattle.cedar_c.specs.Statuses.{ok, no_memory};
-ghost use Rattle.cedar_c.specs.StoreCalls.{AsksHandle, Boxes, Changes, Compares, CopiesAnswer, CopiesRefusal, CopiesSpans, Counts, Fills, FillsBy, HasNoTexts, HasWorld};
+ghost use Rattle.cedar_c.specs.StoreCalls.{AsksHandle, Boxes, Changes, Compares, CopiesAnswer, CopiesRefusal};
+ghost use Rattle.cedar_c.specs.StoreCalls.{CopiesSpans, Counts, Fills, FillsBy, HasNoTexts, HasWorld};
 
 use crate::copying::copy_out;
 use crate::keys::hasher_of;
@@ -87,7 +89,8 @@ fn fill(alloc: Global, handle: &mut Store, made: Result<KeptStore<KeyedState>, R
     }
 }
 
-/// The store without entities, whose map hashes with two numbers of the caller as its key. What the handle held before is freed.
+/// The store without entities, whose map hashes with two numbers of the caller as its key. What the handle held before
+/// is freed.
 #[unsafe(no_mangle)]
 pub extern "C" fn cedar_store_new(alloc: Global, handle: &mut Store, seed: u64, key: u64) -> u32
     ensures new { result ≡ ok → HasWorld empty_world handle.new.held.value }
@@ -109,8 +112,8 @@ pub extern "C" fn cedar_store_free(alloc: Global, handle: &mut Store)
     drop(take(alloc, handle));
 }
 
-/// The entities that lists say become the store: the first `count` of the uids that parts of a text are, each with the uids as
-/// parents that the edges from its place lead to, in the mode of a number.
+/// The entities that lists say become the store: the first `count` of the uids that parts of a text are, each with the
+/// uids as parents that the edges from its place lead to, in the mode of a number.
 #[unsafe(no_mangle)]
 pub extern "C" fn cedar_store_build(
     alloc: Global,
@@ -235,7 +238,8 @@ pub extern "C" fn cedar_store_is_descendant_of(
     answer: &mut bool,
 ) -> u32
     ensures same { handle.new.held.value ≡ handle.old.held.value }
-    ensures asks { AsksHandle (λ S r. Asks S child.now ancestor.now r) handle.old.held.value result answer.old answer.new }
+    ensures asks { AsksHandle
+        (λ S r. Asks S child.now ancestor.now r) handle.old.held.value result answer.old answer.new }
 {
     let Some(inner) = take(alloc, handle) else {
         return CLOSED;
@@ -343,8 +347,8 @@ pub extern "C" fn cedar_store_equal(
     0
 }
 
-/// Copies the bytes of the texts of the last answer, from a place on, as many as there is room for, and tells how many there
-/// are in all; a closed handle has none.
+/// Copies the bytes of the texts of the last answer, from a place on, as many as there is room for, and tells how many
+/// there are in all; a closed handle has none.
 #[unsafe(no_mangle)]
 pub extern "C" fn cedar_store_answer(
     alloc: Global,
@@ -363,8 +367,8 @@ pub extern "C" fn cedar_store_answer(
     told
 }
 
-/// Copies where the texts of the last answer stand in its bytes, from the text at a place on, as many as there is room for, and
-/// tells how many there are in all; a closed handle has none.
+/// Copies where the texts of the last answer stand in its bytes, from the text at a place on, as many as there is room
+/// for, and tells how many there are in all; a closed handle has none.
 #[unsafe(no_mangle)]
 pub extern "C" fn cedar_store_answer_spans(
     alloc: Global,
@@ -383,8 +387,8 @@ pub extern "C" fn cedar_store_answer_spans(
     told
 }
 
-/// Copies the text of the last refusal of a call on the store, as much as there is room for, and tells its length; a closed handle
-/// has none.
+/// Copies the text of the last refusal of a call on the store, as much as there is room for, and tells its length; a
+/// closed handle has none.
 #[unsafe(no_mangle)]
 pub extern "C" fn cedar_store_refusal(alloc: Global, handle: &mut Store, out: &mut [u8]) -> usize
     ensures same { handle.new.held.value ≡ handle.old.held.value }

@@ -14,7 +14,8 @@ use Rattle.cedar_c_lists.specs.declared.layout.Span.{Span}
 use Rattle.cedar_c_lists.specs.declared.reason.Reason.{Reason}
 use Rattle.cedar_c_lists.specs.declared.reason.Reason.TheVariants.{NoMemory, BadArgument, NotAUid, NotUtf8}
 
--- u is read of the text: with an ASCII eid it is written so; where a uid with an ASCII eid is written so, it is that one; and the
+-- u is read of the text: with an ASCII eid it is written so; where a uid with an ASCII eid is written so, it is that
+-- one; and the
 -- text has its marks, and the name of its type before the first `::"`
 pub record IsReadOf (u : EntityUID) (text : List ℕ) : Type 0 where
   pub printed : IsTrue (is_ascii (uid_parts u).eid) → IsPrinted (uid_parts u) text
@@ -59,7 +60,8 @@ IsReadAt text u s = IsInside text s × IsReadOf u (part text s)
 -- why a part of a text is not read as a uid
 abbrev pub IsUnreadAt : List ℕ → Span → Reason → Type 0
 IsUnreadAt text s w =
-    (w ≡ NoMemory) ⊎ (((w ≡ BadArgument) × (IsInside text s → ⊥)) ⊎ ((w ≡ NotAUid) × IsInside text s × IsNoUid (part text s)))
+    (w ≡ NoMemory) ⊎ (((w ≡ BadArgument) × (IsInside text s → ⊥))
+    ⊎ ((w ≡ NotAUid) × IsInside text s × IsNoUid (part text s)))
 
 -- a uid that is read of a part of a text, or why there is none
 abbrev pub ReadsUidAt : Result EntityUID Reason → List ℕ → Span → Type 0

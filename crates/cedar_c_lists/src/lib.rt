@@ -1,5 +1,5 @@
-//! What callers in C give and are given: bytes, parts of them that are uids and ids, edges, lists of texts, and a reason with a
-//! status for each refusal. No store, no policy set and no handle is known here.
+//! What callers in C give and are given: bytes, parts of them that are uids and ids, edges, lists of texts, and a
+//! reason with a status for each refusal. No store, no policy set and no handle is known here.
 #![tactic(auto, using(cedar_ids::specs::laws::UidOfLaws::same_uid_decides))]
 
 pub mod answer;

@@ -12,7 +12,8 @@ use cedar_ids::policy_id::PolicyID;
 use std::alloc::Global;
 use std::str;
 
-/// The uid that a text is. Takes memory for it; `NotAUid` comes where the text is no uid's, `NoMemory` where memory was refused.
+/// The uid that a text is. Takes memory for it; `NotAUid` comes where the text is no uid's, `NoMemory` where memory was
+/// refused.
 pub fn uid_of(alloc: Global, text: &[u8]) -> Result<EntityUID, Reason>
     ensures { ReadsUid result text.now }
 {

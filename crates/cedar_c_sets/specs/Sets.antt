@@ -1,5 +1,7 @@
--- What the calls on a policy set give, and what is kept of it, whatever builds its hashers: B is that builder, and H what it builds.
-use Rattle.std.specs.Prelude.{◌≡◌, ◌⊎◌, ◌+◌, ℕ, List, [], ◌∷◌, ◌++◌, Bool, false, IsTrue, Option, Some, None, Result, Ok, Err, if◌then◌else◌}
+-- What the calls on a policy set give, and what is kept of it, whatever builds its hashers: B is that builder, and H
+-- what it builds.
+use Rattle.std.specs.Prelude.{◌≡◌, ◌⊎◌, ◌+◌, ℕ, List, [], ◌∷◌, ◌++◌, Bool, false, IsTrue, Option, Some, None, Result}
+use Rattle.std.specs.Prelude.{Ok, Err, if◌then◌else◌}
 use Rattle.std.specs.List.{flat_map}
 use Rattle.std.specs.Str.{IsUtf8}
 use Rattle.cedar_ids.specs.Escape.{is_ascii}
@@ -15,7 +17,9 @@ use Rattle.cedar_body.specs.declared.effect.Effect.{Effect}
 use Rattle.cedar_body.specs.declared.effect.Effect.TheVariants.{Permit, Forbid}
 use Rattle.cedar_policy_set.specs.Boards.{Board, Binding, without_id}
 use Rattle.cedar_policy_set.specs.Merge.{conflicts, merged, new_id, IsRenaming, body_ids, policy_ids}
-use Rattle.cedar_policy_set.specs.Steps.{Refusal, occupied, no_body, no_such_template, arity, not_an_action, id_conflict, no_link, not_a_link, no_template, with_links, not_a_template, no_static, not_static, add_static_step, add_template_step, link_step}
+use Rattle.cedar_policy_set.specs.Steps.{Refusal, occupied, no_body, no_such_template, arity, not_an_action}
+use Rattle.cedar_policy_set.specs.Steps.{id_conflict, no_link, not_a_link, no_template, with_links, not_a_template}
+use Rattle.cedar_policy_set.specs.Steps.{no_static, not_static, add_static_step, add_template_step, link_step}
 use Rattle.cedar_policy_lines.specs.PolicyCommand.{bound_more}
 use Rattle.cedar_policy_lines.specs.PolicyOutput.{slot_constraint, slot_rule, static_body}
 use Rattle.cedar_c_lists.specs.Answers.{part}
@@ -38,7 +42,8 @@ IsEffect n Forbid = n ≡ 1
 abbrev pub IsNoEffect : ℕ → Reason → Type 0
 IsNoEffect n w = (w ≡ reasons.BadArgument) × ((e : Effect) → IsEffect n e → ⊥)
 
--- the number of some slots: 1 for the principal's, 2 for the action's and 4 for the resource's; why a number is taken as none
+-- the number of some slots: 1 for the principal's, 2 for the action's and 4 for the resource's; why a number is taken
+-- as none
 abbrev pub IsSlots : ℕ → SlotsNamed → Type 0
 IsSlots n s = n ≡ (if s.principal then 1 else 0) + ((if s.action then 2 else 0) + (if s.resource then 4 else 0))
 
@@ -78,7 +83,8 @@ Binds text at s old new = (o : Option EntityUID) × IsBoundAs text at o × (new 
 -- three parts of a text say what the principal's, the action's and the resource's slot are bound to
 abbrev pub AreBindings : List ℕ → List Span → EnvParts → Type 0
 AreBindings text (p ∷ (a ∷ (r ∷ []))) e =
-    (x : Option EntityUID) × (y : Option EntityUID) × (z : Option EntityUID) × IsBoundAs text p x × IsBoundAs text a y × IsBoundAs text r z
+    (x : Option EntityUID) × (y : Option EntityUID) × (z : Option EntityUID) × IsBoundAs text p x × IsBoundAs text a y
+    × IsBoundAs text r z
     × (e ≡ bound_if (bound_if (bound_if no_env Principal x) Action y) Resource z)
 AreBindings text parts e = ⊥
 
@@ -126,7 +132,8 @@ abbrev pub NamesAscii : Refusal → Type 0
 NamesAscii (not_an_action u) = IsTrue (is_ascii u.eid)
 NamesAscii x = Unit {0}
 
--- a reason and a text tell a refusal: the words of the reason, a blank, and what is named. Of a uid past ASCII nothing is said
+-- a reason and a text tell a refusal: the words of the reason, a blank, and what is named. Of a uid past ASCII nothing
+-- is said
 abbrev pub IsToldBy : Refusal → Reason → List ℕ → Type 0
 IsToldBy x w text = (w ≡ reason_of x) × (NamesAscii x → text ≡ words_of w ++ (32 ∷ named_by x))
 
@@ -137,14 +144,16 @@ IsToldFor (Some x) w text = IsToldBy x w text
 
 -- ---- steps
 
--- a call that lists nothing keeps the texts of the last answer, and that of the last refusal where it is made or memory is refused
+-- a call that lists nothing keeps the texts of the last answer, and that of the last refusal where it is made or memory
+-- is refused
 abbrev pub KeepsTexts : {A B H : Type 0} → Result A Reason → KeptSet B H → KeptSet B H → Type 0
 KeepsTexts r i j = (j.answer ≡ i.answer) × KeepsRefusal r i.refusal.items j.refusal.items
 
 -- the set is that of the step; or it is as it was, and the step is refused as is told, or memory was
 abbrev pub Makes : {A B H : Type 0} → Result Board Refusal → Result A Reason → KeptSet B H → KeptSet B H → Type 0
 Makes step (Ok a) i j = step ≡ Ok j.set
-Makes step (Err w) i j = (j.set ≡ i.set) × ((w ≡ reasons.NoMemory) ⊎ ((x : Refusal) × (step ≡ Err x) × IsToldBy x w j.refusal.items))
+Makes step (Err w) i j = (j.set ≡ i.set) × ((w ≡ reasons.NoMemory)
+    ⊎ ((x : Refusal) × (step ≡ Err x) × IsToldBy x w j.refusal.items))
 
 -- the board without what a step takes out, or why it is refused
 abbrev pub taking : Board → List ℕ → Result Binding Refusal → Result Board Refusal
@@ -155,23 +164,29 @@ taking b i (Err x) = Err x
 abbrev pub AddsStatic : {A B H : Type 0} → List ℕ → ℕ → Result A Reason → KeptSet B H → KeptSet B H → Type 0
 AddsStatic id n r i j =
     IsStopped (λ w. IsNoEffect n w ⊎ IsNoId id w) r i j
-    ⊎ ((e : Effect) × IsEffect n e × IsUtf8 id × Makes (add_static_step i.set (static_body id e)) r i j × KeepsTexts r i j)
+    ⊎ ((e : Effect) × IsEffect n e × IsUtf8 id × Makes (add_static_step i.set (static_body id e)) r i j
+    × KeepsTexts r i j)
 
 -- and so a template, with the slots of a number
 abbrev pub AddsTemplate : {A B H : Type 0} → List ℕ → ℕ → ℕ → Result A Reason → KeptSet B H → KeptSet B H → Type 0
 AddsTemplate id n m r i j =
     IsStopped (λ w. IsNoEffect n w ⊎ (IsNoSlots m w ⊎ IsNoId id w)) r i j
-    ⊎ ((e : Effect) × (s : SlotsNamed) × IsEffect n e × IsSlots m s × IsUtf8 id × Makes (add_template_step i.set (template_body id e s)) r i j × KeepsTexts r i j)
+    ⊎ ((e : Effect) × (s : SlotsNamed) × IsEffect n e × IsSlots m s × IsUtf8 id
+    × Makes (add_template_step i.set (template_body id e s)) r i j × KeepsTexts r i j)
 
 -- a link of the template with an id joins under another, with these bindings; or something of that is not read
-abbrev pub Links : {A B H : Type 0} → List ℕ → List ℕ → List ℕ → List Span → Result A Reason → KeptSet B H → KeptSet B H → Type 0
+abbrev pub Links : {A B H : Type 0} → List ℕ → List ℕ → List ℕ → List Span → Result A Reason → KeptSet B H → KeptSet B H
+    → Type 0
 Links template id text parts r i j =
     IsStopped (λ w. IsNoId template w ⊎ (IsNoId id w ⊎ IsUnboundBy text parts w)) r i j
-    ⊎ ((e : EnvParts) × AreBindings text parts e × IsUtf8 template × IsUtf8 id × Makes (link_step i.set template id e) r i j × KeepsTexts r i j)
+    ⊎ ((e : EnvParts) × AreBindings text parts e × IsUtf8 template × IsUtf8 id
+    × Makes (link_step i.set template id e) r i j × KeepsTexts r i j)
 
 -- what an id is bound to is taken out by a step; or the id is not read
-abbrev pub Takes : {A B H : Type 0} → (Board → List ℕ → Result Binding Refusal) → List ℕ → Result A Reason → KeptSet B H → KeptSet B H → Type 0
-Takes step id r i j = IsStopped (IsNoId id) r i j ⊎ (IsUtf8 id × Makes (taking i.set id (step i.set id)) r i j × KeepsTexts r i j)
+abbrev pub Takes : {A B H : Type 0} → (Board → List ℕ → Result Binding Refusal) → List ℕ → Result A Reason → KeptSet B H
+    → KeptSet B H → Type 0
+Takes step id r i j = IsStopped (IsNoId id) r i j ⊎ (IsUtf8 id × Makes (taking i.set id (step i.set id)) r i j
+    × KeepsTexts r i j)
 
 -- ---- merging
 
@@ -182,15 +197,18 @@ pair_of p = p.0 ∷ p.1 ∷ []
 abbrev pub renaming_texts : List (List ℕ × List ℕ) → List (List ℕ)
 renaming_texts r = flat_map pair_of r
 
--- another set is merged into this one, and the answer is the renaming; or the first id that conflicts is told, where ids keep
+-- another set is merged into this one, and the answer is the renaming; or the first id that conflicts is told, where
+-- ids keep
 -- theirs, or memory was refused, and the set is as it was, as the text of the last refusal is where memory was refused
 abbrev pub MergesSet : {A B H : Type 0} → Board → Bool → Result A Reason → KeptSet B H → KeptSet B H → Type 0
 MergesSet other rename (Ok a) i j =
     (r : List (List ℕ × List ℕ)) × IsRenaming i.set other r × (rename ≡ false → conflicts i.set other ≡ [])
     × (j.set ≡ merged i.set other (new_id r)) × (j.answer ≡ renaming_texts r) × (j.refusal.items ≡ i.refusal.items)
 MergesSet other rename (Err w) i j =
-    (j.set ≡ i.set) × (j.answer ≡ i.answer) × (w ≡ reasons.NoMemory → j.refusal.items ≡ i.refusal.items) × ((w ≡ reasons.NoMemory)
-    ⊎ ((rename ≡ false) × ((id : List ℕ) × (rest : List (List ℕ)) × (conflicts i.set other ≡ id ∷ rest) × IsToldBy (occupied id) w j.refusal.items)))
+    (j.set ≡ i.set) × (j.answer ≡ i.answer) × (w ≡ reasons.NoMemory → j.refusal.items ≡ i.refusal.items)
+    × ((w ≡ reasons.NoMemory)
+    ⊎ ((rename ≡ false) × ((id : List ℕ) × (rest : List (List ℕ)) × (conflicts i.set other ≡ id ∷ rest)
+    × IsToldBy (occupied id) w j.refusal.items)))
 
 -- ---- ids
 
@@ -201,7 +219,8 @@ IsKind n b ids = ((n ≡ 0) × (ids ≡ body_ids b)) ⊎ ((n ≡ 1) × (ids ≡ 
 -- the ids of an order become the answer; or why they do not, and all is as it was
 abbrev pub ListsIds : {A B H : Type 0} → ℕ → Result A Reason → KeptSet B H → KeptSet B H → Type 0
 ListsIds n (Ok a) i j = (j.set ≡ i.set) × (j.refusal.items ≡ i.refusal.items) × IsKind n i.set j.answer
-ListsIds n (Err w) i j = (j ≡ i) × ((w ≡ reasons.NoMemory) ⊎ ((w ≡ reasons.BadArgument) × ((ids : List (List ℕ)) → IsKind n i.set ids → ⊥)))
+ListsIds n (Err w) i j = (j ≡ i) × ((w ≡ reasons.NoMemory)
+    ⊎ ((w ≡ reasons.BadArgument) × ((ids : List (List ℕ)) → IsKind n i.set ids → ⊥)))
 
 -- no call has answered anything of what is kept, and none was refused
 abbrev pub IsUntold : {B H : Type 0} → KeptSet B H → Type 0

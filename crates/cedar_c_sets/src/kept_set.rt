@@ -5,8 +5,10 @@ ghost use Rattle.cedar_policy_set.specs.BoardEquality.{same_board};
 ghost use Rattle.cedar_policy_set.specs.Boards.{empty_board};
 ghost use Rattle.cedar_policy_set.specs.Merge.{body_ids, policy_ids};
 ghost use Rattle.cedar_policy_set.specs.Refusals.{Steps, told_by_linking};
-ghost use Rattle.cedar_policy_set.specs.Steps.{add_static_step, add_template_step, link_step, unlink_step, remove_static_step, remove_template_step};
-ghost use Rattle.cedar_c_sets.specs.Sets.{AddsStatic, AddsTemplate, CopiesSet, KeepsTexts, Links, ListsIds, Makes, MergesSet, Takes, renaming_texts, taking};
+ghost use Rattle.cedar_policy_set.specs.Steps.{add_static_step, add_template_step, link_step, unlink_step};
+ghost use Rattle.cedar_policy_set.specs.Steps.{remove_static_step, remove_template_step};
+ghost use Rattle.cedar_c_sets.specs.Sets.{AddsStatic, AddsTemplate, CopiesSet, KeepsTexts, Links, ListsIds, Makes};
+ghost use Rattle.cedar_c_sets.specs.Sets.{MergesSet, Takes, renaming_texts, taking};
 ghost use Rattle.cedar_c_lists.specs.declared.reason.Reason.TheVariants as reasons;
 
 use crate::making::{bindings_of, effect_of, slots_of, static_policy, template};
@@ -21,8 +23,8 @@ use std::hash::BuildHasher;
 
 /// A policy set, the texts of the last answer, and the text of the last refusal.
 ///
-/// The set hashes ids by what `S` builds, and so do the sets that its calls make. No contract sees the builder; but code that is
-/// generic in it makes none of its own, so each set here has the one that the caller gave.
+/// The set hashes ids by what `S` builds, and so do the sets that its calls make. No contract sees the builder; but
+/// code that is generic in it makes none of its own, so each set here has the one that the caller gave.
 #[derive(Drop)]
 pub struct KeptSet<S: BuildHasher> {
     /// The policy set.
@@ -182,7 +184,8 @@ impl<S: BuildHasher + Copy> KeptSet<S> {
 
     // A static policy goes.
     fn take_static(&mut self, alloc: Global, id: &PolicyID) -> Result<(), Reason>
-        ensures makes { Makes (taking self.old.set id.now (remove_static_step self.old.set id.now)) result self.old self.new }
+        ensures makes { Makes (taking self.old.set id.now
+            (remove_static_step self.old.set id.now)) result self.old self.new }
         ensures texts { KeepsTexts result self.old self.new }
     {
         match self.set.remove_static(id) {
@@ -193,7 +196,8 @@ impl<S: BuildHasher + Copy> KeptSet<S> {
 
     // A template goes.
     fn take_template(&mut self, alloc: Global, id: &PolicyID) -> Result<(), Reason>
-        ensures makes { Makes (taking self.old.set id.now (remove_template_step self.old.set id.now)) result self.old self.new }
+        ensures makes { Makes (taking self.old.set id.now
+            (remove_template_step self.old.set id.now)) result self.old self.new }
         ensures texts { KeepsTexts result self.old self.new }
     {
         match self.set.remove_template(id) {
@@ -202,8 +206,8 @@ impl<S: BuildHasher + Copy> KeptSet<S> {
         }
     }
 
-    /// A static policy with these bytes as its id and the effect of a number, which constrains nothing, joins. Takes memory; a
-    /// refusal leaves the set as it was, as it does in each call here.
+    /// A static policy with these bytes as its id and the effect of a number, which constrains nothing, joins. Takes
+    /// memory; a refusal leaves the set as it was, as it does in each call here.
     pub fn add_static(&mut self, alloc: Global, id: &[u8], effect: u32) -> Result<(), Reason>
         ensures { AddsStatic id.now effect result self.old self.new }
     {
@@ -213,8 +217,8 @@ impl<S: BuildHasher + Copy> KeptSet<S> {
         self.join_static(alloc, policy)
     }
 
-    /// A template with these bytes as its id, the effect of a number and the slots of another, which constrains nothing else,
-    /// joins. Takes memory.
+    /// A template with these bytes as its id, the effect of a number and the slots of another, which constrains nothing
+    /// else, joins. Takes memory.
     pub fn add_template(
         &mut self,
         alloc: Global,
@@ -231,7 +235,8 @@ impl<S: BuildHasher + Copy> KeptSet<S> {
         self.join_template(alloc, template)
     }
 
-    /// A link of the template with an id joins under another id, with the bindings that three parts of a text say. Takes memory.
+    /// A link of the template with an id joins under another id, with the bindings that three parts of a text say.
+    /// Takes memory.
     pub fn link(
         &mut self,
         alloc: Global,
@@ -272,8 +277,8 @@ impl<S: BuildHasher + Copy> KeptSet<S> {
         self.take_template(alloc, &id)
     }
 
-    /// Takes in what another set binds, as `PolicySet::merge_policyset` does, and answers each id that was renamed with its new
-    /// one behind it. Takes memory, for a copy of this set too: what can be refused is done on the copy.
+    /// Takes in what another set binds, as `PolicySet::merge_policyset` does, and answers each id that was renamed with
+    /// its new one behind it. Takes memory, for a copy of this set too: what can be refused is done on the copy.
     pub fn merge(&mut self, alloc: Global, other: &KeptSet<S>, rename: bool) -> Result<(), Reason>
         ensures { MergesSet other.now.set rename result self.old self.new }
     {
@@ -299,8 +304,8 @@ impl<S: BuildHasher + Copy> KeptSet<S> {
         }
     }
 
-    /// The ids of the bodies, for 0, or of the policies, for 1, become the answer, in their order. Takes memory for the texts; a
-    /// refusal leaves the answer as it was.
+    /// The ids of the bodies, for 0, or of the policies, for 1, become the answer, in their order. Takes memory for the
+    /// texts; a refusal leaves the answer as it was.
     pub fn ids(&mut self, alloc: Global, kind: u32) -> Result<(), Reason>
         ensures { ListsIds kind result self.old self.new }
     {

@@ -1,5 +1,5 @@
-//! The calls of the library for C on a policy set: the set with its last answer and its last refusal, and policies, templates and
-//! bindings as a caller describes them. No handle is known here.
+//! The calls of the library for C on a policy set: the set with its last answer and its last refusal, and policies,
+//! templates and bindings as a caller describes them. No handle is known here.
 #![tactic(auto)]
 
 pub mod kept_set;

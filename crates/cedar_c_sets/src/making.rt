@@ -5,7 +5,8 @@ ghost use Rattle.cedar_action.specs.Views.{rule_of};
 ghost use Rattle.cedar_binding.specs.Views.{env_of};
 ghost use Rattle.cedar_policy_lines.specs.PolicyCommand.{bound_more};
 ghost use Rattle.cedar_policy_lines.specs.PolicyOutput.{slot_constraint, slot_rule, static_body};
-ghost use Rattle.cedar_c_sets.specs.Sets.{AreBindings, Binds, IsBoundAs, IsEffect, IsNoEffect, IsNoSlots, IsSlots, IsUnboundAs, IsUnboundBy, template_body};
+ghost use Rattle.cedar_c_sets.specs.Sets.{AreBindings, Binds, IsBoundAs, IsEffect, IsNoEffect, IsNoSlots, IsSlots};
+ghost use Rattle.cedar_c_sets.specs.Sets.{IsUnboundAs, IsUnboundBy, template_body};
 
 use cedar_action::ActionConstraint;
 use cedar_annotation::Annotations;
@@ -52,8 +53,8 @@ fn named(principal: bool, action: bool, resource: bool) -> SlotsNamed
     }
 }
 
-// The slots of a number: 1 for the principal's, 2 for the action's and 4 for the resource's, added up. `BadArgument` comes
-// where it is no such sum. Takes no memory.
+// The slots of a number: 1 for the principal's, 2 for the action's and 4 for the resource's, added up. `BadArgument`
+// comes where it is no such sum. Takes no memory.
 pub(crate) fn slots_of(number: u32) -> Result<SlotsNamed, Reason>
     ensures { MatchResult result (IsSlots number) (IsNoSlots number) }
 {
@@ -175,7 +176,8 @@ fn bind_at(
     text: &[u8],
     at: Span,
 ) -> Result<(), Reason>
-    ensures { MatchResult result (λ _. Binds text.now at slot (env_of values.old) (env_of values.new)) (IsUnboundAs text.now at) }
+    ensures { MatchResult result (λ _. Binds text.now at slot (env_of values.old) (env_of values.new))
+        (IsUnboundAs text.now at) }
 {
     match bound_at(alloc, text, at)? {
         None => Ok(()),
@@ -183,9 +185,9 @@ fn bind_at(
     }
 }
 
-// Bindings of the three slots, in the order of principal, action and resource: one part of a text for each, empty where the slot
-// is not bound. `BadArgument` comes where there are not three parts, or where one does not lie within the text; `NotAUid` where
-// one is no uid's text. Takes memory.
+// Bindings of the three slots, in the order of principal, action and resource: one part of a text for each, empty where
+// the slot is not bound. `BadArgument` comes where there are not three parts, or where one does not lie within the
+// text; `NotAUid` where one is no uid's text. Takes memory.
 pub(crate) fn bindings_of(alloc: Global, text: &[u8], parts: &[Span]) -> Result<SlotEnv, Reason>
     ensures { MatchResult result (λ v. AreBindings text.now parts.now (env_of v)) (IsUnboundBy text.now parts.now) }
 {

@@ -1,6 +1,7 @@
 //! The reasons and the texts of what a policy set refuses.
 ghost use Rattle.std.specs.Prelude.{◌≡◌, ◌∷◌, ◌++◌, IfOk};
-ghost use Rattle.cedar_policy_set.specs.Refusals.{told_by_linking, told_by_removal, told_by_set, told_by_template_removal, told_by_unlinking};
+ghost use Rattle.cedar_policy_set.specs.Refusals.{told_by_linking, told_by_removal, told_by_set};
+ghost use Rattle.cedar_policy_set.specs.Refusals.{told_by_template_removal, told_by_unlinking};
 ghost use Rattle.cedar_c_lists.specs.Reasons.{words_of};
 ghost use Rattle.cedar_binding.specs.BindingTexts.{arity_text};
 ghost use Rattle.cedar_c_sets.specs.Sets.{IsToldFor};
@@ -49,7 +50,8 @@ pub(crate) fn by_set(alloc: Global, error: &PolicySetError) -> Result<Told, Allo
 // The slots that bindings lack or have besides.
 fn arity_told(alloc: Global, slots: ArityText<'_>) -> Result<Told, AllocError>
     ensures { IfOk result (λ t. (t.reason ≡ reasons.Arity)
-        × (t.text.items ≡ words_of reasons.Arity ++ (32 ∷ arity_text slots.entry.unbound.now.items slots.entry.extra.now.items))) }
+        × (t.text.items
+        ≡ words_of reasons.Arity ++ (32 ∷ arity_text slots.entry.unbound.now.items slots.entry.extra.now.items))) }
 {
     let name = slots.to_string(alloc)?;
     named(alloc, Reason::Arity, name.as_str())

@@ -1,11 +1,13 @@
 -- Entities as a caller lists them: uids, of which the first so many are those of the entities, and edges to parents.
-use Rattle.std.specs.Prelude.{◌≡◌, ◌⊎◌, ◌<◌, ◌≤◌, ◌==◌, ℕ, ◌+◌, List, [], ◌∷◌, Option, Some, None, filter_map, if◌then◌else◌, length, slice_get, take}
+use Rattle.std.specs.Prelude.{◌≡◌, ◌⊎◌, ◌<◌, ◌≤◌, ◌==◌, ℕ, ◌+◌, List, [], ◌∷◌, Option, Some, None, filter_map}
+use Rattle.std.specs.Prelude.{if◌then◌else◌, length, slice_get, take}
 use Rattle.std.specs.FinSet as set
 use Rattle.cedar_ids.specs.declared.entity.EntityUID.{EntityUID}
 use Rattle.cedar_entity.specs.View.{EntityView}
 use Rattle.cedar_entities.specs.Plain.{AreBare}
 use Rattle.cedar_entities.specs.declared.entities.TCComputation.{TCComputation}
-use Rattle.cedar_entities.specs.declared.entities.TCComputation.TheVariants.{AssumeAlreadyComputed, EnforceAlreadyComputed, ComputeNow}
+use Rattle.cedar_entities.specs.declared.entities.TCComputation.TheVariants.{AssumeAlreadyComputed}
+use Rattle.cedar_entities.specs.declared.entities.TCComputation.TheVariants.{EnforceAlreadyComputed, ComputeNow}
 use Rattle.cedar_c_lists.specs.Texts.{AreReadAt, IsInside, IsOneUnread}
 use Rattle.cedar_c_lists.specs.declared.layout.Edge.{Edge}
 use Rattle.cedar_c_lists.specs.declared.layout.Span.{Span}

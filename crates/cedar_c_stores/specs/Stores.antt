@@ -1,7 +1,8 @@
 -- What the calls on a store give, and what is kept of it, whatever builds its hashers: B is that builder, and H what it
 -- builds. Each `Gives` has the public clauses of the call of `cedar_entities` that is behind a call here, but for
 -- `strips` of overwriting; `IsSlice` has those of the call of `cedar_slice`.
-use Rattle.std.specs.Prelude.{◌≡◌, ◌↔◌, ◌⊎◌, ℕ, List, [], ◌∷◌, ◌++◌, Bool, true, false, IfOk, map, Some, None, Result, Ok, Err}
+use Rattle.std.specs.Prelude.{◌≡◌, ◌↔◌, ◌⊎◌, ℕ, List, [], ◌∷◌, ◌++◌, Bool, true, false, IfOk, map, Some, None, Result}
+use Rattle.std.specs.Prelude.{Ok, Err}
 use Rattle.std.specs.FinMap as finmap
 use Rattle.std.specs.FinSet as set
 use Rattle.std.specs.List.{AllByRecursion, flat_map}
@@ -73,7 +74,8 @@ key_named e = []
 
 -- the text of an error: the words of its reason, and what it names. Of uids past ASCII nothing is said
 abbrev pub IsRefusalText : EntitiesError → List ℕ → Type 0
-IsRefusalText e text = AllByRecursion IsAsciiUid (uids_named e) → text ≡ words_of (reason_of e) ++ (flat_map spaced (uids_named e) ++ key_named e)
+IsRefusalText e text = AllByRecursion IsAsciiUid (uids_named e)
+    → text ≡ words_of (reason_of e) ++ (flat_map spaced (uids_named e) ++ key_named e)
 
 -- a reason and a text tell an error. Where memory is wanted for the text, that is told
 abbrev pub IsToldBy : EntitiesError → Reason → List ℕ → Type 0
@@ -85,7 +87,8 @@ IsToldBy e w text = (w ≡ reasons.NoMemory) ⊎ ((w ≡ reason_of e) × IsRefus
 abbrev pub empty_store : StoreView
 empty_store = record { held = no_entities; partial = false }
 
--- a call that lists nothing keeps the texts of the last answer, and that of the last refusal where it is made or memory is refused
+-- a call that lists nothing keeps the texts of the last answer, and that of the last refusal where it is made or memory
+-- is refused
 abbrev pub KeepsTexts : {A B H : Type 0} → Result A Reason → KeptStore B H → KeptStore B H → Type 0
 KeepsTexts r i j = (j.answer ≡ i.answer) × KeepsRefusal r i.refusal.items j.refusal.items
 
@@ -117,40 +120,53 @@ pub record RemoveGives (m : TCComputation) (U : List EntityUID) (S : StoreView)
   pub plain : (W : World) → IsPlainStore W S → RemovesPlain W U given
 
 -- a list is added to a store, put over it, or uids are taken out of it, and what that gives is kept
-abbrev pub Adds : {A B H : Type 0} → TCComputation → List EntityView → StoreView → Result A Reason → KeptStore B H → Type 0
+abbrev pub Adds : {A B H : Type 0} → TCComputation → List EntityView → StoreView → Result A Reason → KeptStore B H
+    → Type 0
 Adds m L S r k = (given : Result StoreView EntitiesError) × AddGives m L S given × Settles given r k
 
-abbrev pub Upserts : {A B H : Type 0} → TCComputation → List EntityView → StoreView → Result A Reason → KeptStore B H → Type 0
+abbrev pub Upserts : {A B H : Type 0} → TCComputation → List EntityView → StoreView → Result A Reason → KeptStore B H
+    → Type 0
 Upserts m L S r k = (given : Result StoreView EntitiesError) × UpsertGives m L S given × Settles given r k
 
-abbrev pub Removes : {A B H : Type 0} → TCComputation → List EntityUID → StoreView → Result A Reason → KeptStore B H → Type 0
+abbrev pub Removes : {A B H : Type 0} → TCComputation → List EntityUID → StoreView → Result A Reason → KeptStore B H
+    → Type 0
 Removes m U S r k = (given : Result StoreView EntitiesError) × RemoveGives m U S given × Settles given r k
 
--- entities that lists say become the store, are added to it or put over it, in the mode of a number; or that is not read
-abbrev pub BuildsListed : {A B H : Type 0} → List ℕ → List Span → ℕ → List Edge → ℕ → Result A Reason → KeptStore B H → KeptStore B H → Type 0
+-- entities that lists say become the store, are added to it or put over it, in the mode of a number; or that is not
+-- read
+abbrev pub BuildsListed : {A B H : Type 0} → List ℕ → List Span → ℕ → List Edge → ℕ → Result A Reason → KeptStore B H
+    → KeptStore B H → Type 0
 BuildsListed text spans n es mode r i j =
     IsStopped (λ w. IsNoMode mode w ⊎ IsUnlisted text spans n es w) r i j
-    ⊎ ((m : TCComputation) × (L : List EntityView) × IsMode mode m × AreListed text spans n es L × Adds m L empty_store r j × KeepsTexts r i j)
+    ⊎ ((m : TCComputation) × (L : List EntityView) × IsMode mode m × AreListed text spans n es L
+    × Adds m L empty_store r j × KeepsTexts r i j)
 
-abbrev pub AddsListed : {A B H : Type 0} → List ℕ → List Span → ℕ → List Edge → ℕ → Result A Reason → KeptStore B H → KeptStore B H → Type 0
+abbrev pub AddsListed : {A B H : Type 0} → List ℕ → List Span → ℕ → List Edge → ℕ → Result A Reason → KeptStore B H
+    → KeptStore B H → Type 0
 AddsListed text spans n es mode r i j =
     IsStopped (λ w. IsNoMode mode w ⊎ IsUnlisted text spans n es w) r i j
-    ⊎ ((m : TCComputation) × (L : List EntityView) × IsMode mode m × AreListed text spans n es L × Adds m L i.store r j × KeepsTexts r i j)
+    ⊎ ((m : TCComputation) × (L : List EntityView) × IsMode mode m × AreListed text spans n es L × Adds m L i.store r j
+    × KeepsTexts r i j)
 
-abbrev pub UpsertsListed : {A B H : Type 0} → List ℕ → List Span → ℕ → List Edge → ℕ → Result A Reason → KeptStore B H → KeptStore B H → Type 0
+abbrev pub UpsertsListed : {A B H : Type 0} → List ℕ → List Span → ℕ → List Edge → ℕ → Result A Reason → KeptStore B H
+    → KeptStore B H → Type 0
 UpsertsListed text spans n es mode r i j =
     IsStopped (λ w. IsNoMode mode w ⊎ IsUnlisted text spans n es w) r i j
-    ⊎ ((m : TCComputation) × (L : List EntityView) × IsMode mode m × AreListed text spans n es L × Upserts m L i.store r j × KeepsTexts r i j)
+    ⊎ ((m : TCComputation) × (L : List EntityView) × IsMode mode m × AreListed text spans n es L
+    × Upserts m L i.store r j × KeepsTexts r i j)
 
 -- the uids that parts of a text are are taken out, in the mode of a number; or that is not read
-abbrev pub RemovesListed : {A B H : Type 0} → List ℕ → List Span → ℕ → Result A Reason → KeptStore B H → KeptStore B H → Type 0
+abbrev pub RemovesListed : {A B H : Type 0} → List ℕ → List Span → ℕ → Result A Reason → KeptStore B H → KeptStore B H
+    → Type 0
 RemovesListed text spans mode r i j =
     IsStopped (λ w. IsNoMode mode w ⊎ IsOneUnread text spans w) r i j
-    ⊎ ((m : TCComputation) × (U : List EntityUID) × IsMode mode m × AreReadAt text U spans × Removes m U i.store r j × KeepsTexts r i j)
+    ⊎ ((m : TCComputation) × (U : List EntityUID) × IsMode mode m × AreReadAt text U spans × Removes m U i.store r j
+    × KeepsTexts r i j)
 
 -- ---- asking a store
 
--- whether v is an ancestor of the entity with u: as the store holds it, and over its parents where it is the plain store of a world
+-- whether v is an ancestor of the entity with u: as the store holds it, and over its parents where it is the plain
+-- store of a world
 pub record TellsWhether (S : StoreView) (u v : EntityUID) (answer : Bool) : Type 0 where
   pub entity : EntityView
   pub held : finmap.get S.held u ≡ Some entity
@@ -162,16 +178,19 @@ abbrev pub Asks : StoreView → List ℕ → List ℕ → Result Bool Reason →
 Asks S child ancestor (Ok b) =
     (u : EntityUID) × (v : EntityUID) × IsReadOf u child × IsReadOf v ancestor × TellsWhether S u v b
 Asks S child ancestor (Err w) =
-    IsUnread child w ⊎ (IsUnread ancestor w ⊎ ((w ≡ reasons.NoEntity) × ((u : EntityUID) × IsReadOf u child × (finmap.get S.held u ≡ None))))
+    IsUnread child w ⊎ (IsUnread ancestor w ⊎ ((w ≡ reasons.NoEntity)
+    × ((u : EntityUID) × IsReadOf u child × (finmap.get S.held u ≡ None))))
 
 -- whether a store has an entity with the uid of a text
 abbrev pub AsksFor : StoreView → List ℕ → Result Bool Reason → Type 0
 AsksFor S text (Ok b) = (u : EntityUID) × IsReadOf u text × (b ≡ finmap.contains_key S.held u)
 AsksFor S text (Err w) = IsUnread text w
 
--- the uids ascend, and are those that pass a test of the entity: over the plain store of a world those in a relation; the texts
+-- the uids ascend, and are those that pass a test of the entity: over the plain store of a world those in a relation;
+-- the texts
 -- are theirs
-pub record ListsThose (test : EntityView → EntityUID → Bool) (Related : World → EntityUID → EntityUID → Type 0) (S : StoreView) (u : EntityUID) (texts : List (List ℕ)) : Type 0 where
+pub record ListsThose (test : EntityView → EntityUID → Bool) (Related : World → EntityUID → EntityUID
+    → Type 0) (S : StoreView) (u : EntityUID) (texts : List (List ℕ)) : Type 0 where
   pub entity : EntityView
   pub held : finmap.get S.held u ≡ Some entity
   pub uids : List EntityUID
@@ -181,11 +200,14 @@ pub record ListsThose (test : EntityView → EntityUID → Bool) (Related : Worl
   pub are_texts : AreTextsOf uids texts
 
 -- those of the entity with the uid of a text become the answer; or why they do not, and all is as it was
-abbrev pub Listing : {A B H : Type 0} → (EntityView → EntityUID → Bool) → (World → EntityUID → EntityUID → Type 0) → List ℕ → Result A Reason → KeptStore B H → KeptStore B H → Type 0
+abbrev pub Listing : {A B H : Type 0} → (EntityView → EntityUID → Bool) → (World → EntityUID → EntityUID → Type 0)
+    → List ℕ → Result A Reason → KeptStore B H → KeptStore B H → Type 0
 Listing test Related text (Ok a) i j =
-    (j.store ≡ i.store) × (j.refusal.items ≡ i.refusal.items) × ((u : EntityUID) × IsReadOf u text × ListsThose test Related i.store u j.answer)
+    (j.store ≡ i.store) × (j.refusal.items ≡ i.refusal.items)
+    × ((u : EntityUID) × IsReadOf u text × ListsThose test Related i.store u j.answer)
 Listing test Related text (Err w) i j =
-    (j ≡ i) × ((w ≡ reasons.NoMemory) ⊎ (IsUnread text w ⊎ ((w ≡ reasons.NoEntity) × ((u : EntityUID) × IsReadOf u text × (finmap.get i.store.held u ≡ None)))))
+    (j ≡ i) × ((w ≡ reasons.NoMemory) ⊎ (IsUnread text w
+    ⊎ ((w ≡ reasons.NoEntity) × ((u : EntityUID) × IsReadOf u text × (finmap.get i.store.held u ≡ None)))))
 
 -- whether a uid is a parent of an entity
 abbrev pub has_parent : EntityView → EntityUID → Bool
@@ -198,7 +220,8 @@ IsAbove W u q = Reach (graph W) u q
 abbrev pub IsParent : World → EntityUID → EntityUID → Type 0
 IsParent W u q = graph W u q ≡ true
 
--- the store is valid, and all is as it was; or its first fault is told, and the store and the answer are as they were, as the text
+-- the store is valid, and all is as it was; or its first fault is told, and the store and the answer are as they were,
+-- as the text
 -- of the last refusal is where memory was refused
 abbrev pub Validates : {A B H : Type 0} → Result A Reason → KeptStore B H → KeptStore B H → Type 0
 Validates (Ok a) i j = IsValidStore i.store.held × (j ≡ i)

@@ -4,7 +4,9 @@ ghost use Rattle.cedar_entities.specs.Answers.{AreDeepEqual};
 ghost use Rattle.cedar_entities.specs.Plain.{IsPlainStore, entities_in};
 ghost use Rattle.cedar_entities.specs.World.{empty_world};
 ghost use Rattle.cedar_entity.specs.View.{has_ancestor};
-ghost use Rattle.cedar_c_stores.specs.Stores.{Adds, Asks, AsksFor, Copies, IsAbove, IsParent, IsSlice, IsToldBy, IsUntold, KeepsTexts, Listing, Removes, Settles, SlicesAt, Upserts, Validates, empty_store, has_parent};
+ghost use Rattle.cedar_c_stores.specs.Stores.{Adds, Asks, AsksFor, Copies, IsAbove, IsParent, IsSlice, IsToldBy};
+ghost use Rattle.cedar_c_stores.specs.Stores.{IsUntold, KeepsTexts, Listing, Removes, Settles, SlicesAt, Upserts};
+ghost use Rattle.cedar_c_stores.specs.Stores.{Validates, empty_store, has_parent};
 ghost use Rattle.cedar_c_lists.specs.Texts.{AreTextsOf, IsTextOf};
 ghost use Rattle.cedar_c_lists.specs.declared.reason.Reason.TheVariants as reasons;
 
@@ -21,8 +23,9 @@ use std::rc::Rc;
 
 /// A store of entities, the texts of the last answer, and the text of the last refusal.
 ///
-/// The store hashes uids by what `S` builds, and so do the stores that its calls make. No contract sees which builder a store has;
-/// but code that is generic in it makes none of its own, so each store here has the one that the caller gave.
+/// The store hashes uids by what `S` builds, and so do the stores that its calls make. No contract sees which builder a
+/// store has; but code that is generic in it makes none of its own, so each store here has the one that the caller
+/// gave.
 #[derive(Drop)]
 pub struct KeptStore<S: BuildHasher> {
     /// The store.
@@ -58,8 +61,8 @@ fn texts_of_set(alloc: Global, uids: Uids<'_>) -> Result<Answer, AllocError>
 }
 
 impl<S: BuildHasher + Copy> KeptStore<S> {
-    /// A store of which nothing was answered and nothing refused, and what builds the hashers of stores that take its place.
-    /// Takes no memory.
+    /// A store of which nothing was answered and nothing refused, and what builds the hashers of stores that take its
+    /// place. Takes no memory.
     pub fn of(alloc: Global, hasher: S, store: Entities<S>) -> KeptStore<S>
         ensures store { result.store ≡ store }
         ensures answer { result.answer ≡ [] }
@@ -166,7 +169,8 @@ impl<S: BuildHasher + Copy> KeptStore<S> {
         self.settle(alloc, given)
     }
 
-    // Takes entities out, as `Entities::remove_entities` does. A refusal leaves the store without entities. Takes memory.
+    // Takes entities out, as `Entities::remove_entities` does. A refusal leaves the store without entities. Takes
+    // memory.
     pub(crate) fn remove_uids(
         &mut self,
         alloc: Global,
@@ -189,8 +193,8 @@ impl<S: BuildHasher + Copy> KeptStore<S> {
         Ok(self.store.stored(&uid).is_some())
     }
 
-    /// Whether the entity with the uid that one text is is a descendant of the uid that another is. `NoEntity` comes where the
-    /// store has no such entity. Takes memory for the two uids.
+    /// Whether the entity with the uid that one text is is a descendant of the uid that another is. `NoEntity` comes
+    /// where the store has no such entity. Takes memory for the two uids.
     pub fn is_descendant_of(
         &self,
         alloc: Global,
@@ -207,8 +211,8 @@ impl<S: BuildHasher + Copy> KeptStore<S> {
         }
     }
 
-    /// The ancestors of an entity become the answer, in the order of uids. `NoEntity` comes where the store has no entity with
-    /// the uid that a text is. Takes memory for the texts; a refusal leaves the answer as it was.
+    /// The ancestors of an entity become the answer, in the order of uids. `NoEntity` comes where the store has no
+    /// entity with the uid that a text is. Takes memory for the texts; a refusal leaves the answer as it was.
     pub fn ancestors(&mut self, alloc: Global, text: &[u8]) -> Result<(), Reason>
         ensures { Listing has_ancestor IsAbove text.now result self.old self.new }
     {
@@ -247,7 +251,8 @@ impl<S: BuildHasher + Copy> KeptStore<S> {
 
     // The slice of the store at some uids.
     fn slice_of(&self, alloc: Global, uids: Vec<EntityUID>) -> Result<KeptStore<S>, Reason>
-        ensures { MatchResult result (λ k. IsSlice uids.items self.now.store k.store × IsUntold k) (λ w. w ≡ reasons.NoMemory) }
+        ensures { MatchResult result (λ k. IsSlice uids.items self.now.store k.store
+            × IsUntold k) (λ w. w ≡ reasons.NoMemory) }
     {
         match slice(alloc, &self.store, &uids) {
             Ok(store) => Ok(KeptStore::of(alloc, self.hasher, store)),
@@ -255,7 +260,8 @@ impl<S: BuildHasher + Copy> KeptStore<S> {
         }
     }
 
-    /// The slice of the store at the uids that parts of a text are, of which nothing was answered and nothing refused. Takes memory.
+    /// The slice of the store at the uids that parts of a text are, of which nothing was answered and nothing refused.
+    /// Takes memory.
     pub fn slice(&self, alloc: Global, text: &[u8], spans: &[Span]) -> Result<KeptStore<S>, Reason>
         ensures { SlicesAt text.now spans.now self.now.store result }
     {

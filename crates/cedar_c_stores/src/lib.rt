@@ -1,5 +1,5 @@
-//! The calls of the library for C on a store: the store with its last answer and its last refusal, and lists of entities as a caller
-//! lays them out. No handle is known here.
+//! The calls of the library for C on a store: the store with its last answer and its last refusal, and lists of
+//! entities as a caller lays them out. No handle is known here.
 #![tactic(auto, using(cedar_ids::specs::laws::UidOfLaws::same_uid_decides))]
 
 pub mod kept_store;

@@ -1,5 +1,6 @@
 //! Entities from the lists of a caller: uids, and edges to parents.
-ghost use Rattle.std.specs.Prelude.{◌≡◌, ◌<◌, ◌≤◌, ◌⊎◌, List, [], ◌∷◌, ◌++◌, IfOk, IfErr, MatchResult, OnOk, Some, length, map, slice_get, take};
+ghost use Rattle.std.specs.Prelude.{◌≡◌, ◌<◌, ◌≤◌, ◌⊎◌, List, [], ◌∷◌, ◌++◌, IfOk, IfErr, MatchResult, OnOk, Some};
+ghost use Rattle.std.specs.Prelude.{length, map, slice_get, take};
 ghost use Rattle.cedar_ids.specs.declared.entity.EntityUID.{EntityUID};
 ghost use Rattle.cedar_entities.specs.Plain.{entities_in};
 ghost use Rattle.cedar_c_stores.specs.Lists.{AreListed, entities_by, IsMode, IsNoMode, IsUnlisted, with_parents};
@@ -174,12 +175,12 @@ fn gathered(
     }
 }
 
-// The entities with the first `count` of the uids that parts of a text are; the parents of the one at a place are the uids
-// that the edges from there lead to.
+// The entities with the first `count` of the uids that parts of a text are; the parents of the one at a place are the
+// uids that the edges from there lead to.
 //
-// `BadArgument` comes where a part does not lie within the text, where there are fewer parts than entities, or where an edge
-// leads from no entity or to no uid; `NotAUid` where a part is no uid's text. Takes memory. It reads each part once, passes
-// over the edges once, and sorts the parents of each entity.
+// `BadArgument` comes where a part does not lie within the text, where there are fewer parts than entities, or where an
+// edge leads from no entity or to no uid; `NotAUid` where a part is no uid's text. Takes memory. It reads each part
+// once, passes over the edges once, and sorts the parents of each entity.
 pub(crate) fn entities_of(
     alloc: Global,
     text: &[u8],

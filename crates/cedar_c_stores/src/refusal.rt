@@ -1,7 +1,8 @@
 //! The reasons and the texts of what a store refuses.
 ghost use Rattle.std.specs.Prelude.{◌≡◌, ◌≢◌, ◌++◌, IfOk, OnOk};
 ghost use Rattle.std.specs.List.{AllByRecursion, flat_map};
-ghost use Rattle.cedar_c_stores.specs.Stores.{IsRefusalText, closure_names, closure_reason, key_named, reason_of, uids_named};
+ghost use Rattle.cedar_c_stores.specs.Stores.{IsRefusalText, closure_names, closure_reason, key_named, reason_of};
+ghost use Rattle.cedar_c_stores.specs.Stores.{uids_named};
 ghost use Rattle.cedar_c_lists.specs.Texts.{IsAsciiUid, spaced};
 ghost use Rattle.cedar_c_lists.specs.declared.reason.Reason.TheVariants as reasons;
 

@@ -9,12 +9,12 @@ use std::alloc::Global;
 use std::hash::BuildHasher;
 
 impl<S: BuildHasher + Copy> KeptStore<S> {
-    /// The entities that lists say become the store, in the mode of a number: it is what adding them to the store without
-    /// entities gives.
+    /// The entities that lists say become the store, in the mode of a number: it is what adding them to the store
+    /// without entities gives.
     ///
-    /// What is read wrong, as by `entities_of` and `mode_of`, leaves all as it was; so does want of memory while that is read. A
-    /// refusal of the call on the store, for memory too, leaves the store without entities; want of memory leaves the text of the
-    /// last refusal, as it does in each call here. Takes memory.
+    /// What is read wrong, as by `entities_of` and `mode_of`, leaves all as it was; so does want of memory while that
+    /// is read. A refusal of the call on the store, for memory too, leaves the store without entities; want of memory
+    /// leaves the text of the last refusal, as it does in each call here. Takes memory.
     pub fn build(
         &mut self,
         alloc: Global,
@@ -31,7 +31,8 @@ impl<S: BuildHasher + Copy> KeptStore<S> {
         self.build_list(alloc, list, mode)
     }
 
-    /// The entities that lists say are added, as `Entities::add_entities` does, in the mode of a number. Refused as `build` is.
+    /// The entities that lists say are added, as `Entities::add_entities` does, in the mode of a number. Refused as
+    /// `build` is.
     pub fn add(
         &mut self,
         alloc: Global,
@@ -48,8 +49,8 @@ impl<S: BuildHasher + Copy> KeptStore<S> {
         self.add_list(alloc, list, mode)
     }
 
-    /// The entities that lists say are put over what the store holds, as `Entities::upsert_entities` does, in the mode of a
-    /// number. Refused as `build` is.
+    /// The entities that lists say are put over what the store holds, as `Entities::upsert_entities` does, in the mode
+    /// of a number. Refused as `build` is.
     pub fn upsert(
         &mut self,
         alloc: Global,
@@ -66,8 +67,8 @@ impl<S: BuildHasher + Copy> KeptStore<S> {
         self.upsert_list(alloc, list, mode)
     }
 
-    /// The entities with the uids that parts of a text are are taken out, as `Entities::remove_entities` does, in the mode of a
-    /// number. Refused as `build` is.
+    /// The entities with the uids that parts of a text are are taken out, as `Entities::remove_entities` does, in the
+    /// mode of a number. Refused as `build` is.
     pub fn remove(
         &mut self,
         alloc: Global,

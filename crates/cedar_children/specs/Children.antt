@@ -24,4 +24,5 @@ is_parent c a b = is_child c b a
 
 -- q is one of the list, or reaches one of the list, where `parent a b` says that a has the parent b
 abbrev pub IsBelow : (EntityUID → EntityUID → Bool) → List EntityUID → EntityUID → Type 0
-IsBelow parent A q = (is_member same_uid A q ≡ true) ⊎ ((u : EntityUID) × (is_member same_uid A u ≡ true) × Reach parent q u)
+IsBelow parent A q = (is_member same_uid A q ≡ true) ⊎ ((u : EntityUID) × (is_member same_uid A u ≡ true)
+    × Reach parent q u)

@@ -13,7 +13,8 @@ use std::alloc::{AllocError, Global};
 use std::collections::{HashMap, HashSet};
 use std::hash::BuildHasher;
 
-/// The children of each uid that is a parent, whether it is a uid of an entity or not. A uid without children takes no room.
+/// The children of each uid that is a parent, whether it is a uid of an entity or not. A uid without children takes no
+/// room.
 ///
 /// It is the project's own. It takes a pointer for each parent of each entity, and a set for each parent.
 #[derive(Drop)]
@@ -31,8 +32,8 @@ impl<S: BuildHasher> Children<S> {
         }
     }
 
-    /// Takes an entity from the children of each of its parents. It takes no memory. It looks each parent up, finds the place
-    /// among its children, and moves the pointers to those that stand behind it.
+    /// Takes an entity from the children of each of its parents. It takes no memory. It looks each parent up, finds the
+    /// place among its children, and moves the pointers to those that stand behind it.
     pub fn remove(&mut self, child: &SharedUid, entity: &Entity)
         ensures { (p q : EntityUID) → is_child self.new p q
             ≡ (is_child self.old p q && not (same_uid child.now q && set.contains entity.now.parents p)) }
@@ -112,8 +113,8 @@ impl<S: BuildHasher> Children<S> {
 impl<S: BuildHasher + Clone> Children<S> {
     /// The index with an entity too, as a child of each of its parents.
     ///
-    /// It takes memory, and is refused only where that is; a refusal gives no index back. It looks each parent up, and finds
-    /// the place among its children.
+    /// It takes memory, and is refused only where that is; a refusal gives no index back. It looks each parent up, and
+    /// finds the place among its children.
     pub fn with(
         self,
         alloc: Global,
@@ -132,8 +133,8 @@ impl<S: BuildHasher + Clone> Children<S> {
 
     /// Some uids and all that lies below them: what has one of them as a parent, what has one of these, and so on.
     ///
-    /// It takes memory in what it finds, and is refused only where that is. It looks up each that it finds once, and each once
-    /// more for each of its parents among these.
+    /// It takes memory in what it finds, and is refused only where that is. It looks up each that it finds once, and
+    /// each once more for each of its parents among these.
     pub fn below(
         &self,
         alloc: Global,

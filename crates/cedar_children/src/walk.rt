@@ -22,7 +22,8 @@ fn see<S: BuildHasher>(
         ≡ (contains same_uid seen.old q || same_uid uid.now q)) }
     ensures todo { OnOk result ((q : EntityUID) → is_member same_uid todo.new.items q
         ≡ (is_member same_uid todo.old.items q || (not (contains same_uid seen.old q) && same_uid uid.now q))) }
-    ensures count { OnOk result (hash_set_len seen.new + length todo.old.items ≡ hash_set_len seen.old + length todo.new.items) }
+    ensures count { OnOk result (hash_set_len seen.new + length todo.old.items
+        ≡ hash_set_len seen.old + length todo.new.items) }
 {
     if seen.contains(uid) {
         return Ok(());
@@ -41,8 +42,10 @@ fn see_all<S: BuildHasher>(
     ensures seen { OnOk result ((q : EntityUID) → contains same_uid seen.new q
         ≡ (contains same_uid seen.old q || is_member same_uid uids.now q)) }
     ensures todo { OnOk result ((q : EntityUID) → is_member same_uid todo.new.items q
-        ≡ (is_member same_uid todo.old.items q || (not (contains same_uid seen.old q) && is_member same_uid uids.now q))) }
-    ensures count { OnOk result (hash_set_len seen.new + length todo.old.items ≡ hash_set_len seen.old + length todo.new.items) }
+        ≡ (is_member same_uid todo.old.items q || (not (contains same_uid seen.old q)
+        && is_member same_uid uids.now q))) }
+    ensures count { OnOk result (hash_set_len seen.new + length todo.old.items
+        ≡ hash_set_len seen.old + length todo.new.items) }
 {
     for uid in uids {
         see(seen, todo, uid)?;
@@ -60,8 +63,10 @@ fn see_children<S: BuildHasher>(
     ensures seen { OnOk result ((q : EntityUID) → contains same_uid seen.new q
         ≡ (contains same_uid seen.old q || is_in (get same_uid sets.now uid.now) q)) }
     ensures todo { OnOk result ((q : EntityUID) → is_member same_uid todo.new.items q
-        ≡ (is_member same_uid todo.old.items q || (not (contains same_uid seen.old q) && is_in (get same_uid sets.now uid.now) q))) }
-    ensures count { OnOk result (hash_set_len seen.new + length todo.old.items ≡ hash_set_len seen.old + length todo.new.items) }
+        ≡ (is_member same_uid todo.old.items q || (not (contains same_uid seen.old q)
+        && is_in (get same_uid sets.now uid.now) q))) }
+    ensures count { OnOk result (hash_set_len seen.new + length todo.old.items
+        ≡ hash_set_len seen.old + length todo.new.items) }
 {
     match sets.get(uid) {
         Some(set) => see_all(seen, todo, set.pointers()),

@@ -1,5 +1,5 @@
-// What is done to things of so many levels. Each helper lets go by a written drop what it holds, on each path: a drop that
-// is not written is dear to prove at a type as large as an expression.
+// What is done to things of so many levels. Each helper lets go by a written drop what it holds, on each path: a drop
+// that is not written is dear to prove at a type as large as an expression.
 mod entities;
 mod policies;
 mod terms;

@@ -5,7 +5,8 @@ use Rattle.cedar_graph.specs.Faults.{vertex_of}
 use Rattle.cedar_ids.specs.declared.entity.EntityUID.{EntityUID}
 
 -- P of the uids of a missing edge, Q of the uid on a cycle; want of memory is no fault of a closure
-abbrev pub IsClosureFault : TcError EntityUID → (EntityUID → EntityUID → EntityUID → Type 0) → (EntityUID → Type 0) → Type 0
+abbrev pub IsClosureFault : TcError EntityUID → (EntityUID → EntityUID → EntityUID → Type 0) → (EntityUID → Type 0)
+    → Type 0
 IsClosureFault (tc.MissingTcEdge e) P Q = P e.child e.parent e.grandparent
 IsClosureFault (tc.HasCycle e) P Q = Q (vertex_of e)
 IsClosureFault tc.Memory P Q = ⊥

@@ -9,4 +9,5 @@ use Rattle.cedar_entities.specs.Plain.{StoreView, Held}
 
 -- a store: what it holds, and whether it is partial
 abbrev pub store_code : Coded StoreView
-store_code = code_by (Held × Bool) (coded× (finmap.code uid_code view_code) coded_bool) (λ s. (s.held, s.partial)) (λ p. record { held = p.0; partial = p.1 }) (λ _. refl)
+store_code = code_by (Held × Bool) (coded× (finmap.code uid_code view_code) coded_bool) (λ s. (s.held, s.partial))
+    (λ p. record { held = p.0; partial = p.1 }) (λ _. refl)

@@ -27,7 +27,8 @@ lessened D A e = record e { indirect = set.retain e.indirect (λ w. not (list_an
 
 -- the last of the list with each uid, and for each uid that the list lacks the entity of D, lessened by the list
 abbrev pub put_over : Held → List EntityView → Held
-put_over D L = finmap.from_entries (reversed (map keyed L) ++ map (λ e. (e.0, lessened D (uids_of L) e.1)) (finmap.entries D))
+put_over D L = finmap.from_entries (reversed (map keyed L)
+    ++ map (λ e. (e.0, lessened D (uids_of L) e.1)) (finmap.entries D))
 
 -- whether u is one of the list and a key of D
 abbrev pub leaves : Held → List EntityUID → EntityUID → Bool
@@ -39,4 +40,5 @@ parted gone e = record e { parents = set.retain e.parents (λ p. not (gone p)) }
 
 -- D without the uids of the list that are its keys, as keys and as parents, and the others lessened by them
 abbrev pub taken_out : Held → List EntityUID → Held
-taken_out D U = finmap.from_entries (map (λ e. (e.0, parted (leaves D U) (lessened D U e.1))) (finmap.entries (finmap.retain_keys D (λ k. not (leaves D U k)))))
+taken_out D U = finmap.from_entries (map (λ e. (e.0, parted (leaves D U) (lessened D U e.1)))
+    (finmap.entries (finmap.retain_keys D (λ k. not (leaves D U k)))))

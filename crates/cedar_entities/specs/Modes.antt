@@ -28,7 +28,8 @@ IsSound D = IsClosedWithoutLoop (ancestry D)
 -- entity among its own ancestors only if nothing does; where it is computed, for a uid that reaches itself
 abbrev pub IsClosureRefused : TCComputation → Held → TcError EntityUID → Type 0
 IsClosureRefused modes.AssumeAlreadyComputed D t = IsClosureFault t (λ _ _ _. ⊥) (λ _. ⊥)
-IsClosureRefused modes.EnforceAlreadyComputed D t = IsClosureFault t (BreaksClosed (ancestry D)) (λ v. IsClosed (ancestry D) × (ancestry D v v ≡ true))
+IsClosureRefused modes.EnforceAlreadyComputed D t = IsClosureFault t (BreaksClosed (ancestry D))
+    (λ v. IsClosed (ancestry D) × (ancestry D v v ≡ true))
 IsClosureRefused modes.ComputeNow D t = IsClosureFault t (λ _ _ _. ⊥) (λ v. Reach (ancestry D) v v)
 
 -- P, where the closure is computed

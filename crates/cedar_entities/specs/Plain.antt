@@ -60,6 +60,7 @@ pub record IsPlainStore (W : World) (S : StoreView) : Type 0 where
   pub partial : S.partial ≡ W.partial
   pub holds : (q : EntityUID) → option_map parts_of (finmap.get S.held q) ≡ finmap.get W.entities q
   pub keyed : IsKeyed S.held
-  pub reached : (q : EntityUID) → IfSome (finmap.get S.held q) (λ e. (x : EntityUID) → (has_ancestor e x ≡ true) ↔ Reach (graph W) q x)
+  pub reached : (q : EntityUID) → IfSome (finmap.get S.held q) (λ e. (x : EntityUID) → (has_ancestor e x ≡ true)
+      ↔ Reach (graph W) q x)
   pub apart : (q : EntityUID) → IfSome (finmap.get S.held q) IsApart
   pub acyclic : (q : EntityUID) → Reach (graph W) q q → ⊥

@@ -43,4 +43,5 @@ IsValidStore D = IsSound D × AreAllValid D
 -- the error tells what is wrong with the store: with the graph or, only where nothing is wrong there, with the
 -- entity that has the least uid of those that are not valid
 abbrev pub IsStoreFault : Held → EntitiesError → Type 0
-IsStoreFault D r = MatchStoreFault r (IsClosureRefused modes.EnforceAlreadyComputed D) (λ f. IsSound D × IsFirstFault D f)
+IsStoreFault D r = MatchStoreFault r (IsClosureRefused modes.EnforceAlreadyComputed D) (λ f. IsSound D
+    × IsFirstFault D f)

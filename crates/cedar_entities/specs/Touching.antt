@@ -61,7 +61,8 @@ IsMended modes.ComputeNow touched D N = IsRepairOf touched D N × IsAcyclicAt to
 -- why a removal is refused: where closure is checked, for what the repair leaves
 abbrev pub IsMendRefused : TCComputation → (EntityUID → Bool) → Held → TcError EntityUID → Type 0
 IsMendRefused modes.AssumeAlreadyComputed touched D t = ⊥
-IsMendRefused modes.EnforceAlreadyComputed touched D t = (N : Held) × IsRepairOf touched D N × IsClosureRefused modes.EnforceAlreadyComputed N t
+IsMendRefused modes.EnforceAlreadyComputed touched D t = (N : Held) × IsRepairOf touched D N
+    × IsClosureRefused modes.EnforceAlreadyComputed N t
 IsMendRefused modes.ComputeNow touched D t = IsClosureRefused modes.ComputeNow D t
 
 -- whether w is an indirect ancestor of the entity that was found
@@ -75,14 +76,17 @@ abbrev pub LosesBetween : World → List EntityUID → Held → Held → Type 0
 LosesBetween W A D N =
     (q w : EntityUID) → is_member same_uid A q ≡ false
     → (is_indirect_in (finmap.get N q) w ≡ true) ↔ ((is_indirect_in (finmap.get D q) w ≡ true)
-    × ((u : EntityUID) → is_member same_uid A u ≡ true → finmap.contains_key W.entities u ≡ true → Reach (graph W) q u → (u ≡ w) ⊎ Reach (graph W) u w → ⊥))
+    × ((u : EntityUID) → is_member same_uid A u ≡ true → finmap.contains_key W.entities u ≡ true → Reach (graph W) q u
+    → (u ≡ w) ⊎ Reach (graph W) u w → ⊥))
 
 -- what some uids of a list strip, before any repair: each entity, lessened by them, has exactly those of its indirect
 -- ancestors w where none of them that W holds is w or lies between
 abbrev pub StripsBetween : World → List EntityUID → Held → Type 0
 StripsBetween W A D =
-    (q w : EntityUID) → (is_indirect_in (option_map (lessened D A) (finmap.get D q)) w ≡ true) ↔ ((is_indirect_in (finmap.get D q) w ≡ true)
-    × ((u : EntityUID) → is_member same_uid A u ≡ true → finmap.contains_key W.entities u ≡ true → Reach (graph W) q u → (u ≡ w) ⊎ Reach (graph W) u w → ⊥))
+    (q w : EntityUID) → (is_indirect_in (option_map (lessened D A) (finmap.get D q)) w ≡ true)
+    ↔ ((is_indirect_in (finmap.get D q) w ≡ true)
+    × ((u : EntityUID) → is_member same_uid A u ≡ true → finmap.contains_key W.entities u ≡ true → Reach (graph W) q u
+    → (u ≡ w) ⊎ Reach (graph W) u w → ⊥))
 
 -- P, where nothing is computed
 abbrev pub WhereTaken : TCComputation → Type 0 → Type 0

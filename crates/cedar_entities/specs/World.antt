@@ -64,7 +64,11 @@ reversed (x ∷ xs) = reversed xs ++ x ∷ []
 
 -- the last of the list with each uid, and for each uid that the list lacks what W holds
 abbrev pub overwritten : World → List Given → World
-overwritten W L = record { entities = finmap.from_entries (reversed (map entry_of L) ++ finmap.entries W.entities); partial = W.partial }
+overwritten W L = record {
+  entities = finmap.from_entries (reversed (map entry_of L)
+      ++ finmap.entries W.entities);
+  partial = W.partial;
+}
 
 -- whether u is one of the list and a key of W
 abbrev pub goes : World → List EntityUID → EntityUID → Bool
@@ -77,7 +81,8 @@ without gone e = (e.0, record e.1 { parents = set.retain e.1.parents (λ p. not 
 -- W without the uids of the list that are its keys, as keys and as parents
 abbrev pub deleted : World → List EntityUID → World
 deleted W U = record {
-  entities = finmap.from_entries (map (without (goes W U)) (finmap.entries (finmap.retain_keys W.entities (λ k. not (goes W U k)))));
+  entities = finmap.from_entries (map (without (goes W U))
+      (finmap.entries (finmap.retain_keys W.entities (λ k. not (goes W U k)))));
   partial = W.partial;
 }
 

@@ -13,7 +13,8 @@ ghost use Rattle.cedar_entities.specs.Edits.{put_over, uids_of};
 ghost use Rattle.cedar_entities.specs.laws.Edits.{last_entity};
 ghost use Rattle.cedar_entities.specs.laws.Indexes.{HasChildren, IsIndexOf, parentage};
 ghost use Rattle.cedar_entities.specs.laws.Held.{held, held_map, shared, UidsMatch};
-ghost use Rattle.cedar_entities.specs.Plain.{StoreView, entities_in, IsPlainStore, IsKeyed, AreBare, given_of, no_entities};
+ghost use Rattle.cedar_entities.specs.Plain.{StoreView, entities_in, IsPlainStore, IsKeyed, AreBare, given_of};
+ghost use Rattle.cedar_entities.specs.Plain.{no_entities};
 ghost use Rattle.cedar_entities.specs.Present.{first_entity, AllMatch, FirstMismatch};
 ghost use Rattle.cedar_entities.specs.Refusals.{MatchRefusal};
 ghost use Rattle.cedar_entity.specs.declared.err.EntitiesError.TheVariants.{Memory};
@@ -61,12 +62,12 @@ pub enum TCComputation {
 ///
 /// Entities are shared: copying a store copies none of them.
 ///
-/// An edit finds what it touches by a walk over all entities, with up to 16 looks at each or one for each of its ancestors.
-/// A store that `ComputeNow` calls made of entities without indirect ancestors, and removals, knows that its ancestors are
-/// what the parents imply. Where it has 40 entities or more it lists the children of each uid once edits have walked over
-/// it sixteen times, and from then on an edit goes down from its own uids alone. The list takes 8 to 16 bytes for each
-/// parent of each entity and a set for each uid that is a parent; a copy of the store begins without it. Where memory for it
-/// is refused the store goes on without: no edit is refused for it.
+/// An edit finds what it touches by a walk over all entities, with up to 16 looks at each or one for each of its
+/// ancestors. A store that `ComputeNow` calls made of entities without indirect ancestors, and removals, knows that its
+/// ancestors are what the parents imply. Where it has 40 entities or more it lists the children of each uid once edits
+/// have walked over it sixteen times, and from then on an edit goes down from its own uids alone. The list takes 8 to
+/// 16 bytes for each parent of each entity and a set for each uid that is a parent; a copy of the store begins without
+/// it. Where memory for it is refused the store goes on without: no edit is refused for it.
 ///
 /// Its map hashes uids by the hashers that `S` builds, and so do the sets that its calls make. By default they have a
 /// fixed seed, so that whoever picks the uids can make them collide, and each call slow: a store of uids that strangers
@@ -340,10 +341,10 @@ impl<S: BuildHasher + Clone> Entities<S> {
     /// any work on the closure; then by [`EntitiesError::TransitiveClosureError`] as the mode says; and by
     /// `Memory`. A refusal gives no store back.
     ///
-    /// An indirect ancestor that an entity was given with counts as one that it has. What is touched is what
-    /// was inserted, and what has one of that among its ancestors; the others stay as they are in every mode.
-    /// It takes memory. It looks up each entity of the list a few times and finds what is touched, as [`Entities`] says;
-    /// then it closes that, or checks the whole. A store without entities is closed as a whole.
+    /// An indirect ancestor that an entity was given with counts as one that it has. What is touched is what was
+    /// inserted, and what has one of that among its ancestors; the others stay as they are in every mode. It takes
+    /// memory. It looks up each entity of the list a few times and finds what is touched, as [`Entities`] says; then it
+    /// closes that, or checks the whole. A store without entities is closed as a whole.
     pub fn add_entities(
         self,
         alloc: Global,
@@ -375,12 +376,12 @@ impl<S: BuildHasher + Clone> Entities<S> {
     /// ancestors, each of these uids that the store held and the ancestors which that had. Computing gives it
     /// back what it still reaches; the other modes do not. What is not touched stays as it is.
     ///
-    /// Refused by [`EntitiesError::TransitiveClosureError`] as the mode says, and by `Memory`; a refusal gives
-    /// no store back. An indirect ancestor that one of these entities was given with counts as one that it has.
-    /// It takes memory. It finds what is touched, as [`Entities`] says, once for the whole list. For an entity that is
-    /// touched and none of the list it gathers what goes with the uids that this has as ancestors, in memory for a pointer
-    /// each, and takes that out at once; where the store is known to be plain it reads the ancestors of those uids alone that
-    /// go with no other. Then it closes what is touched, or checks the whole.
+    /// Refused by [`EntitiesError::TransitiveClosureError`] as the mode says, and by `Memory`; a refusal gives no store
+    /// back. An indirect ancestor that one of these entities was given with counts as one that it has. It takes memory.
+    /// It finds what is touched, as [`Entities`] says, once for the whole list. For an entity that is touched and none
+    /// of the list it gathers what goes with the uids that this has as ancestors, in memory for a pointer each, and
+    /// takes that out at once; where the store is known to be plain it reads the ancestors of those uids alone that go
+    /// with no other. Then it closes what is touched, or checks the whole.
     ///
     /// Unlike the original it takes neither a schema nor extensions.
     pub fn upsert_entities(

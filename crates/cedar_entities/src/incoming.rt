@@ -94,8 +94,8 @@ fn are_bare(list: &[Incoming]) -> bool
     true
 }
 
-// Whether an adding or an overwriting of these leaves a plain store plain: the closure is computed, and none has indirect
-// ancestors.
+// Whether an adding or an overwriting of these leaves a plain store plain: the closure is computed, and none has
+// indirect ancestors.
 pub(crate) fn stays_plain(tc_computation: TCComputation, list: &[Incoming]) -> bool
     ensures { IsTrue result → (tc_computation ≡ ComputeNow) × AreBare list.now }
 {

@@ -32,7 +32,8 @@ const WALKS: usize = 16;
 // What a store knows beside its entities.
 #[derive(Drop)]
 pub(crate) struct Index<S: BuildHasher> {
-    // Whether it knows that the ancestors of each entity are exactly what it reaches over the parents, and no entity itself.
+    // Whether it knows that the ancestors of each entity are exactly what it reaches over the parents, and no entity
+    // itself.
     pub(crate) plain: bool,
     // How many entities edits have walked over since.
     pub(crate) walked: usize,
@@ -57,7 +58,8 @@ impl<S: BuildHasher + Clone> Index<S> {
     // The index where this is so too, and else that of a store of which nothing is known.
     pub(crate) fn plain_if(self, stays: bool) -> Index<S>
         ensures plain { IsTrue result.plain → IsTrue self.plain × IsTrue stays }
-        ensures children { (f : EntityUID → EntityUID → Bool) → IfSome self.children (HasChildren f) → IfSome result.children (HasChildren f) }
+        ensures children { (f : EntityUID → EntityUID → Bool) → IfSome self.children (HasChildren f)
+            → IfSome result.children (HasChildren f) }
     {
         if stays { self } else { Index::unlisted(false) }
     }
@@ -243,14 +245,16 @@ pub(crate) fn leave<S: BuildHasher>(
 )
     ensures plain { index.new.plain ≡ index.old.plain }
     ensures children { IfSome index.old.children (HasChildren (parentage (held entities.now)))
-        → IfSome index.new.children (HasChildren (λ p q. not (is_member same_uid uids.now q) && is_parent_at (held entities.now q) p)) }
+        → IfSome index.new.children (HasChildren (λ p q. not (is_member same_uid uids.now q)
+        && is_parent_at (held entities.now q) p)) }
 {
     if let Some(children) = &mut index.children {
         leave_all(children, entities, uids);
     }
 }
 
-// Takes the entities at some uids from the children that are listed, and these uids as parents, before they are removed.
+// Takes the entities at some uids from the children that are listed, and these uids as parents, before they are
+// removed.
 pub(crate) fn forget<S: BuildHasher>(
     index: &mut Index<S>,
     entities: &HashMap<SharedUid, SharedEntity, S>,
@@ -267,7 +271,8 @@ pub(crate) fn forget<S: BuildHasher>(
     }
 }
 
-// Puts the entities at some uids in as children, where these are listed. Where memory for that is refused they are no more.
+// Puts the entities at some uids in as children, where these are listed. Where memory for that is refused they are no
+// more.
 pub(crate) fn join<S: BuildHasher + Clone>(
     alloc: Global,
     index: &mut Index<S>,
@@ -276,7 +281,8 @@ pub(crate) fn join<S: BuildHasher + Clone>(
 )
     ensures plain { index.new.plain ≡ index.old.plain }
     ensures children { (f : EntityUID → EntityUID → Bool) → IfSome index.old.children (HasChildren f)
-        → IfSome index.new.children (HasChildren (λ p q. f p q || (is_member same_uid uids.now q && is_parent_at (held entities.now q) p))) }
+        → IfSome index.new.children (HasChildren (λ p q. f p q
+        || (is_member same_uid uids.now q && is_parent_at (held entities.now q) p))) }
 {
     if let Some(children) = index.children.take() {
         index.children = with_all(alloc, children, entities, uids).ok();

@@ -87,8 +87,8 @@ pub(crate) fn settle<S: BuildHasher + Clone>(
     }
 }
 
-// Gives all entities the ancestors that they reach, and refuses where one reaches itself. So all that a map held where it
-// was empty before is repaired, whatever passes for touched.
+// Gives all entities the ancestors that they reach, and refuses where one reaches itself. So all that a map held where
+// it was empty before is repaired, whatever passes for touched.
 fn close<S: BuildHasher + Clone>(
     alloc: Global,
     entities: &mut HashMap<SharedUid, SharedEntity, S>,

@@ -1,4 +1,5 @@
-//! What goes from each entity by the uids that an edit applies, how it is stripped of that, and which entities are touched.
+//! What goes from each entity by the uids that an edit applies, how it is stripped of that, and which entities are
+//! touched.
 ghost use Rattle.std.specs.Prelude.{◌≡◌, Some, true, cond, ◌&&◌, ◌||◌, not, is_some, IfOk, IfErr, IsTrue, OnOk};
 ghost use Rattle.std.specs.FinSet as set;
 ghost use Rattle.std.specs.HashSet.{contains};
@@ -13,7 +14,8 @@ ghost use Rattle.cedar_entities.specs.Modes.{is_ancestor_in};
 ghost use Rattle.cedar_entities.specs.Touching.{is_touched};
 ghost use Rattle.cedar_entities.specs.laws.Edits.{stripped};
 ghost use Rattle.cedar_entities.specs.laws.Held.{held, held_map};
-ghost use Rattle.cedar_entities.specs.laws.Losses.{AreTransitive, IsLossOf, counts, is_stripped, loses, loses_uid, takes};
+ghost use Rattle.cedar_entities.specs.laws.Losses.{AreTransitive, IsLossOf, counts, is_stripped, loses, loses_uid};
+ghost use Rattle.cedar_entities.specs.laws.Losses.{takes};
 
 use crate::sought::{Sought, listed};
 use cedar_entity::entity::Entity;
@@ -270,8 +272,8 @@ fn lost_by<S: BuildHasher + Clone>(
     Ok(lost)
 }
 
-// What goes with some uids, as a set. What most go with is read first, so that where ancestors are transitive the others are
-// mostly passed over.
+// What goes with some uids, as a set. What most go with is read first, so that where ancestors are transitive the
+// others are mostly passed over.
 fn lost_with_all<S: BuildHasher + Clone>(
     alloc: Global,
     entities: &HashMap<SharedUid, SharedEntity, S>,
@@ -321,7 +323,8 @@ fn note_loss<S: BuildHasher + Clone>(
 ) -> Result<(), AllocError>
     requires { IsTrue transitive → AreTransitive (held entities.now) }
     ensures who { OnOk result ((q : EntityUID) → loses losses.new.items q
-        ≡ (loses losses.old.items q || (same_uid key.now q && is_stripped uids.now key.now (has_ancestor entity.now)))) }
+        ≡ (loses losses.old.items q || (same_uid key.now q
+        && is_stripped uids.now key.now (has_ancestor entity.now)))) }
     ensures lost { OnOk result (held entities.now key.now ≡ Some entity.now
         → AllByRecursion (IsLossOf (held entities.now) uids.now) losses.old.items
         → AllByRecursion (IsLossOf (held entities.now) uids.now) losses.new.items) }
@@ -344,7 +347,8 @@ fn note_loss_at<S: BuildHasher + Clone>(
 ) -> Result<(), AllocError>
     requires { IsTrue transitive → AreTransitive (held entities.now) }
     ensures who { OnOk result ((q : EntityUID) → loses losses.new.items q
-        ≡ (loses losses.old.items q || (same_uid key.now q && is_stripped uids.now key.now (is_ancestor_in (held entities.now key.now))))) }
+        ≡ (loses losses.old.items q || (same_uid key.now q
+        && is_stripped uids.now key.now (is_ancestor_in (held entities.now key.now))))) }
     ensures lost { OnOk result (AllByRecursion (IsLossOf (held entities.now) uids.now) losses.old.items
         → AllByRecursion (IsLossOf (held entities.now) uids.now) losses.new.items) }
 {
@@ -354,8 +358,8 @@ fn note_loss_at<S: BuildHasher + Clone>(
     }
 }
 
-// What goes by some uids from each entity that is none of them and has one of them among its ancestors. All these are among
-// the entities that are touched.
+// What goes by some uids from each entity that is none of them and has one of them among its ancestors. All these are
+// among the entities that are touched.
 pub(crate) fn losses_by<S: BuildHasher + Clone>(
     alloc: Global,
     entities: &HashMap<SharedUid, SharedEntity, S>,
@@ -364,7 +368,8 @@ pub(crate) fn losses_by<S: BuildHasher + Clone>(
     transitive: bool,
 ) -> Result<Vec<Loss>, AllocError>
     requires transitive { IsTrue transitive → AreTransitive (held entities.now) }
-    requires touched { (q : EntityUID) → contains same_uid touched.now q ≡ is_touched (held_map entities.now) uids.now.keys q }
+    requires touched { (q : EntityUID) → contains same_uid touched.now q
+        ≡ is_touched (held_map entities.now) uids.now.keys q }
     ensures who { IfOk result (λ v. (q : EntityUID) → loses v.items q
         ≡ is_stripped uids.now.keys q (is_ancestor_in (held entities.now q))) }
     ensures lost { IfOk result (λ v. AllByRecursion (IsLossOf (held entities.now) uids.now.keys) v.items) }

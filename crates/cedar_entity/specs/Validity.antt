@@ -1,5 +1,6 @@
 -- What is wrong with an entity, in the order in which it is looked for.
-use Rattle.std.specs.Prelude.{◌≡◌, ◌⊎◌, ℕ, List, [], ◌∷◌, Bool, true, false, not, ◌&&◌, Option, Some, None, if◌then◌else◌, string_bytes, IsTrue}
+use Rattle.std.specs.Prelude.{◌≡◌, ◌⊎◌, ℕ, List, [], ◌∷◌, Bool, true, false, not, ◌&&◌, Option, Some, None}
+use Rattle.std.specs.Prelude.{if◌then◌else◌, string_bytes, IsTrue}
 use Rattle.cedar_entity.specs.declared.err.EntitiesError.{EntitiesError}
 use Rattle.cedar_entity.specs.declared.err.EntitiesError.TheVariants as errors
 use Rattle.std.specs.Option.{option_or}
@@ -8,7 +9,8 @@ use Rattle.cedar_ids.specs.Uid.{is_action_uid}
 use Rattle.cedar_ids.specs.UidOf.{uid_parts}
 use Rattle.cedar_ids.specs.declared.entity.EntityUID.{EntityUID}
 use Rattle.cedar_terms.specs.Reserved.{is_reserved_key}
-use Rattle.cedar_terms.specs.ValueTree.{ValueTree, literal_value, set_value, record_value, extension_value, ValueTrees, no_values, value_then, FieldTrees, no_fields, field_then}
+use Rattle.cedar_terms.specs.ValueTree.{ValueTree, literal_value, set_value, record_value, extension_value, ValueTrees}
+use Rattle.cedar_terms.specs.ValueTree.{no_values, value_then, FieldTrees, no_fields, field_then}
 use Rattle.cedar_terms.specs.declared.partial_value.PartialValue.{PartialValue}
 use Rattle.cedar_terms.specs.declared.partial_value.PartialValue.TheVariants as partials
 use Rattle.cedar_entity.specs.Fields.{Fields}
@@ -30,7 +32,8 @@ abbrev mutual
 
   pub reserved_in_record : FieldTrees → Option (List ℕ)
   reserved_in_record no_fields = None
-  reserved_in_record (field_then k v fs) = if is_reserved_key k then Some k else option_or (reserved_in v) (reserved_in_record fs)
+  reserved_in_record (field_then k v fs) = if is_reserved_key k then Some k else option_or (reserved_in v)
+      (reserved_in_record fs)
 
 -- the first reserved key that a walk of a value or a residual meets; a residual is skipped
 abbrev pub reserved_in_partial : PartialValue → Option (List ℕ)
@@ -80,7 +83,8 @@ PassesActions e = PassesDuplicates e × (IsTrue (is_action e.uid) → HasOnlyAct
 
 -- p is the least parent that is no action or, where there is none, the least indirect ancestor that is none
 abbrev pub IsLeastNonAction : EntityView → EntityUID → Type 0
-IsLeastNonAction e p = IsLeast (is_non_action_parent e) p ⊎ (NonePasses (is_non_action_parent e) × IsLeast (is_non_action_ancestor e) p)
+IsLeastNonAction e p = IsLeast (is_non_action_parent e) p
+    ⊎ (NonePasses (is_non_action_parent e) × IsLeast (is_non_action_ancestor e) p)
 
 -- none of the four is wrong
 abbrev pub IsValid : EntityView → Type 0
@@ -90,7 +94,8 @@ IsValid e = PassesActions e × (reserved_key e ≡ None)
 abbrev pub IsFault : EntityView → EntitiesError → Type 0
 IsFault e (errors.SelfAncestor u) = (u ≡ e.uid) × (has_ancestor e e.uid ≡ true)
 IsFault e (errors.DuplicateAncestor u a) = (u ≡ e.uid) × PassesSelf e × IsLeast (is_in_both e) a
-IsFault e (errors.ActionParentIsNotAction u p) = (u ≡ e.uid) × PassesDuplicates e × IsTrue (is_action e.uid) × IsLeastNonAction e p
+IsFault e (errors.ActionParentIsNotAction u p) = (u ≡ e.uid) × PassesDuplicates e × IsTrue (is_action e.uid)
+    × IsLeastNonAction e p
 IsFault e (errors.ReservedKey k) = PassesActions e × (reserved_key e ≡ Some (string_bytes k))
 IsFault e errors.Memory = Unit {0}
 IsFault e other = ⊥

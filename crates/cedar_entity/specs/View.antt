@@ -19,7 +19,8 @@ has_ancestor e q = set.contains e.parents q || set.contains e.indirect q
 
 -- the entity with one more indirect ancestor; a parent is none
 abbrev pub with_indirect_ancestor : EntityView → EntityUID → EntityView
-with_indirect_ancestor e q = record e { indirect = if set.contains e.parents q then e.indirect else set.insert e.indirect q }
+with_indirect_ancestor e q =
+    record e { indirect = if set.contains e.parents q then e.indirect else set.insert e.indirect q }
 
 -- equal but for which ancestors are parents
 pub record IsDeepEqual (a b : EntityView) : Type 0 where

@@ -10,9 +10,11 @@ ghost use Rattle.cedar_uid_sets.specs.UidSets.{Ascend};
 ghost use Rattle.cedar_entity.specs.Fields.{Fields, AreFieldsOf, KeysAscend, fields_of, field_at, field_keys};
 ghost use Rattle.cedar_entity.specs.laws.Least.{LeastOf};
 ghost use Rattle.cedar_entity.specs.Listing.{Lists, ListsAncestors};
-ghost use Rattle.cedar_entity.specs.Validity.{HasOnlyActionAncestors, IsLeastNonAction, IsValid, IsFault, is_in_both, is_action, reserved_key};
+ghost use Rattle.cedar_entity.specs.Validity.{HasOnlyActionAncestors, IsLeastNonAction, IsValid, IsFault, is_in_both};
+ghost use Rattle.cedar_entity.specs.Validity.{is_action, reserved_key};
 ghost use Rattle.cedar_entity.specs.laws.Faults.{IsFound};
-ghost use Rattle.cedar_entity.specs.View.{EntityView, has_ancestor, with_indirect_ancestor, IsDeepEqual, IsEquivalenceRelation};
+ghost use Rattle.cedar_entity.specs.View.{EntityView, has_ancestor, with_indirect_ancestor, IsDeepEqual};
+ghost use Rattle.cedar_entity.specs.View.{IsEquivalenceRelation};
 
 use crate::err::EntitiesError;
 use crate::fault::Fault;
@@ -397,8 +399,8 @@ impl Entity {
         SharedUids::of(self.parents.pointers(), self.indirect_ancestors.pointers())
     }
 
-    /// The parents and the indirect ancestors, each once, in the order of uids: a walk through both at a time, of a comparison
-    /// or two a uid. It takes no memory. This is the project's own.
+    /// The parents and the indirect ancestors, each once, in the order of uids: a walk through both at a time, of a
+    /// comparison or two a uid. It takes no memory. This is the project's own.
     pub fn ancestors_in_order(&self) -> Union<'_>
         ensures members { (q : EntityUID) → is_member same_uid result q ≡ has_ancestor self.now q }
         ensures ascending { Ascend result }
@@ -433,8 +435,8 @@ impl Entity {
         self.has_same_ancestors(other)
     }
 
-    /// The uid, the attributes, the indirect ancestors, the parents and the tags. It takes no memory. The original gives
-    /// hashed sets.
+    /// The uid, the attributes, the indirect ancestors, the parents and the tags. It takes no memory. The original
+    /// gives hashed sets.
     pub fn into_inner(
         self,
     ) -> (
@@ -677,24 +679,24 @@ impl Entity {
         self.parents.remove(uid);
     }
 
-    /// Takes a uid that is shared out of the parents; the indirect ancestors stay. It takes no memory; its look-up costs
-    /// less than that of [`Entity::remove_parent`].
+    /// Takes a uid that is shared out of the parents; the indirect ancestors stay. It takes no memory; its look-up
+    /// costs less than that of [`Entity::remove_parent`].
     pub fn remove_shared_parent(&mut self, shared: &SharedUid)
         ensures { self.new ≡ record self.old { parents = set.remove self.old.parents shared.now } }
     {
         self.parents.remove_shared(shared);
     }
 
-    /// Takes the uids of a set out of the indirect ancestors, as [`UidSet::difference`] does; the parents stay. It takes no
-    /// memory. This is the project's own.
+    /// Takes the uids of a set out of the indirect ancestors, as [`UidSet::difference`] does; the parents stay. It
+    /// takes no memory. This is the project's own.
     pub fn remove_ancestors_of(&mut self, uids: &UidSet)
         ensures { self.new ≡ record self.old { indirect = set.difference self.old.indirect uids.now } }
     {
         self.indirect_ancestors.difference(uids);
     }
 
-    /// Takes the uids of a set out of the parents, as [`UidSet::difference`] does; the indirect ancestors stay. It takes no
-    /// memory. This is the project's own.
+    /// Takes the uids of a set out of the parents, as [`UidSet::difference`] does; the indirect ancestors stay. It
+    /// takes no memory. This is the project's own.
     pub fn remove_parents_of(&mut self, uids: &UidSet)
         ensures { self.new ≡ record self.old { parents = set.difference self.old.parents uids.now } }
     {

@@ -111,8 +111,8 @@ fn unshared(fault: TcError<SharedUid>) -> Result<TcError<EntityUID>, AllocError>
     }
 }
 
-/// Want of memory is told as `Memory`, any other fault of the closure as it is with plain uids. A uid that is still shared
-/// is copied: where memory is wanted for that, `Memory` is told.
+/// Want of memory is told as `Memory`, any other fault of the closure as it is with plain uids. A uid that is still
+/// shared is copied: where memory is wanted for that, `Memory` is told.
 impl From<TcError<SharedUid>> for EntitiesError {
     ghost from_gives = { λ t e. Tells t e };
 

@@ -4,7 +4,8 @@ ghost use Rattle.std.specs.Option.{option_copied};
 ghost use Rattle.cedar_terms.specs.ValueTree.{value_trees};
 ghost use Rattle.cedar_terms.specs.ValueViews.{field_trees};
 ghost use Rattle.cedar_entity.specs.Fields.{fields_of};
-ghost use Rattle.cedar_entity.specs.Validity.{reserved_in, reserved_in_all, reserved_in_record, reserved_in_partial, reserved_in_fields};
+ghost use Rattle.cedar_entity.specs.Validity.{reserved_in, reserved_in_all, reserved_in_record, reserved_in_partial};
+ghost use Rattle.cedar_entity.specs.Validity.{reserved_in_fields};
 
 use cedar_terms::{PartialValue, Value, ValueKind, is_reserved_key};
 use std::collections::BTreeMap;

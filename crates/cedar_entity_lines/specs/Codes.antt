@@ -10,4 +10,5 @@ use Rattle.cedar_entity_lines.specs.Holding.{StoreAndWaiting}
 -- the entities that wait, and the store
 abbrev pub waiting_code : Coded StoreAndWaiting
 waiting_code =
-    code_by (List EntityView × StoreView) (coded× (coded_list view_code) store_code) (λ m. (m.waiting, m.store)) (λ r. record { waiting = r.0; store = r.1 }) (λ _. refl)
+    code_by (List EntityView × StoreView) (coded× (coded_list view_code) store_code) (λ m. (m.waiting, m.store))
+    (λ r. record { waiting = r.0; store = r.1 }) (λ _. refl)

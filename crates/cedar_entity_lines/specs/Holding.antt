@@ -8,7 +8,8 @@ use Rattle.cedar_ids.specs.declared.entity.EntityUID.{EntityUID}
 use Rattle.cedar_entity.specs.View.{EntityView}
 use Rattle.cedar_entities.specs.Plain.{StoreView, IsPlainStore, AreBare, given_of}
 use Rattle.cedar_entities.specs.World.{Given, World, graph}
-use Rattle.cedar_entity_lines.specs.EntityCommand.{EntityCommand, Ent, Build, Add, Upsert, Remove, Slice, Anc, IsEntityCommand}
+use Rattle.cedar_entity_lines.specs.EntityCommand.{EntityCommand, Ent, Build, Add, Upsert, Remove, Slice, Anc}
+use Rattle.cedar_entity_lines.specs.EntityCommand.{IsEntityCommand}
 use Rattle.cedar_entity_lines.specs.EntityOutput.{EntityState, EntityGives}
 
 -- the entities that wait, and what the store has
@@ -28,7 +29,8 @@ IsAsciiGiven g = IsAsciiUid g.uid × ((q : EntityUID) → set.contains g.parts.p
 abbrev pub IsAsciiWorld : World → Type 0
 IsAsciiWorld W = (a b : EntityUID) → graph W a b ≡ true → IsAsciiUid b
 
--- the state is held: the entities that wait have no indirect ancestors, the store is plain, and whatever may be printed has
+-- the state is held: the entities that wait have no indirect ancestors, the store is plain, and whatever may be printed
+-- has
 -- an ASCII eid
 pub record Holds (m : StoreAndWaiting) (s : EntityState) : Type 0 where
   pub waiting : map given_of m.waiting ≡ s.waiting
@@ -55,7 +57,8 @@ HasAsciiUids (Anc u) = Unit {0}
 abbrev pub EntityWrites : EntityCommand → EntityState → StoreAndWaiting → List ℕ → List ℕ → Type 0
 EntityWrites c s m old new = (t : EntityState) × (out : List ℕ) × EntityGives c s t out × Holds m t × (new ≡ old ++ out)
 
--- the fields are those of an entity with its parents, a state is held after that command, and nothing is written; or they are
+-- the fields are those of an entity with its parents, a state is held after that command, and nothing is written; or
+-- they are
 -- those of none, and nothing changed
 abbrev pub TakesEntity : Bool → List (List ℕ) → StoreAndWaiting → StoreAndWaiting → Type 0
 TakesEntity true fs old new =

@@ -123,11 +123,12 @@ fn command_of_word(word: &str) -> Option<EntityCommand>
     None
 }
 
-/// The command whose fields these are, if they are those of a line on the store: the word and the texts of uids behind it, each
-/// with an ASCII eid. The types and parents that it reads are known from then on, and shared with the lines to come.
+/// The command whose fields these are, if they are those of a line on the store: the word and the texts of uids behind
+/// it, each with an ASCII eid. The types and parents that it reads are known from then on, and shared with the lines to
+/// come.
 ///
-/// Takes memory for the uids and for what is known, and is refused only where that is; its cost is linear in the fields. It is
-/// this project's own.
+/// Takes memory for the uids and for what is known, and is refused only where that is; its cost is linear in the
+/// fields. It is this project's own.
 pub fn read_entity_command(
     alloc: Global,
     known: &mut KnownUids,

@@ -6,7 +6,8 @@ ghost use Rattle.cedar_lines.specs.Lines.{written_line};
 ghost use Rattle.cedar_entity_lines.specs.EntityCommand.{Ent, Build, Add, Upsert, Remove, Slice};
 ghost use Rattle.cedar_entity_lines.specs.EntityOutput.{EntityState, no_entity, ShowsAncestors, uid_text, field_of};
 ghost use Rattle.cedar_entity_lines.specs.CommandOf.{command_of};
-ghost use Rattle.cedar_entity_lines.specs.Holding.{Holds, EntityWrites, TakesEntity, IsAsciiUid, AreAsciiUids, HasAsciiUids};
+ghost use Rattle.cedar_entity_lines.specs.Holding.{Holds, EntityWrites, TakesEntity, IsAsciiUid, AreAsciiUids};
+ghost use Rattle.cedar_entity_lines.specs.Holding.{HasAsciiUids};
 ghost use Rattle.cedar_entity_lines.specs.laws.Machines.{IsTold, Refused, Settles};
 
 use crate::command::{EntityCommand, ent_fields};
@@ -23,8 +24,8 @@ use std::marker::Model;
 use std::mem;
 use std::rc::Rc;
 
-/// The store of a run, and the entities that wait for a call on it. Contracts see what both have; the store hashes uids by what
-/// `S` builds, which they do not see. It is this project's own.
+/// The store of a run, and the entities that wait for a call on it. Contracts see what both have; the store hashes uids
+/// by what `S` builds, which they do not see. It is this project's own.
 #[derive(Debug, Drop)]
 pub struct LineStore<S: BuildHasher = BuildHasherDefault<FoldHasher>> {
     waiting: Vec<Rc<Entity>>,
@@ -253,11 +254,12 @@ impl<S: BuildHasher + Copy> LineStore<S> {
         }
     }
 
-    /// Takes the fields of a line if they are those of an entity with its parents, which waits then, and says whether they are;
-    /// any others leave everything as it was. It does what [`LineStore::take`] does with that command, without making one: such
-    /// lines are the most. What is read is known to the next line.
+    /// Takes the fields of a line if they are those of an entity with its parents, which waits then, and says whether
+    /// they are; any others leave everything as it was. It does what [`LineStore::take`] does with that command,
+    /// without making one: such lines are the most. What is read is known to the next line.
     ///
-    /// It is refused only where memory was, and then nothing is said of the store and of what waits. It is this project's own.
+    /// It is refused only where memory was, and then nothing is said of the store and of what waits. It is this
+    /// project's own.
     pub fn take_ent(
         &mut self,
         alloc: Global,
@@ -279,10 +281,11 @@ impl<S: BuildHasher + Copy> LineStore<S> {
         Ok(false)
     }
 
-    /// Takes a command on the store, and adds what it writes. The uids that it puts in have ASCII eids, as those of a line have.
+    /// Takes a command on the store, and adds what it writes. The uids that it puts in have ASCII eids, as those of a
+    /// line have.
     ///
-    /// It is refused only where memory was, and then nothing is said of the store, of what waits and of what was added. Its cost
-    /// is that of the call on the store, and of what is written. It is this project's own.
+    /// It is refused only where memory was, and then nothing is said of the store, of what waits and of what was added.
+    /// Its cost is that of the call on the store, and of what is written. It is this project's own.
     pub fn take(
         &mut self,
         alloc: Global,

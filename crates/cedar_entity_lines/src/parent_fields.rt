@@ -1,5 +1,5 @@
-//! Reading the parents of entities, of which many have one parent: those that were read lately are known by their texts, and
-//! shared.
+//! Reading the parents of entities, of which many have one parent: those that were read lately are known by their
+//! texts, and shared.
 ghost use Rattle.std.specs.Prelude.{◌≡◌, List, IfOk, IfSome, map};
 ghost use Rattle.cedar_ids.specs.TextOf.{IsPrinted};
 ghost use Rattle.cedar_ids.specs.UidOf.{uid_parts};
@@ -32,9 +32,9 @@ impl Model for KnownParent {
     ghost invariant = { λ k. IsPrinted (uid_parts k.uid) (string_bytes k.text) };
 }
 
-/// The types and the parents that lines before have named, by their texts, so that lines to come share them: up to 16 types, and
-/// at each of 256 places the parent that was read last of those whose texts belong there. It says nothing of what a line is. It
-/// is this project's own.
+/// The types and the parents that lines before have named, by their texts, so that lines to come share them: up to 16
+/// types, and at each of 256 places the parent that was read last of those whose texts belong there. It says nothing of
+/// what a line is. It is this project's own.
 #[derive(Drop)]
 pub struct KnownUids {
     pub(crate) types: Vec<KnownType>,
@@ -130,7 +130,8 @@ fn read_parent(
     }
 }
 
-// The parent with this text, if it is that of a uid. Where one with this text was read lately it is that one, shared once more.
+// The parent with this text, if it is that of a uid. Where one with this text was read lately it is that one, shared
+// once more.
 fn parent_of_text(
     alloc: Global,
     known: &mut KnownUids,

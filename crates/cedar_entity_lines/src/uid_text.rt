@@ -166,7 +166,8 @@ fn uid_of_halves(
     eid: &str,
 ) -> Result<Option<EntityUID>, AllocError>
     requires { IsTrue (list_all is_plain_byte eid.now) }
-    ensures { IfOk result (λ o. IfSome o (λ u. IsPrinted (uid_parts u) (name.now ++ (codes "::\"" ++ (eid.now ++ codes "\""))))) }
+    ensures { IfOk result (λ o. IfSome o (λ u. IsPrinted (uid_parts u) (name.now
+        ++ (codes "::\"" ++ (eid.now ++ codes "\""))))) }
 {
     let Some(ty) = read_type(alloc, known, name)? else {
         return Ok(None);

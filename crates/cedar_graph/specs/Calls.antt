@@ -3,7 +3,8 @@ use Rattle.std.specs.Prelude.{◌≡◌, Bool, true, false, Result, IsTrue, OnOk
 use Rattle.std.specs.Option.{is_some}
 use Rattle.std.specs.HashMap.{HashMap, get}
 use Rattle.std.specs.HashSet.{HashSet, contains}
-use Rattle.cedar_graph.specs.Graph.{graph_of, KeepsNodes, KeepsEdges, AddsOnlyReached, ReachesSame, IsClosure, IsTrusted, HasNoCycle, HasNoCycleAt}
+use Rattle.cedar_graph.specs.Graph.{graph_of, KeepsNodes, KeepsEdges, AddsOnlyReached, ReachesSame, IsClosure}
+use Rattle.cedar_graph.specs.Graph.{IsTrusted, HasNoCycle, HasNoCycleAt}
 use Rattle.cedar_graph.specs.Faults.{NamesCycleAt, UnlessMemory}
 use Rattle.cedar_graph.specs.declared.err.TcError.{TcError}
 
@@ -18,7 +19,8 @@ pub record OnlyAdds {K : Type 0} (old new : K → K → Bool) : Type 0 where
   pub stays : KeepsEdges old new
   pub only : AddsOnlyReached old new
 
--- the map is closed, unless memory was refused, and then it may be so in part; a cycle is told exactly where it is asked
+-- the map is closed, unless memory was refused, and then it may be so in part; a cycle is told exactly where it is
+-- asked
 -- for and there
 pub record Closes {K V S T : Type 0} (eq : K → K → Bool) (edges : V → K → Bool) (asked : Bool)
     (old new : HashMap K V S) (result : Result T (TcError K)) : Type 0 where

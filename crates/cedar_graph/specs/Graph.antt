@@ -71,7 +71,8 @@ abbrev pub KeysMatch : {K V S : Type 0} → (K → K → Bool) → (V → K) →
 KeysMatch {K} eq key m = (q : K) → IfSome (get eq m q) (λ v. eq q (key v) ≡ true)
 
 -- the map has the same keys, and at each of them a node with the same key and the same rest
-pub record KeepsNodes {K V R S : Type 0} (eq : K → K → Bool) (key : V → K) (rest : V → R) (old new : HashMap K V S) : Type 0 where
+pub record KeepsNodes {K V R S : Type 0} (eq : K → K → Bool) (key : V → K) (rest : V
+    → R) (old new : HashMap K V S) : Type 0 where
   pub keys_stay : keys new ≡ keys old
   pub node_keys : (q : K) → option_map key (get eq new q) ≡ option_map key (get eq old q)
   pub rests : (q : K) → option_map rest (get eq new q) ≡ option_map rest (get eq old q)

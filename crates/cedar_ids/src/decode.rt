@@ -1,6 +1,7 @@
 //! What an escaped eid stands for: reading the table of escapes backwards.
 ghost use Rattle.std.specs.Prelude.{◌≡◌, ◌++◌, ◌<◌, IfOk, OnOk};
-ghost use Rattle.cedar_ids.specs.laws.Decode.{hex_value, more_digits, next_scan, short_value, code_bytes, emits, decode};
+ghost use Rattle.cedar_ids.specs.laws.Decode.{hex_value, more_digits, next_scan, short_value, code_bytes, emits};
+ghost use Rattle.cedar_ids.specs.laws.Decode.{decode};
 
 use std::alloc::{AllocError, Global};
 

@@ -15,7 +15,8 @@ ghost use Rattle.cedar_ids.specs.Qualified.{qualified};
 ghost use Rattle.cedar_ids.specs.Reads.{Reads, IsTypeText, IsTypeTextAndEid};
 ghost use Rattle.cedar_ids.specs.laws.UidLaws.{uid_eq_equiv, uid_cmp_total, uid_ties, uid_po, uid_hash_respects};
 ghost use Rattle.cedar_ids.specs.UidOf.{uid_parts, same_uid, uid_order, uid_hash};
-ghost use Rattle.cedar_ids.specs.laws.UidOfLaws.{same_uid_equiv, uid_order_total, uid_order_ties, uid_order_po, uid_hash_respects as uid_hashes};
+ghost use Rattle.cedar_ids.specs.laws.UidOfLaws.{same_uid_equiv, uid_order_total, uid_order_ties, uid_order_po};
+ghost use Rattle.cedar_ids.specs.laws.UidOfLaws.{uid_hash_respects as uid_hashes};
 
 use crate::err::ParseErrors;
 use crate::escape::Escaped;

@@ -1,5 +1,6 @@
 -- What a keyed hasher computes: no contract of a store or of a policy set cites it.
-use Rattle.std.specs.Prelude.{ℕ, zero, suc, ◌+◌, ◌-◌, ◌*◌, ◌/◌, ◌%◌, ◌^◌, List, [], ◌∷◌, length, if◌then◌else◌, nat_le, nat_lt, slice_index, bit_and, bit_or, bit_xor}
+use Rattle.std.specs.Prelude.{ℕ, zero, suc, ◌+◌, ◌-◌, ◌*◌, ◌/◌, ◌%◌, ◌^◌, List, [], ◌∷◌, length, if◌then◌else◌, nat_le}
+use Rattle.std.specs.Prelude.{nat_lt, slice_index, bit_and, bit_or, bit_xor}
 use Rattle.std.specs.Int.{w32, from_le_bytes}
 use Rattle.cedar_keyed_hash.specs.declared.KeyedHasher.{KeyedHasher}
 use Rattle.cedar_keyed_hash.specs.declared.KeyedState.{KeyedState}
@@ -14,7 +15,8 @@ mixed a b = bit_xor (bit_and (a * b) (2 ^ 64 - 1)) (a * b / 2 ^ 64)
 
 -- four bytes from a place on, the lowest first
 unfoldable pub half_at : List ℕ → ℕ → ℕ
-half_at bytes i = from_le_bytes w32 (slice_index bytes i ∷ slice_index bytes (i + 1) ∷ slice_index bytes (i + 2) ∷ slice_index bytes (i + 3) ∷ [])
+half_at bytes i = from_le_bytes w32 (slice_index bytes i ∷ slice_index bytes (i + 1) ∷ slice_index bytes
+    (i + 2) ∷ slice_index bytes (i + 3) ∷ [])
 
 -- a number of 64 bits, shifted up
 abbrev pub shifted : ℕ → ℕ → ℕ
@@ -29,7 +31,8 @@ unfoldable pub short : List ℕ → ℕ
 short bytes =
     let n = length bytes in
     if nat_le 4 n then bit_or (half_at bytes 0) (shifted (half_at bytes (n - 4)) 32)
-    else (if nat_lt 0 n then bit_or (bit_or (slice_index bytes 0) (shifted (slice_index bytes (n - 1)) 8)) (shifted (slice_index bytes (n / 2)) 16) else 0)
+    else (if nat_lt 0 n then bit_or (bit_or (slice_index bytes 0) (shifted (slice_index bytes (n - 1)) 8))
+    (shifted (slice_index bytes (n / 2)) 16) else 0)
 
 -- the state after the first n words of eight bytes
 unfoldable pub after_words : List ℕ → ℕ → ℕ → ℕ → ℕ

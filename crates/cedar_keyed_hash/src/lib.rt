@@ -1,9 +1,10 @@
 //! Hashing with a key: a builder of hashers for maps whose ids strangers pick.
 //!
 //! A map that hashes by a seed that stands in the source is slow where somebody picks ids that collide under it. A
-//! [`KeyedState`] has 128 bits that are drawn when a program starts, so that who does not know them cannot pick such ids.
-//! What it computes is no cryptographic hash: it hides no id, and who can see hashes or orders of iteration may learn of the
-//! key. Nothing in these crates shows either. It is made for speed: one multiplication for each eight bytes.
+//! [`KeyedState`] has 128 bits that are drawn when a program starts, so that who does not know them cannot pick such
+//! ids. What it computes is no cryptographic hash: it hides no id, and who can see hashes or orders of iteration may
+//! learn of the key. Nothing in these crates shows either. It is made for speed: one multiplication for each eight
+//! bytes.
 #![tactic(auto)]
 
 ghost use Rattle.std.specs.Prelude.{◌≡◌, ◌+◌, ◌≤◌, ◌<◌, length};
@@ -24,7 +25,8 @@ pub struct KeyedState {
 }
 
 impl KeyedState {
-    /// A builder with a key that is drawn from a source of random bytes, `rt` in a program. Refused where the source is.
+    /// A builder with a key that is drawn from a source of random bytes, `rt` in a program. Refused where the source
+    /// is.
     pub fn new(source: &impl RandomSource) -> io::Result<KeyedState> {
         let mut bytes = [0; 16];
         source.fill_bytes(&mut bytes)?;
@@ -32,8 +34,8 @@ impl KeyedState {
         Ok(KeyedState::with_keys((keys & 0xFFFF_FFFF_FFFF_FFFF) as u64, (keys >> 64) as u64))
     }
 
-    /// A builder with this key, in two halves, for who draws keys elsewhere or wants the same order twice. Neither half may
-    /// be known to who picks ids.
+    /// A builder with this key, in two halves, for who draws keys elsewhere or wants the same order twice. Neither half
+    /// may be known to who picks ids.
     pub fn with_keys(seed: u64, key: u64) -> KeyedState {
         KeyedState { seed, key }
     }

@@ -17,8 +17,8 @@ fn has_ascii_eid(uid: &EntityUID) -> bool
     uid.eid().as_ref().is_ascii()
 }
 
-/// The uid with an ASCII eid whose text a field is, if there is one. Takes memory for the uid, and is refused only where
-/// that is; its cost is linear in the field. It is this project's own.
+/// The uid with an ASCII eid whose text a field is, if there is one. Takes memory for the uid, and is refused only
+/// where that is; its cost is linear in the field. It is this project's own.
 pub fn uid_field(alloc: Global, text: &str) -> Result<Option<EntityUID>, AllocError>
     ensures { IfOk result (ReadsAs (λ (u : EntityUID). IsPrinted (uid_parts u) text.now) (λ u. u)) }
 {

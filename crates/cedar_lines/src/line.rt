@@ -20,8 +20,8 @@ fn is_plain_byte(b: u8) -> bool
     b == b'\t' || (32 <= b && b <= 126)
 }
 
-// Whether a line has tabs and printable ASCII alone. It is gone through to its end, which costs less a byte than to stop at the
-// first that is neither.
+// Whether a line has tabs and printable ASCII alone. It is gone through to its end, which costs less a byte than to
+// stop at the first that is neither.
 fn is_plain(line: &[u8]) -> bool
     ensures { result ≡ list_all is_plain line.now }
 {
@@ -32,10 +32,11 @@ fn is_plain(line: &[u8]) -> bool
     plain
 }
 
-/// Whether a line has tabs and printable ASCII alone. If it has, what stands between its tabs takes the place of the fields.
+/// Whether a line has tabs and printable ASCII alone. If it has, what stands between its tabs takes the place of the
+/// fields.
 ///
-/// Takes memory where there is no room for as many fields, and is refused only where that is; then nothing is said of the
-/// fields. Its cost is linear in the line. It is this project's own.
+/// Takes memory where there is no room for as many fields, and is refused only where that is; then nothing is said of
+/// the fields. Its cost is linear in the line. It is this project's own.
 pub fn read_fields<'a>(fields: &mut Vec<&'a str>, line: &'a [u8]) -> Result<bool, AllocError>
     ensures plain { IfOk result (λ plain. plain ≡ list_all is_plain line.now) }
     ensures fields { IfOk result (λ plain. IsTrue plain →

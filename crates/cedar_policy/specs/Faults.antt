@@ -6,7 +6,9 @@ use Rattle.cedar_ids.specs.UidOf.{uid_parts}
 use Rattle.cedar_terms.specs.declared.err.ExprValidationError.{ExprValidationError}
 use Rattle.cedar_terms.specs.declared.slot.SlotId.{SlotId}
 use Rattle.cedar_policy.specs.declared.err.TemplateValidationError.{TemplateValidationError}
-use Rattle.cedar_policy.specs.declared.err.TemplateValidationError.TheVariants.{SlotsInConditionClause, InvalidActionType, SlotCacheMismatch, InvalidExpression, Memory}
+use Rattle.cedar_policy.specs.declared.err.TemplateValidationError.TheVariants.{SlotsInConditionClause}
+use Rattle.cedar_policy.specs.declared.err.TemplateValidationError.TheVariants.{InvalidActionType, SlotCacheMismatch}
+use Rattle.cedar_policy.specs.declared.err.TemplateValidationError.TheVariants.{InvalidExpression, Memory}
 
 -- a slot in the clause, uids that are no actions, slots that are not those of the condition, a clause that is
 -- not valid, and want of memory

@@ -30,9 +30,19 @@ static_policy b = record { template = b; link = None; env = no_env }
 -- a body that constrains nothing
 abbrev pub unconstrained : List ℕ → AnnotationsView → Effect → ExprTree → BodyParts
 unconstrained i a f e =
-    record { id = i; annotations = a; effect = f; principal = any; action = any_action; resource = any; clause = Some e }
+    record {
+      id = i;
+      annotations = a;
+      effect = f;
+      principal = any;
+      action = any_action;
+      resource = any;
+      clause =
+          Some e;
+    }
 
--- what holds of each policy: the bound ids are the ids of its template's slots, the action's, if it is one of them, is bound
+-- what holds of each policy: the bound ids are the ids of its template's slots, the action's, if it is one of them, is
+-- bound
 -- to an action, and what is no link has none
 pub record IsPolicy (p : PolicyParts) : Type 0 where
   pub total : FitsSlots (body_slots p.template) p.env

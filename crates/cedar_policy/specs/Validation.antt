@@ -11,7 +11,9 @@ use Rattle.cedar_action.specs.RuleReads.{non_actions}
 use Rattle.cedar_body.specs.Bodies.{BodyParts, clause_slots}
 use Rattle.cedar_policy.specs.Statics.{IsFirst}
 use Rattle.cedar_policy.specs.declared.err.TemplateValidationError.{TemplateValidationError}
-use Rattle.cedar_policy.specs.declared.err.TemplateValidationError.TheVariants.{SlotsInConditionClause, InvalidActionType, SlotCacheMismatch, InvalidExpression, Memory}
+use Rattle.cedar_policy.specs.declared.err.TemplateValidationError.TheVariants.{SlotsInConditionClause}
+use Rattle.cedar_policy.specs.declared.err.TemplateValidationError.TheVariants.{InvalidActionType, SlotCacheMismatch}
+use Rattle.cedar_policy.specs.declared.err.TemplateValidationError.TheVariants.{InvalidExpression, Memory}
 
 -- the first function that a clause calls and that may not be called
 abbrev pub clause_fault : Option ExprTree → Option NameParts
@@ -31,7 +33,8 @@ HasActions c a = HasPlainClause c × (non_actions a ≡ [])
 -- of them
 abbrev pub IsTemplateFault : TemplateValidationError → Option ExprTree → ActionRule → Type 0
 IsTemplateFault (SlotsInConditionClause s) c a = IsFirst s (clause_slots c)
-IsTemplateFault (InvalidActionType us) c a = HasPlainClause c × (map (λ u. uid_parts u.value) (all_of us) ≡ non_actions a)
+IsTemplateFault (InvalidActionType us) c a = HasPlainClause c
+    × (map (λ u. uid_parts u.value) (all_of us) ≡ non_actions a)
 IsTemplateFault SlotCacheMismatch c a = ⊥
 IsTemplateFault (InvalidExpression (exprs.UnknownFunction f)) c a = HasActions c a × (clause_fault c ≡ Some f)
 IsTemplateFault (InvalidExpression exprs.Memory) c a = ⊥

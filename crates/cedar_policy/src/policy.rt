@@ -10,7 +10,8 @@ ghost use Rattle.cedar_action.specs.Views.{rule_of};
 ghost use Rattle.cedar_binding.specs.Bindings.{BindsExactly, wrong_action};
 ghost use Rattle.cedar_binding.specs.Views.{env_of};
 ghost use Rattle.cedar_body.specs.Bodies.{condition, body_slots};
-ghost use Rattle.cedar_policy.specs.Policies.{IsPolicy, policy_id, static_policy, unconstrained, with_policy_id, with_template_id, principal_of, action_of, resource_of};
+ghost use Rattle.cedar_policy.specs.Policies.{IsPolicy, policy_id, static_policy, unconstrained, with_policy_id};
+ghost use Rattle.cedar_policy.specs.Policies.{with_template_id, principal_of, action_of, resource_of};
 ghost use Rattle.cedar_policy.specs.PolicyEquality.{same_policy};
 ghost use Rattle.cedar_policy.specs.PolicyTexts.{policy_output};
 ghost use Rattle.cedar_policy.specs.Unknowns.{AreUnknownEntities};
@@ -224,9 +225,9 @@ impl Policy {
         }
     }
 
-    /// What the action has to be: what the template says, with the bound uid in place of the slot. No slot stands in it.
-    /// Takes memory for a list and for the uid, which it copies, and is refused only where that is. The original has no slot
-    /// of the action, and answers a reference.
+    /// What the action has to be: what the template says, with the bound uid in place of the slot. No slot stands in
+    /// it. Takes memory for a list and for the uid, which it copies, and is refused only where that is. The original
+    /// has no slot of the action, and answers a reference.
     pub fn action_constraint(&self, alloc: Global) -> Result<ActionConstraint, AllocError>
         ensures fills { IfOk result (λ c. rule_of c ≡ action_of self.now) }
         ensures no_slot { IfOk result (λ c. rule_has_slot (rule_of c) ≡ false) }
@@ -272,7 +273,8 @@ impl Policy {
         self.parts.template.condition(alloc)
     }
 
-    /// What the slots are bound to: the bound ids are the ids of the template's slots, and the action's is bound to an action.
+    /// What the slots are bound to: the bound ids are the ids of the template's slots, and the action's is bound to an
+    /// action.
     pub fn env(&self) -> &SlotEnv
         ensures value { env_of result.now ≡ self.now.env }
         ensures total { BindsExactly (body_slots self.now.template) self.now.env }

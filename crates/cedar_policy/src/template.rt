@@ -260,12 +260,13 @@ impl Template {
         self.slots.is_empty()
     }
 
-    /// `Ok` exactly where the bound ids are the ids of the template's slots, and the action's, if it is one of them, is bound
-    /// to an action.
+    /// `Ok` exactly where the bound ids are the ids of the template's slots, and the action's, if it is one of them, is
+    /// bound to an action.
     ///
-    /// Where the ids are others, the `ArityError` has exactly the template's slots that are not bound, in their order, as
-    /// often as they stand there, and the bound ids that are no slots, in the order of ids. Where they are not, `NotAnAction`
-    /// has the uid. Takes memory for what a refusal has alone; `Memory` comes only where that was refused.
+    /// Where the ids are others, the `ArityError` has exactly the template's slots that are not bound, in their order,
+    /// as often as they stand there, and the bound ids that are no slots, in the order of ids. Where they are not,
+    /// `NotAnAction` has the uid. Takes memory for what a refusal has alone; `Memory` comes only where that was
+    /// refused.
     pub fn check_binding(
         alloc: Global,
         template: &Template,
@@ -277,8 +278,8 @@ impl Template {
     }
 
     /// The policy of this template, this id and these bindings, which it takes over; else the refusal of
-    /// `check_binding`. Takes memory as that does, and for the policy's block where it is not refused so; what it took is
-    /// dropped where it is refused. Of the map of bindings it gives back the room that they do not need.
+    /// `check_binding`. Takes memory as that does, and for the policy's block where it is not refused so; what it took
+    /// is dropped where it is refused. Of the map of bindings it gives back the room that they do not need.
     pub fn link(
         alloc: Global,
         template: Rc<Template>,

@@ -7,4 +7,5 @@ use Rattle.cedar_policy_lines.specs.Boards.{Boards}
 
 -- two boards
 abbrev pub boards_code : Coded Boards
-boards_code = code_by (Board × Board) (coded× board_code board_code) (λ b. (b.current, b.aside)) (λ r. record { current = r.0; aside = r.1 }) (λ _. refl)
+boards_code = code_by (Board × Board) (coded× board_code board_code) (λ b. (b.current, b.aside))
+    (λ r. record { current = r.0; aside = r.1 }) (λ _. refl)

@@ -9,7 +9,8 @@ use Rattle.cedar_binding.specs.Bindings.{EnvParts, no_env, binds}
 use Rattle.cedar_body.specs.declared.effect.Effect.{Effect}
 use Rattle.cedar_body.specs.declared.effect.Effect.TheVariants.{Permit, Forbid}
 use Rattle.cedar_policy_lines.specs.declared.field.TemplateSlots.{TemplateSlots}
-use Rattle.cedar_policy_lines.specs.declared.field.TemplateSlots.TheVariants.{NoSlots, OnPrincipal, OnAction, OnResource, OnBoth, OnAll}
+use Rattle.cedar_policy_lines.specs.declared.field.TemplateSlots.TheVariants.{NoSlots, OnPrincipal, OnAction}
+use Rattle.cedar_policy_lines.specs.declared.field.TemplateSlots.TheVariants.{OnResource, OnBoth, OnAll}
 
 -- `static` with an id and an effect; `template` with an id and the slots that it has;
 -- `link` with a template's id, a new id and bindings; `unlink` with an id; `other`; `merge`, with renaming or without;
@@ -72,7 +73,8 @@ bound_more e s u r = if same_slot r s then Some u else e r
 -- the fields bind further slots, one each, which leaves e
 abbrev pub BindMore : EnvParts → List (List ℕ) → EnvParts → Type 0
 BindMore d [] e = e ≡ d
-BindMore d (f ∷ fs) e = (s : SlotId) × (u : UidParts) × IsBinding s u f × (binds d s ≡ false) × BindMore (bound_more d s u) fs e
+BindMore d (f ∷ fs) e = (s : SlotId) × (u : UidParts) × IsBinding s u f × (binds d s ≡ false)
+    × BindMore (bound_more d s u) fs e
 
 -- the fields are the bindings: one field for each slot that is bound, in whatever order
 abbrev pub AreBindings : EnvParts → List (List ℕ) → Type 0

@@ -1,5 +1,6 @@
 -- What the commands on policy sets make of the two boards, and what they write.
-use Rattle.std.specs.Prelude.{◌≡◌, ◌⊎◌, ℕ, List, [], ◌∷◌, ◌++◌, Bool, true, false, None, Result, Ok, Err, codes, if◌then◌else◌}
+use Rattle.std.specs.Prelude.{◌≡◌, ◌⊎◌, ℕ, List, [], ◌∷◌, ◌++◌, Bool, true, false, None, Result, Ok, Err, codes}
+use Rattle.std.specs.Prelude.{if◌then◌else◌}
 use Rattle.std.specs.List.{flat_map}
 use Rattle.std.specs.Option.{unwrap_or}
 use Rattle.cedar_ids.specs.Escape.{escaped_output}
@@ -15,9 +16,13 @@ use Rattle.cedar_body.specs.declared.effect.Effect.{Effect}
 use Rattle.cedar_body.specs.declared.effect.Effect.TheVariants.{Permit}
 use Rattle.cedar_policy_set.specs.Boards.{Board, Binding, without_id}
 use Rattle.cedar_policy_set.specs.Merge.{conflicts, merged, new_id, IsRenaming, body_ids, policy_ids}
-use Rattle.cedar_policy_set.specs.Steps.{Refusal, occupied, no_body, no_such_template, arity, not_an_action, id_conflict, no_link, not_a_link, no_template, with_links, not_a_template, no_static, not_static, add_static_step, add_template_step, link_step, unlink_step}
+use Rattle.cedar_policy_set.specs.Steps.{Refusal, occupied, no_body, no_such_template, arity, not_an_action}
+use Rattle.cedar_policy_set.specs.Steps.{id_conflict, no_link, not_a_link, no_template, with_links, not_a_template}
+use Rattle.cedar_policy_set.specs.Steps.{no_static, not_static, add_static_step, add_template_step, link_step}
+use Rattle.cedar_policy_set.specs.Steps.{unlink_step}
 use Rattle.cedar_policy_lines.specs.Boards.{Boards, with_current, swapped}
-use Rattle.cedar_policy_lines.specs.PolicyCommand.{PolicyCommand, Static, Template, Link, Unlink, Other, Merge, Ids, slots_named}
+use Rattle.cedar_policy_lines.specs.PolicyCommand.{PolicyCommand, Static, Template, Link, Unlink, Other, Merge, Ids}
+use Rattle.cedar_policy_lines.specs.PolicyCommand.{slots_named}
 use Rattle.cedar_policy_lines.specs.declared.field.TemplateSlots.{TemplateSlots}
 
 -- ---- texts
@@ -75,7 +80,16 @@ ids_lines b =
 
 -- a static policy that constrains nothing
 abbrev pub static_body : List ℕ → Effect → BodyParts
-static_body i e = record { id = i; annotations = []; effect = e; principal = any; action = any_action; resource = any; clause = None }
+static_body i e = record {
+  id = i;
+  annotations = [];
+  effect = e;
+  principal = any;
+  action = any_action;
+  resource =
+      any;
+  clause = None;
+}
 
 -- equal to the slot, where there is one
 abbrev pub slot_constraint : Bool → Constraint
@@ -112,12 +126,14 @@ UnlinkGives (Err r) i old new out = (new ≡ old) × (out ≡ refused_line r)
 -- the first id that conflicts is refused, where ids keep theirs
 abbrev pub IsRefusedMerge : Bool → Boards → Boards → List ℕ → Type 0
 IsRefusedMerge rename old new out =
-    (i : List ℕ) × (rest : List (List ℕ)) × (rename ≡ false) × (conflicts old.current old.aside ≡ i ∷ rest) × (new ≡ old) × (out ≡ refused_line (occupied i))
+    (i : List ℕ) × (rest : List (List ℕ)) × (rename ≡ false) × (conflicts old.current old.aside ≡ i ∷ rest)
+    × (new ≡ old) × (out ≡ refused_line (occupied i))
 
 -- else the board aside is merged into the current one, and each id that was renamed is written with its new one
 abbrev pub IsMerge : Bool → Boards → Boards → List ℕ → Type 0
 IsMerge rename old new out =
-    (r : List (List ℕ × List ℕ)) × IsRenaming old.current old.aside r × (rename ≡ false → conflicts old.current old.aside ≡ [])
+    (r : List (List ℕ × List ℕ)) × IsRenaming old.current old.aside r
+    × (rename ≡ false → conflicts old.current old.aside ≡ [])
     × (new ≡ with_current old (merged old.current old.aside (new_id r))) × (out ≡ merged_line r)
 
 -- a merge is refused, or made

@@ -7,7 +7,8 @@ ghost use Rattle.cedar_binding.specs.Bindings.{binds};
 ghost use Rattle.cedar_binding.specs.Views.{env_of};
 ghost use Rattle.cedar_policy_lines.specs.PolicyCommand.{IsPolicyCommand, Other, Ids, bound_more};
 ghost use Rattle.cedar_policy_lines.specs.CommandOf.{command_of};
-ghost use Rattle.cedar_policy_lines.specs.laws.PolicyReading.{only, bindings_of, static_of, template_of, link_of, unlink_of, merge_of, bare_of, command_by};
+ghost use Rattle.cedar_policy_lines.specs.laws.PolicyReading.{only, bindings_of, static_of, template_of, link_of};
+ghost use Rattle.cedar_policy_lines.specs.laws.PolicyReading.{unlink_of, merge_of, bare_of, command_by};
 
 use crate::field::{TemplateSlots, binding_of, effect_of, renaming_of, slots_of};
 use cedar_binding::{bound_to, no_bindings};
@@ -204,8 +205,8 @@ fn command_by(
 
 /// The command whose fields these are, if they are those of a line on policy sets: the word and what stands behind it.
 ///
-/// An id is any field, the empty one too. Takes memory for the ids and the bindings, and is refused only where that is; its
-/// cost is linear in the fields. It is this project's own.
+/// An id is any field, the empty one too. Takes memory for the ids and the bindings, and is refused only where that is;
+/// its cost is linear in the fields. It is this project's own.
 pub fn read_policy_command(
     alloc: Global,
     fields: &[&str],

@@ -4,7 +4,8 @@ ghost use Rattle.std.specs.Option.{option_map};
 ghost use Rattle.cedar_ids.specs.Uid.{UidParts};
 ghost use Rattle.cedar_ids.specs.UidOf.{uid_parts};
 ghost use Rattle.cedar_terms.specs.declared.slot.SlotId.{SlotId};
-ghost use Rattle.cedar_policy_lines.specs.laws.PolicyReading.{effect_of, slots_of, renaming_of, behind, uid_read, binding_of};
+ghost use Rattle.cedar_policy_lines.specs.laws.PolicyReading.{effect_of, slots_of, renaming_of, behind, uid_read};
+ghost use Rattle.cedar_policy_lines.specs.laws.PolicyReading.{binding_of};
 
 use cedar_body::Effect;
 use cedar_ids::entity::EntityUID;
@@ -93,7 +94,8 @@ fn bound_as(
     slot: SlotId,
     text: &str,
 ) -> Result<Option<(SlotId, EntityUID)>, AllocError>
-    ensures { IfOk result (λ o. option_map {U = SlotId × UidParts} (λ b. (b.0, uid_parts b.1)) o ≡ option_map {U = SlotId × UidParts} (λ u. (slot, u)) (uid_read text.now)) }
+    ensures { IfOk result (λ o. option_map {U = SlotId × UidParts} (λ b. (b.0, uid_parts b.1)) o
+        ≡ option_map {U = SlotId × UidParts} (λ u. (slot, u)) (uid_read text.now)) }
 {
     match uid_field(alloc, text)? {
         None => Ok(None),
@@ -106,7 +108,8 @@ pub(crate) fn binding_of(
     alloc: Global,
     field: &str,
 ) -> Result<Option<(SlotId, EntityUID)>, AllocError>
-    ensures { IfOk result (λ o. option_map {U = SlotId × UidParts} (λ b. (b.0, uid_parts b.1)) o ≡ binding_of field.now) }
+    ensures { IfOk result (λ o. option_map {U = SlotId × UidParts} (λ b. (b.0, uid_parts b.1)) o
+        ≡ binding_of field.now) }
 {
     if let Some(text) = behind(field, "principal=") {
         return bound_as(alloc, SlotId::Principal, text);

@@ -2,7 +2,10 @@
 ghost use Rattle.std.specs.Prelude.{◌≡◌, OnOk};
 ghost use Rattle.cedar_binding.specs.Views.{env_of};
 ghost use Rattle.cedar_policy_lines.specs.Boards.{no_boards};
-ghost use Rattle.cedar_policy_lines.specs.PolicyCommand.{Static as static_command, Template as template_command, Link as link_command, Unlink as unlink_command, Other as other_command, Merge as merge_command, Ids as ids_command};
+ghost use Rattle.cedar_policy_lines.specs.PolicyCommand.{Static as static_command, Template as template_command};
+ghost use Rattle.cedar_policy_lines.specs.PolicyCommand.{Link as link_command, Unlink as unlink_command};
+ghost use Rattle.cedar_policy_lines.specs.PolicyCommand.{Other as other_command, Merge as merge_command};
+ghost use Rattle.cedar_policy_lines.specs.PolicyCommand.{Ids as ids_command};
 ghost use Rattle.cedar_policy_lines.specs.CommandOf.{command_of};
 ghost use Rattle.cedar_policy_lines.specs.PolicyOutput.{PolicyWrites};
 
@@ -21,8 +24,8 @@ use std::hash::{BuildHasher, BuildHasherDefault, FoldHasher};
 use std::marker::Model;
 use std::mem;
 
-/// The two policy sets of a run: the current one, and the one aside. Contracts see their boards; the sets hash ids by what `S`
-/// builds, which they do not see. It is this project's own.
+/// The two policy sets of a run: the current one, and the one aside. Contracts see their boards; the sets hash ids by
+/// what `S` builds, which they do not see. It is this project's own.
 #[derive(Debug, Drop)]
 pub struct PolicySets<S: BuildHasher = BuildHasherDefault<FoldHasher>> {
     current: PolicySet<S>,
@@ -99,7 +102,8 @@ impl<S: BuildHasher + Copy> PolicySets<S> {
         values: SlotEnv,
         out: &mut Vec<u8>,
     ) -> Result<(), AllocError>
-        ensures { OnOk result (PolicyWrites (link_command template_id new_id (env_of values)) self.old self.new out.old.items out.new.items) }
+        ensures { OnOk result (PolicyWrites (link_command template_id new_id
+            (env_of values)) self.old self.new out.old.items out.new.items) }
     {
         let answer = link(alloc, &mut self.current, template_id, new_id, values);
         push_by_linking(alloc, out, answer)
@@ -138,8 +142,8 @@ impl<S: BuildHasher + Copy> PolicySets<S> {
 
     /// Takes a command on the two sets, and adds what it writes.
     ///
-    /// It is refused only where memory was, and then nothing is said of the sets and of what was added. Its cost is that of
-    /// the call on the set, and of what is written. It is this project's own.
+    /// It is refused only where memory was, and then nothing is said of the sets and of what was added. Its cost is
+    /// that of the call on the set, and of what is written. It is this project's own.
     pub fn take(
         &mut self,
         alloc: Global,

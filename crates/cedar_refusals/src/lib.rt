@@ -1,11 +1,12 @@
 //! For tests: requests for memory that are refused in turn.
 //!
-//! A test asks a refuser that stands before the C library's heap, if there is one: `tools/refuser.c`, which `./refuse` loads.
-//! It is asked by requests for blocks of sizes that no machine has, so where there is none they are refused and nothing else
-//! happens: each call is then made once, with ample memory.
+//! A test asks a refuser that stands before the C library's heap, if there is one: `tools/refuser.c`, which `./refuse`
+//! loads. It is asked by requests for blocks of sizes that no machine has, so where there is none they are refused and
+//! nothing else happens: each call is then made once, with ample memory.
 //!
-//! What is tried stands in rows, one line each: the call, what it is given, and what comes of it with ample memory, with
-//! ` | ` between them. A refusal stands behind `! `. A row that begins with `- ` is one of a call that then asks for no memory.
+//! What is tried stands in rows, one line each: the call, what it is given, and what comes of it with ample memory,
+//! with ` | ` between them. A refusal stands behind `! `. A row that begins with `- ` is one of a call that then asks
+//! for no memory.
 #![tactic(auto)]
 
 mod answers;

@@ -70,8 +70,9 @@ pub fn in_turn<C: Calls>(alloc: Global, calls: &C, row: Row<'_>) -> InTurn {
     InTurn::Wrong(100_000)
 }
 
-/// Whether the calls of all rows of a text answer what they must, each request refused in turn. Where there is a refuser each
-/// row is told with what came of it, and has to ask for memory where it says so; where there is none, a wrong row is told.
+/// Whether the calls of all rows of a text answer what they must, each request refused in turn. Where there is a
+/// refuser each row is told with what came of it, and has to ask for memory where it says so; where there is none, a
+/// wrong row is told.
 pub fn tried_rows<C: Calls>(rt: HostRuntime, calls: &C, rows: &str) -> bool {
     let alloc = rt.alloc();
     let there = is_there(alloc);

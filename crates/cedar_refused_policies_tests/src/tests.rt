@@ -1,4 +1,5 @@
-// What the rows are made with. A thing is handed on as it was made, `None` where it could not be; what asks it lets it go.
+// What the rows are made with. A thing is handed on as it was made, `None` where it could not be; what asks it lets it
+// go.
 mod actions;
 mod annotations;
 mod bindings;

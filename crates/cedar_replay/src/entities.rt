@@ -59,9 +59,10 @@ fn replay_one<S: BuildHasher + Copy>(
 /// why the next was refused: [`EntitiesError::Duplicate`], [`EntitiesError::TransitiveClosureError`] or
 /// `Memory`. No store is given back then.
 ///
-/// The caller sees to it that no entity has indirect ancestors. Then the store holds what plain insertion,
-/// overwriting by the last version and deletion leave, and the ancestors of each entity are exactly the uids
-/// that it reaches over the parents. The stores hash uids by a fixed seed. It takes memory; its cost is that of the calls. It is this project's own.
+/// The caller sees to it that no entity has indirect ancestors. Then the store holds what plain insertion, overwriting
+/// by the last version and deletion leave, and the ancestors of each entity are exactly the uids that it reaches over
+/// the parents. The stores hash uids by a fixed seed. It takes memory; its cost is that of the calls. It is this
+/// project's own.
 pub fn replay_entities(
     alloc: Global,
     calls: Vec<EntityCall>,

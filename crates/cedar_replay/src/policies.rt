@@ -63,9 +63,9 @@ fn append<S: BuildHasher>(answers: &mut Vec<Answer<S>>, answer: Answer<S>)
 
 /// Makes the calls one after another on the set, and gives what each answers, in their order.
 ///
-/// A call that is refused leaves the set as it was, for memory too, and the next call follows. `Err` comes only where the
-/// room for the list of answers was refused, which is asked for before the first call, and leaves the set as it was. Takes
-/// that memory beside what the calls take; its cost is that of the calls. It is this project's own.
+/// A call that is refused leaves the set as it was, for memory too, and the next call follows. `Err` comes only where
+/// the room for the list of answers was refused, which is asked for before the first call, and leaves the set as it
+/// was. Takes that memory beside what the calls take; its cost is that of the calls. It is this project's own.
 pub fn replay_policies<S: BuildHasher + Copy>(
     alloc: Global,
     set: &mut PolicySet<S>,

@@ -1,5 +1,5 @@
-// Lists of calls: worked rows, and each kind of call with and without a refusal. Each runs under the builder of hashers that
-// stores and sets have by default, and under two with keys.
+// Lists of calls: worked rows, and each kind of call with and without a refusal. Each runs under the builder of hashers
+// that stores and sets have by default, and under two with keys.
 mod entities;
 mod script;
 

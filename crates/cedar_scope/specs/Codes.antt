@@ -4,7 +4,8 @@ use Rattle.std.specs.Coded.{Coded, code_by, coded×, coded_ℕ, coded_option}
 use Rattle.cedar_ids.specs.Name.{NameParts}
 use Rattle.cedar_ids.specs.Uid.{UidParts}
 use Rattle.cedar_ids.specs.Codes.{name_code, uid_parts_code}
-use Rattle.cedar_scope.specs.Scope.{Reference, to_uid, to_slot, Constraint, any, within, equals, of_type, of_type_within}
+use Rattle.cedar_scope.specs.Scope.{Reference, to_uid, to_slot, Constraint, any, within, equals, of_type}
+use Rattle.cedar_scope.specs.Scope.{of_type_within}
 use Rattle.cedar_scope.specs.ScopeReads.{referred_uid, constraint_kind, stated_type, reference_in}
 
 -- the reference of a uid, the slot where there is none
@@ -17,7 +18,8 @@ reference_with-referred_uid (to_uid u) = refl
 reference_with-referred_uid to_slot = refl
 
 abbrev pub reference_code : Coded Reference
-reference_code = code_by (Option UidParts) (coded_option uid_parts_code) referred_uid reference_with reference_with-referred_uid
+reference_code =
+    code_by (Option UidParts) (coded_option uid_parts_code) referred_uid reference_with reference_with-referred_uid
 
 -- the constraint of a kind, with these parts
 abbrev pub constraint_with : ℕ → Option NameParts → Option Reference → Constraint
@@ -36,5 +38,7 @@ constraint_with-parts (of_type_within t r) = refl
 
 abbrev pub constraint_code : Coded Constraint
 constraint_code =
-    code_by (ℕ × (Option NameParts × Option Reference)) (coded× coded_ℕ (coded× (coded_option name_code) (coded_option reference_code)))
-    (λ c. (constraint_kind c, (stated_type c, reference_in c))) (λ p. constraint_with p.0 p.1.0 p.1.1) constraint_with-parts
+    code_by (ℕ × (Option NameParts × Option Reference))
+    (coded× coded_ℕ (coded× (coded_option name_code) (coded_option reference_code)))
+    (λ c. (constraint_kind c, (stated_type c, reference_in c)))
+    (λ p. constraint_with p.0 p.1.0 p.1.1) constraint_with-parts

@@ -3,7 +3,8 @@ use Rattle.std.specs.Prelude.{ℕ, List, ◌++◌, Bool, true, false, Option, So
 use Rattle.std.specs.Option.{option_map, option_to_list}
 use Rattle.cedar_ids.specs.Name.{NameParts}
 use Rattle.cedar_ids.specs.Uid.{UidParts, name_part}
-use Rattle.cedar_scope.specs.Scope.{Reference, to_uid, to_slot, Constraint, any, within, equals, of_type, of_type_within}
+use Rattle.cedar_scope.specs.Scope.{Reference, to_uid, to_slot, Constraint, any, within, equals, of_type}
+use Rattle.cedar_scope.specs.Scope.{of_type_within}
 
 -- the uid, if it is one
 abbrev pub referred_uid : Reference → Option UidParts

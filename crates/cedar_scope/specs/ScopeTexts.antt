@@ -5,7 +5,8 @@ use Rattle.cedar_terms.specs.SlotTree.{slot_text}
 use Rattle.cedar_terms.specs.UidTrees.{is_ascii_uid}
 use Rattle.cedar_terms.specs.VarTree.{var_text}
 use Rattle.cedar_terms.specs.declared.slot.SlotId.{SlotId}
-use Rattle.cedar_scope.specs.Scope.{Reference, to_uid, to_slot, Constraint, any, within, equals, of_type, of_type_within}
+use Rattle.cedar_scope.specs.Scope.{Reference, to_uid, to_slot, Constraint, any, within, equals, of_type}
+use Rattle.cedar_scope.specs.Scope.{of_type_within}
 use Rattle.cedar_scope.specs.ScopeTrees.{var_of, slot_id_of}
 use Rattle.cedar_scope.specs.declared.variable.PrincipalOrResource.{PrincipalOrResource}
 

@@ -7,7 +7,8 @@ use Rattle.cedar_terms.specs.declared.slot.SlotId.{SlotId}
 use Rattle.cedar_terms.specs.declared.slot.SlotId.TheVariants as slots
 use Rattle.cedar_terms.specs.declared.var.Var.{Var}
 use Rattle.cedar_terms.specs.declared.var.Var.TheVariants as vars
-use Rattle.cedar_scope.specs.Scope.{Reference, to_uid, to_slot, Constraint, any, within, equals, of_type, of_type_within}
+use Rattle.cedar_scope.specs.Scope.{Reference, to_uid, to_slot, Constraint, any, within, equals, of_type}
+use Rattle.cedar_scope.specs.Scope.{of_type_within}
 use Rattle.cedar_scope.specs.declared.variable.PrincipalOrResource.{PrincipalOrResource}
 use Rattle.cedar_scope.specs.declared.variable.PrincipalOrResource.TheVariants.{Principal, Resource}
 

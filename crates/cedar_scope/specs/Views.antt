@@ -1,7 +1,8 @@
 -- What callers see of references and constraints, and of what iterators have left.
 use Rattle.cedar_ids.specs.UidOf.{uid_parts}
 use Rattle.cedar_ids.specs.Views.{type_name}
-use Rattle.cedar_scope.specs.Scope.{Reference, to_uid, to_slot, Constraint, any, within, equals, of_type, of_type_within}
+use Rattle.cedar_scope.specs.Scope.{Reference, to_uid, to_slot, Constraint, any, within, equals, of_type}
+use Rattle.cedar_scope.specs.Scope.{of_type_within}
 use Rattle.cedar_scope.specs.declared.reference.EntityReference.{EntityReference}
 use Rattle.cedar_scope.specs.declared.reference.EntityReference.TheVariants as references
 use Rattle.cedar_scope.specs.declared.constraint.PrincipalOrResourceConstraint.{PrincipalOrResourceConstraint}

@@ -8,12 +8,14 @@ ghost use Rattle.std.proofs.Common.{refl};
 ghost use Rattle.cedar_ids.specs.UidOf.{uid_parts};
 ghost use Rattle.cedar_ids.specs.Views.{type_name};
 ghost use Rattle.cedar_scope.specs.Scope.{to_slot, to_uid, any, within, equals, of_type, of_type_within};
-ghost use Rattle.cedar_scope.specs.ScopeReads.{constraint_kind, stated_type, reference_in, constraint_uid, constraint_types, filled};
+ghost use Rattle.cedar_scope.specs.ScopeReads.{constraint_kind, stated_type, reference_in, constraint_uid};
+ghost use Rattle.cedar_scope.specs.ScopeReads.{constraint_types, filled};
 ghost use Rattle.cedar_scope.specs.ScopeOrder.{constraint_cmp, same_constraint, constraint_hash};
 ghost use Rattle.cedar_scope.specs.ScopeTrees.{constraint_expr};
 ghost use Rattle.cedar_scope.specs.ScopeTexts.{constraint_text, constraint_output, is_ascii_constraint};
 ghost use Rattle.cedar_scope.specs.Views.{reference_of, constraint_of};
-ghost use Rattle.cedar_scope.specs.laws.ScopeOrders.{constraint_cmp_total, same_constraint_equiv, constraint_hash_respects};
+ghost use Rattle.cedar_scope.specs.laws.ScopeOrders.{constraint_cmp_total, same_constraint_equiv};
+ghost use Rattle.cedar_scope.specs.laws.ScopeOrders.{constraint_hash_respects};
 
 use crate::iters::ConstraintTypeNames;
 use crate::reference::EntityReference;

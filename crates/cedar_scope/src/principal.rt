@@ -12,7 +12,8 @@ ghost use Rattle.cedar_scope.specs.ScopeOrder.{constraint_cmp, same_constraint, 
 ghost use Rattle.cedar_scope.specs.ScopeTrees.{constraint_expr};
 ghost use Rattle.cedar_scope.specs.ScopeTexts.{constraint_output};
 ghost use Rattle.cedar_scope.specs.Views.{constraint_of};
-ghost use Rattle.cedar_scope.specs.laws.ScopeOrders.{constraint_cmp_total, same_constraint_equiv, constraint_hash_respects};
+ghost use Rattle.cedar_scope.specs.laws.ScopeOrders.{constraint_cmp_total, same_constraint_equiv};
+ghost use Rattle.cedar_scope.specs.laws.ScopeOrders.{constraint_hash_respects};
 ghost use Rattle.cedar_scope.specs.declared.variable.PrincipalOrResource.TheVariants as variables;
 
 use crate::constraint::PrincipalOrResourceConstraint;

@@ -10,7 +10,8 @@ ghost use Rattle.cedar_scope.specs.ScopeOrder.{reference_cmp, same_reference, re
 ghost use Rattle.cedar_scope.specs.ScopeTrees.{reference_expr};
 ghost use Rattle.cedar_scope.specs.ScopeTexts.{reference_text, is_ascii_reference};
 ghost use Rattle.cedar_scope.specs.Views.{reference_of};
-ghost use Rattle.cedar_scope.specs.laws.ScopeOrders.{reference_cmp_total, same_reference_equiv, reference_hash_respects};
+ghost use Rattle.cedar_scope.specs.laws.ScopeOrders.{reference_cmp_total, same_reference_equiv};
+ghost use Rattle.cedar_scope.specs.laws.ScopeOrders.{reference_hash_respects};
 
 use cedar_ids::entity::EntityUID;
 use cedar_ids::loc::Loc;

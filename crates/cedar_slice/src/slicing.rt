@@ -127,13 +127,13 @@ fn copies_of<S: BuildHasher + Clone>(
     Ok(list)
 }
 
-/// The slice of a store at some uids, not partial: copies of the entities that have one of these uids, and of those that
-/// the store holds among the ancestors of one of them, each with all that it holds. Asked uids that the store lacks, and
-/// repeats, change nothing. The slice hashes uids as the store does, by a copy of its builder of hashers.
+/// The slice of a store at some uids, not partial: copies of the entities that have one of these uids, and of those
+/// that the store holds among the ancestors of one of them, each with all that it holds. Asked uids that the store
+/// lacks, and repeats, change nothing. The slice hashes uids as the store does, by a copy of its builder of hashers.
 ///
-/// Refused by [`EntitiesError::Memory`] alone, whatever the store. It takes memory. It looks each asked uid up, notes its
-/// ancestors, and looks each uid that was noted up once and copies what it finds: the store is never walked as a whole.
-/// Attributes and tags are copied, the uids of ancestors are shared.
+/// Refused by [`EntitiesError::Memory`] alone, whatever the store. It takes memory. It looks each asked uid up, notes
+/// its ancestors, and looks each uid that was noted up once and copies what it finds: the store is never walked as a
+/// whole. Attributes and tags are copied, the uids of ancestors are shared.
 pub fn slice<S: BuildHasher + Clone>(
     alloc: Global,
     store: &Entities<S>,

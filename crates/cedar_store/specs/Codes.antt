@@ -10,5 +10,6 @@ use Rattle.cedar_store.specs.Sessions.{SessionView}
 -- the store with what waits, the boards, and whether memory was refused
 abbrev pub session_code : Coded SessionView
 session_code =
-    code_by (StoreAndWaiting × (Boards × Bool)) (coded× waiting_code (coded× boards_code coded_bool)) (λ v. (v.entities, (v.boards, v.is_lost)))
+    code_by (StoreAndWaiting × (Boards × Bool)) (coded× waiting_code (coded× boards_code coded_bool))
+    (λ v. (v.entities, (v.boards, v.is_lost)))
     (λ r. record { entities = r.0; boards = r.1.0; is_lost = r.1.1 }) (λ _. refl)

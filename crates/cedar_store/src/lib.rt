@@ -2,11 +2,11 @@
 //! program over them.
 //!
 //! The names stand at the original's module paths: [`ast`] has ids, values, expressions, entities, templates, policies
-//! and their sets, [`entities`] the store, [`transitive_closure`] the closure calls. Beside them are this project's own:
-//! [`replay_entities`] makes a list of calls on a store and [`replay_policies`] one on a policy set, and their contracts
-//! say what that leaves; [`run`] reads lines and writes their answers, and its contract says that what is written is the
-//! output of what was read, by `specs/Output.antt`, and that each input has exactly one; a [`Session`] takes such lines one by
-//! one.
+//! and their sets, [`entities`] the store, [`transitive_closure`] the closure calls. Beside them are this project's
+//! own: [`replay_entities`] makes a list of calls on a store and [`replay_policies`] one on a policy set, and their
+//! contracts say what that leaves; [`run`] reads lines and writes their answers, and its contract says that what is
+//! written is the output of what was read, by `specs/Output.antt`, and that each input has exactly one; a [`Session`]
+//! takes such lines one by one.
 #![tactic(auto, using(cedar_ids::specs::laws::UidOfLaws::same_uid_decides))]
 
 mod line;

@@ -356,8 +356,8 @@ impl Read for Failing<'_> {
 // How many bytes the input has that is read in parts.
 const READ: usize = 28;
 
-// Whether a run whose reader gives at most so many bytes at a time, and fails after so many good reads, writes nothing and is
-// refused for it, and one that needs no more writes all.
+// Whether a run whose reader gives at most so many bytes at a time, and fails after so many good reads, writes nothing
+// and is refused for it, and one that needs no more writes all.
 fn is_read_whole(alloc: Global, way: Way, most: usize, good: usize) -> bool {
     let left = b"ent\tA::\"a\"\nbuild\nanc\tA::\"a\"\n".as_slice();
     let mut out = Vec::new(alloc);
@@ -431,8 +431,8 @@ impl Write for Full {
     }
 }
 
-// Whether a run whose writer takes so many bytes at a time and so many good writes, and flushes or not, is refused for it where
-// it needs more.
+// Whether a run whose writer takes so many bytes at a time and so many good writes, and flushes or not, is refused for
+// it where it needs more.
 fn is_written_whole(alloc: Global, way: Way, most: usize, good: usize, flushes: bool) -> bool {
     let mut reader = b"ent\tA::\"a\"\nbuild\nanc\tA::\"a\"\n".as_slice();
     let mut writer = Full {

@@ -112,8 +112,8 @@ fn told_of<S: BuildHasher + Copy>(alloc: Global, outcome: Outcome<S>) -> Result<
     }
 }
 
-/// What these calls leave, from the empty store on that is given no builder of hashers, or the refusal that ends them, as a
-/// text.
+/// What these calls leave, from the empty store on that is given no builder of hashers, or the refusal that ends them,
+/// as a text.
 pub fn told(alloc: Global, calls: &str) -> Result<String, Fail> {
     told_of(alloc, run_on(alloc, Entities::new(alloc), calls)?)
 }
@@ -136,8 +136,8 @@ fn is_said(said: Result<String, Fail>, want: &str) -> Result<bool, Fail> {
     Ok(is_so)
 }
 
-/// Whether this is what the calls leave, or one of several texts with a slash between them. It fails where stores under two
-/// keys tell otherwise.
+/// Whether this is what the calls leave, or one of several texts with a slash between them. It fails where stores under
+/// two keys tell otherwise.
 pub fn leaves(alloc: Global, calls: &str, want: &str) -> Result<bool, Fail> {
     let (one, other) = (
         KeyedState::with_keys(1, 2),
@@ -152,8 +152,8 @@ pub fn leaves(alloc: Global, calls: &str, want: &str) -> Result<bool, Fail> {
     Err(Fail::new(format_args!("{calls}: under another key they leave another store")))
 }
 
-/// The first of these lists of calls that leaves something else than what stands beside it, or nothing. It fails where stores
-/// under two keys tell otherwise.
+/// The first of these lists of calls that leaves something else than what stands beside it, or nothing. It fails where
+/// stores under two keys tell otherwise.
 pub fn wrong(alloc: Global, table: &[(&str, &str)]) -> Result<String, Fail> {
     for (calls, want) in table {
         if !leaves(alloc, calls, want)? {

@@ -19,7 +19,8 @@ GoesOn Strict = ⊥
 abbrev pub Says : ℕ → List ℕ → List ℕ → Type 0
 Says n line out = ((line ≡ codes "help") × (out ≡ HELP.now)) ⊎ ((line ≢ codes "help") × (out ≡ not_command n))
 
--- line n is answered in the state s: as the command that it is, which gives the state t; or, where the conversation goes on after
+-- line n is answered in the state s: as the command that it is, which gives the state t; or, where the conversation
+-- goes on after
 -- a line that is none, by what is said of that, and the state stays
 abbrev pub Answers : Manner → ℕ → State → List ℕ → State → List ℕ → Type 0
 Answers m n s line t out =
@@ -29,7 +30,8 @@ Answers m n s line t out =
 -- the lines from number n on are answered one after another, the first of them in the state s; t is the state then
 unfoldable pub AnswersFrom : Manner → ℕ → State → List (List ℕ) → State → List ℕ → Type 0
 AnswersFrom m n s [] t out = (t ≡ s) × (out ≡ [])
-AnswersFrom m n s (l ∷ ls) t out = (u : State) × (a : List ℕ) × (b : List ℕ) × Answers m n s l u a × AnswersFrom m (n + 1) u ls t b × (out ≡ a ++ b)
+AnswersFrom m n s (l ∷ ls) t out = (u : State) × (a : List ℕ) × (b : List ℕ) × Answers m n s l u a
+    × AnswersFrom m (n + 1) u ls t b × (out ≡ a ++ b)
 
 -- these are the answers to lines, counted from 1, which begin in the state without anything
 abbrev pub AreAnswers : Manner → List (List ℕ) → List ℕ → Type 0
@@ -43,9 +45,12 @@ AnswersEnded m bytes out = (h : Heard) × IsHeard bytes h × AreAnswers m h.line
 abbrev pub AnswersAll : Manner → List ℕ → List ℕ → Type 0
 AnswersAll m input out = (h : Heard) × IsHeard input h × AreAnswers m (all_lines h) out
 
--- what a fault leaves. Where a read failed, what was written is the answers to all lines that had been read to their line feed;
+-- what a fault leaves. Where a read failed, what was written is the answers to all lines that had been read to their
+-- line feed;
 -- where memory was refused, to all that had been before some read. Of a write fault nothing is said
 abbrev pub Leaves : Manner → TalkError → Option (List ℕ) → Option (List ℕ) → Option (List ℕ) → Option (List ℕ) → Type 0
-Leaves m Read r r' w w' = (bytes : List ℕ) × (out : List ℕ) × Consumes r r' bytes × AnswersEnded m bytes out × Appends w w' out
-Leaves m Memory r r' w w' = (bytes : List ℕ) × (more : List ℕ) × (out : List ℕ) × Consumes r r' (bytes ++ more) × AnswersEnded m bytes out × Appends w w' out
+Leaves m Read r r' w w' = (bytes : List ℕ) × (out : List ℕ) × Consumes r r' bytes × AnswersEnded m bytes out
+    × Appends w w' out
+Leaves m Memory r r' w w' = (bytes : List ℕ) × (more : List ℕ) × (out : List ℕ) × Consumes r r' (bytes ++ more)
+    × AnswersEnded m bytes out × Appends w w' out
 Leaves m Write r r' w w' = Unit {0}

@@ -1,5 +1,6 @@
 //! A conversation over a reader and a writer.
-ghost use Rattle.std.specs.Prelude.{◌≡◌, ◌<◌, ◌≤◌, ◌+◌, ◌^◌, List, ℕ, [], IfOk, OnOk, OnErr, IfSome, IfErr, length, take};
+ghost use Rattle.std.specs.Prelude.{◌≡◌, ◌<◌, ◌≤◌, ◌+◌, ◌^◌, List, ℕ, [], IfOk, OnOk, OnErr, IfSome, IfErr, length};
+ghost use Rattle.std.specs.Prelude.{take};
 ghost use Rattle.std.specs.Io.KnownBytes.{IsAtEnd, Appends, Consumes, Keeps};
 ghost use Rattle.cedar_store.specs.Output.{IsOutput};
 ghost use Rattle.cedar_talk.specs.Conversation.{AnswersAll, Leaves};

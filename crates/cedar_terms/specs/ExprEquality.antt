@@ -8,7 +8,9 @@ use Rattle.cedar_terms.specs.SlotTree.{slot_hash}
 use Rattle.cedar_terms.specs.VarTree.{var_hash}
 use Rattle.cedar_terms.specs.UnknownParts.{unknown_hash}
 use Rattle.cedar_terms.specs.ValueHash.{literal_hash}
-use Rattle.cedar_terms.specs.ExprTree.{Operator, operator_index, ExprTree, val_node, var_node, slot_node, unknown_node, set_node, call_node, not_node, binary_node, is_node, ExprTrees, no_exprs, expr_then}
+use Rattle.cedar_terms.specs.ExprTree.{Operator, operator_index, ExprTree, val_node, var_node, slot_node, unknown_node}
+use Rattle.cedar_terms.specs.ExprTree.{set_node, call_node, not_node, binary_node, is_node, ExprTrees, no_exprs}
+use Rattle.cedar_terms.specs.ExprTree.{expr_then}
 use Rattle.cedar_terms.specs.ExprKeys.{expr_key, exprs_key}
 
 -- what `==` answers: the keys are not told apart. Two expressions are equal exactly where they are the same, says the

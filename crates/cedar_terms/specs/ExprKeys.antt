@@ -6,7 +6,9 @@ use Rattle.cedar_ids.specs.Name.{NameParts}
 use Rattle.cedar_terms.specs.SlotTree.{slot_index}
 use Rattle.cedar_terms.specs.VarTree.{var_index}
 use Rattle.cedar_terms.specs.UnknownParts.{UnknownParts}
-use Rattle.cedar_terms.specs.ExprTree.{operator_index, Operator, ExprTree, val_node, var_node, slot_node, unknown_node, set_node, call_node, not_node, binary_node, is_node, ExprTrees, no_exprs, expr_then}
+use Rattle.cedar_terms.specs.ExprTree.{operator_index, Operator, ExprTree, val_node, var_node, slot_node, unknown_node}
+use Rattle.cedar_terms.specs.ExprTree.{set_node, call_node, not_node, binary_node, is_node, ExprTrees, no_exprs}
+use Rattle.cedar_terms.specs.ExprTree.{expr_then}
 use Rattle.cedar_terms.specs.declared.slot.SlotId.{SlotId}
 use Rattle.cedar_terms.specs.declared.var.Var.{Var}
 

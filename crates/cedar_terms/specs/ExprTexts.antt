@@ -6,7 +6,9 @@ use Rattle.cedar_terms.specs.SlotTree.{slot_text}
 use Rattle.cedar_terms.specs.VarTree.{var_text}
 use Rattle.cedar_terms.specs.ValueTexts.{literal_text, is_ascii_literal}
 use Rattle.cedar_terms.specs.UnknownParts.{UnknownParts}
-use Rattle.cedar_terms.specs.ExprTree.{Operator, and_operator, eq_operator, in_operator, ExprTree, val_node, var_node, slot_node, unknown_node, set_node, call_node, not_node, binary_node, is_node, ExprTrees, no_exprs, expr_then}
+use Rattle.cedar_terms.specs.ExprTree.{Operator, and_operator, eq_operator, in_operator, ExprTree, val_node, var_node}
+use Rattle.cedar_terms.specs.ExprTree.{slot_node, unknown_node, set_node, call_node, not_node, binary_node, is_node}
+use Rattle.cedar_terms.specs.ExprTree.{ExprTrees, no_exprs, expr_then}
 
 -- whether it stands without parentheses as an operand
 abbrev pub is_atom : ExprTree → Bool
@@ -48,7 +50,8 @@ abbrev mutual
   expr_text (set_node es) = codes "[" ++ (exprs_text es ++ codes "]")
   expr_text (call_node f es) = printed_name f ++ (codes "(" ++ (exprs_text es ++ codes ")"))
   expr_text (not_node e) = codes "!" ++ operand (is_atom e) (expr_text e)
-  expr_text (binary_node o x y) = operand (is_atom x) (expr_text x) ++ (operator_text o ++ operand (is_atom y) (expr_text y))
+  expr_text (binary_node o x y) = operand (is_atom x) (expr_text x)
+      ++ (operator_text o ++ operand (is_atom y) (expr_text y))
   expr_text (is_node e t) = operand (is_atom e) (expr_text e) ++ (codes " is " ++ printed_name t)
 
   -- the expressions of a list, joined by a comma and a blank

@@ -1,6 +1,8 @@
 -- What callers see of what stands in an expression.
 use Rattle.cedar_ids.specs.Views.{type_name}
-use Rattle.cedar_terms.specs.ExprTree.{Operator, and_operator, eq_operator, in_operator, ExprTree, val_node, var_node, slot_node, unknown_node, set_node, call_node, not_node, binary_node, is_node, expr_trees}
+use Rattle.cedar_terms.specs.ExprTree.{Operator, and_operator, eq_operator, in_operator, ExprTree, val_node, var_node}
+use Rattle.cedar_terms.specs.ExprTree.{slot_node, unknown_node, set_node, call_node, not_node, binary_node, is_node}
+use Rattle.cedar_terms.specs.ExprTree.{expr_trees}
 use Rattle.cedar_terms.specs.Views.{literal_tree}
 use Rattle.cedar_terms.specs.declared.expr.BinaryOp.{BinaryOp}
 use Rattle.cedar_terms.specs.declared.expr.BinaryOp.TheVariants as operators

@@ -5,7 +5,8 @@ use Rattle.std.specs.Str.{bytes_eq}
 use Rattle.std.specs.Ordering.{nat_cmp}
 use Rattle.std.specs.Cmp.Lexicographic.{slice_cmp}
 use Rattle.std.specs.List.Sorted.{IsStrictlySortedBy}
-use Rattle.cedar_terms.specs.ValueTree.{ValueTree, set_value, record_value, value_trees, FieldTrees, no_fields, field_then, value_cmp}
+use Rattle.cedar_terms.specs.ValueTree.{ValueTree, set_value, record_value, value_trees, FieldTrees, no_fields}
+use Rattle.cedar_terms.specs.ValueTree.{field_then, value_cmp}
 
 -- the value at a key of a record
 abbrev pub field_at : List ℕ → FieldTrees → Option ValueTree

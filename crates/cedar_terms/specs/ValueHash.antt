@@ -4,7 +4,8 @@ use Rattle.std.specs.Hash as fed
 use Rattle.cedar_ids.specs.Name.{NameParts, name_hash_input}
 use Rattle.cedar_ids.specs.Uid.{uid_hash_input}
 use Rattle.cedar_terms.specs.LiteralTree.{LiteralTree, bool_literal, long_literal, string_literal, uid_literal}
-use Rattle.cedar_terms.specs.ValueTree.{ValueTree, literal_value, set_value, record_value, extension_value, ValueTrees, no_values, value_then, FieldTrees, no_fields, field_then}
+use Rattle.cedar_terms.specs.ValueTree.{ValueTree, literal_value, set_value, record_value, extension_value, ValueTrees}
+use Rattle.cedar_terms.specs.ValueTree.{no_values, value_then, FieldTrees, no_fields, field_then}
 
 -- a literal: the place of its kind, then its content
 abbrev pub literal_hash : LiteralTree → List (List ℕ)

@@ -5,7 +5,8 @@ use Rattle.cedar_ids.specs.Name.{NameParts}
 use Rattle.cedar_ids.specs.Escape.{escaped, is_ascii}
 use Rattle.cedar_ids.specs.Printed.{printed_name, printed_uid}
 use Rattle.cedar_terms.specs.LiteralTree.{LiteralTree, bool_literal, long_literal, string_literal, uid_literal}
-use Rattle.cedar_terms.specs.ValueTree.{ValueTree, literal_value, set_value, record_value, extension_value, ValueTrees, no_values, value_then, FieldTrees, no_fields, field_then}
+use Rattle.cedar_terms.specs.ValueTree.{ValueTree, literal_value, set_value, record_value, extension_value, ValueTrees}
+use Rattle.cedar_terms.specs.ValueTree.{no_values, value_then, FieldTrees, no_fields, field_then}
 
 -- an escaped text between quotes
 abbrev pub quoted : List ℕ → List ℕ

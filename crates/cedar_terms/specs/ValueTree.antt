@@ -59,7 +59,8 @@ abbrev mutual
   fields_cmp no_fields no_fields = Equal
   fields_cmp no_fields (field_then l w ws) = Less
   fields_cmp (field_then k v vs) no_fields = Greater
-  fields_cmp (field_then k v vs) (field_then l w ws) = ordering_then (ordering_then (slice_cmp nat_cmp k l) (value_cmp v w)) (fields_cmp vs ws)
+  fields_cmp (field_then k v vs) (field_then l w ws) =
+      ordering_then (ordering_then (slice_cmp nat_cmp k l) (value_cmp v w)) (fields_cmp vs ws)
 
 -- neither stands before the other
 abbrev pub same_value : ValueTree → ValueTree → Bool

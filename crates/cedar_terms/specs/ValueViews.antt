@@ -2,7 +2,8 @@
 use Rattle.std.specs.Prelude.{ℕ, List, [], ◌∷◌, Bool, String, string_bytes, map}
 use Rattle.std.specs.Ordering.{on}
 use Rattle.std.specs.declared.alloc.Global.{Global}
-use Rattle.cedar_terms.specs.ValueTree.{ValueTree, literal_value, set_value, record_value, extension_value, value_trees, FieldTrees, no_fields, field_then, same_value}
+use Rattle.cedar_terms.specs.ValueTree.{ValueTree, literal_value, set_value, record_value, extension_value, value_trees}
+use Rattle.cedar_terms.specs.ValueTree.{FieldTrees, no_fields, field_then, same_value}
 use Rattle.cedar_terms.specs.ValueHash.{value_hash}
 use Rattle.cedar_terms.specs.Views.{literal_tree}
 use Rattle.cedar_terms.specs.declared.value.ValueKind.{ValueKind}

@@ -5,7 +5,8 @@ use Rattle.std.specs.Str.{bytes_eq}
 use Rattle.cedar_ids.specs.Name.{NameParts}
 use Rattle.cedar_ids.specs.Printed.{printed_name}
 use Rattle.cedar_terms.specs.UnknownParts.{UnknownParts}
-use Rattle.cedar_terms.specs.ExprTree.{ExprTree, val_node, var_node, slot_node, unknown_node, set_node, call_node, not_node, binary_node, is_node, ExprTrees, no_exprs, expr_then}
+use Rattle.cedar_terms.specs.ExprTree.{ExprTree, val_node, var_node, slot_node, unknown_node, set_node, call_node}
+use Rattle.cedar_terms.specs.ExprTree.{not_node, binary_node, is_node, ExprTrees, no_exprs, expr_then}
 use Rattle.cedar_terms.specs.declared.slot.SlotId.{SlotId}
 
 -- the nodes: a node stands before what lies below it, and a later child with its nodes before an earlier one

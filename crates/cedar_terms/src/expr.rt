@@ -95,7 +95,9 @@ impl Expr {
     ghost use Rattle.std.specs.Prelude.{map, OnOk, ◌++◌, List};
     ghost use Rattle.cedar_ids.specs.Views.{type_name};
     ghost use Rattle.cedar_terms.specs.Views.{literal_tree};
-    ghost use Rattle.cedar_terms.specs.ExprTree.{val_node, var_node, slot_node, unknown_node, set_node, call_node, not_node, binary_node, and_node, eq_node, in_node, is_node, expr_trees};
+    ghost use Rattle.cedar_terms.specs.ExprTree.{val_node, var_node, slot_node, unknown_node, set_node, call_node};
+    ghost use Rattle.cedar_terms.specs.ExprTree.{not_node, binary_node, and_node, eq_node, in_node, is_node};
+    ghost use Rattle.cedar_terms.specs.ExprTree.{expr_trees};
     ghost use Rattle.cedar_terms.specs.ExprViews.{node_tree, operator_of};
 
     /// The expression of a literal. A new node has no location.

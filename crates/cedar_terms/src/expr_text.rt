@@ -2,7 +2,8 @@
 ghost use Rattle.std.specs.Prelude.{◌≡◌, true};
 ghost use Rattle.std.specs.Fmt.{WritesOnOk};
 ghost use Rattle.cedar_terms.specs.ExprTree.{expr_trees};
-ghost use Rattle.cedar_terms.specs.ExprTexts.{expr_text, exprs_text, operand, operator_text, is_atom, is_ascii_expr, are_ascii_exprs};
+ghost use Rattle.cedar_terms.specs.ExprTexts.{expr_text, exprs_text, operand, operator_text, is_atom, is_ascii_expr};
+ghost use Rattle.cedar_terms.specs.ExprTexts.{are_ascii_exprs};
 ghost use Rattle.cedar_terms.specs.ExprViews.{operator_of};
 
 use crate::expr::{BinaryOp, Expr, ExprKind};

@@ -4,7 +4,8 @@ ghost use Rattle.std.proofs.Common.{refl};
 ghost use Rattle.std.specs.Ordering.{as_partial_cmp};
 ghost use Rattle.std.specs.Cmp.{partial_equiv_from_equiv};
 ghost use Rattle.cedar_terms.specs.SlotTree.{all_slots, slot_index, same_slot, slot_cmp, slot_hash, slot_text};
-ghost use Rattle.cedar_terms.specs.laws.SlotIdLaws.{same_slot_equiv, slot_cmp_total, slot_ties, slot_po, slot_hash_respects};
+ghost use Rattle.cedar_terms.specs.laws.SlotIdLaws.{same_slot_equiv, slot_cmp_total, slot_ties, slot_po};
+ghost use Rattle.cedar_terms.specs.laws.SlotIdLaws.{slot_hash_respects};
 
 use cedar_ids::loc::Loc;
 use std::alloc::AllocError;

@@ -3,7 +3,8 @@ ghost use Rattle.std.specs.Prelude.{◌≡◌, ◌++◌, true, codes};
 ghost use Rattle.std.specs.Fmt.{WritesOnOk};
 ghost use Rattle.cedar_ids.specs.Escape.{is_ascii};
 ghost use Rattle.cedar_terms.specs.ValueTree.{value_trees};
-ghost use Rattle.cedar_terms.specs.ValueTexts.{quoted, value_text, values_text, fields_text, is_ascii_value, are_ascii_values, are_ascii_fields};
+ghost use Rattle.cedar_terms.specs.ValueTexts.{quoted, value_text, values_text, fields_text, is_ascii_value};
+ghost use Rattle.cedar_terms.specs.ValueTexts.{are_ascii_values, are_ascii_fields};
 ghost use Rattle.cedar_terms.specs.ValueViews.{kind_tree, field_trees};
 
 use crate::value::{Value, ValueKind};

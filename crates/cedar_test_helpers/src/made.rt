@@ -1,5 +1,5 @@
-//! Things that a test makes and hands on as `Option`: `None` where one could not be made. What asks such a thing lets it go,
-//! and answers `false` of `None`.
+//! Things that a test makes and hands on as `Option`: `None` where one could not be made. What asks such a thing lets
+//! it go, and answers `false` of `None`.
 
 use cedar_ids::entity::{Eid, EntityType, EntityUID};
 use cedar_ids::loc::Loc;

@@ -1,5 +1,5 @@
-//! Rows of a test that stand in one text, a line each: what is asked, an arrow ` => `, and what has to be told. A line that
-//! begins with `#` is a heading. `¶` stands for the end of a line.
+//! Rows of a test that stand in one text, a line each: what is asked, an arrow ` => `, and what has to be told. A line
+//! that begins with `#` is a heading. `¶` stands for the end of a line.
 
 use std::alloc::Global;
 use std::test::Fail;
@@ -18,7 +18,8 @@ pub fn meant(alloc: Global, text: &str) -> Result<String, Fail> {
     Ok(all)
 }
 
-/// Fails with a row and what was told of it, where that is not what stands behind the row's arrow. What was told is let go.
+/// Fails with a row and what was told of it, where that is not what stands behind the row's arrow. What was told is let
+/// go.
 pub fn holds(row: &str, told: Result<String, Fail>, want: &str) -> Result<(), Fail> {
     let told = told?;
     if is_spelled(told.as_str(), want) {
@@ -27,8 +28,8 @@ pub fn holds(row: &str, told: Result<String, Fail>, want: &str) -> Result<(), Fa
     Err(Fail::new(format_args!("{row}: {told}")))
 }
 
-/// Fails with the first row of a text of which another thing is told than stands behind its arrow, or that has none and is
-/// no heading. `tell` says what is told of what stands before the arrow.
+/// Fails with the first row of a text of which another thing is told than stands behind its arrow, or that has none and
+/// is no heading. `tell` says what is told of what stands before the arrow.
 pub fn all_hold<F: FnMut(Global, &str) -> Result<String, Fail>>(
     alloc: Global,
     rows: &str,

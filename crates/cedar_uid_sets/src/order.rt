@@ -60,7 +60,8 @@ fn has_numbers(uids: &[SharedUid], uid: &Key<'_>) -> bool
         .any(|shared| have_same_numbers(uid, &shared.key()))
 }
 
-// Whether it has to be looked whether the uid is one of these: where they are few, the numbers mostly tell that it is not.
+// Whether it has to be looked whether the uid is one of these: where they are few, the numbers mostly tell that it is
+// not.
 pub(crate) fn may_be_among(uids: &[SharedUid], uid: &Key<'_>) -> bool
     ensures { (result ≡ false) → is_member same_uid uids.now uid.now ≡ false }
 {

@@ -1,7 +1,8 @@
 //! A uid behind a counted pointer, with the two numbers that abbreviate it.
 ghost use Rattle.std.specs.Prelude.{◌≡◌, IfOk, IfErr, ◌⊎◌};
 ghost use Rattle.cedar_ids.specs.UidOf.{same_uid, uid_order, uid_hash};
-ghost use Rattle.cedar_ids.specs.laws.UidOfLaws.{same_uid_equiv, uid_order_total, uid_order_ties, uid_order_po, uid_hash_respects};
+ghost use Rattle.cedar_ids.specs.laws.UidOfLaws.{same_uid_equiv, uid_order_total, uid_order_ties, uid_order_po};
+ghost use Rattle.cedar_ids.specs.laws.UidOfLaws.{uid_hash_respects};
 ghost use Rattle.std.specs.Cmp.{partial_equiv_from_equiv};
 ghost use Rattle.std.specs.Ordering.{as_partial_cmp};
 ghost use Rattle.std.proofs.Common.{refl};

@@ -66,8 +66,8 @@ impl UidSet {
         UidSet { uids }
     }
 
-    /// The uids of a hash set, however it hashes, now to be shared. It takes memory for a pointer and a box a uid, and is refused only
-    /// where that is; it sorts them, in the logarithm of their number of comparisons a uid.
+    /// The uids of a hash set, however it hashes, now to be shared. It takes memory for a pointer and a box a uid, and
+    /// is refused only where that is; it sorts them, in the logarithm of their number of comparisons a uid.
     pub fn from_set<S: BuildHasher + Drop>(
         alloc: Global,
         uids: HashSet<EntityUID, S>,
@@ -180,8 +180,8 @@ impl UidSet {
         self.remove_key(&Key::of(uid));
     }
 
-    /// Takes a uid that is shared out; one that is not there changes nothing. It takes no memory, and compares and moves
-    /// as [`UidSet::remove`] does, which costs less here: the numbers that abbreviate the uid are at hand.
+    /// Takes a uid that is shared out; one that is not there changes nothing. It takes no memory, and compares and
+    /// moves as [`UidSet::remove`] does, which costs less here: the numbers that abbreviate the uid are at hand.
     pub fn remove_shared(&mut self, shared: &SharedUid)
         ensures { self.new ≡ set.remove self.old shared.now }
     {

@@ -17,8 +17,8 @@ use std::alloc::Global;
 
 /// Grants a user what a template says of its principal: a link of it under a new id, with the user as its principal.
 ///
-/// Refused where the first id is no template's, where the template has other slots than the principal's alone, or where the
-/// new id is bound, in this order, and for memory, which it takes. A refusal leaves the set.
+/// Refused where the first id is no template's, where the template has other slots than the principal's alone, or where
+/// the new id is bound, in this order, and for memory, which it takes. A refusal leaves the set.
 pub fn grant(
     alloc: Global,
     policies: &mut PolicySet,
@@ -39,8 +39,8 @@ pub fn grant(
     Ok(())
 }
 
-/// Takes in what another team's set binds, under new ids where both teams gave an id to different things, and says how many
-/// these are. The other set stays as it is.
+/// Takes in what another team's set binds, under new ids where both teams gave an id to different things, and says how
+/// many these are. The other set stays as it is.
 ///
 /// Refused for memory alone, which it takes; a refusal leaves the set.
 pub fn take_in(

@@ -25,10 +25,11 @@ fn is_below(store: &Entities, user: &EntityUID, group: &EntityUID) -> bool
     }
 }
 
-/// Whether a user belongs to a group, straight or through other groups, by a list of users and groups, each with the groups that
-/// it belongs to.
+/// Whether a user belongs to a group, straight or through other groups, by a list of users and groups, each with the
+/// groups that it belongs to.
 ///
-/// Refused where a uid stands in the list with two sets of groups, or a group belongs to itself, and for memory, which it takes.
+/// Refused where a uid stands in the list with two sets of groups, or a group belongs to itself, and for memory, which
+/// it takes.
 pub fn is_member(
     alloc: Global,
     members: Vec<(EntityUID, Vec<SharedUid>)>,

@@ -15,7 +15,8 @@ use Rattle.cedar_action.specs.RuleTrees.{rule_expr}
 
 none_in_uids : (us : List UidParts) → filter_map slot_of (walk_back (expr_trees (map uid_expr us))) ≡ []
 none_in_uids [] = refl
-none_in_uids (u ∷ us) = filter_map-append slot_of (walk_back (expr_trees (map uid_expr us))) (uid_expr u ∷ []) ∙ ap (λ xs. xs ++ []) (none_in_uids us)
+none_in_uids (u ∷ us) = filter_map-append slot_of (walk_back (expr_trees (map uid_expr us))) (uid_expr u ∷ [])
+    ∙ ap (λ xs. xs ++ []) (none_in_uids us)
 
 -- the action's slot, where the rule refers to it
 abbrev pub rule_slots : ActionRule → List SlotId
@@ -24,7 +25,8 @@ rule_slots a = if rule_has_slot a then Action ∷ [] else []
 -- these are the slots in the expression of an action's constraint
 pub slots_of-rule_expr : (a : ActionRule) → slots_of (rule_expr a) ≡ rule_slots a
 slots_of-rule_expr any_action = refl
-slots_of-rule_expr (among us) = filter_map-append slot_of (walk_back (expr_trees (map uid_expr us))) _ ∙ ap (λ xs. xs ++ []) (none_in_uids us)
+slots_of-rule_expr (among us) = filter_map-append slot_of (walk_back (expr_trees (map uid_expr us))) _
+    ∙ ap (λ xs. xs ++ []) (none_in_uids us)
 slots_of-rule_expr (just u) = refl
 slots_of-rule_expr among_slot = refl
 slots_of-rule_expr just_slot = refl

@@ -13,7 +13,8 @@ abbrev pub parts : Shared → UidParts
 parts u = uid_parts u.value
 
 -- it holds the same uids
-pub copied_parts : (us vs : List Shared) → AllZip (λ (u v : Shared). v.value ≡ u.value) us vs → map parts vs ≡ map parts us
+pub copied_parts : (us vs : List Shared) → AllZip (λ (u v : Shared). v.value ≡ u.value) us vs
+    → map parts vs ≡ map parts us
 copied_parts [] [] h = refl
 copied_parts [] (v ∷ vs) h = absurd h
 copied_parts (u ∷ us) [] h = absurd h

@@ -18,7 +18,8 @@ same_bound (Some u) None e = absurd (cc)
 same_bound (Some u) (Some v) e = ap Some ((uid_eq-Decides u v).0 e)
 
 bound_alike : (x y : Option UidParts) → x ≡ y → option_eq uid_eq x y ≡ true
-bound_alike x y e = Rattle.std.proofs.Common.subst (λ z. option_eq uid_eq x z ≡ true) e ((options_equiv uid_eq_equiv).refl x)
+bound_alike x y e = Rattle.std.proofs.Common.subst (λ z. option_eq uid_eq x z
+    ≡ true) e ((options_equiv uid_eq_equiv).refl x)
 
 -- bindings are equal exactly where they are the same
 pub same_env_decides : (x y : EnvParts) → Decides (same_env x y) (x ≡ y)

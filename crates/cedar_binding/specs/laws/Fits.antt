@@ -22,13 +22,15 @@ either : (a b : Bool) → (a || b) ≡ true → (a ≡ true) ⊎ (b ≡ true)
 either true b h = inl refl
 either false b h = inr h
 
-bound_among : (x : SlotId) (xs : List SlotId) (e : EnvParts) (s : SlotId) → binds e x ≡ true → (is_among xs s ≡ true → binds e s ≡ true) →
+bound_among : (x : SlotId) (xs : List SlotId) (e : EnvParts) (s : SlotId) → binds e x ≡ true
+    → (is_among xs s ≡ true → binds e s ≡ true) →
     (same_slot s x ≡ true) ⊎ (is_among xs s ≡ true) → binds e s ≡ true
 bound_among x xs e s h f (inl p) = ap (binds e) ((same_slot_decides s x).0 p) ∙ h
 bound_among x xs e s h f (inr p) = f p
 
 -- where none is unbound each slot is bound
-slots_are_bound : (slots : List SlotId) (e : EnvParts) → unbound slots e ≡ [] → (s : SlotId) → is_among slots s ≡ true → binds e s ≡ true
+slots_are_bound : (slots : List SlotId) (e : EnvParts) → unbound slots e ≡ [] → (s : SlotId) → is_among slots s ≡ true
+    → binds e s ≡ true
 slots_are_bound [] e h s p = absurd (false≢true p)
 slots_are_bound (x ∷ xs) e h s p =
     let b = first_bound (binds e x) x (unbound xs e) h in
@@ -40,12 +42,14 @@ then_listed true false h p = absurd (cc)
 then_listed false b h p = absurd (cc)
 
 -- where none is extra each bound id is that of a slot
-bound_are_slots : (slots : List SlotId) (e : EnvParts) → extra slots e ≡ [] → (s : SlotId) → binds e s ≡ true → is_among slots s ≡ true
+bound_are_slots : (slots : List SlotId) (e : EnvParts) → extra slots e ≡ [] → (s : SlotId) → binds e s ≡ true
+    → is_among slots s ≡ true
 bound_are_slots slots e h s p = then_listed _ _ (none_passes (λ t. binds e t && not (is_among slots t)) h s) p
 
 -- with nothing unbound and nothing extra the bindings fit
 pub fits : (slots : List SlotId) (e : EnvParts) → unbound slots e ≡ [] → extra slots e ≡ [] → BindsExactly slots e
-fits slots e u x s = same_answer (binds e s) (is_among slots s) (bound_are_slots slots e x s) (slots_are_bound slots e u s)
+fits slots e u x s = same_answer (binds e s) (is_among slots s) (bound_are_slots slots e x s)
+    (slots_are_bound slots e u s)
 
 on_the_left : (a b : Bool) → a ≡ true → (a || b) ≡ true
 on_the_left a b h = cc
@@ -54,7 +58,8 @@ on_the_right : (a b : Bool) → b ≡ true → (a || b) ≡ true
 on_the_right true b h = refl
 on_the_right false b h = h
 
-none_unbound : (slots : List SlotId) (e : EnvParts) → ((s : SlotId) → is_among slots s ≡ true → binds e s ≡ true) → unbound slots e ≡ []
+none_unbound : (slots : List SlotId) (e : EnvParts) → ((s : SlotId) → is_among slots s ≡ true → binds e s ≡ true)
+    → unbound slots e ≡ []
 none_unbound [] e f = refl
 none_unbound (x ∷ xs) e f =
     rw (f x (on_the_left _ _ ((same_slot_decides x x).1 refl))) (none_unbound xs e (λ s p. f s (on_the_right (same_slot s x) _ p)))
@@ -65,7 +70,8 @@ not_listed true false h = absurd (cc)
 not_listed false b h = refl
 
 -- and where they fit nothing is unbound and nothing extra
-pub nothing_left_over : (slots : List SlotId) (e : EnvParts) → BindsExactly slots e → (unbound slots e ≡ []) × (extra slots e ≡ [])
+pub nothing_left_over : (slots : List SlotId) (e : EnvParts) → BindsExactly slots e → (unbound slots e ≡ [])
+    × (extra slots e ≡ [])
 nothing_left_over slots e f = (
   none_unbound slots e (λ s p. f s ∙ p),
   passes_none (λ t. binds e t && not (is_among slots t)) (λ t. not_listed (binds e t) (is_among slots t) (f t)),

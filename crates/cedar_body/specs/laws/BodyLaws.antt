@@ -27,7 +27,8 @@ same_body_equiv =
     (and_equiv (on_equiv (λ (b : BodyParts). b.effect) same_effect_equiv)
     (and_equiv (on_equiv (λ (b : BodyParts). b.principal) same_constraint_equiv)
     (and_equiv (on_equiv (λ (b : BodyParts). b.action) same_rule_equiv)
-    (and_equiv (on_equiv (λ (b : BodyParts). b.resource) same_constraint_equiv) (on_equiv (λ (b : BodyParts). b.clause) same_clause_equiv))))))
+    (and_equiv (on_equiv (λ (b : BodyParts). b.resource) same_constraint_equiv)
+    (on_equiv (λ (b : BodyParts). b.clause) same_clause_equiv))))))
 
 -- two clauses are equal exactly where they are the same
 pub same_clause_decides : (x y : Option ExprTree) → Decides (same_clause x y) (x ≡ y)
@@ -39,7 +40,8 @@ same_clause_decides (Some x) (Some y) = (
   λ e. sym (ap (same_clause (Some x)) e) ∙ (same_expr_decides x x).1 refl,
 )
 
-both_decide : {A B : Type 0} (p q : Bool) (x y : A × B) → Decides p (x.0 ≡ y.0) → Decides q (x.1 ≡ y.1) → Decides (p && q) (x ≡ y)
+both_decide : {A B : Type 0} (p q : Bool) (x y : A × B) → Decides p (x.0 ≡ y.0) → Decides q (x.1 ≡ y.1)
+    → Decides (p && q) (x ≡ y)
 both_decide p q x y f g = (
   λ e i. (f.0 (first_so p q e) i, g.0 (second_so p q e) i),
   λ e. ap (λ r. r && q) (f.1 (ap (λ z. z.0) e)) ∙ g.1 (ap (λ z. z.1) e),

@@ -17,7 +17,8 @@ takes f u w = is_some (f u) && (same_uid u w || is_ancestor_in (f u) w)
 
 -- an ancestor of an ancestor is an ancestor
 abbrev pub AreTransitive : (EntityUID → Option EntityView) → Type 0
-AreTransitive f = (a b c : EntityUID) → is_ancestor_in (f a) b ≡ true → is_ancestor_in (f b) c ≡ true → is_ancestor_in (f a) c ≡ true
+AreTransitive f = (a b c : EntityUID) → is_ancestor_in (f a) b ≡ true → is_ancestor_in (f b) c ≡ true
+    → is_ancestor_in (f a) c ≡ true
 
 -- whether an edit by these uids strips q, of which f says what is an ancestor: it is none of them, and has one of them
 abbrev pub is_stripped : List EntityUID → EntityUID → (EntityUID → Bool) → Bool

@@ -16,16 +16,20 @@ has_parts None b h = absurd (false≢true h)
 has_parts (Some p) b h = refl
 
 -- the first of a path is a key of the world
-pub first_key : (W : World) (a b : EntityUID) (xs : List EntityUID) → Path (graph W) a xs b → finmap.contains_key W.entities a ≡ true
+pub first_key : (W : World) (a b : EntityUID) (xs : List EntityUID) → Path (graph W) a xs b
+    → finmap.contains_key W.entities a ≡ true
 first_key W a b [] p = has_parts (finmap.get W.entities a) b p
 first_key W a b (x ∷ xs) p = has_parts (finmap.get W.entities a) x p.0
 
 module _ (W : World) (S : StoreView) (plain : IsPlainStore W S) where
-  ancestor_at : (a b : EntityUID) (o : Option EntityView) → finmap.get S.held a ≡ o → IfSome o (λ e. (x : EntityUID) → (has_ancestor e x ≡ true) ↔ Reach (graph W) a x) → (is_ancestor_in o b ≡ true) ↔ Reach (graph W) a b
+  ancestor_at : (a b : EntityUID) (o : Option EntityView) → finmap.get S.held a ≡ o
+      → IfSome o (λ e. (x : EntityUID) → (has_ancestor e x ≡ true) ↔ Reach (graph W) a x) → (is_ancestor_in o b ≡ true)
+      ↔ Reach (graph W) a b
   ancestor_at a b (Some e) is h = h b
   ancestor_at a b None is h = (
     λ t. absurd (false≢true t),
-    λ r. absurd (false≢true (sym (ap is_some (sym (plain.holds a) ∙ ap (option_map parts_of) is)) ∙ first_key W a b r.0 r.1)),
+    λ r. absurd (false≢true (sym (ap is_some (sym (plain.holds a) ∙ ap (option_map parts_of) is))
+        ∙ first_key W a b r.0 r.1)),
   )
 
   -- they are what is reached over the parents

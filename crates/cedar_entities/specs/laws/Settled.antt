@@ -1,5 +1,6 @@
 -- What a uid reaches in a world, whether one reaches itself, and whether an entity agrees: each is settled by a test.
-use Rattle.std.specs.Prelude.{◌≡◌, Bool, true, false, ◌&&◌, ◌||◌, cond, ◌⊎◌, List, [], ◌∷◌, ◌++◌, map, Option, Some, None}
+use Rattle.std.specs.Prelude.{◌≡◌, Bool, true, false, ◌&&◌, ◌||◌, cond, ◌⊎◌, List, [], ◌∷◌, ◌++◌, map, Option, Some}
+use Rattle.std.specs.Prelude.{None}
 use Rattle.std.proofs.Common.{ap, sym, refl, ◌∙◌, inl, inr}
 use Rattle.std.proofs.Math.Dec.{T}
 use Rattle.std.proofs.lemmas.Bool.{false≢true, or_left, or_right, and_parts, and_from}
@@ -19,14 +20,16 @@ use Rattle.std.specs.FinSet as set
 use Rattle.std.specs.FinMap as finmap
 use Rattle.std.specs.FinMap.Entries.{is_sorted, below_all, is_some-find}
 use Rattle.cedar_graph.specs.Graph.{Reach}
-use Rattle.cedar_graph.specs.laws.Deciding.{Respects, LeaveOnly, closure, closure_is, has_cycle, decides_cycle, reached_from}
+use Rattle.cedar_graph.specs.laws.Deciding.{Respects, LeaveOnly, closure, closure_is, has_cycle, decides_cycle}
+use Rattle.cedar_graph.specs.laws.Deciding.{reached_from}
 use Rattle.cedar_ids.specs.UidOf.{uid_order, same_uid}
 use Rattle.cedar_ids.specs.laws.UidOfLaws.{uid_order_ties, uid_order_total, same_uid_decides, same_uid_equiv}
 use Rattle.cedar_ids.specs.declared.entity.EntityUID.{EntityUID}
 use Rattle.cedar_entity.specs.Fields.{Fields}
 use Rattle.cedar_uid_sets.specs.UidSets.{UidValues}
 use Rattle.cedar_uid_sets.specs.laws.Sets.{same_tests, one_equal, contains_listed, is_member-append}
-use Rattle.cedar_entities.specs.World.{World, Parts, Given, graph, is_parent_in, IsCyclic, Agrees, AgreesWith, AgreesWithFirst, AllAgree, FirstDiffers, first}
+use Rattle.cedar_entities.specs.World.{World, Parts, Given, graph, is_parent_in, IsCyclic, Agrees, AgreesWith}
+use Rattle.cedar_entities.specs.World.{AgreesWithFirst, AllAgree, FirstDiffers, first}
 use Rattle.cedar_entity.specs.laws.Fields.{field_eq, field_decides}
 
 abbrev Entry : Type 0
@@ -47,11 +50,13 @@ less_is Less h = refl
 less_is Equal h = absurd h
 less_is Greater h = absurd h
 
-below_keys : {X : Type 0} (k : EntityUID) (es : List (EntityUID × X)) → T (below_all uid_order k es) → AllByRecursion (λ y. uid_order k y ≡ Less) (map (λ e. e.0) es)
+below_keys : {X : Type 0} (k : EntityUID) (es : List (EntityUID × X)) → T (below_all uid_order k es)
+    → AllByRecursion (λ y. uid_order k y ≡ Less) (map (λ e. e.0) es)
 below_keys k [] h = tt
 below_keys k (e ∷ es) h = let p = T_parts (is_lt (uid_order k e.0)) (below_all uid_order k es) h in (less_is (uid_order k e.0) p.0, below_keys k es p.1)
 
-keys_ascend : {X : Type 0} (es : List (EntityUID × X)) → T (is_sorted uid_order es) → IsStrictlySortedBy uid_order (map (λ e. e.0) es)
+keys_ascend : {X : Type 0} (es : List (EntityUID × X)) → T (is_sorted uid_order es)
+    → IsStrictlySortedBy uid_order (map (λ e. e.0) es)
 unfolding IsStrictlySortedBy
 keys_ascend [] h = tt
 keys_ascend (e ∷ es) h = let p = T_parts (below_all uid_order e.0 es) (is_sorted uid_order es) h in (below_keys e.0 es p.0, keys_ascend es p.1)
@@ -73,7 +78,8 @@ unfolding ascending
 ascending_ascends ks = let m = finmap.from_entries {R = uid_order} (map keyed ks) in keys_ascend (finmap.entries m) (finmap.entries_sorted m)
 
 -- they are those of the list
-pub ascending_members : (ks : List EntityUID) (q : EntityUID) → is_member same_uid (ascending ks) q ≡ is_member same_uid ks q
+pub ascending_members : (ks : List EntityUID) (q : EntityUID)
+    → is_member same_uid (ascending ks) q ≡ is_member same_uid ks q
 unfolding ascending
 ascending_members ks q =
     let m = finmap.from_entries {R = uid_order} (map keyed ks) in
@@ -94,24 +100,30 @@ world_keys W = map (λ e. e.0) (finmap.entries W.entities)
 abbrev parents_of : List Entry → List EntityUID
 parents_of es = flat_map (λ e. set.items e.1.parents) es
 
-found_parent : (t : Bool) (p : Parts) (o : Option Parts) (b : EntityUID) → is_parent_in (cond t (Some p) o) b ≡ true → ((t ≡ true) × (set.contains p.parents b ≡ true)) ⊎ (is_parent_in o b ≡ true)
+found_parent : (t : Bool) (p : Parts) (o : Option Parts) (b : EntityUID) → is_parent_in (cond t (Some p) o) b ≡ true
+    → ((t ≡ true) × (set.contains p.parents b ≡ true)) ⊎ (is_parent_in o b ≡ true)
 found_parent true p o b h = inl (refl, h)
 found_parent false p o b h = inr h
 
-key_held : (es : List Entry) (a b : EntityUID) → is_parent_in (finmap.find uid_order a es) b ≡ true → is_member same_uid (map (λ e. e.0) es) a ≡ true
+key_held : (es : List Entry) (a b : EntityUID) → is_parent_in (finmap.find uid_order a es) b ≡ true
+    → is_member same_uid (map (λ e. e.0) es) a ≡ true
 key_held [] a b h = absurd (false≢true h)
 key_held (e ∷ es) a b h = elim (found_parent (eq_by_cmp uid_order a e.0) e.1 (finmap.find uid_order a es) b h) [
   | inl t ↦ or_left (same_uid a e.0) (is_member same_uid (map (λ e. e.0) es) a) (uid_order_ties a e.0 ∙ t.0)
   | inr r ↦ or_right (same_uid a e.0) (is_member same_uid (map (λ e. e.0) es) a) (key_held es a b r)
 ]
 
-parent_held : (es : List Entry) (a b : EntityUID) → is_parent_in (finmap.find uid_order a es) b ≡ true → is_member same_uid (parents_of es) b ≡ true
+parent_held : (es : List Entry) (a b : EntityUID) → is_parent_in (finmap.find uid_order a es) b ≡ true
+    → is_member same_uid (parents_of es) b ≡ true
 parent_held [] a b h = absurd (false≢true h)
 parent_held (e ∷ es) a b h =
     is_member-append (set.items e.1.parents) (parents_of es) b
-    ∙ elim (found_parent (eq_by_cmp uid_order a e.0) e.1 (finmap.find uid_order a es) b h) as (λ _. (is_member same_uid (set.items e.1.parents) b || is_member same_uid (parents_of es) b) ≡ true) [
-      | inl t ↦ or_left (is_member same_uid (set.items e.1.parents) b) (is_member same_uid (parents_of es) b) (items_members e.1.parents b ∙ t.1)
-      | inr r ↦ or_right (is_member same_uid (set.items e.1.parents) b) (is_member same_uid (parents_of es) b) (parent_held es a b r)
+    ∙ elim (found_parent (eq_by_cmp uid_order a e.0) e.1 (finmap.find uid_order a es) b h) as
+    (λ _. (is_member same_uid (set.items e.1.parents) b || is_member same_uid (parents_of es) b) ≡ true) [
+      | inl t ↦ or_left (is_member same_uid (set.items e.1.parents) b) (is_member same_uid (parents_of es) b)
+          (items_members e.1.parents b ∙ t.1)
+      | inr r ↦ or_right (is_member same_uid (set.items e.1.parents) b) (is_member same_uid (parents_of es) b)
+          (parent_held es a b r)
     ]
 
 respects : (G : EntityUID → EntityUID → Bool) → Respects same_uid G
@@ -121,7 +133,8 @@ respects G = record {
 }
 
 leaves : (W : World) → LeaveOnly same_uid (world_keys W) (graph W)
-leaves W a b h = key_held (finmap.entries W.entities) a b (ap (λ o. is_parent_in o b) (sym (finmap.get-entries W.entities a)) ∙ h)
+leaves W a b h = key_held (finmap.entries W.entities) a b
+    (ap (λ o. is_parent_in o b) (sym (finmap.get-entries W.entities a)) ∙ h)
 
 -- whether a uid reaches itself
 pub decides_world_cycle : (W : World) → Decides (has_cycle (graph W) (world_keys W)) (IsCyclic W)
@@ -133,9 +146,11 @@ reached_list W u = filter (closure (graph W) (world_keys W) u) (ascending (paren
 
 pub reached_ascend : (W : World) (u : EntityUID) → IsStrictlySortedBy uid_order (reached_list W u)
 unfolding reached_list
-reached_ascend W u = IsStrictlySortedBy-filter uid_order (closure (graph W) (world_keys W) u) (ascending (parents_of (finmap.entries W.entities))) (ascending_ascends (parents_of (finmap.entries W.entities)))
+reached_ascend W u = IsStrictlySortedBy-filter uid_order (closure (graph W) (world_keys W) u)
+    (ascending (parents_of (finmap.entries W.entities))) (ascending_ascends (parents_of (finmap.entries W.entities)))
 
-pub reached_members : (W : World) (u q : EntityUID) → Decides (is_member same_uid (reached_list W u) q) (Reach (graph W) u q)
+pub reached_members : (W : World) (u q : EntityUID) → Decides (is_member same_uid (reached_list W u) q)
+    (Reach (graph W) u q)
 unfolding reached_list
 reached_members W u q =
     let N = closure (graph W) (world_keys W) in
@@ -179,19 +194,28 @@ settled_three (inl p) (inr n) c = inr (λ x. n x.1)
 settled_three (inr n) b c = inr (λ x. n x.0)
 
 fields_settled : (fs gs : Fields) → Settled (fs ≡ gs)
-fields_settled fs gs = settled_by (pointwise field_eq fs gs) (slice_eq-Decides field_decides fs gs (pointwise field_eq fs gs) refl)
+fields_settled fs gs = settled_by (pointwise field_eq fs gs)
+    (slice_eq-Decides field_decides fs gs (pointwise field_eq fs gs) refl)
 
 sets_settled : (s t : UidValues) → Settled (s ≡ t)
 sets_settled s t =
     settled_as
-    (λ (e : set.items s ≡ set.items t). set.same_set uid_order_total one_equal s t (λ q. sym (items_members s q) ∙ ap (λ l. is_member same_uid l q) e ∙ items_members t q))
+    (λ (e : set.items s ≡ set.items t). set.same_set uid_order_total one_equal s t (λ q. sym (items_members s q)
+    ∙ ap (λ l. is_member same_uid l q) e ∙ items_members t q))
     (λ e. ap set.items e)
-    (settled_by (pointwise same_uid (set.items s) (set.items t)) (slice_eq-Decides same_uid_decides (set.items s) (set.items t) (pointwise same_uid (set.items s) (set.items t)) refl))
+    (settled_by (pointwise same_uid (set.items s) (set.items t))
+    (slice_eq-Decides same_uid_decides (set.items s) (set.items t)
+    (pointwise same_uid (set.items s) (set.items t)) refl))
 
 parts_settled : (p r : Parts) → Settled (p ≡ r)
 parts_settled p r =
     settled_as
-    (λ (e : (p.attrs ≡ r.attrs) × (p.tags ≡ r.tags) × (p.parents ≡ r.parents)) i. record { attrs = e.0 i; tags = e.1 i; parents = e.2 i })
+    (λ (e : (p.attrs ≡ r.attrs) × (p.tags ≡ r.tags) × (p.parents ≡ r.parents)) i. record {
+      attrs = e.0 i;
+      tags =
+          e.1 i;
+      parents = e.2 i;
+    })
     (λ e. (ap (λ (x : Parts). x.attrs) e, ap (λ (x : Parts). x.tags) e, ap (λ (x : Parts). x.parents) e))
     (settled_three (fields_settled p.attrs r.attrs) (fields_settled p.tags r.tags) (sets_settled p.parents r.parents))
 
@@ -209,7 +233,8 @@ with_settled W L (Some p) g =
     (λ h. is.0 (sym same ∙ h), λ r. same ∙ is.1 r))
     (λ all. set.same_set uid_order_total one_equal g.parts.parents (reached_set W g.uid) (λ q.
     let is = contains-reached W g.uid q in
-    same_bool (set.contains g.parts.parents q) (set.contains (reached_set W g.uid) q) (λ h. is.1 ((all q).0 h)) (λ h. (all q).1 (is.0 h))))
+    same_bool (set.contains g.parts.parents q) (set.contains (reached_set W g.uid) q) (λ h. is.1 ((all q).0 h))
+    (λ h. (all q).1 (is.0 h))))
     (sets_settled g.parts.parents (reached_set W g.uid)))
 with_settled W L None g = first_settled (first L g.uid) g
 
@@ -227,10 +252,19 @@ pub record FirstWithout {X : Type 0} (P : X → Type 0) (xs : List X) : Type 0 w
   pub fails : P at → ⊥
 
 one_further : {X : Type 0} (P : X → Type 0) (x : X) (xs : List X) → P x → FirstWithout P xs → FirstWithout P (x ∷ xs)
-one_further P x xs p f = record { before = x ∷ f.before; at = f.at; after = f.after; place = ap (λ l. x ∷ l) f.place; holds = (p, f.holds); fails = f.fails }
+one_further P x xs p f = record {
+  before = x ∷ f.before;
+  at = f.at;
+  after = f.after;
+  place =
+      ap (λ l. x ∷ l) f.place;
+  holds = (p, f.holds);
+  fails = f.fails;
+}
 
 -- P holds of all of a list, or there is a first that it does not hold of
-pub all_or_first : {X : Type 0} (P : X → Type 0) → ((x : X) → Settled (P x)) → (xs : List X) → AllByRecursion P xs ⊎ FirstWithout P xs
+pub all_or_first : {X : Type 0} (P : X → Type 0) → ((x : X) → Settled (P x)) → (xs : List X) → AllByRecursion P xs
+    ⊎ FirstWithout P xs
 all_or_first P settle [] = inl tt
 all_or_first P settle (x ∷ xs) = elim (settle x) [
   | inr n ↦ inr (record { before = []; at = x; after = xs; place = refl; holds = tt; fails = n })
@@ -244,5 +278,17 @@ all_or_first P settle (x ∷ xs) = elim (settle x) [
 pub agree_or_differs : (W : World) (L : List Given) → AllAgree W L ⊎ ((u : EntityUID) × FirstDiffers W L u)
 agree_or_differs W L = elim (all_or_first (Agrees W L) (agrees_settled W L) L) [
   | inl all ↦ inl all
-  | inr f ↦ inr (f.at.uid, record { before = f.before; at = f.at; after = f.after; place = f.place; agree = f.holds; differs = f.fails; uid = refl })
+  | inr f ↦ inr (
+    f.at.uid,
+    record {
+      before = f.before;
+      at = f.at;
+      after = f.after;
+      place = f.place;
+      agree =
+          f.holds;
+      differs = f.fails;
+      uid = refl;
+    },
+  )
 ]

@@ -20,7 +20,9 @@ abbrev pub TakesFaulty : EntityView → Option EntityView → Option EntityView 
 TakesFaulty e o r = (IsValid e × (r ≡ o)) ⊎ ((IsValid e → ⊥) × (r ≡ lesser_of e o))
 
 -- what F tells of a refusal is matched, where F tells of the closure only what C does
-pub other_fault : (C : TcError EntityUID → Type 0) (F : EntitiesError → Type 0) → ((t : TcError EntityUID) → F (errors.TransitiveClosureError t) → C t) → (e : EntitiesError) → F e → MatchStoreFault e C F
+pub other_fault : (C : TcError EntityUID → Type 0) (F : EntitiesError → Type 0)
+    → ((t : TcError EntityUID) → F (errors.TransitiveClosureError t) → C t) → (e : EntitiesError) → F e
+    → MatchStoreFault e C F
 other_fault C F only (errors.Duplicate u) f = f
 other_fault C F only (errors.TransitiveClosureError t) f = only t f
 other_fault C F only (errors.SelfAncestor u) f = f

@@ -1,5 +1,5 @@
-// Edits by long lists, which have repeats, absent uids and uids that are ancestors of one another, in drawn modes: each on a
-// store of any kind, beside what it means.
+// Edits by long lists, which have repeats, absent uids and uids that are ancestors of one another, in drawn modes: each
+// on a store of any kind, beside what it means.
 use super::store_masks::{
     Edited, Got, Masks, Row, bit, has, may_overwrite, may_remove, none, overwriting, plain, put_in,
     removal, row_at, uids_of,

@@ -290,7 +290,8 @@ fn stood_for<S: BuildHasher + Clone>(
     Ok(Some(world))
 }
 
-// How a list of calls on the store without entities ends. After each call the store has to be the plain one of the world.
+// How a list of calls on the store without entities ends. After each call the store has to be the plain one of the
+// world.
 pub(super) fn compared<S: BuildHasher + Clone>(
     alloc: Global,
     empty_store: Entities<S>,

@@ -77,8 +77,8 @@ fn is_said(said: Result<String, Fail>, name: &str, fault: &str) -> Result<bool, 
     Ok(told)
 }
 
-// Whether `try_validate` says this of this, and nothing else, of the store that these calls leave, under the default builder of
-// hashers and under two keys.
+// Whether `try_validate` says this of this, and nothing else, of the store that these calls leave, under the default
+// builder of hashers and under two keys.
 fn is_fault(alloc: Global, calls: &str, name: &str, fault: &str) -> Result<bool, Fail> {
     let (one, other) = keys();
     Ok(

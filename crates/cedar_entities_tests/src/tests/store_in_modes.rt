@@ -14,8 +14,8 @@ use std::alloc::Global;
 use std::hash::BuildHasher;
 use std::test::Fail;
 
-// How a list of calls ends: its last answer or the store is another than it has to be; with a store; with a refusal that
-// has to come; or with one of the closure that may.
+// How a list of calls ends: its last answer or the store is another than it has to be; with a store; with a refusal
+// that has to come; or with one of the closure that may.
 #[derive(Clone, Copy, Drop, PartialEq, Eq)]
 enum End {
     Differs,
@@ -225,8 +225,8 @@ fn tell_after<S: BuildHasher + Copy>(
     Ok(())
 }
 
-// Tells of each call in each mode on stores of three, built in a mode: of those with each set of parents, all 512 or each
-// 29th.
+// Tells of each call in each mode on stores of three, built in a mode: of those with each set of parents, all 512 or
+// each 29th.
 fn tell_all<S: BuildHasher + Copy>(
     alloc: Global,
     hasher: S,

@@ -1,5 +1,5 @@
-// What calls on a store mean in each mode, over stores of three uids that keep ancestors: entities with their parents and,
-// beside these, the ancestors that they hold.
+// What calls on a store mean in each mode, over stores of three uids that keep ancestors: entities with their parents
+// and, beside these, the ancestors that they hold.
 use super::store_world::{
     Call, Row, Rows, World, after, ancestors, bit, deleted, differing_uid, first, last,
 };

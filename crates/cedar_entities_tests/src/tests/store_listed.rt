@@ -9,8 +9,8 @@ use std::alloc::Global;
 use std::rc::Rc;
 use std::test::Fail;
 
-// Entities have uids with numbers below this. Parents have greater numbers than their children, and may have greater ones
-// than any entity.
+// Entities have uids with numbers below this. Parents have greater numbers than their children, and may have greater
+// ones than any entity.
 const UIDS: u8 = 64;
 
 fn numbered(alloc: Global, number: u8) -> Result<EntityUID, Fail> {

@@ -1,9 +1,9 @@
-// Stores of many entities, and stores to which something is added that touches none of theirs: calls in turn, parted by `; `,
-// and how many entities and how many ancestors of all of them there are then.
+// Stores of many entities, and stores to which something is added that touches none of theirs: calls in turn, parted by
+// `; `, and how many entities and how many ancestors of all of them there are then.
 //
-// Entities are numbers. `chain 500` is as many, each with the next as its parent; `under 100 900` as many, each with that
-// parent; else `1>2 3` are one with a parent and one without. `from` and `assume` make a store of entities, of which the
-// second takes them as they are; `add` adds some; `remove` takes those of numbers out.
+// Entities are numbers. `chain 500` is as many, each with the next as its parent; `under 100 900` as many, each with
+// that parent; else `1>2 3` are one with a parent and one without. `from` and `assume` make a store of entities, of
+// which the second takes them as they are; `add` adds some; `remove` takes those of numbers out.
 use super::{fixed, keys};
 use cedar_entities::entities::{Entities, TCComputation};
 use cedar_entity::entity::Entity;

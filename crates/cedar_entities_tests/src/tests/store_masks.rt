@@ -1,5 +1,5 @@
-// What overwriting and removing by lists mean in each mode, over stores of any kind of 28 uids: entities with their parents
-// and, beside these, the indirect ancestors that they hold.
+// What overwriting and removing by lists mean in each mode, over stores of any kind of 28 uids: entities with their
+// parents and, beside these, the indirect ancestors that they hold.
 //
 // Uids are the numbers below 28, those from 28 to 31 are no store's, and a set of uids is a number with a bit for each.
 use cedar_entities::entities::TCComputation;
@@ -32,8 +32,8 @@ pub(super) enum Got {
     Other,
 }
 
-// An edit before its closure: what is left then, whom it touches, what each reaches, whether those that are not touched have
-// all that they reach, and whether a touched one reaches itself.
+// An edit before its closure: what is left then, whom it touches, what each reaches, whether those that are not touched
+// have all that they reach, and whether a touched one reaches itself.
 #[derive(Clone, Copy, Drop, PartialEq, Eq)]
 pub(super) struct Edited {
     left: Masks,
@@ -269,8 +269,8 @@ fn is_sure(edit: &Edited) -> bool {
     edit.is_trusted && !edit.is_cyclic
 }
 
-// Whether an entity is one that a repair leaves: with the parents that it had, and further ancestors that it reaches, where it
-// is touched.
+// Whether an entity is one that a repair leaves: with the parents that it had, and further ancestors that it reaches,
+// where it is touched.
 fn is_repaired_at(edit: &Edited, store: &Masks, uid: u8) -> bool {
     let (before, after) = (row_at(&edit.left, uid), row_at(store, uid));
     if !has(edit.touched, uid) {

@@ -1,7 +1,8 @@
 -- What the list of checks finds.
 use Rattle.std.specs.Prelude.{◌≡◌, true, Some, IsTrue}
 use Rattle.cedar_entity.specs.Least.{IsLeast}
-use Rattle.cedar_entity.specs.Validity.{PassesSelf, PassesDuplicates, PassesActions, IsLeastNonAction, is_in_both, is_action, reserved_key}
+use Rattle.cedar_entity.specs.Validity.{PassesSelf, PassesDuplicates, PassesActions, IsLeastNonAction, is_in_both}
+use Rattle.cedar_entity.specs.Validity.{is_action, reserved_key}
 use Rattle.cedar_entity.specs.View.{EntityView, has_ancestor}
 use Rattle.cedar_entity.specs.declared.fault.Fault.{Fault}
 use Rattle.cedar_entity.specs.declared.fault.Fault.TheVariants as faults

@@ -16,6 +16,11 @@ field_eq a b = bytes_eq a.0 b.0 && same_partial a.1 b.1
 -- it answers whether they are the same
 pub field_decides : (a b : List ℕ × PartialValue) → Decides (field_eq a b) (a ≡ b)
 field_decides a b = (
-  λ h i. ((bytes_decides a.0 b.0).0 (first_so _ _ h) i, (same_partial_decides a.1 b.1).0 (second_so (bytes_eq a.0 b.0) _ h) i),
-  λ e. ap (λ c. field_eq a c) (sym e) ∙ ap (λ t. t && same_partial a.1 a.1) ((bytes_decides a.0 a.0).1 refl) ∙ (same_partial_decides a.1 a.1).1 refl,
+  λ h i. (
+    (bytes_decides a.0 b.0).0 (first_so _ _ h) i,
+    (same_partial_decides a.1 b.1).0
+        (second_so (bytes_eq a.0 b.0) _ h) i,
+  ),
+  λ e. ap (λ c. field_eq a c) (sym e) ∙ ap (λ t. t && same_partial a.1 a.1) ((bytes_decides a.0 a.0).1 refl)
+      ∙ (same_partial_decides a.1 a.1).1 refl,
 )

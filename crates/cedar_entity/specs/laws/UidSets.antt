@@ -12,5 +12,6 @@ respects : (p : EntityUID → Bool) (q x : EntityUID) → uid_order q x ≡ Equa
 respects p q x t = ap p (sym (one_equal q x t))
 
 -- what is kept is what was there and does not go
-pub kept_in : (s : UidValues) (gone : EntityUID → Bool) (q : EntityUID) → set.contains (set.retain s (λ p. not (gone p))) q ≡ (set.contains s q && not (gone q))
+pub kept_in : (s : UidValues) (gone : EntityUID → Bool) (q : EntityUID)
+    → set.contains (set.retain s (λ p. not (gone p))) q ≡ (set.contains s q && not (gone q))
 kept_in s gone q = set.contains-retain s (λ p. not (gone p)) q (respects (λ p. not (gone p)) q)

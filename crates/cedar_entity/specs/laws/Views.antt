@@ -14,8 +14,20 @@ use Rattle.cedar_entity.specs.View.{EntityView, IsDeepEqual, IsEquivalenceRelati
 pub deep_equality : IsEquivalenceRelation IsDeepEqual
 deep_equality = record {
   itself = λ a. record { uid = refl; attrs = refl; tags = refl; ancestors = λ q. refl };
-  turned = λ a b h. record { uid = sym h.uid; attrs = sym h.attrs; tags = sym h.tags; ancestors = λ q. sym (h.ancestors q) };
-  joined = λ a b c h g. record { uid = h.uid ∙ g.uid; attrs = h.attrs ∙ g.attrs; tags = h.tags ∙ g.tags; ancestors = λ q. h.ancestors q ∙ g.ancestors q };
+  turned = λ a b h. record {
+    uid = sym h.uid;
+    attrs = sym h.attrs;
+    tags = sym h.tags;
+    ancestors =
+        λ q. sym (h.ancestors q);
+  };
+  joined = λ a b c h g. record {
+    uid = h.uid ∙ g.uid;
+    attrs = h.attrs ∙ g.attrs;
+    tags = h.tags ∙ g.tags;
+    ancestors =
+        λ q. h.ancestors q ∙ g.ancestors q;
+  };
 }
 
 -- equal uids are ancestors of the same
@@ -27,5 +39,7 @@ pub parents_are_ancestors : (e : EntityView) (q : EntityUID) → set.contains e.
 parents_are_ancestors e q h = ap (λ b. b || set.contains e.indirect q) h
 
 -- a list of the ancestors has them as its members
-pub ancestors_listed : (e : EntityView) (us : List EntityUID) → ListsAncestors e us → (q : EntityUID) → is_member same_uid us q ≡ has_ancestor e q
-ancestors_listed e us l q = ap (λ xs. is_member same_uid xs q) l.in_turn ∙ is_member-append l.first l.others q ∙ λ i. l.parents.members q i || l.indirect.members q i
+pub ancestors_listed : (e : EntityView) (us : List EntityUID) → ListsAncestors e us → (q : EntityUID)
+    → is_member same_uid us q ≡ has_ancestor e q
+ancestors_listed e us l q = ap (λ xs. is_member same_uid xs q) l.in_turn ∙ is_member-append l.first l.others q
+    ∙ λ i. l.parents.members q i || l.indirect.members q i

@@ -21,7 +21,8 @@ Refused (Duplicate u) old new = IsAsciiUid u → new ≡ old ++ written_line (co
 Refused (TransitiveClosureError (HasCycle v)) old new = new ≡ old ++ written_line (codes "refused: cycle")
 Refused e old new = ⊥
 
--- a call on the store gave r, and that is kept: the store, with the line of its count added or, where it was refused, the
+-- a call on the store gave r, and that is kept: the store, with the line of its count added or, where it was refused,
+-- the
 -- store without entities, with the line of the refusal
 abbrev pub Settles : Result StoreView EntitiesError → StoreAndWaiting → List ℕ → List ℕ → Type 0
 Settles (Ok S) m old new = (W : World) → IsPlainStore W S → IsPlainStore W m.store × (new ≡ old ++ count_line W)

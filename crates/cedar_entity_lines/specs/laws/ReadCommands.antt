@@ -1,5 +1,6 @@
 -- Fields are those of one command on the store at the most, and it is told which.
-use Rattle.std.specs.Prelude.{◌≡◌, ◌⊎◌, ℕ, List, [], ◌∷◌, codes, Bool, true, false, if◌then◌else◌, Option, Some, None, Result, Ok, Err}
+use Rattle.std.specs.Prelude.{◌≡◌, ◌⊎◌, ℕ, List, [], ◌∷◌, codes, Bool, true, false, if◌then◌else◌, Option, Some, None}
+use Rattle.std.specs.Prelude.{Result, Ok, Err}
 use Rattle.std.proofs.Common.{ap, sym, refl, subst, ◌∙◌, inl, inr}
 use Rattle.std.proofs.lemmas.Bool.{false≢true}
 use Rattle.std.proofs.lemmas.Slice.Eq.{bytes_eq-Decides}
@@ -15,7 +16,8 @@ use Rattle.cedar_ids.specs.declared.err.ParseErrors.{ParseErrors}
 use Rattle.cedar_ids.specs.declared.entity.EntityUID.{EntityUID}
 use Rattle.cedar_ids.specs.declared.entity.EntityUID.TheVariants as uids
 use Rattle.cedar_entities.specs.laws.Settled.{Settled, settled_by}
-use Rattle.cedar_entity_lines.specs.EntityCommand.{EntityCommand, Ent, Build, Add, Upsert, Remove, Slice, Anc, AreTexts, AreFields, IsEntityCommand}
+use Rattle.cedar_entity_lines.specs.EntityCommand.{EntityCommand, Ent, Build, Add, Upsert, Remove, Slice, Anc, AreTexts}
+use Rattle.cedar_entity_lines.specs.EntityCommand.{AreFields, IsEntityCommand}
 use Rattle.cedar_entity_lines.specs.Holding.{AreAsciiUids, HasAsciiUids}
 
 -- the text of a uid
@@ -97,16 +99,19 @@ read_back (Remove us) = refl
 read_back (Slice us) = refl
 read_back (Anc u) = refl
 
-same_words : (a b : List ℕ) (us vs : List EntityUID) (fs : List (List ℕ)) → AreFields a us fs → AreFields b vs fs → a ≡ b
+same_words : (a b : List ℕ) (us vs : List EntityUID) (fs : List (List ℕ)) → AreFields a us fs → AreFields b vs fs
+    → a ≡ b
 same_words a b us vs [] h k = absurd h
 same_words a b us vs (f ∷ fs) h k = sym h.0 ∙ k.0
 
-same_named : (a b : List ℕ) (us vs : List EntityUID) (fs : List (List ℕ)) → AreFields a us fs → AreFields b vs fs → us ≡ vs
+same_named : (a b : List ℕ) (us vs : List EntityUID) (fs : List (List ℕ)) → AreFields a us fs → AreFields b vs fs
+    → us ≡ vs
 same_named a b us vs [] h k = absurd h
 same_named a b us vs (f ∷ fs) h k = one_list us vs fs h.1 k.1
 
 -- fields are those of one command
-pub one_entity_command : (c d : EntityCommand) (fs : List (List ℕ)) → IsEntityCommand c fs → IsEntityCommand d fs → c ≡ d
+pub one_entity_command : (c d : EntityCommand) (fs : List (List ℕ)) → IsEntityCommand c fs → IsEntityCommand d fs
+    → c ≡ d
 one_entity_command c d fs h k =
     let p = fields_are c fs h in
     let q = fields_are d fs k in
@@ -131,7 +136,8 @@ differs : (a b : List ℕ) → bytes_eq a b ≡ false → bytes_eq b b ≡ true 
 differs a b apart itself e = false≢true (sym apart ∙ ap (λ w. bytes_eq w b) e ∙ itself)
 
 -- a command whose fields begin with a word is read back from that word and the uids whose texts stand behind it
-told_by : (w : List ℕ) (ts : List (List ℕ)) (c : EntityCommand) → IsEntityCommand c (w ∷ ts) → (us : List EntityUID) × AreTexts us ts × (command_by w us ≡ c)
+told_by : (w : List ℕ) (ts : List (List ℕ)) (c : EntityCommand) → IsEntityCommand c (w ∷ ts) → (us : List EntityUID)
+    × AreTexts us ts × (command_by w us ≡ c)
 told_by w ts c h =
     let f = fields_are c (w ∷ ts) h in
     (named_by c, f.1, ap (λ v. command_by v (named_by c)) f.0 ∙ read_back c)
@@ -178,7 +184,8 @@ pub not_anc : (w : List ℕ) (ts : List (List ℕ)) → w ≡ codes "anc" → ((
 not_anc w ts e none c h = let t = told_by w ts c h in anc_told w ts t.0 e none c t.2 h
 
 -- where the fields behind a word are no texts of uids, they are those of no command
-no_uid_texts : (w : List ℕ) (ts : List (List ℕ)) → ((us : List EntityUID) → AreTexts us ts → ⊥) → (c : EntityCommand) → IsEntityCommand c (w ∷ ts) → ⊥
+no_uid_texts : (w : List ℕ) (ts : List (List ℕ)) → ((us : List EntityUID) → AreTexts us ts → ⊥) → (c : EntityCommand)
+    → IsEntityCommand c (w ∷ ts) → ⊥
 no_uid_texts w ts none c h = let t = told_by w ts c h in none t.0 t.1
 
 -- a word by itself is one of three commands or none
@@ -218,16 +225,19 @@ read_so t (Err x) e = inr (λ v h. let f : Err x ≡ Ok (Some (uid_parts v)) = s
 text_found : (t : List ℕ) → Found (λ u. Text u t)
 text_found t = read_so t (uid_reading t) refl
 
-texts_after : (t : List ℕ) (ts : List (List ℕ)) → Found (λ u. Text u t) → Found (λ us. AreTexts us ts) → Found (λ us. AreTexts us (t ∷ ts))
+texts_after : (t : List ℕ) (ts : List (List ℕ)) → Found (λ u. Text u t) → Found (λ us. AreTexts us ts)
+    → Found (λ us. AreTexts us (t ∷ ts))
 texts_after t ts (inl u) (inl us) = inl (u.0 ∷ us.0, (u.1, us.1))
 texts_after t ts (inl u) (inr none) = inr (no_rest t ts none)
   where
-    no_rest : (t : List ℕ) (ts : List (List ℕ)) → ((us : List EntityUID) → AreTexts us ts → ⊥) → (us : List EntityUID) → AreTexts us (t ∷ ts) → ⊥
+    no_rest : (t : List ℕ) (ts : List (List ℕ)) → ((us : List EntityUID) → AreTexts us ts → ⊥) → (us : List EntityUID)
+        → AreTexts us (t ∷ ts) → ⊥
     no_rest t ts none [] h = h
     no_rest t ts none (u ∷ us) h = none us h.1
 texts_after t ts (inr none) rest = inr (no_first t ts none)
   where
-    no_first : (t : List ℕ) (ts : List (List ℕ)) → ((u : EntityUID) → Text u t → ⊥) → (us : List EntityUID) → AreTexts us (t ∷ ts) → ⊥
+    no_first : (t : List ℕ) (ts : List (List ℕ)) → ((u : EntityUID) → Text u t → ⊥) → (us : List EntityUID)
+        → AreTexts us (t ∷ ts) → ⊥
     no_first t ts none [] h = h
     no_first t ts none (u ∷ us) h = none u h.0
 
@@ -264,7 +274,8 @@ anc_found w t ts u [] e h = inl (Anc u, (e, h))
 anc_found w t ts u (v ∷ vs) e h = inr (not_anc w (t ∷ ts) e (λ x k. two_or_none v vs ts h.1 k.1))
 
 -- a word and the texts of uids
-with_found : (w t : List ℕ) (ts : List (List ℕ)) → Found (λ us. AreTexts us (t ∷ ts)) → Found (λ c. IsEntityCommand c (w ∷ t ∷ ts))
+with_found : (w t : List ℕ) (ts : List (List ℕ)) → Found (λ us. AreTexts us (t ∷ ts))
+    → Found (λ c. IsEntityCommand c (w ∷ t ∷ ts))
 with_found w t ts (inr none) = inr (no_uid_texts w (t ∷ ts) none)
 with_found w t ts (inl ([], h)) = absurd h
 with_found w t ts (inl (u ∷ us, h)) = elim (word_is w (codes "ent")) [

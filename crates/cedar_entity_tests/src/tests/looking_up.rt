@@ -1,5 +1,5 @@
-// Looking up 10,000 uids among 10, 1,000 and 100,000 ancestors, and among as many uids in a hash set: what the looks cost
-// is the difference between a test that looks and the one that only makes what is looked at (docs/PERFORMANCE.md).
+// Looking up 10,000 uids among 10, 1,000 and 100,000 ancestors, and among as many uids in a hash set: what the looks
+// cost is the difference between a test that looks and the one that only makes what is looked at (docs/PERFORMANCE.md).
 use cedar_entity::entity::Entity;
 use cedar_ids::entity::EntityUID;
 use cedar_test_helpers::tried::{beside, kept, pushed};

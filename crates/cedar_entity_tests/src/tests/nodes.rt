@@ -60,8 +60,8 @@ fn lead<K: Eq + Drop, V: TCNode<K>>(
     Ok(())
 }
 
-// The key of a node, whether it has an edge to each of some uids, and how many edges it has, how many once it has those, and
-// how many once it is reset, each with the direct ones.
+// The key of a node, whether it has an edge to each of some uids, and how many edges it has, how many once it has
+// those, and how many once it is reset, each with the direct ones.
 fn grows<K: Eq + Display + Drop, V: TCNode<K>>(
     alloc: Global,
     node: &mut V,

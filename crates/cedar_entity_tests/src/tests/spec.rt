@@ -1,10 +1,11 @@
-// Entities by short texts, of up to four parts with ` | ` between them: its uid and its parents, its indirect ancestors, its
-// attributes, its tags. Uids are parted by blanks, attributes and tags by `, `. A uid is its type, a point and its eid: `A.a A.b |
-// A.c | k=2, l=1` is the entity `A::"a"` with the parent `A::"b"`, the indirect ancestor `A::"c"` and two attributes.
+// Entities by short texts, of up to four parts with ` | ` between them: its uid and its parents, its indirect
+// ancestors, its attributes, its tags. Uids are parted by blanks, attributes and tags by `, `. A uid is its type, a
+// point and its eid: `A.a A.b | A.c | k=2, l=1` is the entity `A::"a"` with the parent `A::"b"`, the indirect ancestor
+// `A::"c"` and two attributes.
 //
-// A value is a number, or a text behind a quote; behind it stands what it is put in, from the inside out, each behind `/`: a
-// set `[`, or a record, which is its key `k`; `k&l` has 1 at `l` too, given behind it, and `l,k` has 1 at `l` before it. `?x` is a text
-// that is left over as an expression, and `!A.é` is the denial of a uid. `@7` behind a uid or a number is its place.
+// A value is a number, or a text behind a quote; behind it stands what it is put in, from the inside out, each behind
+// `/`: a set
+// `[`, or a record, which is its key `k`; `k&l` has 1 at `l` too, given behind it, and `l,k` has 1 at `l` before it. `?x` is a text that is left over as an expression, and `!A.é` is the denial of a uid. `@7` behind a uid or a number is its place.
 use cedar_entity::entity::Entity;
 use cedar_ids::entity::EntityUID;
 use cedar_ids::loc::Loc;
@@ -239,7 +240,8 @@ fn added(alloc: Global, text: &str) -> Result<Entity, Fail> {
     kept(entity, done)
 }
 
-// The entity with a text, or its copy, or that with a uid and parents alone that are taken at once, or added one by one.
+// The entity with a text, or its copy, or that with a uid and parents alone that are taken at once, or added one by
+// one.
 pub(super) fn made(alloc: Global, how: &str, text: &str) -> Result<Entity, Fail> {
     match how {
         "copied" => copied(entity(alloc, text)?),

@@ -1,4 +1,5 @@
--- A finite graph, closed by a test: which key reaches which, and whether one reaches itself. No function runs it; it shows
+-- A finite graph, closed by a test: which key reaches which, and whether one reaches itself. No function runs it; it
+-- shows
 -- that reach is settled by looking over a list of keys.
 use Rattle.std.proofs.Common.{◌≡◌, Bool, true, false, List, [], ◌∷◌, ◌||◌, ◌&&◌, ◌⊎◌, inl, inr, refl, sym, ◌∙◌}
 use Rattle.std.specs.Bool.{Decides}
@@ -26,7 +27,8 @@ or_turn true b c h = refl
 or_turn false b c h = h
 
 -- the edges by way of a key that is reached over lead to what is reached
-reached_over : {K : Type 0} (G : K → K → Bool) (via : K) (H : K → K → Bool) → AddsOnlyReached H G → AddsOnlyReached H (over G via)
+reached_over : {K : Type 0} (G : K → K → Bool) (via : K) (H : K → K → Bool) → AddsOnlyReached H G
+    → AddsOnlyReached H (over G via)
 reached_over G via H only a b h =
     elim (or_cases (G a b) (edges_by G via a b) h) [
       | inl p ↦ only a b p
@@ -44,7 +46,8 @@ over_respects eq G via r = record {
   from = λ a b c e i. r.from a b c e i || (r.from a b via e i && G via c);
 }
 
-pub closure_respects : {K : Type 0} (eq : K → K → Bool) (ks : List K) (G : K → K → Bool) → Respects eq G → Respects eq (closure G ks)
+pub closure_respects : {K : Type 0} (eq : K → K → Bool) (ks : List K) (G : K → K → Bool) → Respects eq G
+    → Respects eq (closure G ks)
 unfolding closure
 closure_respects eq [] G r = r
 closure_respects eq (k ∷ ks) G r = closure_respects eq ks (over G k) (over_respects eq G k r)
@@ -54,14 +57,17 @@ unfolding closure
 closure_keeps [] G a b h = h
 closure_keeps (k ∷ ks) G a b h = closure_keeps ks (over G k) a b (or_left (G a b) (edges_by G k a b) h)
 
-closure_only : {K : Type 0} (ks : List K) (G H : K → K → Bool) → AddsOnlyReached H G → (a b : K) → closure G ks a b ≡ true → Reach H a b
+closure_only : {K : Type 0} (ks : List K) (G H : K → K → Bool) → AddsOnlyReached H G → (a b : K)
+    → closure G ks a b ≡ true → Reach H a b
 unfolding closure
 closure_only [] G H only a b h = only a b h
 closure_only (k ∷ ks) G H only a b h = closure_only ks (over G k) H (reached_over G k H only) a b h
 
 -- a graph that is closed over the keys that pass is so over one more key, once it has the edges by way of that
-closed_over : {K : Type 0} (eq : K → K → Bool) (G : K → K → Bool) (via : K) → Respects eq G → (P : K → Bool) → ((a b c : K) → P b ≡ true → G a b ≡ true → G b c ≡ true → G a c ≡ true)
-    → (a b c : K) → (P b ≡ true) ⊎ (eq b via ≡ true) → over G via a b ≡ true → over G via b c ≡ true → over G via a c ≡ true
+closed_over : {K : Type 0} (eq : K → K → Bool) (G : K → K → Bool) (via : K) → Respects eq G → (P : K → Bool)
+    → ((a b c : K) → P b ≡ true → G a b ≡ true → G b c ≡ true → G a c ≡ true)
+    → (a b c : K) → (P b ≡ true) ⊎ (eq b via ≡ true) → over G via a b ≡ true → over G via b c ≡ true
+    → over G via a c ≡ true
 closed_over eq G via r P closed a b c (inl p) h k =
     elim (or_cases (G a b) (edges_by G via a b) h) [
       | inl ab ↦ elim (or_cases (G b c) (edges_by G via b c) k) [
@@ -87,7 +93,8 @@ closed_over eq G via r P closed a b c (inr e) h k =
 -- closed over the keys that pass, and over those of the list
 closure_closed : {K : Type 0} (eq : K → K → Bool) (ks : List K) (G : K → K → Bool) → Respects eq G
     → (P : K → Bool) → ((a b c : K) → P b ≡ true → G a b ≡ true → G b c ≡ true → G a c ≡ true)
-    → (a b c : K) → (P b || is_member eq ks b) ≡ true → closure G ks a b ≡ true → closure G ks b c ≡ true → closure G ks a c ≡ true
+    → (a b c : K) → (P b || is_member eq ks b) ≡ true → closure G ks a b ≡ true → closure G ks b c ≡ true
+    → closure G ks a c ≡ true
 unfolding closure
 closure_closed eq [] G r P closed a b c m h k = elim (or_cases (P b) false m) [
   | inl p ↦ closed a b c p h k
@@ -98,7 +105,8 @@ closure_closed eq (v ∷ vs) G r P closed a b c m h k =
     (λ x y z p. closed_over eq G v r P closed x y z (or_cases (P y) (eq y v) p))
     a b c (or_turn (P b) (eq b v) (is_member eq vs b) m) h k
 
-module _ {K : Type 0} (G : K → K → Bool) (N : K → K → Bool) (closed : (a b c : K) → G a b ≡ true → N b c ≡ true → N a c ≡ true) (has : (a b : K) → G a b ≡ true → N a b ≡ true) where
+module _ {K : Type 0} (G : K → K → Bool) (N : K → K → Bool) (closed : (a b c : K) → G a b ≡ true → N b c ≡ true
+    → N a c ≡ true) (has : (a b : K) → G a b ≡ true → N a b ≡ true) where
   path_in_closed : (a b : K) (xs : List K) → Path G a xs b → N a b ≡ true
   path_in_closed a b [] p = has a b p
   path_in_closed a b (x ∷ xs) p = closed a x b p.0 (path_in_closed x b xs p.1)
@@ -124,7 +132,8 @@ reached_from G a b p = last_edge G a b p.0 p.1
 abbrev pub LeaveOnly : {K : Type 0} → (K → K → Bool) → List K → (K → K → Bool) → Type 0
 LeaveOnly {K} eq keys G = (a b : K) → G a b ≡ true → is_member eq keys a ≡ true
 
-module _ {K : Type 0} (eq : K → K → Bool) (G : K → K → Bool) (respects : Respects eq G) (keys : List K) (leave : LeaveOnly eq keys G) where
+module _ {K : Type 0} (eq : K → K → Bool) (G : K → K → Bool) (respects : Respects eq G) (keys : List K)
+    (leave : LeaveOnly eq keys G) where
   -- what the closure has is what is reached
   pub closure_is : IsClosure G (closure G keys)
   closure_is a b = (
@@ -133,7 +142,8 @@ module _ {K : Type 0} (eq : K → K → Bool) (G : K → K → Bool) (respects :
         (λ x y z h k.
         let e = closure_only keys G G (λ s t w. ([], w)) y z k in
         let f = first_edge G y z e.0 e.1 in
-        closure_closed eq keys G respects (λ _. false) (λ s t w c p q. absurd (false≢true c)) x y z (leave y f.0 f.1) (closure_keeps keys G x y h) k)
+        closure_closed eq keys G respects (λ _. false) (λ s t w c p q. absurd (false≢true c)) x y z (leave y f.0 f.1)
+        (closure_keeps keys G x y h) k)
         (closure_keeps keys G) a b,
   )
 
@@ -144,7 +154,8 @@ any_found test (x ∷ xs) h = elim (or_cases (test x) (list_any test xs) h) [
   | inr r ↦ any_found test xs r
 ]
 
-any_member : {K : Type 0} (eq : K → K → Bool) (test : K → Bool) → ((x y : K) → eq x y ≡ true → test x ≡ test y) → (q : K) → test q ≡ true → (ks : List K) → is_member eq ks q ≡ true → list_any test ks ≡ true
+any_member : {K : Type 0} (eq : K → K → Bool) (test : K → Bool) → ((x y : K) → eq x y ≡ true → test x ≡ test y)
+    → (q : K) → test q ≡ true → (ks : List K) → is_member eq ks q ≡ true → list_any test ks ≡ true
 any_member eq test same q h [] m = absurd (false≢true m)
 any_member eq test same q h (k ∷ ks) m = elim (or_cases (eq q k) (is_member eq ks q) m) [
   | inl e ↦ or_left (test k) (list_any test ks) (sym (same q k e) ∙ h)
@@ -155,7 +166,9 @@ any_member eq test same q h (k ∷ ks) m = elim (or_cases (eq q k) (is_member eq
 pub has_cycle : {K : Type 0} → (K → K → Bool) → List K → Bool
 has_cycle G keys = list_any (λ k. closure G keys k k) keys
 
-pub decides_cycle : {K : Type 0} (eq : K → K → Bool) (G : K → K → Bool) (respects : Respects eq G) (keys : List K) (leave : LeaveOnly eq keys G) → Decides (has_cycle G keys) ((v : K) × Reach G v v)
+pub decides_cycle : {K : Type 0} (eq : K → K → Bool) (G : K → K
+    → Bool) (respects : Respects eq G) (keys : List K) (leave : LeaveOnly eq keys G)
+    → Decides (has_cycle G keys) ((v : K) × Reach G v v)
 unfolding has_cycle
 decides_cycle {K} eq G respects keys leave = (
   λ h. let f = any_found (λ k. closure G keys k k) keys h in (f.0, (closure_is eq G respects keys leave f.0 f.0).0 f.1),

@@ -18,7 +18,8 @@ module _ {K : Type 0} {eq : K → K → Bool} (laws : IsEquivalence eq) (x y : K
   contains_both_or_none s = any_is_both_or_none s.keys
 
   -- one of two sets has both of two equal keys, or none
-  pub either_contains_both_or_none : {S : Type 0} (s t : HashSet K S) → (contains eq s x || contains eq t x) ≡ (contains eq s y || contains eq t y)
+  pub either_contains_both_or_none : {S : Type 0} (s t : HashSet K S)
+      → (contains eq s x || contains eq t x) ≡ (contains eq s y || contains eq t y)
   either_contains_both_or_none s t = rw (contains_both_or_none s, contains_both_or_none t)
 
 -- what is in the first set is in one of the two
@@ -26,11 +27,14 @@ pub first_of_either : (x y : Bool) → x ≡ true → (x || y) ≡ true
 first_of_either x y h = rw h
 
 module _ {K V : Type 0} (key : V → K) (P : K → Type 0) where
-  if_same_key : (m n : Option V) → option_map key n ≡ option_map key m → IfSome m (λ v. P (key v)) → IfSome n (λ v. P (key v))
+  if_same_key : (m n : Option V) → option_map key n ≡ option_map key m → IfSome m (λ v. P (key v))
+      → IfSome n (λ v. P (key v))
   if_same_key m None same h = tt
   if_same_key None (Some v) same h = cc
   if_same_key (Some u) (Some v) same h = let keys : key u ≡ key v = cc in subst P keys h
 
 -- where the nodes are kept, each map key still is its node's key
-pub keys_match_kept : {K V R S : Type 0} (eq : K → K → Bool) (key : V → K) (rest : V → R) (old new : HashMap K V S) → KeepsNodes eq key rest old new → KeysMatch eq key old → KeysMatch eq key new
-keys_match_kept eq key rest old new kept match q = if_same_key key (λ k. eq q k ≡ true) (get eq old q) (get eq new q) (kept.node_keys q) (match q)
+pub keys_match_kept : {K V R S : Type 0} (eq : K → K → Bool) (key : V → K) (rest : V → R) (old new : HashMap K V S)
+    → KeepsNodes eq key rest old new → KeysMatch eq key old → KeysMatch eq key new
+keys_match_kept eq key rest old new kept match q = if_same_key key (λ k. eq q k
+    ≡ true) (get eq old q) (get eq new q) (kept.node_keys q) (match q)

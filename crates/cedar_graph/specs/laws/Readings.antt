@@ -1,5 +1,6 @@
 -- What is read of a map of nodes: numbers for keys, and arcs between them.
-use Rattle.std.specs.Prelude.{◌≡◌, ℕ, ◌<◌, ◌≤◌, ◌+◌, ◌++◌, ◌∷◌, [], ◌⊎◌, Bool, true, length, take, slice_get, Some, is_some, IsSomeAnd}
+use Rattle.std.specs.Prelude.{◌≡◌, ℕ, ◌<◌, ◌≤◌, ◌+◌, ◌++◌, ◌∷◌, [], ◌⊎◌, Bool, true, length, take, slice_get, Some}
+use Rattle.std.specs.Prelude.{is_some, IsSomeAnd}
 use Rattle.std.specs.Set.{is_member}
 use Rattle.std.specs.HashMap.{HashMap, get, hash_map_len}
 use Rattle.std.specs.HashSet.{HashSet, contains, hash_set_len}

@@ -669,7 +669,8 @@ fn equal(first: Option<TcError<u64>>, second: TcError<u64>) -> Option<bool> {
     }
 }
 
-// Whether the refusal of a loop is written so, and is another than that of a missing edge, which the check of a chain answers.
+// Whether the refusal of a loop is written so, and is another than that of a missing edge, which the check of a chain
+// answers.
 fn are_told<S: BuildHasher + Copy>(alloc: Global, hasher: S) -> bool {
     let want = "input graph has a cycle containing vertex `7`";
     shows(alloc, looped(alloc, hasher), want)

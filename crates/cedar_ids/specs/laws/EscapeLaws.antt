@@ -1,5 +1,6 @@
 -- An escaped text is read back.
-use Rattle.std.proofs.Common.{◌≡◌, ◌≢◌, ℕ, zero, suc, ◌<◌, List, [], ◌∷◌, ◌++◌, Bool, true, false, ◌&&◌, refl, sym, ap, ◌∙◌, arith, append_assoc, inl, inr, Some}
+use Rattle.std.proofs.Common.{◌≡◌, ◌≢◌, ℕ, zero, suc, ◌<◌, List, [], ◌∷◌, ◌++◌, Bool, true, false, ◌&&◌, refl, sym, ap}
+use Rattle.std.proofs.Common.{◌∙◌, arith, append_assoc, inl, inr, Some}
 use Rattle.std.proofs.lemmas.Bool.Decides.{eqb_tells}
 use borrow.Author.Tests.{ltb-true}
 use Rattle.std.specs.Cmp.{first_so, second_so}
@@ -16,10 +17,12 @@ scan_after : Scan → List ℕ → Scan
 scan_after s [] = s
 scan_after s (b ∷ bs) = scan_after (next_scan s b) bs
 
-decode_from-append : (s : Scan) (xs ys : List ℕ) → decode_from s (xs ++ ys) ≡ decode_from s xs ++ decode_from (scan_after s xs) ys
+decode_from-append : (s : Scan) (xs ys : List ℕ) → decode_from s (xs ++ ys)
+    ≡ decode_from s xs ++ decode_from (scan_after s xs) ys
 unfolding decode_from scan_after
 decode_from-append s [] ys = refl
-decode_from-append s (b ∷ xs) ys = ap (λ z. emits s b ++ z) (decode_from-append (next_scan s b) xs ys) ∙ sym (append_assoc (emits s b) _ _)
+decode_from-append s (b ∷ xs) ys = ap (λ z. emits s b ++ z) (decode_from-append (next_scan s b) xs ys)
+    ∙ sym (append_assoc (emits s b) _ _)
 
 is_plain : Scan → Bool
 is_plain Plain = true
@@ -58,8 +61,10 @@ escape_back : (c : ℕ) → c < 128 → (decode_from Plain (escape c) ≡ c ∷ 
 unfolding reads_back
 escape_back c l =
     let e = below_at reads_back 128 c ascii_reads_back l in (
-      (bytes_eq-Decides (decode_from Plain (escape c)) (c ∷ [])).0 (first_so (bytes_eq (decode_from Plain (escape c)) (c ∷ [])) (is_plain (scan_after Plain (escape c))) e),
-      plain_is _ (second_so (bytes_eq (decode_from Plain (escape c)) (c ∷ [])) (is_plain (scan_after Plain (escape c))) e),
+      (bytes_eq-Decides (decode_from Plain (escape c)) (c ∷ [])).0
+          (first_so (bytes_eq (decode_from Plain (escape c)) (c ∷ [])) (is_plain (scan_after Plain (escape c))) e),
+      plain_is _ (second_so (bytes_eq (decode_from Plain (escape c)) (c ∷ []))
+          (is_plain (scan_after Plain (escape c))) e),
     )
 
 below : (c : ℕ) → is_ascii_byte c ≡ true → c < 128

@@ -1,5 +1,6 @@
 -- Where the first `::"` and the last `"` stand.
-use Rattle.std.proofs.Common.{◌≡◌, ◌≢◌, ℕ, zero, suc, ◌<◌, ◌≤◌, List, [], ◌∷◌, ◌++◌, length, take, drop, true, false, refl, sym, ap, arith, Option, Some, None, MatchOption, inl, inr, length-append}
+use Rattle.std.proofs.Common.{◌≡◌, ◌≢◌, ℕ, zero, suc, ◌<◌, ◌≤◌, List, [], ◌∷◌, ◌++◌, length, take, drop, true, false}
+use Rattle.std.proofs.Common.{refl, sym, ap, arith, Option, Some, None, MatchOption, inl, inr, length-append}
 use Rattle.std.proofs.lemmas.Bool.{false_from_ne_true}
 use Rattle.std.proofs.lemmas.Bool.Decides.{eqb_tells}
 use Rattle.std.proofs.lemmas.Slice.Eq.{starts_is}
@@ -21,12 +22,15 @@ starts_so p s rest e = (starts_is unsigned_Decides s p (starts_with nat_eq s p) 
 no_front : (p rest : List ℕ) → 0 < length p → [] ≡ p ++ rest → ⊥
 no_front p rest l e = absurd (omega (arith, length-append p rest, ap length e))
 
-first_text-none : (p s : List ℕ) → ((i : ℕ) → i ≤ length s → (rest : List ℕ) → drop i s ≢ p ++ rest) → first_text p s ≡ None
+first_text-none : (p s : List ℕ) → ((i : ℕ) → i ≤ length s → (rest : List ℕ) → drop i s ≢ p ++ rest)
+    → first_text p s ≡ None
 unfolding first_text
 first_text-none p [] h = refl
 first_text-none p (b ∷ bs) h = rw (starts_not p (b ∷ bs) (h 0 (omega arith)), first_text-none p bs (λ i l rest. h (suc i) (omega arith) rest)) refl
 
-first_text-at : (p s : List ℕ) (i : ℕ) (rest : List ℕ) → 0 < length p → ((k : ℕ) → k < i → (r : List ℕ) → drop k s ≢ p ++ r) → drop i s ≡ p ++ rest → first_text p s ≡ Some (take i s, rest)
+first_text-at : (p s : List ℕ) (i : ℕ) (rest : List ℕ) → 0 < length p
+    → ((k : ℕ) → k < i → (r : List ℕ) → drop k s ≢ p ++ r) → drop i s ≡ p ++ rest
+    → first_text p s ≡ Some (take i s, rest)
 unfolding first_text
 first_text-at p [] zero rest l h e = absurd (no_front p rest l e)
 first_text-at p [] (suc i) rest l h e = absurd (no_front p rest l e)
@@ -34,7 +38,9 @@ first_text-at p (b ∷ bs) zero rest l h e = rw (starts_so p (b ∷ bs) rest e, 
 first_text-at p (b ∷ bs) (suc i) rest l h e = rw (starts_not p (b ∷ bs) (h 0 (omega arith)), first_text-at p bs i rest l (λ k m r. h (suc k) (omega arith) r) e) refl
 
 -- what `split_once` says, as `first_text`
-pub split_found : (p s : List ℕ) (r : Option (Bor (List ℕ) × Bor (List ℕ))) → 0 < length p → MatchOption r (FindsText p s None) (λ x. SplitsAroundMatch (FindsText p) s x.0.now x.1.now) → option_map (λ x. (x.0.now, x.1.now)) r ≡ first_text p s
+pub split_found : (p s : List ℕ) (r : Option (Bor (List ℕ) × Bor (List ℕ))) → 0 < length p
+    → MatchOption r (FindsText p s None) (λ x. SplitsAroundMatch (FindsText p) s x.0.now x.1.now)
+    → option_map (λ x. (x.0.now, x.1.now)) r ≡ first_text p s
 split_found p s None l h = sym (first_text-none p s h)
 split_found p s (Some x) l h = rw (h.3, h.4) (sym (first_text-at p s h.0 (drop h.1 s) l h.2.0 h.2.1.split))
 

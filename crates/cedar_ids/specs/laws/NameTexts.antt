@@ -1,5 +1,6 @@
 -- What is read as a name is its text.
-use Rattle.std.proofs.Common.{◌≡◌, ℕ, List, [], ◌∷◌, ◌++◌, Bool, true, false, ◌&&◌, cond, refl, sym, ap, ◌∙◌, append_assoc, subst, Option, Some, None}
+use Rattle.std.proofs.Common.{◌≡◌, ℕ, List, [], ◌∷◌, ◌++◌, Bool, true, false, ◌&&◌, cond, refl, sym, ap, ◌∙◌}
+use Rattle.std.proofs.Common.{append_assoc, subst, Option, Some, None}
 use Rattle.std.proofs.lemmas.Bool.{eqb-true}
 use Rattle.std.specs.Prelude.{◌==◌}
 use Rattle.std.specs.Cmp.{first_so, second_so}
@@ -23,7 +24,8 @@ unfolding joined
 joined_onto b d [] = refl
 joined_onto b d (x ∷ xs) = refl
 
-joined_if : (t : Bool) (s : List ℕ) (x y : List (List ℕ)) → (t ≡ true → joined x ≡ s) → (t ≡ false → joined y ≡ s) → joined (cond t x y) ≡ s
+joined_if : (t : Bool) (s : List ℕ) (x y : List (List ℕ)) → (t ≡ true → joined x ≡ s) → (t ≡ false → joined y ≡ s)
+    → joined (cond t x y) ≡ s
 joined_if true s x y p q = p refl
 joined_if false s x y p q = q refl
 
@@ -59,11 +61,13 @@ split_more true o m e = (refl, e)
 split_more false o m e = absurd (cc)
 
 -- one component more
-pub all_push : (p : List (List ℕ)) (c : List ℕ) → list_all is_id p ≡ true → is_id c ≡ true → list_all is_id (p ++ c ∷ []) ≡ true
+pub all_push : (p : List (List ℕ)) (c : List ℕ) → list_all is_id p ≡ true → is_id c ≡ true
+    → list_all is_id (p ++ c ∷ []) ≡ true
 all_push [] c h k = rw k refl
 all_push (x ∷ xs) c h k = rw (first_so (is_id x) (list_all is_id xs) h, all_push xs c (second_so (is_id x) (list_all is_id xs) h) k) refl
 
-marks_push : (p : List (List ℕ)) (c rest : List ℕ) → flat_map before_mark (p ++ c ∷ []) ++ rest ≡ flat_map before_mark p ++ (c ++ (58 ∷ 58 ∷ rest))
+marks_push : (p : List (List ℕ)) (c rest : List ℕ) → flat_map before_mark (p ++ c ∷ []) ++ rest
+    ≡ flat_map before_mark p ++ (c ++ (58 ∷ 58 ∷ rest))
 marks_push [] c rest = simp (append_assoc) refl
 marks_push (x ∷ xs) c rest =
     append_assoc (before_mark x) (flat_map before_mark (xs ++ c ∷ [])) rest
@@ -71,7 +75,8 @@ marks_push (x ∷ xs) c rest =
     ∙ sym (append_assoc (before_mark x) (flat_map before_mark xs) (c ++ (58 ∷ 58 ∷ rest)))
 
 -- a name that is read from pieces after a path is their text
-read_pieces : (path cs : List (List ℕ)) (n : NameParts) → list_all is_id path ≡ true → name_of_components path cs ≡ Some n → IsName n × (flat_map before_mark path ++ joined cs ≡ printed_name n)
+read_pieces : (path cs : List (List ℕ)) (n : NameParts) → list_all is_id path ≡ true
+    → name_of_components path cs ≡ Some n → IsName n × (flat_map before_mark path ++ joined cs ≡ printed_name n)
 unfolding name_of_components joined
 read_pieces path [] n h e = absurd (cc)
 read_pieces path (c ∷ []) n h e =

@@ -1,5 +1,6 @@
 -- Uids with an ASCII eid and their texts correspond one to one.
-use Rattle.std.proofs.Common.{◌≡◌, ℕ, List, [], ◌∷◌, ◌++◌, Bool, true, false, ◌&&◌, refl, sym, ap, ◌∙◌, append_assoc, Some, Ok, inl, inr, codes, IsTrue}
+use Rattle.std.proofs.Common.{◌≡◌, ℕ, List, [], ◌∷◌, ◌++◌, Bool, true, false, ◌&&◌, refl, sym, ap, ◌∙◌, append_assoc}
+use Rattle.std.proofs.Common.{Some, Ok, inl, inr, codes, IsTrue}
 use Rattle.std.proofs.lemmas.Bool.{false≢true}
 use Rattle.std.proofs.lemmas.Bool.Decides.{eqb_tells}
 use Rattle.std.proofs.lemmas.List.Folds.{list_all-append}
@@ -65,20 +66,24 @@ pub parts_no_quote : (c : List ℕ) → list_all is_id_part c ≡ true → list_
 parts_no_quote [] h = refl
 parts_no_quote (b ∷ bs) h = rw (part_no_quote b (first_so (is_id_part b) (list_all is_id_part bs) h), parts_no_quote bs (second_so (is_id_part b) (list_all is_id_part bs) h)) refl
 
-pub marks_no_quote : (p : List (List ℕ)) (rest : List ℕ) → list_all is_id p ≡ true → list_all no_quote rest ≡ true → list_all no_quote (flat_map before_mark p ++ rest) ≡ true
+pub marks_no_quote : (p : List (List ℕ)) (rest : List ℕ) → list_all is_id p ≡ true → list_all no_quote rest ≡ true
+    → list_all no_quote (flat_map before_mark p ++ rest) ≡ true
 unfolding no_quote
 marks_no_quote [] rest h k = k
 marks_no_quote (c ∷ cs) rest h k =
     let i : is_id c ≡ true = first_so (is_id c) (list_all is_id cs) h in
     let j : list_all is_id cs ≡ true = second_so (is_id c) (list_all is_id cs) h in
-    ap (list_all no_quote) (append_assoc (before_mark c) (flat_map before_mark cs) rest ∙ append_assoc c (58 ∷ 58 ∷ []) (flat_map before_mark cs ++ rest))
+    ap (list_all no_quote) (append_assoc (before_mark c) (flat_map before_mark cs) rest
+    ∙ append_assoc c (58 ∷ 58 ∷ []) (flat_map before_mark cs ++ rest))
     ∙ list_all-append no_quote c (58 ∷ 58 ∷ (flat_map before_mark cs ++ rest))
     ∙ rw (parts_no_quote c (id_parts c i), marks_no_quote cs rest j k) refl
 
-pub halves-printed : (u : UidParts) → IsName u.name → uid_halves (printed_uid u) ≡ Some (printed_name u.name, escaped u.eid)
+pub halves-printed : (u : UidParts) → IsName u.name → uid_halves (printed_uid u)
+    ≡ Some (printed_name u.name, escaped u.eid)
 halves-printed u h =
     sym (halves_quote (printed_uid u) (printed_name u.name ++ (codes "::\"" ++ escaped u.eid)) (sym (append_assoc (printed_name u.name) (codes "::\"" ++ escaped u.eid) (34 ∷ []))))
-    ∙ first_text-found (printed_name u.name) (escaped u.eid) (marks_no_quote u.name.path u.name.basename h.0 (parts_no_quote u.name.basename (id_parts u.name.basename h.1)))
+    ∙ first_text-found (printed_name u.name) (escaped u.eid)
+    (marks_no_quote u.name.path u.name.basename h.0 (parts_no_quote u.name.basename (id_parts u.name.basename h.1)))
 
 -- the printed text of a uid is read as that uid
 pub uid_reading-printed : (u : UidParts) (t : List ℕ) → IsPrinted u t → uid_reading t ≡ Ok (Some u)

@@ -3,7 +3,8 @@ use Rattle.std.specs.Prelude.{◌≡◌, true}
 use Rattle.std.proofs.Common.{sym, ap, ◌∙◌}
 use Rattle.std.specs.Bool.{Decides}
 use Rattle.std.specs.Ordering.{nat_cmp, eq_by_cmp, as_partial_cmp}
-use Rattle.std.specs.Cmp.{IsEquivalence, IsTotalOrder, IsPartialOrder, and_equiv, on_equiv, on_total, then_total, po, first_so, second_so}
+use Rattle.std.specs.Cmp.{IsEquivalence, IsTotalOrder, IsPartialOrder, and_equiv, on_equiv, on_total, then_total, po}
+use Rattle.std.specs.Cmp.{first_so, second_so}
 use Rattle.std.specs.Cmp.Lexicographic.{bytes_decides, slice_cmp, on_texts, on_texts_equal, texts_ties}
 use Rattle.cedar_ids.specs.Name.{name_eq, name_cmp}
 use Rattle.cedar_ids.specs.laws.NameLaws.{name_eq_equiv, name_cmp_total, name_ties, name_eq-Decides, both, is_eq-then}
@@ -16,7 +17,8 @@ pub uid_cmp_total : IsTotalOrder uid_cmp
 uid_cmp_total = then_total (on_total name_part name_cmp_total) (on_texts eid_part)
 
 pub uid_ties : (x y : UidParts) → uid_eq x y ≡ eq_by_cmp uid_cmp x y
-uid_ties x y = both _ _ _ _ (name_ties x.name y.name) (texts_ties x.eid y.eid) ∙ sym (is_eq-then (name_cmp x.name y.name) (slice_cmp nat_cmp x.eid y.eid))
+uid_ties x y = both _ _ _ _ (name_ties x.name y.name) (texts_ties x.eid y.eid)
+    ∙ sym (is_eq-then (name_cmp x.name y.name) (slice_cmp nat_cmp x.eid y.eid))
 
 pub uid_po : IsPartialOrder uid_eq (as_partial_cmp uid_cmp)
 uid_po = po uid_cmp_total uid_ties

@@ -30,7 +30,11 @@ same_parts (uids.EntityUID u) (uids.EntityUID v) e = ap uids.EntityUID e
 
 -- two uids are equal exactly where they are the same value
 pub same_uid_decides : (x y : EntityUID) → Decides (same_uid x y) (x ≡ y)
-same_uid_decides x y = (λ e. same_parts x y ((uid_eq-Decides (uid_parts x) (uid_parts y)).0 e), λ e. (uid_eq-Decides (uid_parts x) (uid_parts y)).1 (ap uid_parts e))
+same_uid_decides x y = (
+  λ e. same_parts x y ((uid_eq-Decides (uid_parts x) (uid_parts y)).0 e),
+  λ e.
+      (uid_eq-Decides (uid_parts x) (uid_parts y)).1 (ap uid_parts e),
+)
 
 -- equal uids hash alike
 pub uid_hash_respects : (x y : EntityUID) → same_uid x y ≡ true → uid_hash x ≡ uid_hash y

@@ -1,5 +1,6 @@
 -- Reading a uid, as the program does. What reading answers is said in Reads and ReadsUid.
-use Rattle.std.specs.Prelude.{ℕ, List, [], ◌∷◌, length, drop, Option, Some, None, Result, Ok, Err, if◌then◌else◌, ◌==◌, nat_eq, codes, option_and_then}
+use Rattle.std.specs.Prelude.{ℕ, List, [], ◌∷◌, length, drop, Option, Some, None, Result, Ok, Err, if◌then◌else◌, ◌==◌}
+use Rattle.std.specs.Prelude.{nat_eq, codes, option_and_then}
 use Rattle.std.specs.Option.{option_map}
 use Rattle.std.specs.List.{starts_with}
 use Rattle.cedar_ids.specs.Name.{NameParts}
@@ -16,7 +17,8 @@ onto_front b p = (b ∷ p.0, p.1)
 -- what stands before and after the first p, which isn't empty
 unfoldable pub first_text : List ℕ → List ℕ → Option (List ℕ × List ℕ)
 first_text p [] = None
-first_text p (b ∷ bs) = if starts_with nat_eq (b ∷ bs) p then Some ([], drop (length p) (b ∷ bs)) else option_map (onto_front b) (first_text p bs)
+first_text p (b ∷ bs) = if starts_with nat_eq (b ∷ bs) p then Some ([], drop (length p) (b ∷ bs)) else option_map
+    (onto_front b) (first_text p bs)
 
 abbrev pub onto_text : ℕ → List ℕ → List ℕ
 onto_text b bs = b ∷ bs

@@ -1,5 +1,7 @@
 -- What is read as a uid is its text; and where the first mark of a text stands.
-use Rattle.std.proofs.Common.{◌≡◌, ◌<◌, ◌≤◌, ℕ, arith, lit<, length-append, List, [], ◌∷◌, ◌++◌, length, drop, Bool, true, false, cond, refl, sym, ap, ◌∙◌, append_assoc, subst, Option, Some, None, Ok, inl, inr, ◌⊎◌, codes}
+use Rattle.std.proofs.Common.{◌≡◌, ◌<◌, ◌≤◌, ℕ, arith, lit<, length-append, List, [], ◌∷◌, ◌++◌, length, drop, Bool}
+use Rattle.std.proofs.Common.{true, false, cond, refl, sym, ap, ◌∙◌, append_assoc, subst, Option, Some, None, Ok, inl}
+use Rattle.std.proofs.Common.{inr, ◌⊎◌, codes}
 use Rattle.std.proofs.lemmas.Bool.{eqb-true, false≢true}
 use Rattle.std.proofs.lemmas.Slice.Eq.{starts_is}
 use Rattle.std.specs.Prelude.{◌==◌, nat_eq, option_and_then}
@@ -11,7 +13,8 @@ use Rattle.cedar_ids.specs.Uid.{UidParts}
 use Rattle.cedar_ids.specs.laws.Decode.{eid_of}
 use Rattle.cedar_ids.specs.Printed.{printed_name}
 use Rattle.cedar_ids.specs.laws.NameReading.{name_of}
-use Rattle.cedar_ids.specs.laws.UidReading.{first_text, before_quote, onto_front, onto_text, uid_halves, uid_with, reading_of_parts, reading_of_halves, uid_reading}
+use Rattle.cedar_ids.specs.laws.UidReading.{first_text, before_quote, onto_front, onto_text, uid_halves, uid_with}
+use Rattle.cedar_ids.specs.laws.UidReading.{reading_of_parts, reading_of_halves, uid_reading}
 use Rattle.cedar_ids.specs.TextOf.{IsNameText, IsPrinted}
 use Rattle.cedar_ids.specs.ReadsUid.{IsSplit, HasMarks, IsFirstSplit, StartsWithName}
 use Rattle.cedar_ids.specs.laws.PrintedLaws.{halves_quote, first_text-found, marks_no_quote, parts_no_quote}
@@ -23,11 +26,13 @@ use Rattle.cedar_ids.specs.laws.NameTexts.{name_found}
 Halves : Type 0
 Halves = List ℕ × List ℕ
 
-halves_chosen : (b : Bool) (x y : Option (List ℕ × List ℕ)) (z : Option (List ℕ × List ℕ)) → cond b x y ≡ z → ((b ≡ true) × (x ≡ z)) ⊎ ((b ≡ false) × (y ≡ z))
+halves_chosen : (b : Bool) (x y : Option (List ℕ × List ℕ)) (z : Option (List ℕ × List ℕ)) → cond b x y ≡ z
+    → ((b ≡ true) × (x ≡ z)) ⊎ ((b ≡ false) × (y ≡ z))
 halves_chosen true x y z e = inl (refl, e)
 halves_chosen false x y z e = inr (refl, e)
 
-onto_some : (b : ℕ) (o : Option (List ℕ × List ℕ)) (x y : List ℕ) → option_map (onto_front b) o ≡ Some (x, y) → (x' : List ℕ) × (o ≡ Some (x', y)) × (x ≡ b ∷ x')
+onto_some : (b : ℕ) (o : Option (List ℕ × List ℕ)) (x y : List ℕ) → option_map (onto_front b) o ≡ Some (x, y)
+    → (x' : List ℕ) × (o ≡ Some (x', y)) × (x ≡ b ∷ x')
 onto_some b None x y e = absurd (cc)
 onto_some b (Some p) x y e =
     let q : onto_front b p ≡ (x, y) = cc in
@@ -38,7 +43,8 @@ first_text_sound : (p s x y : List ℕ) → first_text p s ≡ Some (x, y) → s
 unfolding first_text
 first_text_sound p [] x y e = absurd (cc)
 first_text_sound p (b ∷ bs) x y e =
-    elim (halves_chosen (starts_with nat_eq (b ∷ bs) p) (Some ([], drop (length p) (b ∷ bs))) (option_map (onto_front b) (first_text p bs)) (Some (x, y)) e) as (λ _. b ∷ bs ≡ x ++ (p ++ y)) [
+    elim (halves_chosen (starts_with nat_eq (b ∷ bs) p) (Some ([], drop (length p) (b ∷ bs)))
+    (option_map (onto_front b) (first_text p bs)) (Some (x, y)) e) as (λ _. b ∷ bs ≡ x ++ (p ++ y)) [
       | inl w ↦
           let q : ◌≡◌ {A = List ℕ × List ℕ} ([], drop (length p) (b ∷ bs)) (x, y) = cc in
           let f : b ∷ bs ≡ p ++ drop (length p) (b ∷ bs) = (starts_is unsigned_Decides (b ∷ bs) p (starts_with nat_eq (b ∷ bs) p) refl).0 w.0 in
@@ -48,7 +54,8 @@ first_text_sound p (b ∷ bs) x y e =
           ap (λ z. b ∷ z) (first_text_sound p bs r.0 y r.1) ∙ sym (ap (λ z. z ++ (p ++ y)) r.2)
     ]
 
-text_some : (b : ℕ) (o : Option (List ℕ)) (x : List ℕ) → option_map (onto_text b) o ≡ Some x → (x' : List ℕ) × (o ≡ Some x') × (x ≡ b ∷ x')
+text_some : (b : ℕ) (o : Option (List ℕ)) (x : List ℕ) → option_map (onto_text b) o ≡ Some x → (x' : List ℕ)
+    × (o ≡ Some x') × (x ≡ b ∷ x')
 text_some b None x e = absurd (cc)
 text_some b (Some p) x e = let q : b ∷ p ≡ x = cc in (p, refl, sym q)
 
@@ -67,7 +74,8 @@ before_quote_sound (b ∷ c ∷ bs) x e =
     let r = text_some b (before_quote (c ∷ bs)) x e in
     ap (λ z. b ∷ z) (before_quote_sound (c ∷ bs) r.0 r.1) ∙ sym (ap (λ z. z ++ 34 ∷ []) r.2)
 
-then_some : (o : Option (List ℕ)) (p : List ℕ) (h : List ℕ × List ℕ) → option_and_then (first_text p) o ≡ Some h → (x : List ℕ) × (o ≡ Some x) × (first_text p x ≡ Some h)
+then_some : (o : Option (List ℕ)) (p : List ℕ) (h : List ℕ × List ℕ) → option_and_then (first_text p) o ≡ Some h
+    → (x : List ℕ) × (o ≡ Some x) × (first_text p x ≡ Some h)
 then_some None p h e = absurd (cc)
 then_some (Some x) p h e = (x, refl, e)
 
@@ -80,18 +88,21 @@ halves_sound t n e h =
     ∙ ap (λ z. z ++ 34 ∷ []) (first_text_sound (codes "::\"") r.0 n e r.2)
     ∙ append_assoc n (codes "::\"" ++ e) (34 ∷ [])
 
-map_some : (n : NameParts) (o : Option (List ℕ)) (u : UidParts) → option_map (uid_with n) o ≡ Some u → (e : List ℕ) × (o ≡ Some e) × (uid_with n e ≡ u)
+map_some : (n : NameParts) (o : Option (List ℕ)) (u : UidParts) → option_map (uid_with n) o ≡ Some u → (e : List ℕ)
+    × (o ≡ Some e) × (uid_with n e ≡ u)
 map_some n None u e = absurd (cc)
 map_some n (Some x) u e = (x, refl, cc)
 
-parts_some : (n : Option NameParts) (e : Option (List ℕ)) (u : UidParts) → reading_of_parts n e ≡ Ok (Some u) → (m : NameParts) × (d : List ℕ) × (n ≡ Some m) × (e ≡ Some d) × (uid_with m d ≡ u)
+parts_some : (n : Option NameParts) (e : Option (List ℕ)) (u : UidParts) → reading_of_parts n e ≡ Ok (Some u)
+    → (m : NameParts) × (d : List ℕ) × (n ≡ Some m) × (e ≡ Some d) × (uid_with m d ≡ u)
 parts_some None e u h = absurd (cc)
 parts_some (Some m) e u h =
     let q : option_map (uid_with m) e ≡ Some u = cc in
     let r = map_some m e u q in
     (m, r.0, refl, r.1, r.2)
 
-halves_some : (o : Option (List ℕ × List ℕ)) (u : UidParts) → reading_of_halves o ≡ Ok (Some u) → (p : List ℕ × List ℕ) × (o ≡ Some p) × (reading_of_parts (name_of p.0) (eid_of p.1) ≡ Ok (Some u))
+halves_some : (o : Option (List ℕ × List ℕ)) (u : UidParts) → reading_of_halves o ≡ Ok (Some u) → (p : List ℕ × List ℕ)
+    × (o ≡ Some p) × (reading_of_parts (name_of p.0) (eid_of p.1) ≡ Ok (Some u))
 halves_some None u h = absurd (cc)
 halves_some (Some p) u h = (p, refl, h)
 
@@ -121,22 +132,26 @@ first_text_nowhere : (p s f b : List ℕ) → 0 < length p → s ≡ f ++ (p ++ 
 unfolding first_text
 first_text_nowhere p [] f b l e h = no_room f p b l e
 first_text_nowhere p (c ∷ cs) [] b l e h =
-    elim (halves_chosen (starts_with nat_eq (c ∷ cs) p) (Some ([], drop (length p) (c ∷ cs))) (option_map (onto_front c) (first_text p cs)) None h) as (λ _. ⊥) [
+    elim (halves_chosen (starts_with nat_eq (c ∷ cs) p) (Some ([], drop (length p) (c ∷ cs)))
+    (option_map (onto_front c) (first_text p cs)) None h) as (λ _. ⊥) [
       | inl w ↦ absurd (cc)
       | inr w ↦ absurd (false≢true (sym w.0 ∙ starts_so p (c ∷ cs) b e))
     ]
 first_text_nowhere p (c ∷ cs) (d ∷ ds) b l e h =
-    elim (halves_chosen (starts_with nat_eq (c ∷ cs) p) (Some ([], drop (length p) (c ∷ cs))) (option_map (onto_front c) (first_text p cs)) None h) as (λ _. ⊥) [
+    elim (halves_chosen (starts_with nat_eq (c ∷ cs) p) (Some ([], drop (length p) (c ∷ cs)))
+    (option_map (onto_front c) (first_text p cs)) None h) as (λ _. ⊥) [
       | inl w ↦ absurd (cc)
       | inr w ↦ let k : cs ≡ ds ++ (p ++ b) = cc in first_text_nowhere p cs ds b l k (onto_none c (first_text p cs) w.1)
     ]
 
 -- no p stands before the first one
-first_text_least : (p s x y f b : List ℕ) → 0 < length p → s ≡ f ++ (p ++ b) → first_text p s ≡ Some (x, y) → length x ≤ length f
+first_text_least : (p s x y f b : List ℕ) → 0 < length p → s ≡ f ++ (p ++ b) → first_text p s ≡ Some (x, y)
+    → length x ≤ length f
 unfolding first_text
 first_text_least p [] x y f b l e h = absurd (no_room f p b l e)
 first_text_least p (c ∷ cs) x y [] b l e h =
-    elim (halves_chosen (starts_with nat_eq (c ∷ cs) p) (Some ([], drop (length p) (c ∷ cs))) (option_map (onto_front c) (first_text p cs)) (Some (x, y)) h) as (λ _. length x ≤ 0) [
+    elim (halves_chosen (starts_with nat_eq (c ∷ cs) p) (Some ([], drop (length p) (c ∷ cs)))
+    (option_map (onto_front c) (first_text p cs)) (Some (x, y)) h) as (λ _. length x ≤ 0) [
       | inl w ↦
           let q : ◌≡◌ {A = List ℕ × List ℕ} ([], drop (length p) (c ∷ cs)) (x, y) = cc in
           let z : 0 ≡ length x = ap (λ (z : List ℕ × List ℕ). length z.0) q in
@@ -144,7 +159,8 @@ first_text_least p (c ∷ cs) x y [] b l e h =
       | inr w ↦ absurd (false≢true (sym w.0 ∙ starts_so p (c ∷ cs) b e))
     ]
 first_text_least p (c ∷ cs) x y (d ∷ ds) b l e h =
-    elim (halves_chosen (starts_with nat_eq (c ∷ cs) p) (Some ([], drop (length p) (c ∷ cs))) (option_map (onto_front c) (first_text p cs)) (Some (x, y)) h) as (λ _. length x ≤ length (d ∷ ds)) [
+    elim (halves_chosen (starts_with nat_eq (c ∷ cs) p) (Some ([], drop (length p) (c ∷ cs)))
+    (option_map (onto_front c) (first_text p cs)) (Some (x, y)) h) as (λ _. length x ≤ length (d ∷ ds)) [
       | inl w ↦
           let q : ◌≡◌ {A = List ℕ × List ℕ} ([], drop (length p) (c ∷ cs)) (x, y) = cc in
           let z : 0 ≡ length x = ap (λ (z : List ℕ × List ℕ). length z.0) q in

@@ -1,4 +1,5 @@
-// Where things lie: a row asks what lies where, and is told the start and the end of each place and the text that it is of.
+// Where things lie: a row asks what lies where, and is told the start and the end of each place and the text that it is
+// of.
 use super::{is_equal, is_other};
 use cedar_ids::entity::{Eid, EntityType, EntityUID, EntityUIDImpl};
 use cedar_ids::err::ParseErrors;

@@ -1,4 +1,5 @@
-// What texts are read as, how things are written, and how they are ordered: a word, the texts that are asked, and what is told.
+// What texts are read as, how things are written, and how they are ordered: a word, the texts that are asked, and what
+// is told.
 use super::is_equal;
 use cedar_ids::entity::{ACTION_ENTITY_TYPE, Eid, EntityType, EntityUID};
 use cedar_ids::err::ParseErrors;
@@ -159,7 +160,8 @@ fn made(alloc: Global, ty: &str, text: &str) -> Result<EntityUID, ParseErrors> {
     }
 }
 
-// The text, the type and the eid of a uid that could be made, and whether it and its type are an action's; or the refusal.
+// The text, the type and the eid of a uid that could be made, and whether it and its type are an action's; or the
+// refusal.
 fn parts(alloc: Global, made: Result<EntityUID, ParseErrors>) -> Result<String, Fail> {
     match made {
         Ok(uid) => {

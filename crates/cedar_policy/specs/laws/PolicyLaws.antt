@@ -17,7 +17,8 @@ use Rattle.cedar_policy.specs.PolicyEquality.{same_policy}
 pub same_policy_equiv : IsEquivalence same_policy
 same_policy_equiv =
     and_equiv (on_equiv (λ (p : PolicyParts). p.template) same_body_equiv)
-    (and_equiv (on_equiv (λ (p : PolicyParts). p.link) (options_equiv same_text_equiv)) (on_equiv (λ (p : PolicyParts). p.env) same_env_equiv))
+    (and_equiv (on_equiv (λ (p : PolicyParts). p.link) (options_equiv same_text_equiv))
+    (on_equiv (λ (p : PolicyParts). p.env) same_env_equiv))
 
 same_link : (x y : Option (List ℕ)) → option_eq same_text x y ≡ true → x ≡ y
 same_link None None e = refl

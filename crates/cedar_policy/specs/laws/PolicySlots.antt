@@ -1,5 +1,6 @@
 -- The slots of a policy's template, and what filling them leaves.
-use Rattle.std.specs.Prelude.{◌≡◌, List, [], ◌∷◌, ◌++◌, Bool, true, false, ◌||◌, Option, Some, None, if◌then◌else◌, is_some, refl}
+use Rattle.std.specs.Prelude.{◌≡◌, List, [], ◌∷◌, ◌++◌, Bool, true, false, ◌||◌, Option, Some, None, if◌then◌else◌}
+use Rattle.std.specs.Prelude.{is_some, refl}
 use Rattle.std.proofs.Common.{ap, subst, sym, ◌∙◌}
 use Rattle.std.specs.List.{list_any}
 use Rattle.std.proofs.lemmas.Bool.{false≢true}
@@ -23,7 +24,8 @@ use Rattle.cedar_body.specs.laws.BodySlots.{body_slots-parts}
 use Rattle.cedar_binding.specs.Bindings.{is_among, BindsExactly}
 use Rattle.cedar_binding.specs.laws.NoBindings.{nothing_bound}
 use Rattle.cedar_ids.specs.Uid.{UidParts}
-use Rattle.cedar_policy.specs.Policies.{PolicyParts, IsPolicy, static_policy, filled_by, filled_rule_by, principal_of, action_of, resource_of}
+use Rattle.cedar_policy.specs.Policies.{PolicyParts, IsPolicy, static_policy, filled_by, filled_rule_by, principal_of}
+use Rattle.cedar_policy.specs.Policies.{action_of, resource_of}
 
 neither_left : (a b : Bool) → (a || b) ≡ false → a ≡ false
 neither_left true b h = h
@@ -50,69 +52,88 @@ not_there s false e = refl
 
 -- the clause's slots, with the resource's, the action's and then the principal's behind them, are those of the body
 pub slots_in_turn : (b : BodyParts) →
-    ((clause_slots b.clause ++ constraint_slots variables.Resource b.resource) ++ rule_slots b.action) ++ constraint_slots variables.Principal b.principal ≡ body_slots b
+    ((clause_slots b.clause ++ constraint_slots variables.Resource b.resource) ++ rule_slots b.action)
+    ++ constraint_slots variables.Principal b.principal ≡ body_slots b
 slots_in_turn b =
-    append_assoc (clause_slots b.clause ++ constraint_slots variables.Resource b.resource) (rule_slots b.action) (constraint_slots variables.Principal b.principal)
-    ∙ append_assoc (clause_slots b.clause) (constraint_slots variables.Resource b.resource) (rule_slots b.action ++ constraint_slots variables.Principal b.principal)
+    append_assoc (clause_slots b.clause ++ constraint_slots variables.Resource b.resource) (rule_slots b.action)
+    (constraint_slots variables.Principal b.principal)
+    ∙ append_assoc (clause_slots b.clause) (constraint_slots variables.Resource b.resource) (rule_slots b.action
+    ++ constraint_slots variables.Principal b.principal)
     ∙ sym (body_slots-parts b)
 
 -- what is none of a body's slots is none of those behind the clause's
 behind_clause : (s : SlotId) (b : BodyParts) → is_among (body_slots b) s ≡ false →
-    list_any (same_slot s) (constraint_slots variables.Resource b.resource ++ (rule_slots b.action ++ constraint_slots variables.Principal b.principal)) ≡ false
-behind_clause s b h = not_after (same_slot s) (clause_slots b.clause) _ (ap (λ xs. is_among xs s) (sym (body_slots-parts b)) ∙ h)
+    list_any (same_slot s) (constraint_slots variables.Resource b.resource
+    ++ (rule_slots b.action ++ constraint_slots variables.Principal b.principal)) ≡ false
+behind_clause s b h = not_after (same_slot s) (clause_slots b.clause) _
+    (ap (λ xs. is_among xs s) (sym (body_slots-parts b)) ∙ h)
 
 -- where the principal's slot is none of a body's slots its constraint does not refer to it
 principal_without_slot : (b : BodyParts) → is_among (body_slots b) Principal ≡ false → has_slot b.principal ≡ false
 principal_without_slot b h =
     not_there Principal (has_slot b.principal)
-    (not_after (same_slot Principal) (rule_slots b.action) _ (not_after (same_slot Principal) (constraint_slots variables.Resource b.resource) _ (behind_clause Principal b h)))
+    (not_after (same_slot Principal) (rule_slots b.action) _
+    (not_after (same_slot Principal) (constraint_slots variables.Resource b.resource) _
+    (behind_clause Principal b h)))
 
 -- and so with the action's
 action_without_slot : (b : BodyParts) → is_among (body_slots b) Action ≡ false → rule_has_slot b.action ≡ false
 action_without_slot b h =
     not_there Action (rule_has_slot b.action)
-    (not_before (same_slot Action) (rule_slots b.action) _ (not_after (same_slot Action) (constraint_slots variables.Resource b.resource) _ (behind_clause Action b h)))
+    (not_before (same_slot Action) (rule_slots b.action) _
+    (not_after (same_slot Action) (constraint_slots variables.Resource b.resource) _ (behind_clause Action b h)))
 
 -- and so with the resource's
 resource_without_slot : (b : BodyParts) → is_among (body_slots b) Resource ≡ false → has_slot b.resource ≡ false
 resource_without_slot b h =
-    not_there Resource (has_slot b.resource) (not_before (same_slot Resource) (constraint_slots variables.Resource b.resource) _ (behind_clause Resource b h))
+    not_there Resource (has_slot b.resource) (not_before (same_slot Resource)
+    (constraint_slots variables.Resource b.resource) _ (behind_clause Resource b h))
 
-filled_where : (o : Option UidParts) (c : Constraint) → (o ≡ None → has_slot c ≡ false) → has_slot (filled_by o c) ≡ false
+filled_where : (o : Option UidParts) (c : Constraint) → (o ≡ None → has_slot c ≡ false)
+    → has_slot (filled_by o c) ≡ false
 filled_where None c f = f refl
 filled_where (Some u) c f = has_slot-filled u c
 
 -- where a policy binds no uid to the principal's slot its template does not refer to that
-pub principal_unbound : (p : PolicyParts) → BindsExactly (body_slots p.template) p.env → p.env Principal ≡ None → has_slot p.template.principal ≡ false
+pub principal_unbound : (p : PolicyParts) → BindsExactly (body_slots p.template) p.env → p.env Principal ≡ None
+    → has_slot p.template.principal ≡ false
 principal_unbound p f e = principal_without_slot p.template (sym (f Principal) ∙ ap is_some e)
 
 -- so what the principal of a policy has to be holds no slot
-pub principal_holds_no_slot : (p : PolicyParts) → BindsExactly (body_slots p.template) p.env → has_slot (principal_of p) ≡ false
+pub principal_holds_no_slot : (p : PolicyParts) → BindsExactly (body_slots p.template) p.env
+    → has_slot (principal_of p) ≡ false
 principal_holds_no_slot p f = filled_where (p.env Principal) p.template.principal (principal_unbound p f)
 
-filled_rule_where : (o : Option UidParts) (a : ActionRule) → (o ≡ None → rule_has_slot a ≡ false) → rule_has_slot (filled_rule_by o a) ≡ false
+filled_rule_where : (o : Option UidParts) (a : ActionRule) → (o ≡ None → rule_has_slot a ≡ false)
+    → rule_has_slot (filled_rule_by o a) ≡ false
 filled_rule_where None a f = f refl
 filled_rule_where (Some u) a f = rule_has_slot-filled u a
 
 -- and so with the action
-pub action_unbound : (p : PolicyParts) → BindsExactly (body_slots p.template) p.env → p.env Action ≡ None → rule_has_slot p.template.action ≡ false
+pub action_unbound : (p : PolicyParts) → BindsExactly (body_slots p.template) p.env → p.env Action ≡ None
+    → rule_has_slot p.template.action ≡ false
 action_unbound p f e = action_without_slot p.template (sym (f Action) ∙ ap is_some e)
 
-pub action_holds_no_slot : (p : PolicyParts) → BindsExactly (body_slots p.template) p.env → rule_has_slot (action_of p) ≡ false
+pub action_holds_no_slot : (p : PolicyParts) → BindsExactly (body_slots p.template) p.env
+    → rule_has_slot (action_of p) ≡ false
 action_holds_no_slot p f = filled_rule_where (p.env Action) p.template.action (action_unbound p f)
 
 -- and so with the resource
-pub resource_unbound : (p : PolicyParts) → BindsExactly (body_slots p.template) p.env → p.env Resource ≡ None → has_slot p.template.resource ≡ false
+pub resource_unbound : (p : PolicyParts) → BindsExactly (body_slots p.template) p.env → p.env Resource ≡ None
+    → has_slot p.template.resource ≡ false
 resource_unbound p f e = resource_without_slot p.template (sym (f Resource) ∙ ap is_some e)
 
-pub resource_holds_no_slot : (p : PolicyParts) → BindsExactly (body_slots p.template) p.env → has_slot (resource_of p) ≡ false
+pub resource_holds_no_slot : (p : PolicyParts) → BindsExactly (body_slots p.template) p.env
+    → has_slot (resource_of p) ≡ false
 resource_holds_no_slot p f = filled_where (p.env Resource) p.template.resource (resource_unbound p f)
 
 -- a body that constrains nothing has the slots of its clause
-pub unconstrained_slots : (b : BodyParts) (e : ExprTree) → b.principal ≡ any → b.action ≡ any_action → b.resource ≡ any → b.clause ≡ Some e → slots_of e ≡ [] → body_slots b ≡ []
+pub unconstrained_slots : (b : BodyParts) (e : ExprTree) → b.principal ≡ any → b.action ≡ any_action → b.resource ≡ any
+    → b.clause ≡ Some e → slots_of e ≡ [] → body_slots b ≡ []
 unconstrained_slots b e p a r c h =
     body_slots-parts b
-    ∙ (λ i. clause_slots (c i) ++ (constraint_slots variables.Resource (r i) ++ (rule_slots (a i) ++ constraint_slots variables.Principal (p i))))
+    ∙ (λ i. clause_slots (c i) ++ (constraint_slots variables.Resource (r i)
+    ++ (rule_slots (a i) ++ constraint_slots variables.Principal (p i))))
     ∙ append-nil (slots_of e)
     ∙ h
 

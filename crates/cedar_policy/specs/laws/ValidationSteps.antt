@@ -8,7 +8,9 @@ use Rattle.cedar_terms.specs.declared.err.ExprValidationError.TheVariants as exp
 use Rattle.cedar_terms.specs.declared.slot.SlotId.{SlotId}
 use Rattle.cedar_policy.specs.Statics.{IsFirst}
 use Rattle.cedar_policy.specs.declared.err.TemplateValidationError.{TemplateValidationError}
-use Rattle.cedar_policy.specs.declared.err.TemplateValidationError.TheVariants.{SlotsInConditionClause, InvalidActionType, SlotCacheMismatch, InvalidExpression, Memory}
+use Rattle.cedar_policy.specs.declared.err.TemplateValidationError.TheVariants.{SlotsInConditionClause}
+use Rattle.cedar_policy.specs.declared.err.TemplateValidationError.TheVariants.{InvalidActionType, SlotCacheMismatch}
+use Rattle.cedar_policy.specs.declared.err.TemplateValidationError.TheVariants.{InvalidExpression, Memory}
 use Rattle.cedar_terms.specs.ExprTree.{ExprTree}
 use Rattle.cedar_action.specs.Rules.{ActionRule}
 use Rattle.cedar_policy.specs.Validation.{HasActions, IsTemplateFault, clause_fault}

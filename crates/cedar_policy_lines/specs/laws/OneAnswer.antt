@@ -7,7 +7,8 @@ use Rattle.cedar_policy_set.specs.Merge.{conflicts, merged, new_id, IsRenaming}
 use Rattle.cedar_policy_set.specs.Steps.{Refusal, occupied, add_static_step, add_template_step, link_step, unlink_step}
 use Rattle.cedar_policy_lines.specs.Boards.{Boards, with_current, swapped}
 use Rattle.cedar_policy_lines.specs.PolicyCommand.{PolicyCommand, Static, Template, Link, Unlink, Other, Merge, Ids}
-use Rattle.cedar_policy_lines.specs.PolicyOutput.{Joins, UnlinkGives, MergeGives, PolicyGives, static_body, template_body, ok_line, refused_line, merged_line, ids_lines}
+use Rattle.cedar_policy_lines.specs.PolicyOutput.{Joins, UnlinkGives, MergeGives, PolicyGives, static_body}
+use Rattle.cedar_policy_lines.specs.PolicyOutput.{template_body, ok_line, refused_line, merged_line, ids_lines}
 use Rattle.cedar_policy_lines.specs.laws.OneMerge.{one_renaming, renaming_of}
 
 -- what is given, whatever it is
@@ -26,11 +27,22 @@ takes_out (Ok b) i old = (with_current old (without_id old.current i), ok_line, 
 takes_out (Err r) i old = (old, refused_line r, (refl, refl))
 
 kept : (old : Boards) (c : List (List ℕ)) → conflicts old.current old.aside ≡ c → Given (MergeGives false old)
-kept old [] e = (with_current old (merged old.current old.aside (new_id [])), merged_line [], inr ([], (sym e, tt), (λ _. e), refl, refl))
+kept old [] e = (
+  with_current old (merged old.current old.aside (new_id [])),
+  merged_line [],
+  inr
+      ([], (sym e, tt), (λ _. e), refl, refl),
+)
 kept old (i ∷ rest) e = (old, refused_line (occupied i), inl (i, rest, refl, e, refl, refl))
 
-renamed : (old : Boards) → (r : List (List ℕ × List ℕ)) × IsRenaming old.current old.aside r → Given (MergeGives true old)
-renamed old r = (with_current old (merged old.current old.aside (new_id r.0)), merged_line r.0, inr (r.0, r.1, (λ e. absurd (false≢true (sym e))), refl, refl))
+renamed : (old : Boards) → (r : List (List ℕ × List ℕ)) × IsRenaming old.current old.aside r
+    → Given (MergeGives true old)
+renamed old r = (
+  with_current old (merged old.current old.aside (new_id r.0)),
+  merged_line r.0,
+  inr
+      (r.0, r.1, (λ e. absurd (false≢true (sym e))), refl, refl),
+)
 
 merges : (rename : Bool) (old : Boards) → Given (MergeGives rename old)
 merges false old = kept old (conflicts old.current old.aside) refl
@@ -46,11 +58,13 @@ policy_gives Other old = (swapped old, ok_line, (refl, refl))
 policy_gives (Merge rename) old = merges rename old
 policy_gives Ids old = (old, ids_lines old.current, (refl, refl))
 
-one_joins : (s : Result Board Refusal) (old m n : Boards) (o p : List ℕ) → Joins s old m o → Joins s old n p → Same m n o p
+one_joins : (s : Result Board Refusal) (old m n : Boards) (o p : List ℕ) → Joins s old m o → Joins s old n p
+    → Same m n o p
 one_joins (Ok b) old m n o p h k = (h.0 ∙ sym k.0, h.1 ∙ sym k.1)
 one_joins (Err r) old m n o p h k = (h.0 ∙ sym k.0, h.1 ∙ sym k.1)
 
-one_takes_out : (s : Result Binding Refusal) (i : List ℕ) (old m n : Boards) (o p : List ℕ) → UnlinkGives s i old m o → UnlinkGives s i old n p → Same m n o p
+one_takes_out : (s : Result Binding Refusal) (i : List ℕ) (old m n : Boards) (o p : List ℕ) → UnlinkGives s i old m o
+    → UnlinkGives s i old n p → Same m n o p
 one_takes_out (Ok b) i old m n o p h k = (h.0 ∙ sym k.0, h.1 ∙ sym k.1)
 one_takes_out (Err r) i old m n o p h k = (h.0 ∙ sym k.0, h.1 ∙ sym k.1)
 
@@ -60,18 +74,29 @@ heads p = cc
 not_none : {X : Type 0} {x : X} {xs : List X} → x ∷ xs ≡ [] → ⊥
 not_none p = cc
 
-one_merges : (rename : Bool) (old m n : Boards) (o p : List ℕ) → MergeGives rename old m o → MergeGives rename old n p → Same m n o p
-one_merges rename old m n o p (inl a) (inl b) = (a.4 ∙ sym b.4, a.5 ∙ ap (λ i. refused_line (occupied i)) (heads (sym a.3 ∙ b.3)) ∙ sym b.5)
+one_merges : (rename : Bool) (old m n : Boards) (o p : List ℕ) → MergeGives rename old m o → MergeGives rename old n p
+    → Same m n o p
+one_merges rename old m n o p (inl a) (inl b) = (
+  a.4 ∙ sym b.4,
+  a.5
+      ∙ ap (λ i. refused_line (occupied i)) (heads (sym a.3 ∙ b.3)) ∙ sym b.5,
+)
 one_merges rename old m n o p (inl a) (inr b) = absurd (not_none (sym a.3 ∙ b.2 a.2))
 one_merges rename old m n o p (inr a) (inl b) = absurd (not_none (sym b.3 ∙ a.2 b.2))
 one_merges rename old m n o p (inr a) (inr b) =
-    let same = one_renaming old.current old.aside a.0 b.0 a.1 b.1 in
-    (a.3 ∙ ap (λ r. with_current old (merged old.current old.aside (new_id r))) same ∙ sym b.3, a.4 ∙ ap merged_line same ∙ sym b.4)
+    let same = one_renaming old.current old.aside a.0 b.0 a.1 b.1 in (
+      a.3 ∙ ap (λ r. with_current old (merged old.current old.aside (new_id r))) same ∙ sym b.3,
+      a.4
+          ∙ ap merged_line same ∙ sym b.4,
+    )
 
 -- and no other
-pub one_policy_gives : (c : PolicyCommand) (old m n : Boards) (o p : List ℕ) → PolicyGives c old m o → PolicyGives c old n p → (m ≡ n) × (o ≡ p)
-one_policy_gives (Static i e) old m n o p h k = one_joins (add_static_step old.current (static_body i e)) old m n o p h k
-one_policy_gives (Template i w) old m n o p h k = one_joins (add_template_step old.current (template_body i w)) old m n o p h k
+pub one_policy_gives : (c : PolicyCommand) (old m n : Boards) (o p : List ℕ) → PolicyGives c old m o
+    → PolicyGives c old n p → (m ≡ n) × (o ≡ p)
+one_policy_gives (Static i e) old m n o p h k = one_joins
+    (add_static_step old.current (static_body i e)) old m n o p h k
+one_policy_gives (Template i w) old m n o p h k = one_joins
+    (add_template_step old.current (template_body i w)) old m n o p h k
 one_policy_gives (Link t l e) old m n o p h k = one_joins (link_step old.current t l e) old m n o p h k
 one_policy_gives (Unlink i) old m n o p h k = one_takes_out (unlink_step old.current i) i old m n o p h k
 one_policy_gives Other old m n o p h k = (h.0 ∙ sym k.0, h.1 ∙ sym k.1)

@@ -1,5 +1,6 @@
 -- The renaming of a merge is there, and it is one.
-use Rattle.std.specs.Prelude.{◌≡◌, ◌⊎◌, ℕ, zero, suc, ◌+◌, ◌<◌, List, [], ◌∷◌, ◌++◌, Bool, true, false, if◌then◌else◌, length}
+use Rattle.std.specs.Prelude.{◌≡◌, ◌⊎◌, ℕ, zero, suc, ◌+◌, ◌<◌, List, [], ◌∷◌, ◌++◌, Bool, true, false, if◌then◌else◌}
+use Rattle.std.specs.Prelude.{length}
 use Rattle.std.proofs.Common.{◌≤◌, ap, sym, refl, subst, ◌∙◌, inl, inr, arith}
 use Rattle.std.specs.List.{list_any}
 use Rattle.std.specs.Map.{keys_of, values_of}
@@ -8,7 +9,8 @@ use Rattle.cedar_ids.specs.Texts.{same_text}
 use Rattle.cedar_policy_set.specs.Boards.{Board}
 use Rattle.cedar_policy_set.specs.Fresh.{numbered, is_bound_in_either, free_below, IsFree, AreFree}
 use Rattle.cedar_policy_set.specs.Merge.{conflicts, IsRenaming, ids_of}
-use Rattle.cedar_policy_set.specs.laws.FreshLaws.{free_more, none_free_below, passed, counted, free_within, either_among_ids}
+use Rattle.cedar_policy_set.specs.laws.FreshLaws.{free_more, none_free_below, passed, counted, free_within}
+use Rattle.cedar_policy_set.specs.laws.FreshLaws.{either_among_ids}
 
 -- ---- one
 
@@ -28,9 +30,12 @@ more_by true x = omega arith
 more_by false x = omega arith
 
 more_below : (bound : List ℕ → Bool) (n : ℕ) → free_below bound n ≤ free_below bound (suc n)
-more_below bound n = subst (λ x. free_below bound n ≤ x) (sym (free_more bound n)) (more_by (bound (numbered n)) (free_below bound n))
+more_below bound n = subst (λ x. free_below bound n ≤ x) (sym (free_more bound n))
+    (more_by (bound (numbered n)) (free_below bound n))
 
-grows_by : (bound : List ℕ → Bool) (m n : ℕ) → m < suc n → bound (numbered m) ≡ false → (m < n → free_below bound m < free_below bound n) → (m < n) ⊎ ((m ≡ n) ⊎ (n < m)) → free_below bound m < free_below bound (suc n)
+grows_by : (bound : List ℕ → Bool) (m n : ℕ) → m < suc n → bound (numbered m) ≡ false
+    → (m < n → free_below bound m < free_below bound n) → (m < n) ⊎ ((m ≡ n) ⊎ (n < m))
+    → free_below bound m < free_below bound (suc n)
 grows_by bound m n l e before (inl k) = let g = before k in let s = more_below bound n in omega arith
 grows_by bound m n l e before (inr (inl same)) = let c = counted bound m e in subst (λ x. free_below bound m < free_below bound (suc x)) same (omega arith)
 grows_by bound m n l e before (inr (inr k)) = absurd (omega arith)
@@ -40,7 +45,8 @@ grows : (bound : List ℕ → Bool) (m n : ℕ) → m < n → bound (numbered m)
 grows bound m zero l e = absurd (omega arith)
 grows bound m (suc n) l e = grows_by bound m n l e (λ k. grows bound m n k e) (ordered m n)
 
-one_by : (bound : List ℕ → Bool) (k m n : ℕ) → IsFree bound k m → IsFree bound k n → (m < n) ⊎ ((m ≡ n) ⊎ (n < m)) → m ≡ n
+one_by : (bound : List ℕ → Bool) (k m n : ℕ) → IsFree bound k m → IsFree bound k n → (m < n) ⊎ ((m ≡ n) ⊎ (n < m))
+    → m ≡ n
 one_by bound k m n f g (inl l) = let h = grows bound m n l f.0 in let a = f.1 in let b = g.1 in absurd (omega arith)
 one_by bound k m n f g (inr (inl e)) = e
 one_by bound k m n f g (inr (inr l)) = let h = grows bound n m l g.0 in let a = f.1 in let b = g.1 in absurd (omega arith)
@@ -49,7 +55,8 @@ one_by bound k m n f g (inr (inr l)) = let h = grows bound n m l g.0 in let a = 
 one_free : (bound : List ℕ → Bool) (k m n : ℕ) → IsFree bound k m → IsFree bound k n → m ≡ n
 one_free bound k m n f g = one_by bound k m n f g (ordered m n)
 
-same_lists : (bound : List ℕ → Bool) (k : ℕ) (is js : List (List ℕ)) → length is ≡ length js → AreFree bound k is → AreFree bound k js → is ≡ js
+same_lists : (bound : List ℕ → Bool) (k : ℕ) (is js : List (List ℕ)) → length is ≡ length js → AreFree bound k is
+    → AreFree bound k js → is ≡ js
 same_lists bound k [] [] e a b = refl
 same_lists bound k [] (j ∷ js) e a b = absurd (omega arith)
 same_lists bound k (i ∷ is) [] e a b = absurd (omega arith)
@@ -84,7 +91,8 @@ one_renaming h o r s a b =
 -- ---- some
 
 -- the last of the numbers below one, or an earlier one
-at_or_before : (bound : List ℕ → Bool) (k m : ℕ) → (k < free_below bound m → (n : ℕ) × IsFree bound k n) → k < free_below bound (suc m) → (b : Bool) → bound (numbered m) ≡ b →
+at_or_before : (bound : List ℕ → Bool) (k m : ℕ) → (k < free_below bound m → (n : ℕ) × IsFree bound k n)
+    → k < free_below bound (suc m) → (b : Bool) → bound (numbered m) ≡ b →
     (free_below bound m < k) ⊎ ((free_below bound m ≡ k) ⊎ (k < free_below bound m)) → (n : ℕ) × IsFree bound k n
 at_or_before bound k m before l b e (inr (inr s)) = before s
 at_or_before bound k m before l true e (inl s) = absurd (let p = passed bound m e in omega arith)
@@ -95,13 +103,17 @@ at_or_before bound k m before l false e (inr (inl s)) = (m, (e, s))
 -- where more ids are free below a number than k, one of them is the k-th
 free_before : (bound : List ℕ → Bool) (k m : ℕ) → k < free_below bound m → (n : ℕ) × IsFree bound k n
 free_before bound k zero l = absurd (let z = none_free_below bound in omega arith)
-free_before bound k (suc m) l = at_or_before bound k m (λ s. free_before bound k m s) l (bound (numbered m)) refl (ordered (free_below bound m) k)
+free_before bound k (suc m) l = at_or_before bound k m (λ s. free_before bound k m s) l (bound (numbered m)) refl
+    (ordered (free_below bound m) k)
 
 -- where some ids are those that are bound, there is a k-th free id
-kth_free : (bound : List ℕ → Bool) (xs : List (List ℕ)) → ((i : List ℕ) → bound i ≡ list_any (same_text i) xs) → (k : ℕ) → (n : ℕ) × IsFree bound k n
-kth_free bound xs q k = free_before bound k (suc (k + length xs)) (omega (arith, free_within bound xs (suc (k + length xs)) q))
+kth_free : (bound : List ℕ → Bool) (xs : List (List ℕ)) → ((i : List ℕ) → bound i ≡ list_any (same_text i) xs) → (k : ℕ)
+    → (n : ℕ) × IsFree bound k n
+kth_free bound xs q k = free_before bound k (suc (k + length xs))
+    (omega (arith, free_within bound xs (suc (k + length xs)) q))
 
-free_list : (bound : List ℕ → Bool) (xs : List (List ℕ)) → ((i : List ℕ) → bound i ≡ list_any (same_text i) xs) → (k c : ℕ) → (is : List (List ℕ)) × (length is ≡ c) × AreFree bound k is
+free_list : (bound : List ℕ → Bool) (xs : List (List ℕ)) → ((i : List ℕ) → bound i ≡ list_any (same_text i) xs)
+    → (k c : ℕ) → (is : List (List ℕ)) × (length is ≡ c) × AreFree bound k is
 free_list bound xs q k zero = ([], refl, tt)
 free_list bound xs q k (suc c) =
     let f = kth_free bound xs q k in
@@ -109,7 +121,8 @@ free_list bound xs q k (suc c) =
     (numbered f.0 ∷ r.0, ap suc r.1, ((f.0, refl, f.1), r.2))
 
 -- keys with their values
-paired : (ks vs : List (List ℕ)) → length vs ≡ length ks → (r : List (List ℕ × List ℕ)) × (keys_of r ≡ ks) × (values_of r ≡ vs)
+paired : (ks vs : List (List ℕ)) → length vs ≡ length ks → (r : List (List ℕ × List ℕ)) × (keys_of r ≡ ks)
+    × (values_of r ≡ vs)
 paired [] [] e = ([], refl, refl)
 paired [] (v ∷ vs) e = absurd (omega arith)
 paired (k ∷ ks) [] e = absurd (omega arith)

@@ -1,5 +1,6 @@
 -- Fields are read as a command exactly where they are those of that command.
-use Rattle.std.specs.Prelude.{◌≡◌, ◌⊎◌, ℕ, List, [], ◌∷◌, ◌++◌, length, drop, nat_eq, Bool, true, false, Option, Some, None, if◌then◌else◌, codes, option_and_then, Result, Ok, Err}
+use Rattle.std.specs.Prelude.{◌≡◌, ◌⊎◌, ℕ, List, [], ◌∷◌, ◌++◌, length, drop, nat_eq, Bool, true, false, Option, Some}
+use Rattle.std.specs.Prelude.{None, if◌then◌else◌, codes, option_and_then, Result, Ok, Err}
 use Rattle.std.proofs.Common.{ap, sym, refl, subst, ◌∙◌, inl, inr}
 use Rattle.std.specs.List.{starts_with}
 use Rattle.std.specs.Option.{option_map}
@@ -19,10 +20,17 @@ use Rattle.cedar_terms.specs.declared.slot.SlotId.TheVariants.{Principal, Action
 use Rattle.cedar_binding.specs.Bindings.{EnvParts, no_env, binds}
 use Rattle.cedar_body.specs.declared.effect.Effect.{Effect}
 use Rattle.cedar_body.specs.declared.effect.Effect.TheVariants.{Permit, Forbid}
-use Rattle.cedar_policy_lines.specs.PolicyCommand.{PolicyCommand, Static, Template, Link, Unlink, Other, Merge, Ids, effect_word, slots_word, renaming_word, slot_mark, bound_more, IsBinding, BindMore, AreBindings, IsPolicyCommand}
+use Rattle.cedar_policy_lines.specs.PolicyCommand.{PolicyCommand, Static, Template, Link, Unlink, Other, Merge, Ids}
+use Rattle.cedar_policy_lines.specs.PolicyCommand.{effect_word, slots_word, renaming_word, slot_mark, bound_more}
+use Rattle.cedar_policy_lines.specs.PolicyCommand.{IsBinding, BindMore, AreBindings, IsPolicyCommand}
 use Rattle.cedar_policy_lines.specs.declared.field.TemplateSlots.{TemplateSlots}
-use Rattle.cedar_policy_lines.specs.declared.field.TemplateSlots.TheVariants.{NoSlots, OnPrincipal, OnAction, OnResource, OnBoth, OnAll}
-use Rattle.cedar_policy_lines.specs.laws.PolicyReading.{effect_of, slots_of, renaming_of, read_uid, uid_read, behind, bound_as, bound_by, binding_among, binding_of, with_binding, bindings_from, bindings_of, only, static_of, template_of, link_of, unlink_of, merge_of, bare_of, command_by, policy_command}
+use Rattle.cedar_policy_lines.specs.declared.field.TemplateSlots.TheVariants.{NoSlots, OnPrincipal, OnAction}
+use Rattle.cedar_policy_lines.specs.declared.field.TemplateSlots.TheVariants.{OnResource, OnBoth, OnAll}
+use Rattle.cedar_policy_lines.specs.laws.PolicyReading.{effect_of, slots_of, renaming_of, read_uid, uid_read, behind}
+use Rattle.cedar_policy_lines.specs.laws.PolicyReading.{bound_as, bound_by, binding_among, binding_of, with_binding}
+use Rattle.cedar_policy_lines.specs.laws.PolicyReading.{bindings_from, bindings_of, only, static_of, template_of}
+use Rattle.cedar_policy_lines.specs.laws.PolicyReading.{link_of, unlink_of, merge_of, bare_of, command_by}
+use Rattle.cedar_policy_lines.specs.laws.PolicyReading.{policy_command}
 
 -- ---- the fields of a command are read as it
 
@@ -32,9 +40,12 @@ uid_is t u h = ap read_uid (uid_reading-printed u t h)
 
 -- a field that binds is read so
 binding_is : (s : SlotId) (u : UidParts) (f : List ℕ) → IsBinding s u f → binding_of f ≡ Some (s, u)
-binding_is Principal u f h = ap binding_of h.2 ∙ ap (option_map {T = UidParts} {U = SlotId × UidParts} (λ v. (Principal, v))) (uid_is h.0 u h.1)
-binding_is Action u f h = ap binding_of h.2 ∙ ap (option_map {T = UidParts} {U = SlotId × UidParts} (λ v. (Action, v))) (uid_is h.0 u h.1)
-binding_is Resource u f h = ap binding_of h.2 ∙ ap (option_map {T = UidParts} {U = SlotId × UidParts} (λ v. (Resource, v))) (uid_is h.0 u h.1)
+binding_is Principal u f h = ap binding_of h.2 ∙ ap (option_map {T = UidParts} {U = SlotId
+    × UidParts} (λ v. (Principal, v))) (uid_is h.0 u h.1)
+binding_is Action u f h = ap binding_of h.2 ∙ ap (option_map {T = UidParts} {U = SlotId
+    × UidParts} (λ v. (Action, v))) (uid_is h.0 u h.1)
+binding_is Resource u f h = ap binding_of h.2 ∙ ap (option_map {T = UidParts} {U = SlotId
+    × UidParts} (λ v. (Resource, v))) (uid_is h.0 u h.1)
 
 free_is : (b : Bool) (x : EnvParts) → b ≡ false → (if b then None else Some x) ≡ Some x
 free_is true x e = absurd (cc)
@@ -73,15 +84,18 @@ not_some e = cc
 some_is : {X : Type 0} {x y : X} → Some x ≡ Some y → x ≡ y
 some_is e = cc
 
-chosen : {X : Type 0} (b : Bool) (x y : Option X) (c : X) → (if b then x else y) ≡ Some c → ((b ≡ true) × (x ≡ Some c)) ⊎ (y ≡ Some c)
+chosen : {X : Type 0} (b : Bool) (x y : Option X) (c : X) → (if b then x else y) ≡ Some c → ((b ≡ true) × (x ≡ Some c))
+    ⊎ (y ≡ Some c)
 chosen true x y c e = inl (refl, e)
 chosen false x y c e = inr e
 
-mapped : {X Y : Type 0} (f : X → Y) (o : Option X) (y : Y) → option_map f o ≡ Some y → (x : X) × (o ≡ Some x) × (f x ≡ y)
+mapped : {X Y : Type 0} (f : X → Y) (o : Option X) (y : Y) → option_map f o ≡ Some y → (x : X) × (o ≡ Some x)
+    × (f x ≡ y)
 mapped f None y e = absurd (not_some e)
 mapped f (Some x) y e = (x, refl, some_is e)
 
-gone_on : {X Y : Type 0} (f : X → Option Y) (o : Option X) (y : Y) → option_and_then f o ≡ Some y → (x : X) × (o ≡ Some x) × (f x ≡ Some y)
+gone_on : {X Y : Type 0} (f : X → Option Y) (o : Option X) (y : Y) → option_and_then f o ≡ Some y → (x : X)
+    × (o ≡ Some x) × (f x ≡ Some y)
 gone_on f None y e = absurd (not_some e)
 gone_on f (Some x) y e = (x, refl, e)
 
@@ -129,24 +143,29 @@ renaming_found w r h = elim (chosen (same_text w (codes "keep")) (Some false) (i
 
 behind_found : (mark f t : List ℕ) → behind mark f ≡ Some t → f ≡ mark ++ t
 behind_found mark f t h = elim (chosen (starts_with nat_eq f mark) (Some (drop (length mark) f)) None t h) [
-  | inl k ↦ (starts_is unsigned_Decides f mark (starts_with nat_eq f mark) refl).0 k.0 ∙ ap (λ r. mark ++ r) (some_is k.1)
+  | inl k ↦ (starts_is unsigned_Decides f mark (starts_with nat_eq f mark) refl).0 k.0
+      ∙ ap (λ r. mark ++ r) (some_is k.1)
   | inr k ↦ absurd (not_some k)
 ]
 
-text_found : (t : List ℕ) (u : UidParts) (r : Result (Option UidParts) ParseErrors) → uid_reading t ≡ r → read_uid r ≡ Some u → IsPrinted u t
+text_found : (t : List ℕ) (u : UidParts) (r : Result (Option UidParts) ParseErrors) → uid_reading t ≡ r
+    → read_uid r ≡ Some u → IsPrinted u t
 text_found t u (Ok o) e h = uid_found t u (e ∙ ap Ok h)
 text_found t u (Err x) e h = absurd (not_some h)
 
-bound_found : (s : SlotId) (f t : List ℕ) (b : SlotId × UidParts) → f ≡ slot_mark s ++ t → bound_as s t ≡ Some b → IsBinding b.0 b.1 f
+bound_found : (s : SlotId) (f t : List ℕ) (b : SlotId × UidParts) → f ≡ slot_mark s ++ t → bound_as s t ≡ Some b
+    → IsBinding b.0 b.1 f
 bound_found s f t b e h =
     let m = mapped {X = UidParts} {Y = SlotId × UidParts} (λ u. (s, u)) (uid_read t) b h in
     subst (λ (x : SlotId × UidParts). IsBinding x.0 x.1 f) m.2 (t, text_found t m.0 (uid_reading t) refl m.1, e)
 
-by_mark : (s : SlotId) (f : List ℕ) (b : SlotId × UidParts) (p : Option (List ℕ)) (o : Option (SlotId × UidParts)) → behind (slot_mark s) f ≡ p → (o ≡ Some b → IsBinding b.0 b.1 f) → bound_by s p o ≡ Some b → IsBinding b.0 b.1 f
+by_mark : (s : SlotId) (f : List ℕ) (b : SlotId × UidParts) (p : Option (List ℕ)) (o : Option (SlotId × UidParts))
+    → behind (slot_mark s) f ≡ p → (o ≡ Some b → IsBinding b.0 b.1 f) → bound_by s p o ≡ Some b → IsBinding b.0 b.1 f
 by_mark s f b (Some t) o e k h = bound_found s f t b (behind_found (slot_mark s) f t e) h
 by_mark s f b None o e k h = k h
 
-among_found : (ss : List SlotId) (f : List ℕ) (b : SlotId × UidParts) → binding_among ss f ≡ Some b → IsBinding b.0 b.1 f
+among_found : (ss : List SlotId) (f : List ℕ) (b : SlotId × UidParts) → binding_among ss f ≡ Some b
+    → IsBinding b.0 b.1 f
 among_found [] f b h = absurd (not_some h)
 among_found (s ∷ ss) f b h = by_mark s f b (behind (slot_mark s) f) (binding_among ss f) refl (among_found ss f b) h
 
@@ -155,13 +174,15 @@ pub none_goes_on : (fs : List (List ℕ)) → bindings_from None fs ≡ None
 none_goes_on [] = refl
 none_goes_on (f ∷ fs) = none_goes_on fs
 
-by_binding : (d : EnvParts) (f : List ℕ) (fs : List (List ℕ)) (e : EnvParts) (o : Option (SlotId × UidParts)) → binding_of f ≡ o
+by_binding : (d : EnvParts) (f : List ℕ) (fs : List (List ℕ)) (e : EnvParts) (o : Option (SlotId × UidParts))
+    → binding_of f ≡ o
     → ((c : EnvParts) → bindings_from (Some c) fs ≡ Some e → BindMore c fs e)
     → bindings_from (with_binding d o) fs ≡ Some e → BindMore d (f ∷ fs) e
 by_binding d f fs e None is more h = absurd (not_some (sym (none_goes_on fs) ∙ h))
 by_binding d f fs e (Some b) is more h = by_free (binds d b.0) refl h
   where
-    by_free : (t : Bool) → binds d b.0 ≡ t → bindings_from (if t then None else Some (bound_more d b.0 b.1)) fs ≡ Some e → BindMore d (f ∷ fs) e
+    by_free : (t : Bool) → binds d b.0 ≡ t → bindings_from (if t then None else Some (bound_more d b.0 b.1)) fs ≡ Some e
+        → BindMore d (f ∷ fs) e
     by_free true free k = absurd (not_some (sym (none_goes_on fs) ∙ k))
     by_free false free k = (b.0, b.1, among_found all_slots f b is, free, more (bound_more d b.0 b.1) k)
 
@@ -209,11 +230,13 @@ merge_found fs c h =
     let n = gone_on renaming_of (only fs) m.0 m.1 in
     subst (λ d. IsPolicyCommand d (codes "merge" ∷ fs)) m.2 (ap (λ l. codes "merge" ∷ l) (only_is fs n.0 n.1 ∙ ap (λ w. w ∷ []) (renaming_found n.0 m.0 n.2)))
 
-bare_found : (w : List ℕ) (d : PolicyCommand) (fs : List (List ℕ)) (c : PolicyCommand) → IsPolicyCommand d (w ∷ []) → bare_of d fs ≡ Some c → IsPolicyCommand c (w ∷ fs)
+bare_found : (w : List ℕ) (d : PolicyCommand) (fs : List (List ℕ)) (c : PolicyCommand) → IsPolicyCommand d (w ∷ [])
+    → bare_of d fs ≡ Some c → IsPolicyCommand c (w ∷ fs)
 bare_found w d [] c k h = subst (λ x. IsPolicyCommand x (w ∷ [])) (some_is h) k
 bare_found w d (f ∷ fs) c k h = absurd (not_some h)
 
-with_word : (w v : List ℕ) (fs : List (List ℕ)) (c : PolicyCommand) → same_text w v ≡ true → IsPolicyCommand c (v ∷ fs) → IsPolicyCommand c (w ∷ fs)
+with_word : (w v : List ℕ) (fs : List (List ℕ)) (c : PolicyCommand) → same_text w v ≡ true → IsPolicyCommand c (v ∷ fs)
+    → IsPolicyCommand c (w ∷ fs)
 with_word w v fs c e h = subst (λ x. IsPolicyCommand c (x ∷ fs)) (sym (word_is w v e)) h
 
 by_word : (w : List ℕ) (fs : List (List ℕ)) (c : PolicyCommand) → command_by w fs ≡ Some c → IsPolicyCommand c (w ∷ fs)

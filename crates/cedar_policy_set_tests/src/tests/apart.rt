@@ -1,5 +1,5 @@
-// Sets that are taken apart into their three maps, and made anew of them. The map of bodies hashes by the first of two builders,
-// the others by the second.
+// Sets that are taken apart into their three maps, and made anew of them. The map of bodies hashes by the first of two
+// builders, the others by the second.
 ghost use Rattle.std.specs.Prelude.{◌≡◌, map, if◌then◌else◌, IfOk, OnOk};
 ghost use Rattle.indexmap.specs.IndexMap.{insert_entry};
 ghost use Rattle.indexmap.specs.IndexSet.{insert_key};
@@ -51,7 +51,8 @@ fn put_template<S: BuildHasher + Copy>(
     templates: &mut IndexMap<PolicyID, Rc<Template>, S>,
     template: &Template,
 ) -> Result<(), Fail>
-    ensures { OnOk result (shared_of templates.new.entries ≡ insert_entry same_text (shared_of templates.old.entries) template.now.id template.now) }
+    ensures { OnOk result (shared_of templates.new.entries
+        ≡ insert_entry same_text (shared_of templates.old.entries) template.now.id template.now) }
 {
     put(templates, id_of(template)?, shared(alloc, template)?)?;
     Ok(())
@@ -78,7 +79,8 @@ fn put_policy<S: BuildHasher + Copy>(
     links: &mut IndexMap<PolicyID, Policy, S>,
     policy: &Policy,
 ) -> Result<(), Fail>
-    ensures { OnOk result (links.new.entries ≡ insert_entry same_text links.old.entries (policy_id policy.now) policy.now) }
+    ensures { OnOk result (links.new.entries ≡ insert_entry same_text links.old.entries
+        (policy_id policy.now) policy.now) }
 {
     let id = policy.id().clone()?;
     put(links, id, policy.clone()?)
@@ -106,7 +108,8 @@ fn put_id<S: BuildHasher + Copy>(
     body: &PolicyID,
     policy: &Policy,
 ) -> Result<(), Fail>
-    ensures { OnOk result (ids.new.keys ≡ (if is_on body.now policy.now then insert_key same_text ids.old.keys (policy_id policy.now) else ids.old.keys)) }
+    ensures { OnOk result (ids.new.keys ≡ (if is_on body.now policy.now then insert_key same_text ids.old.keys
+        (policy_id policy.now) else ids.old.keys)) }
 {
     if body == policy.template().id() {
         ids.insert(policy.id().clone()?)?;
@@ -143,7 +146,8 @@ fn put_list<S: BuildHasher + Copy>(
     template: &Template,
 ) -> Result<(), Fail>
     requires { AreOnce policy_id set.now.policies }
-    ensures { OnOk result (lists_of lists.new.entries ≡ insert_entry same_text (lists_of lists.old.entries) template.now.id (ids_in template.now.id set.now.policies)) }
+    ensures { OnOk result (lists_of lists.new.entries ≡ insert_entry same_text
+        (lists_of lists.old.entries) template.now.id (ids_in template.now.id set.now.policies)) }
 {
     put(
         lists,

@@ -1,7 +1,7 @@
 // What calls on a policy set mean, over two short lists: bodies and policies, each in its order.
 //
-// Ids and the eids of uids are letters. Slots are digits in the order in which a walk meets them, 1 the principal's, 2 the
-// resource's and 3 the action's, which a capital letter binds to a uid that is no action.
+// Ids and the eids of uids are letters. Slots are digits in the order in which a walk meets them, 1 the principal's, 2
+// the resource's and 3 the action's, which a capital letter binds to a uid that is no action.
 use super::notation::{Call, Said, Verb, Why, behind, has_digit, joined, letter_for, unlinked};
 
 // A body: its id, its slots, and what else marks it.

@@ -6,12 +6,14 @@ use super::places::{count, standing};
 // How often each case came.
 #[derive(Clone, Copy, Drop)]
 pub(super) struct Cases {
-    // Links, static policies and templates that were taken out, each from the front, the middle and the back of its order.
+    // Links, static policies and templates that were taken out, each from the front, the middle and the back of its
+    // order.
     pub(super) taken: [u32; 9],
     // What followed when a set had been made anew of its maps and was not refused: calls by their verbs, and merges.
     pub(super) followed: [u32; 9],
-    // Merges that were not refused, without renaming and with it, into the empty set, a set of static policies alone, of
-    // templates without links, of links, of static policies and templates or links, and of a set into a copy of itself.
+    // Merges that were not refused, without renaming and with it, into the empty set, a set of static policies alone,
+    // of templates without links, of links, of static policies and templates or links, and of a set into a copy of
+    // itself.
     pub(super) merged: [u32; 12],
     // Ids that were bound again after they went, merges that renamed, and merges that were refused.
     pub(super) others: [u32; 3],

@@ -301,8 +301,8 @@ fn renamed_of<S: BuildHasher + Copy>(
     told
 }
 
-// Merges a set of so many policies into another; how many ids are renamed, whether each is moved by so much, and how many
-// policies there are then.
+// Merges a set of so many policies into another; how many ids are renamed, whether each is moved by so much, and how
+// many policies there are then.
 fn merged<S: BuildHasher + Copy>(
     alloc: Global,
     keys: (S, S),
@@ -318,9 +318,9 @@ fn merged<S: BuildHasher + Copy>(
     Ok((many, moved, count))
 }
 
-// The number and the effect that stand at a place after a set of so many that forbid is merged into one of a hundred that
-// permit, all of which conflict: those first, then the others in their order, each so many numbers on, or with its own
-// number where it does not conflict.
+// The number and the effect that stand at a place after a set of so many that forbid is merged into one of a hundred
+// that permit, all of which conflict: those first, then the others in their order, each so many numbers on, or with its
+// own number where it does not conflict.
 fn wanted(place: u32, there: u32) -> (u32, Effect) {
     match place {
         0..100 => (place, Effect::Permit),

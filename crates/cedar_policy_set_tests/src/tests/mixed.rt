@@ -1,5 +1,5 @@
-// Lists of calls, merges and sets made anew of their maps, each on a set and on the board that it stands for. Beside calls that
-// are drawn by letters there are such that are drawn along the board, and which cases came is counted.
+// Lists of calls, merges and sets made anew of their maps, each on a set and on the board that it stands for. Beside
+// calls that are drawn by letters there are such that are drawn along the board, and which cases came is counted.
 use super::apart::made_anew;
 use super::board::{Board, Renaming, after, empty, links, merge};
 use super::cases::{
@@ -135,7 +135,8 @@ fn answers<S: BuildHasher + Copy>(
     }
 }
 
-// Merges a set, which has this board; whether the answers are the same, with the ids that are renamed, and the other set stays.
+// Merges a set, which has this board; whether the answers are the same, with the ids that are renamed, and the other
+// set stays.
 fn merge_set<S: BuildHasher + Copy>(
     alloc: Global,
     set: &mut PolicySet<S>,

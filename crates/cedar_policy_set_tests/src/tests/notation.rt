@@ -1,14 +1,15 @@
 // Policies, calls and answers by short texts, in which the tests of the set are written.
 //
-// Ids are letters, `P` to `Y` for `policy0` to `policy9`, and the bytes from 128 on for `policy10` and what follows. A body is
-// its id and the digits of its slots in the order in which a walk meets them, 1 the principal's, 2 the resource's and 3 the
-// action's, and a mark: `t`, `t1`, `t231`, `a!`. The mark `!` says that it forbids, `@` that its action is `User::"x"`, `%`
-// that its action is `Action::"x"`, `_` that its action is in its slot, and is not that, `~` that its clause is `foo()` and it
-// has no slots, and `?` that its clause is the slot of the first digit. A static policy is its body.
+// Ids are letters, `P` to `Y` for `policy0` to `policy9`, and the bytes from 128 on for `policy10` and what follows. A
+// body is its id and the digits of its slots in the order in which a walk meets them, 1 the principal's, 2 the
+// resource's and 3 the action's, and a mark: `t`, `t1`, `t231`, `a!`. The mark `!` says that it forbids, `@` that its
+// action is `User::"x"`, `%` that its action is `Action::"x"`, `_` that its action is in its slot, and is not that, `~`
+// that its clause is `foo()` and it has no slots, and `?` that its clause is the slot of the first digit. A static
+// policy is its body.
 //
-// A link is its id, an equality sign and its template, and for each bound slot a plus sign, the digit and a letter, which
-// stands for a uid of type `A`, but behind 3 for one of type `Action` unless it is a capital: `l=t231+1x+3v+2y`. So `+3X`
-// binds the action's slot to `A::"X"`, which is no action.
+// A link is its id, an equality sign and its template, and for each bound slot a plus sign, the digit and a letter,
+// which stands for a uid of type `A`, but behind 3 for one of type `Action` unless it is a capital: `l=t231+1x+3v+2y`.
+// So `+3X` binds the action's slot to `A::"X"`, which is no action.
 //
 // A call is a word and a policy: `static a`, `template t1`, `add a`, `add l=t1+1x`, `link l=t+1x`,
 // `unlink l`, `remove_static a`, `remove_template t`, `links t`. Calls are parted by semicolons.

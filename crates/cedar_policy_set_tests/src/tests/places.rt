@@ -24,7 +24,8 @@ fn put_templates(board: &Board, left: &mut Board) {
     }
 }
 
-// What a verb takes out, in its order, as policies: links, static policies or templates, whose links may be asked for too.
+// What a verb takes out, in its order, as policies: links, static policies or templates, whose links may be asked for
+// too.
 pub(super) fn standing(board: &Board, verb: Verb) -> Board {
     let mut left = empty();
     match verb {
@@ -74,8 +75,8 @@ fn verb_at(kind: u8) -> Verb {
     }
 }
 
-// A call that takes out what stands first, in the middle or last, and the number of what and where; nothing where there is
-// no such place.
+// A call that takes out what stands first, in the middle or last, and the number of what and where; nothing where there
+// is no such place.
 pub(super) fn drawn_taking(board: &Board, seed: &mut u64) -> Option<(Call, u8)> {
     let kind = below(seed, 3);
     let place = below(seed, 3);

@@ -1,5 +1,5 @@
-// Sets that are made of their three maps as they stand. The map of bodies hashes by the first of two builders, the others by the
-// second, by which the sets that they are compared with hash too.
+// Sets that are made of their three maps as they stand. The map of bodies hashes by the first of two builders, the
+// others by the second, by which the sets that they are compared with hash too.
 ghost use Rattle.std.specs.Prelude.{◌≡◌, ◌++◌, ◌∷◌, [], None, false, IfOk, OnOk};
 ghost use Rattle.indexmap.specs.IndexMap.{get};
 ghost use Rattle.cedar_ids.specs.Texts.{same_text};
@@ -125,7 +125,8 @@ fn raw_one<S: BuildHasher + Copy>(
     Ok(PolicySet::from_raw_components(templates, links, lists))
 }
 
-// The set that is kept in maps of the policy of a text and its template; of a link with its template's id the empty set.
+// The set that is kept in maps of the policy of a text and its template; of a link with its template's id the empty
+// set.
 fn raw<S: BuildHasher + Copy>(
     alloc: Global,
     keys: (S, S),
@@ -203,8 +204,8 @@ fn raw_crossed<S: BuildHasher + Copy>(
     Ok(PolicySet::from_raw_components(templates, links, lists))
 }
 
-// The set of two policies, its bodies in this order and its policies in the turned one; where they are not static policies
-// with other ids the empty set.
+// The set of two policies, its bodies in this order and its policies in the turned one; where they are not static
+// policies with other ids the empty set.
 fn crossed_of<S: BuildHasher + Copy>(
     alloc: Global,
     keys: (S, S),

@@ -1,5 +1,5 @@
-// What is refused, and how: static policies with slots, templates that are not valid, bindings that do not fit; and the texts of
-// refusals, of which a copy has to be written alike.
+// What is refused, and how: static policies with slots, templates that are not valid, bindings that do not fit; and the
+// texts of refusals, of which a copy has to be written alike.
 use super::gives::{policy_gives, put_place};
 use super::kinds::{new_template, tried_link, tried_static};
 use super::spec::{bindings, cut, id, slot_of, uid};
@@ -283,7 +283,8 @@ fn put_lists(text: &mut String, unbound: &[SlotId], extra: &[SlotId]) -> Result<
     put_ids(text, extra)
 }
 
-// The link of the template of a text, under an id and with the bindings behind that: what it gives, or what is left over.
+// The link of the template of a text, under an id and with the bindings behind that: what it gives, or what is left
+// over.
 pub(super) fn linked(alloc: Global, binds: &str, text: &str) -> Result<String, Fail> {
     match tried_link(alloc, binds, text)? {
         Ok(policy) => policy_gives(alloc, policy),

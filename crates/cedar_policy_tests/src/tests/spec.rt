@@ -1,13 +1,13 @@
 // Policies by short texts. A text is five fields, parted by `; `, of which the last may be left out: the id, the effect
-// and the annotations, parted by blanks, as in `t permit k=v`; the constraints of the principal, the action and the resource,
-// which are empty where there is none; and the clause.
+// and the annotations, parted by blanks, as in `t permit k=v`; the constraints of the principal, the action and the
+// resource, which are empty where there is none; and the clause.
 //
-// A constraint of a principal or a resource is `== R`, `in R` or `is T`, where `R` is `?` for the slot, or a uid. A uid is its
-// type, a point and its eid. A constraint of an action is `== R`, `in ?`, or `in U, U`, which may be `in` alone. A clause is a term
-// `X`, or a term `X == X`, with `!` before it where it is denied; `T <- U` is the conjunction of `U` and `T`. An `X` is a
-// number, `true`, `?p`, `?a`, `?r`, a text behind a quote, `f()`, or the set of the unknowns behind a `{`, parted by commas, each a
-// name and, where it has one, `~` and its type. `@7` behind an id, an annotation, a slot, a uid or an `X` is its place, of one
-// character.
+// A constraint of a principal or a resource is `== R`, `in R` or `is T`, where `R` is `?` for the slot, or a uid. A uid
+// is its type, a point and its eid. A constraint of an action is `== R`, `in ?`, or `in U, U`, which may be `in` alone.
+// A clause is a term `X`, or a term `X == X`, with `!` before it where it is denied; `T <- U` is the conjunction of `U`
+// and `T`. An `X` is a number, `true`, `?p`, `?a`, `?r`, a text behind a quote, `f()`, or the set of the unknowns
+// behind a `{`, parted by commas, each a name and, where it has one, `~` and its type. `@7` behind an id, an
+// annotation, a slot, a uid or an `X` is its place, of one character.
 use cedar_action::ActionConstraint;
 use cedar_annotation::{Annotation, Annotations};
 use cedar_ids::entity::{Eid, EntityType, EntityUID};

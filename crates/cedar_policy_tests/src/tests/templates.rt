@@ -1,6 +1,6 @@
-// The three hundred templates: principal and resource each free, equal to or in a uid or a slot; the action free, equal to a
-// uid or the slot, in one or two uids, or in the slot; both effects. Each is linked with each of its slots bound or not, and with
-// an action's slot that is bound to no action.
+// The three hundred templates: principal and resource each free, equal to or in a uid or a slot; the action free, equal
+// to a uid or the slot, in one or two uids, or in the slot; both effects. Each is linked with each of its slots bound
+// or not, and with an action's slot that is bound to no action.
 use super::gives::gives;
 use super::kinds::{new_template, policy};
 use super::refusals::linked;
@@ -119,8 +119,8 @@ fn left_over(alloc: Global, slots: &str, binds: &str) -> Result<String, Fail> {
     Ok(text)
 }
 
-// Whether this is told of the template at a place that is linked with bindings of its slots and of no others: that the action is
-// none, or what the filled template gives as a static policy.
+// Whether this is told of the template at a place that is linked with bindings of its slots and of no others: that the
+// action is none, or what the filled template gives as a static policy.
 fn fit(alloc: Global, n: usize, binds: &str, told: &str) -> Result<bool, Fail> {
     if binds.split(' ').any(|bind| bind == "a=A.eid") {
         return Ok(told == "no action A::\"eid\"");
@@ -288,8 +288,8 @@ fn fits(answer: Result<StaticPolicy, UnexpectedSlotError>, count: usize) -> bool
     }
 }
 
-// How many static policies the template of a text makes: one exactly where it has no slots. Fails where it is not equal to
-// the one that is built anew of what it gives, or its static policy is not right.
+// How many static policies the template of a text makes: one exactly where it has no slots. Fails where it is not equal
+// to the one that is built anew of what it gives, or its static policy is not right.
 fn statics_of(alloc: Global, text: &str) -> Result<usize, Fail> {
     let template = new_template(alloc, text)?;
     let other = rebuilt(alloc, &template);

@@ -1,5 +1,5 @@
-// The closure calls over entities at their uids. A graph is a text: each key and the keys that it has edges to, with commas
-// between the nodes.
+// The closure calls over entities at their uids. A graph is a text: each key and the keys that it has edges to, with
+// commas between the nodes.
 ghost use Rattle.std.specs.Prelude.{◌≡◌, IfSome};
 ghost use Rattle.cedar_graph.specs.Graph.{KeysMatch};
 ghost use Rattle.cedar_ids.specs.UidOf.{same_uid};
@@ -129,7 +129,8 @@ fn is_node_between(alloc: Global, nodes: &Store, former: &str, due: &str, closed
     }
 }
 
-// Whether a graph has its former keys and edges and, of further ones, only due ones; where it is to be closed, all of these.
+// Whether a graph has its former keys and edges and, of further ones, only due ones; where it is to be closed, all of
+// these.
 fn is_between(alloc: Global, nodes: &Store, former: &str, due: &str, closed: bool) -> bool {
     let mut count = 0_usize;
     let mut all = due.split(',');
@@ -143,7 +144,8 @@ fn is_between(alloc: Global, nodes: &Store, former: &str, due: &str, closed: boo
     nodes.len() == count
 }
 
-// What came of a closure call on a graph that was this: with ample memory it is as it is wanted to be, closed or refused.
+// What came of a closure call on a graph that was this: with ample memory it is as it is wanted to be, closed or
+// refused.
 fn told<T: Drop, E: Display + Drop>(
     alloc: Global,
     answer: Result<T, E>,

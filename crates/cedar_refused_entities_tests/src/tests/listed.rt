@@ -1,5 +1,5 @@
-// Edits of a store of many, which lists the children of its uids at the seventeenth edit. A row says how many edits there were
-// before, and the call; what comes of it is what comes of it with ample memory.
+// Edits of a store of many, which lists the children of its uids at the seventeenth edit. A row says how many edits
+// there were before, and the call; what comes of it is what comes of it with ample memory.
 use super::stores::{next, step};
 use super::uid_of;
 use cedar_entities::entities::{Entities, TCComputation};

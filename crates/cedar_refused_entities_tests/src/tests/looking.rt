@@ -60,7 +60,8 @@ fn to_read_a_store_takes_no_memory(rt: HostRuntime) {
     assert!(rt; reads_a_store(rt.alloc()));
 }
 
-// How many attributes, tags, keys of both, parents, indirect ancestors and ancestors an entity has, when they are walked over.
+// How many attributes, tags, keys of both, parents, indirect ancestors and ancestors an entity has, when they are
+// walked over.
 fn walked(entity: &Entity) -> usize {
     let fields = entity.attrs().count().saturating_add(entity.tags().count());
     let keys = entity

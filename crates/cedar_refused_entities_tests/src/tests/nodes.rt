@@ -116,7 +116,8 @@ pub(super) fn is_among(text: &str, others: &str) -> bool {
     text.split_whitespace().all(|word| others.split_whitespace().any(|other| other == word))
 }
 
-// What comes of adding edges to keys; where that is refused, the former edges stay, and each further one leads to a key.
+// What comes of adding edges to keys; where that is refused, the former edges stay, and each further one leads to a
+// key.
 fn grown<K: Eq + Drop, N: TCNode<K> + Told + Drop>(
     alloc: Global,
     number: usize,

@@ -1,6 +1,7 @@
-// Entities by short texts, which have four parts with a slash between them: the name and the parents, the indirect ancestors,
-// the attributes, the tags. `a b c / d / k=1 / t=2` is the entity `A::"a"` with parents `A::"b"` and `A::"c"`, indirect
-// ancestor `A::"d"`, attribute `k` and tag `t`. The number `!` stands for a record with the key `__extn`.
+// Entities by short texts, which have four parts with a slash between them: the name and the parents, the indirect
+// ancestors, the attributes, the tags. `a b c / d / k=1 / t=2` is the entity `A::"a"` with parents `A::"b"` and
+// `A::"c"`, indirect ancestor `A::"d"`, attribute `k` and tag `t`. The number `!` stands for a record with the key
+// `__extn`.
 use super::values::{long, value};
 use super::{eids, hashed, uid_of};
 use cedar_entity::entity::Entity;
@@ -43,7 +44,8 @@ fn part(text: &str, place: usize) -> &str {
     text.split('/').nth(place).unwrap_or("").trim()
 }
 
-// What `new_with_attr_partial_value` takes: the uid, the parents and the indirect ancestors, the attributes and the tags.
+// What `new_with_attr_partial_value` takes: the uid, the parents and the indirect ancestors, the attributes and the
+// tags.
 pub(super) type Parts = (
     cedar_ids::EntityUID,
     (

@@ -1,7 +1,7 @@
-// Stores by short texts. Entities are written as in `parts`, with commas between them. A call is a word and, after a colon, its
-// entities or uids: `from` or `with` (`from` with a builder of hashers), `add` or `upsert`, `remove`, `partial`; a second word
-// says the mode: `from assume`, `add enforce`.
-// Calls are parted by semicolons, and the first starts from the store without entities.
+// Stores by short texts. Entities are written as in `parts`, with commas between them. A call is a word and, after a
+// colon, its entities or uids: `from` or `with` (`from` with a builder of hashers), `add` or `upsert`, `remove`,
+// `partial`; a second word says the mode: `from assume`, `add enforce`. Calls are parted by semicolons, and the first
+// starts from the store without entities.
 use super::entities::is_entity;
 use super::parts::{entity, text_of};
 use super::terms::expr;

@@ -1,5 +1,5 @@
-// Expressions and what is found in them. An expression is a word: a truth, a number, a variable, a slot, `text`, `unknown`
-// or `foo()`; several words are the set of these.
+// Expressions and what is found in them. An expression is a word: a truth, a number, a variable, a slot, `text`,
+// `unknown` or `foo()`; several words are the set of these.
 use super::{named, typed, uid};
 use cedar_ids::entity::EntityUID;
 use cedar_refusals::{

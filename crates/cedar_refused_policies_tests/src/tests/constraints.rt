@@ -1,4 +1,5 @@
-// Constraints of principals and resources, by their forms: `any`, `in a`, `== a`, `is T`, `is T in a`, each with `?` for the slot.
+// Constraints of principals and resources, by their forms: `any`, `in a`, `== a`, `is T`, `is T in a`, each with `?`
+// for the slot.
 use super::{shared, shared_type, uid};
 use cedar_refusals::{
     Calls, Row, Tried, both, is_worded, judged, made, on, same_copied, tried_rows, unmade, with,

@@ -1,7 +1,8 @@
-// What policies are made of, by short texts: an id and words behind it. `principal` says that the principal's slot is in the
-// scope, `resource` that the resource's is, `acting` that the action's is, `action` that the action is `Action::"x"` and `user`
-// that it is `User::"x"`, `forbid` that it forbids, `noted` that it has the annotation `@k("v")`. Of the words for the clause
-// one may stand there: `clause` for `true`, `slot` for `?principal`, `foo` for `foo()`, `unknown` for an unknown named as a uid.
+// What policies are made of, by short texts: an id and words behind it. `principal` says that the principal's slot is
+// in the scope, `resource` that the resource's is, `acting` that the action's is, `action` that the action is
+// `Action::"x"` and `user` that it is `User::"x"`, `forbid` that it forbids, `noted` that it has the annotation
+// `@k("v")`. Of the words for the clause one may stand there: `clause` for `true`, `slot` for `?principal`, `foo` for
+// `foo()`, `unknown` for an unknown named as a uid.
 use super::actions::action;
 use super::annotations::annotations;
 use super::id;

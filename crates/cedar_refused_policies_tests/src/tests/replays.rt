@@ -1,5 +1,5 @@
-// Lists of calls on a policy set, each by a text as in `sets`; `keep` and `rename` merge a set in that has the static policy `a`,
-// which forbids. Where one call is refused memory, the others are made as if it were not there.
+// Lists of calls on a policy set, each by a text as in `sets`; `keep` and `rename` merge a set in that has the static
+// policy `a`, which forbids. Where one call is refused memory, the others are made as if it were not there.
 use super::id;
 use super::parts::values;
 use super::sets::{is_same, policy, set_of};

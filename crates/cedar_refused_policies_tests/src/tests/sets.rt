@@ -1,7 +1,8 @@
-// Policy sets by short texts. A policy is written as in `parts`; a link is its id, an equality sign, the text of its template,
-// a comma and its bindings: `l = t principal, principal=x`. Calls are parted by semicolons: `static a`, `template t principal`,
-// `add a`, `add l = t principal, principal=x`, `link t l principal=x`, `unlink l`, `remove_static a`, `remove_template t`,
-// `links t`, and `keep` or `rename` to merge the other set in. The first is made on the set without policies.
+// Policy sets by short texts. A policy is written as in `parts`; a link is its id, an equality sign, the text of its
+// template, a comma and its bindings: `l = t principal, principal=x`. Calls are parted by semicolons: `static a`,
+// `template t principal`, `add a`, `add l = t principal, principal=x`, `link t l principal=x`, `unlink l`,
+// `remove_static a`, `remove_template t`, `links t`, and `keep` or `rename` to merge the other set in. The first is
+// made on the set without policies.
 use super::id;
 use super::parts::values;
 use super::policies::link;
@@ -316,8 +317,8 @@ fn answer_of(told: &str, ample: &str, want: &str, left: (bool, bool)) -> Answer 
     ample_if(told == ample && has_words(ample, want) && same)
 }
 
-// What came of a call, of which is known what it answers with ample memory, and whether the set equals its copy from before and
-// what the call leaves with ample memory.
+// What came of a call, of which is known what it answers with ample memory, and whether the set equals its copy from
+// before and what the call leaves with ample memory.
 fn tried(alloc: Global, told: Said, ample: Said, want: &str, left: (bool, bool)) -> Tried {
     let refused = told.refused;
     let text = told.text.unwrap_or(String::new(alloc));
@@ -328,7 +329,8 @@ fn tried(alloc: Global, told: Said, ample: Said, want: &str, left: (bool, bool))
     Tried { answer, refused }
 }
 
-// What comes of a call on the first of three equal sets. The second takes the call with ample memory, the third is kept.
+// What comes of a call on the first of three equal sets. The second takes the call with ample memory, the third is
+// kept.
 fn compared(
     alloc: Global,
     number: usize,

@@ -1,5 +1,5 @@
-// The calls that lines share, and those by which lines on policy sets are read and answered. Fields stand apart by blanks, but for
-// `read_fields`, by tabs.
+// The calls that lines share, and those by which lines on policy sets are read and answered. Fields stand apart by
+// blanks, but for `read_fields`, by tabs.
 use cedar_lines::field::uid_field;
 use cedar_lines::line::read_fields;
 use cedar_lines::writing::push_line;

@@ -1,5 +1,5 @@
-// Lists of calls on a store. An entity is its name and its parents, all of type `A`, with commas between entities; calls are
-// parted by semicolons: `from: a b, b c`, `add: c`, `upsert: a d`, `remove: b c`, `partial`.
+// Lists of calls on a store. An entity is its name and its parents, all of type `A`, with commas between entities;
+// calls are parted by semicolons: `from: a b, b c`, `add: c`, `upsert: a d`, `remove: b c`, `partial`.
 ghost use Rattle.std.specs.Prelude.{◌≡◌, ◌++◌, ◌∷◌, [], IfSome};
 ghost use Rattle.std.specs.List.{AllByRecursion};
 ghost use Rattle.cedar_entities.specs.Plain.{AreBare, IsBare, entities_in};

@@ -1,5 +1,5 @@
-// Runs of the program. In a row an input and an output are written with `;` for the end of a line and `>` for a tab; before the
-// output stands the status.
+// Runs of the program. In a row an input and an output are written with `;` for the end of a line and `>` for a tab;
+// before the output stands the status.
 use cedar_keyed_hash::KeyedState;
 use cedar_refusals::{
     Answer, Calls, Row, Tried, ample_if, both, memory_if, refuse, relent, tried_rows, unmade,

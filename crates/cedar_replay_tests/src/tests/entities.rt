@@ -156,8 +156,8 @@ fn is_due(calls: &str, found: Result<String, Fail>, due: &str) -> Result<(), Fai
     Err(Fail::new(format_args!("{calls} leaves {found}")))
 }
 
-// Fails with the first of the calls that leaves something else than what is beside it, where no builder of hashers is given
-// or under one of two keys.
+// Fails with the first of the calls that leaves something else than what is beside it, where no builder of hashers is
+// given or under one of two keys.
 fn leaves(alloc: Global, table: &[(&str, &str)]) -> Result<(), Fail> {
     let (one, other) = keys();
     for (calls, due) in table {

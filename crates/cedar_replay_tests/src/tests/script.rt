@@ -1,10 +1,10 @@
 // Lists of calls by short texts, parted by semicolons: `static a`, `forbid a`, `template t`, `action t`, `add a`,
-// `link t l x`, `act t l UID`, `unlink l`, `remove_static a`, `remove_template t`, and `keep` or `rename` to merge the other
-// set in. A static policy has no constraint and no clause; `template` is one on the principal's slot, which `link` binds to a
-// uid of type `A`, and `action` is one on the action's, which `act` binds to a uid.
+// `link t l x`, `act t l UID`, `unlink l`, `remove_static a`, `remove_template t`, and `keep` or `rename` to merge the
+// other set in. A static policy has no constraint and no clause; `template` is one on the principal's slot, which
+// `link` binds to a uid of type `A`, and `action` is one on the action's, which `act` binds to a uid.
 //
-// No function holds a set, a policy, a call or an answer over a step that may fail, and none leaves one to the end of its
-// body: what is at hand goes to `beside` or `kept`, or is let go by a written `drop`.
+// No function holds a set, a policy, a call or an answer over a step that may fail, and none leaves one to the end of
+// its body: what is at hand goes to `beside` or `kept`, or is let go by a written `drop`.
 use super::{fixed, keys};
 use cedar_action::ActionConstraint;
 use cedar_annotation::Annotations;
@@ -409,8 +409,8 @@ fn is_told(calls: &str, told: Result<String, Fail>, want: &str) -> Result<(), Fa
     Err(Fail::new(format_args!("{calls}: {told}")))
 }
 
-// Fails where another thing is told of a list of calls than is wanted. The set hashes by the first of two builders, the one
-// that is merged in by the second.
+// Fails where another thing is told of a list of calls than is wanted. The set hashes by the first of two builders, the
+// one that is merged in by the second.
 fn tells_by<S: BuildHasher + Copy>(
     alloc: Global,
     keys: (S, S),

@@ -2,7 +2,8 @@
 use Rattle.std.specs.Prelude.{◌≡◌, false, refl}
 use Rattle.std.proofs.Common.{ap}
 use Rattle.cedar_ids.specs.Uid.{UidParts}
-use Rattle.cedar_scope.specs.Scope.{Reference, to_uid, to_slot, Constraint, any, within, equals, of_type, of_type_within}
+use Rattle.cedar_scope.specs.Scope.{Reference, to_uid, to_slot, Constraint, any, within, equals, of_type}
+use Rattle.cedar_scope.specs.Scope.{of_type_within}
 use Rattle.cedar_scope.specs.ScopeReads.{is_slot, has_slot, filled_reference, filled}
 
 is_slot-filled : (u : UidParts) (r : Reference) → is_slot (filled_reference u r) ≡ false

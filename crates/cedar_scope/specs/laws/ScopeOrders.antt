@@ -6,7 +6,8 @@ use Rattle.std.specs.declared.cmp.Ordering.{Ordering}
 use Rattle.std.specs.declared.cmp.Ordering.TheVariants.{Equal}
 use Rattle.std.specs.Option.{option_cmp}
 use Rattle.std.specs.Ordering.{nat_cmp, is_eq}
-use Rattle.std.specs.Cmp.{IsTotalOrder, IsEquivalence, on_total, then_total, nat_cmp_total, eq_by_cmp_equiv, Equal-is, tied_itself}
+use Rattle.std.specs.Cmp.{IsTotalOrder, IsEquivalence, on_total, then_total, nat_cmp_total, eq_by_cmp_equiv, Equal-is}
+use Rattle.std.specs.Cmp.{tied_itself}
 use Rattle.std.specs.Cmp.Lexicographic.{options_total}
 use Rattle.cedar_ids.specs.Name.{NameParts, name_cmp}
 use Rattle.cedar_ids.specs.laws.NameLaws.{name_cmp_total}
@@ -16,7 +17,8 @@ use Rattle.cedar_terms.specs.Keys.{Key, fork, key_cmp, nat_key, name_key, uid_ke
 use Rattle.cedar_terms.specs.laws.NameKeyLaws.{name_key-inj, name_key-cmp, uid_key-inj, uid_key-cmp}
 use Rattle.cedar_scope.specs.Scope.{Reference, to_uid, to_slot, Constraint}
 use Rattle.cedar_scope.specs.ScopeReads.{constraint_kind, stated_type, reference_in}
-use Rattle.cedar_scope.specs.ScopeOrder.{reference_cmp, constraint_cmp, same_reference, same_constraint, reference_hash, constraint_hash}
+use Rattle.cedar_scope.specs.ScopeOrder.{reference_cmp, constraint_cmp, same_reference, same_constraint, reference_hash}
+use Rattle.cedar_scope.specs.ScopeOrder.{constraint_hash}
 use Rattle.cedar_scope.specs.Codes.{constraint_with, constraint_with-parts}
 
 -- the key of a reference, the slot after all uids
@@ -43,7 +45,8 @@ reference_cmp_total = subst IsTotalOrder (λ i x y. reference_key-cmp x y i) (on
 pub constraint_cmp_total : IsTotalOrder constraint_cmp
 constraint_cmp_total =
     then_total (on_total constraint_kind nat_cmp_total)
-    (then_total (on_total stated_type (options_total name_cmp_total)) (on_total reference_in (options_total reference_cmp_total)))
+    (then_total (on_total stated_type (options_total name_cmp_total))
+    (on_total reference_in (options_total reference_cmp_total)))
 
 -- each equality is an equivalence
 pub same_reference_equiv : IsEquivalence same_reference
@@ -58,9 +61,11 @@ names_tied : (m n : NameParts) → name_cmp m n ≡ Equal → m ≡ n
 names_tied m n e = name_key-inj m n (key_cmp-Equal (name_key m) (name_key n) (name_key-cmp m n ∙ e))
 
 pub references_tied : (x y : Reference) → reference_cmp x y ≡ Equal → x ≡ y
-references_tied x y e = reference_key-inj x y (key_cmp-Equal (reference_key x) (reference_key y) (reference_key-cmp x y ∙ e))
+references_tied x y e = reference_key-inj x y (key_cmp-Equal (reference_key x) (reference_key y) (reference_key-cmp x y
+    ∙ e))
 
-options_tied : {A : Type 0} (R : A → A → Ordering) → ((x y : A) → R x y ≡ Equal → x ≡ y) → (p q : Option A) → option_cmp R p q ≡ Equal → p ≡ q
+options_tied : {A : Type 0} (R : A → A → Ordering) → ((x y : A) → R x y ≡ Equal → x ≡ y) → (p q : Option A)
+    → option_cmp R p q ≡ Equal → p ≡ q
 options_tied R h None None e = refl
 options_tied R h None (Some y) e = absurd (cc)
 options_tied R h (Some x) None e = absurd (cc)

@@ -12,7 +12,8 @@ abbrev pub constraint_slots : PrincipalOrResource → Constraint → List SlotId
 constraint_slots v c = if has_slot c then slot_id_of v ∷ [] else []
 
 -- these are the slots in a constraint's expression
-pub slots_of-constraint_expr : (v : PrincipalOrResource) (c : Constraint) → slots_of (constraint_expr v c) ≡ constraint_slots v c
+pub slots_of-constraint_expr : (v : PrincipalOrResource) (c : Constraint)
+    → slots_of (constraint_expr v c) ≡ constraint_slots v c
 slots_of-constraint_expr v any = refl
 slots_of-constraint_expr v (within (to_uid u)) = refl
 slots_of-constraint_expr v (within to_slot) = refl

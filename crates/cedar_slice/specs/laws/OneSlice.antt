@@ -16,7 +16,8 @@ use Rattle.cedar_entities.specs.Plain.{Held}
 use Rattle.cedar_entities.specs.laws.Settled.{reached_list, reached_members}
 use Rattle.cedar_slice.specs.Slices.{is_wanted, part_of, IsWanted, IsSliceOf}
 
-any_in : (test : EntityUID → Bool) (U : List EntityUID) (u : EntityUID) → is_member same_uid U u ≡ true → test u ≡ true → list_any test U ≡ true
+any_in : (test : EntityUID → Bool) (U : List EntityUID) (u : EntityUID) → is_member same_uid U u ≡ true → test u ≡ true
+    → list_any test U ≡ true
 any_in test [] u m h = absurd (false≢true m)
 any_in test (x ∷ xs) u m h = elim (or_cases (same_uid u x) (is_member same_uid xs u) m) [
   | inl e ↦ or_left (test x) (list_any test xs) (ap test (sym ((same_uid_decides u x).0 e)) ∙ h)
@@ -31,16 +32,24 @@ record Found (test : EntityUID → Bool) (U : List EntityUID) : Type 0 where
 found_in : (test : EntityUID → Bool) (U : List EntityUID) → list_any test U ≡ true → Found test U
 found_in test [] h = absurd (false≢true h)
 found_in test (x ∷ xs) h = elim (or_cases (test x) (list_any test xs) h) [
-  | inl t ↦ record { at = x; member = or_left (same_uid x x) (is_member same_uid xs x) (same_uid_equiv.refl x); passes = t }
+  | inl t ↦ record {
+    at = x;
+    member = or_left (same_uid x x) (is_member same_uid xs x) (same_uid_equiv.refl x);
+    passes =
+        t;
+  }
   | inr r ↦ let f = found_in test xs r in record { at = f.at; member = or_right (same_uid f.at x) (is_member same_uid xs f.at) f.member; passes = f.passes }
 ]
 
 -- an asked uid is wanted
-pub asked_is_wanted : (D : Held) (U : List EntityUID) (q : EntityUID) → is_member same_uid U q ≡ true → is_wanted D U q ≡ true
-asked_is_wanted D U q m = any_in (λ u. same_uid u q || ancestry D u q) U q m (or_left (same_uid q q) (ancestry D q q) (same_uid_equiv.refl q))
+pub asked_is_wanted : (D : Held) (U : List EntityUID) (q : EntityUID) → is_member same_uid U q ≡ true
+    → is_wanted D U q ≡ true
+asked_is_wanted D U q m = any_in (λ u. same_uid u q || ancestry D u q) U q m
+    (or_left (same_uid q q) (ancestry D q q) (same_uid_equiv.refl q))
 
 -- what is wanted is settled by a test that settles what is reached
-pub wanted_by : (W : World) (G : EntityUID → EntityUID → Bool) → ((a b : EntityUID) → (G a b ≡ true) ↔ Reach (graph W) a b)
+pub wanted_by : (W : World) (G : EntityUID → EntityUID → Bool)
+    → ((a b : EntityUID) → (G a b ≡ true) ↔ Reach (graph W) a b)
     → (U : List EntityUID) (q : EntityUID) → (list_any (λ u. same_uid u q || G u q) U ≡ true) ↔ IsWanted W U q
 wanted_by W G says U q = (
   λ h.
@@ -64,21 +73,26 @@ same_bool false false f g = refl
 pub one_slice : (W : World) (U : List EntityUID) (V X : World) → IsSliceOf W U V → IsSliceOf W U X → V ≡ X
 one_slice W U V X v x =
     v.entries
-    ∙ ap (part_of W) (λ i q. same_bool (v.test q) (x.test q) (λ h. (x.passes q).1 ((v.passes q).0 h)) (λ h. (v.passes q).1 ((x.passes q).0 h)) i)
+    ∙ ap (part_of W) (λ i q. same_bool (v.test q) (x.test q) (λ h. (x.passes q).1 ((v.passes q).0 h))
+    (λ h. (v.passes q).1 ((x.passes q).0 h)) i)
     ∙ sym x.entries
 
-kept_parent : (t : Bool) (o : Option Parts) (b : EntityUID) → is_parent_in (cond t o None) b ≡ true → is_parent_in o b ≡ true
+kept_parent : (t : Bool) (o : Option Parts) (b : EntityUID) → is_parent_in (cond t o None) b ≡ true
+    → is_parent_in o b ≡ true
 kept_parent true o b h = h
 kept_parent false o b h = absurd (false≢true h)
 
 -- a part of a world has edges of the world alone
-pub part_edges : (W : World) (test : EntityUID → Bool) (a b : EntityUID) → graph (part_of W test) a b ≡ true → graph W a b ≡ true
+pub part_edges : (W : World) (test : EntityUID → Bool) (a b : EntityUID) → graph (part_of W test) a b ≡ true
+    → graph W a b ≡ true
 part_edges W test a b h =
     kept_parent (test a) (finmap.get W.entities a) b
-    (sym (ap (λ o. is_parent_in o b) (finmap.get-retain_keys W.entities test a (λ x t. ap test (sym (one_equal a x t))))) ∙ h)
+    (sym (ap (λ o. is_parent_in o b) (finmap.get-retain_keys W.entities test a
+    (λ x t. ap test (sym (one_equal a x t))))) ∙ h)
 
 -- and so has a slice
-pub slice_edges : (W : World) (U : List EntityUID) (V : World) → IsSliceOf W U V → (a b : EntityUID) → graph V a b ≡ true → graph W a b ≡ true
+pub slice_edges : (W : World) (U : List EntityUID) (V : World) → IsSliceOf W U V → (a b : EntityUID)
+    → graph V a b ≡ true → graph W a b ≡ true
 slice_edges W U V v a b h = part_edges W v.test a b (subst (λ X. graph X a b ≡ true) v.entries h)
 
 -- whether q is one of the uids or is reached from one of them

@@ -1,5 +1,5 @@
-// Slices of random stores beside what a search gives: of plain ones, and of stores that were taken as they are, which may have
-// cycles or lack ancestors.
+// Slices of random stores beside what a search gives: of plain ones, and of stores that were taken as they are, which
+// may have cycles or lack ancestors.
 use super::stores::{beside, keys_in, listed, sliced, store_of};
 use super::worlds::{LETTERS, Row, is_least, reached, with_ancestors};
 use super::{fixed, keys};
@@ -141,8 +141,8 @@ fn made_by<S: BuildHasher + Copy>(
     beside(whole, part)
 }
 
-// A store and its slice under the first of two builders of hashers, and under the second the store of what the slice has by
-// search.
+// A store and its slice under the first of two builders of hashers, and under the second the store of what the slice
+// has by search.
 fn made<S: BuildHasher + Copy>(
     alloc: Global,
     keys: (S, S),

@@ -1,7 +1,7 @@
 // The stores of rows, and their slices.
 //
-// Each helper lets go by a written drop what it holds, on each path: a drop that is not written is dear to prove at a type
-// as large as a store.
+// Each helper lets go by a written drop what it holds, on each path: a drop that is not written is dear to prove at a
+// type as large as a store.
 use super::worlds::{LETTERS, Row, set_of};
 use cedar_entities::entities::{Entities, TCComputation};
 use cedar_entity::entity::Entity;

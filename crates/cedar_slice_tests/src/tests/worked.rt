@@ -1,4 +1,5 @@
-// Worked slices. A line has what the store was made by, its entities, the uids that are asked for, and what the slice has.
+// Worked slices. A line has what the store was made by, its entities, the uids that are asked for, and what the slice
+// has.
 use super::stores::{beside, sliced, store_of, text_of};
 use super::worlds::{rows_of, set_of};
 use super::{fixed, keys};

@@ -1,8 +1,8 @@
 // Worlds of up to twelve entities as lists of rows, and what a slice of them has, by search.
 //
-// A uid is a letter, and a set of uids is a number with a bit for each letter. An entity is a word: its letter and those
-// of its parents and, behind a slash, those of its indirect ancestors. So `ab/c` is the entity `A::"a"` with the parent
-// `A::"b"` and the indirect ancestor `A::"c"`.
+// A uid is a letter, and a set of uids is a number with a bit for each letter. An entity is a word: its letter and
+// those of its parents and, behind a slash, those of its indirect ancestors. So `ab/c` is the entity `A::"a"` with the
+// parent `A::"b"` and the indirect ancestor `A::"c"`.
 use std::alloc::{AllocError, Global};
 
 // The letters with their bits. The last is that of no entity.

@@ -1,5 +1,6 @@
 -- Where the first line of some bytes ends.
-use Rattle.std.specs.Prelude.{◌≡◌, ℕ, zero, suc, ◌+◌, ◌<◌, List, [], ◌∷◌, ◌==◌, Bool, true, false, Option, Some, None, length, slice_index, take, drop, refl}
+use Rattle.std.specs.Prelude.{◌≡◌, ℕ, zero, suc, ◌+◌, ◌<◌, List, [], ◌∷◌, ◌==◌, Bool, true, false, Option, Some, None}
+use Rattle.std.specs.Prelude.{length, slice_index, take, drop, refl}
 use Rattle.std.proofs.Common.{cond, sym, ap, ◌∙◌, arith}
 use Rattle.std.specs.List.{slice_split, onto_first}
 use Rattle.std.proofs.lemmas.List.Splits.{slice_split-cons_yes, slice_split-cons_no}
@@ -14,7 +15,8 @@ fails true n = absurd (n refl)
 fails false n = refl
 
 -- the bytes before the first that is a line feed are the first line, and those after it the others
-pub ends_before : (xs rest : List ℕ) (i f : ℕ) → drop i xs ≡ f ∷ rest → ((k : ℕ) → k < i → slice_index xs k == 10 ≡ false) → slice_index xs i == 10 ≡ true →
+pub ends_before : (xs rest : List ℕ) (i f : ℕ) → drop i xs ≡ f ∷ rest
+    → ((k : ℕ) → k < i → slice_index xs k == 10 ≡ false) → slice_index xs i == 10 ≡ true →
     slice_split (λ b. b == 10) xs ≡ take i xs ∷ slice_split (λ b. b == 10) rest
 ends_before [] rest zero f d n e = absurd (cc)
 ends_before [] rest (suc i) f d n e = absurd (cc)
@@ -26,6 +28,8 @@ ends_before (x ∷ xs) rest (suc i) f d n e =
     ∙ ap (onto_first x) (ends_before xs rest i f d (λ k m. n (suc k) (omega arith)) e)
 
 -- bytes without a line feed are one line
-pub only_line : (xs : List ℕ) → ((k : ℕ) → k < length xs → slice_index xs k == 10 ≡ false) → slice_split (λ b. b == 10) xs ≡ xs ∷ []
+pub only_line : (xs : List ℕ) → ((k : ℕ) → k < length xs → slice_index xs k == 10 ≡ false)
+    → slice_split (λ b. b == 10) xs ≡ xs ∷ []
 only_line [] n = refl
-only_line (x ∷ xs) n = slice_split-cons_no (λ b. b == 10) x xs (n 0 (omega arith)) ∙ ap (onto_first x) (only_line xs (λ k m. n (suc k) (omega arith)))
+only_line (x ∷ xs) n = slice_split-cons_no (λ b. b == 10) x xs (n 0 (omega arith))
+    ∙ ap (onto_first x) (only_line xs (λ k m. n (suc k) (omega arith)))

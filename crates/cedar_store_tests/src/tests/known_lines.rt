@@ -1,5 +1,5 @@
-// Lines of which some tell what others told: types and parents that the program knows from lines before, and fields that stand
-// where those of other lines stood.
+// Lines of which some tell what others told: types and parents that the program knows from lines before, and fields
+// that stand where those of other lines stood.
 use super::{are_answered, is_answered_by, ways};
 use cedar_store::{RunError, run};
 use cedar_test_helpers::tried::{beside, kept};
@@ -28,8 +28,8 @@ fn is_same(alloc: Global, leaves: bool, input: &[u8], output: &[u8], status: u8)
     true
 }
 
-// Whether runs that give their memory back and runs that leave it write the same and answer this status, by the default builder
-// of hashers and under two keys.
+// Whether runs that give their memory back and runs that leave it write the same and answer this status, by the default
+// builder of hashers and under two keys.
 fn are_same(alloc: Global, input: &str, status: u8) -> bool {
     let mut out = Vec::new(alloc);
     let ended = status_of(run(alloc, &mut input.as_bytes(), &mut out));

@@ -1,5 +1,5 @@
-// Sessions of drawn lines on templates and links, each beside a plain model: one list of templates and links in the order in
-// which they came.
+// Sessions of drawn lines on templates and links, each beside a plain model: one list of templates and links in the
+// order in which they came.
 use super::are_answered;
 use super::known_lines::status_of;
 use cedar_store::run;
@@ -31,8 +31,8 @@ struct Model {
     held: [Option<Held>; 6],
 }
 
-// A line that links: the template, the new id, what is bound, in which order, to which uid the action's slot is, and whether
-// the first that is bound is bound once more.
+// A line that links: the template, the new id, what is bound, in which order, to which uid the action's slot is, and
+// whether the first that is bound is bound once more.
 #[derive(Clone, Copy, Drop, PartialEq, Eq)]
 struct Linking {
     template: u8,
@@ -392,8 +392,9 @@ fn drawn_line(model: &Model, seed: &mut u64) -> Line {
     }
 }
 
-// How many sessions there were, how many of them ended at a line that is no command, how many lines were taken, refused for
-// the bindings and for a uid that is no action, and after how many sessions another thing was written than the model says.
+// How many sessions there were, how many of them ended at a line that is no command, how many lines were taken, refused
+// for the bindings and for a uid that is no action, and after how many sessions another thing was written than the
+// model says.
 #[derive(Clone, Copy, Drop)]
 struct Tally {
     sessions: u32,

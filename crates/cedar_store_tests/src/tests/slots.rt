@@ -1,5 +1,5 @@
-// Lines on templates of three slots and on links that bind them, by rows of a text: in a row a comma stands for a tab, and
-// ` / ` for the end of a line. What a run writes is told in the same way, and its status behind that.
+// Lines on templates of three slots and on links that bind them, by rows of a text: in a row a comma stands for a tab,
+// and ` / ` for the end of a line. What a run writes is told in the same way, and its status behind that.
 use super::are_answered;
 use super::known_lines::status_of;
 use cedar_store::run;

@@ -22,16 +22,22 @@ IsWriteFault Read = ⊥
 IsWriteFault Write = Unit {0}
 IsWriteFault Memory = ⊥
 
--- the last line was answered, and the status says whether it ended the conversation. Where memory was refused nothing was written
-abbrev pub Finishes : {S H : Type 0} → Result ℕ TalkError → Conversation S H → Option (List ℕ) → Option (List ℕ) → Type 0
-Finishes (Ok status) k w w' = (after : List ℕ) × Appends w w' after × (((status ≡ 0) × Closes true k after) ⊎ ((status ≡ 2) × Closes false k after))
+-- the last line was answered, and the status says whether it ended the conversation. Where memory was refused nothing
+-- was written
+abbrev pub Finishes : {S H : Type 0} → Result ℕ TalkError → Conversation S H → Option (List ℕ) → Option (List ℕ)
+    → Type 0
+Finishes (Ok status) k w w' = (after : List ℕ) × Appends w w' after
+    × (((status ≡ 0) × Closes true k after) ⊎ ((status ≡ 2) × Closes false k after))
 Finishes (Err Read) k w w' = ⊥
 Finishes (Err Write) k w w' = Unit {0}
 Finishes (Err Memory) k w w' = w' ≡ w
 
--- the input was read to its end and all of its lines answered; or, strictly, the output of a run over it was written, which ends at a
+-- the input was read to its end and all of its lines answered; or, strictly, the output of a run over it was written,
+-- which ends at a
 -- line that is no command
-abbrev pub Converses : Manner → Result ℕ TalkError → Option (List ℕ) → Option (List ℕ) → Option (List ℕ) → Option (List ℕ) → Type 0
+abbrev pub Converses : Manner → Result ℕ TalkError → Option (List ℕ) → Option (List ℕ) → Option (List ℕ)
+    → Option (List ℕ) → Type 0
 Converses m (Ok status) r r' w w' = (bytes : List ℕ) × (out : List ℕ) × Consumes r r' bytes × Appends w w' out
-    × (((status ≡ 0) × IsAtEnd r' × AnswersAll m bytes out) ⊎ ((status ≡ 2) × (m ≡ Strict) × IfSome r (λ input. IsOutput input (record { bytes = out; status = 2 }))))
+    × (((status ≡ 0) × IsAtEnd r' × AnswersAll m bytes out)
+    ⊎ ((status ≡ 2) × (m ≡ Strict) × IfSome r (λ input. IsOutput input (record { bytes = out; status = 2 }))))
 Converses m (Err e) r r' w w' = Leaves m e r r' w w'

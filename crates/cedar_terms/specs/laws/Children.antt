@@ -1,6 +1,7 @@
 -- The children of a node, and the walk from them.
 use Rattle.std.specs.Prelude.{List, [], ◌∷◌}
-use Rattle.cedar_terms.specs.ExprTree.{ExprTree, val_node, var_node, slot_node, unknown_node, set_node, call_node, not_node, binary_node, is_node, ExprTrees, no_exprs, expr_then}
+use Rattle.cedar_terms.specs.ExprTree.{ExprTree, val_node, var_node, slot_node, unknown_node, set_node, call_node}
+use Rattle.cedar_terms.specs.ExprTree.{not_node, binary_node, is_node, ExprTrees, no_exprs, expr_then}
 
 -- the expressions of a list
 abbrev pub expr_list : ExprTrees → List ExprTree

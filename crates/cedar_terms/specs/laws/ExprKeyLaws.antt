@@ -10,7 +10,9 @@ use Rattle.cedar_terms.specs.ExprKeys.{annotation_key, expr_key, exprs_key, unkn
 use Rattle.cedar_terms.specs.SlotTree.{slot_index}
 use Rattle.cedar_terms.specs.laws.VarLaws.{var_at, var_at-var_index}
 use Rattle.cedar_terms.specs.UnknownParts.{UnknownParts}
-use Rattle.cedar_terms.specs.ExprTree.{operator_index, Operator, and_operator, eq_operator, in_operator, ExprTree, val_node, var_node, slot_node, unknown_node, set_node, call_node, not_node, binary_node, is_node, ExprTrees, no_exprs, expr_then}
+use Rattle.cedar_terms.specs.ExprTree.{operator_index, Operator, and_operator, eq_operator, in_operator, ExprTree}
+use Rattle.cedar_terms.specs.ExprTree.{val_node, var_node, slot_node, unknown_node, set_node, call_node, not_node}
+use Rattle.cedar_terms.specs.ExprTree.{binary_node, is_node, ExprTrees, no_exprs, expr_then}
 use Rattle.cedar_terms.specs.declared.slot.SlotId.{SlotId}
 use Rattle.cedar_terms.specs.laws.SlotIdLaws.{slot_at, slot_at-slot_index}
 
@@ -28,7 +30,11 @@ abbrev pub unknown_at : Key → UnknownParts
 unknown_at k = record { name = text_at (left_at k); annotation = annotation_at (right_at k) }
 
 unknown_at-unknown_key : (u : UnknownParts) → unknown_at (unknown_key u) ≡ u
-unknown_at-unknown_key u = λ i. record { name = text_at-text_key u.name i; annotation = annotation_at-annotation_key u.annotation i }
+unknown_at-unknown_key u = λ i. record {
+  name = text_at-text_key u.name i;
+  annotation =
+      annotation_at-annotation_key u.annotation i;
+}
 
 -- the operator at a place
 abbrev pub operator_at : ℕ → Operator
@@ -51,8 +57,10 @@ abbrev mutual
   expr_at (fork (tip (pos (suc (suc (suc (suc zero)))))) k) = set_node (exprs_at k)
   expr_at (fork (tip (pos (suc (suc (suc (suc (suc zero))))))) (fork f k)) = call_node (name_at f) (exprs_at k)
   expr_at (fork (tip (pos (suc (suc (suc (suc (suc (suc zero)))))))) k) = not_node (expr_at k)
-  expr_at (fork (tip (pos (suc (suc (suc (suc (suc (suc (suc zero))))))))) (fork o (fork k l))) = binary_node (operator_at (nat_at o)) (expr_at k) (expr_at l)
-  expr_at (fork (tip (pos (suc (suc (suc (suc (suc (suc (suc (suc n)))))))))) (fork k t)) = is_node (expr_at k) (name_at t)
+  expr_at (fork (tip (pos (suc (suc (suc (suc (suc (suc (suc zero))))))))) (fork o (fork k l))) =
+      binary_node (operator_at (nat_at o)) (expr_at k) (expr_at l)
+  expr_at (fork (tip (pos (suc (suc (suc (suc (suc (suc (suc (suc n)))))))))) (fork k t)) =
+      is_node (expr_at k) (name_at t)
   expr_at k = set_node no_exprs
 
   pub exprs_at : Key → ExprTrees
@@ -69,7 +77,8 @@ mutual
   expr_at-expr_key (set_node es) = ap set_node (exprs_at-exprs_key es)
   expr_at-expr_key (call_node f es) = λ i. call_node (name_at-name_key f i) (exprs_at-exprs_key es i)
   expr_at-expr_key (not_node e) = ap not_node (expr_at-expr_key e)
-  expr_at-expr_key (binary_node o x y) = λ i. binary_node (operator_at-operator_index o i) (expr_at-expr_key x i) (expr_at-expr_key y i)
+  expr_at-expr_key (binary_node o x y) = λ i. binary_node (operator_at-operator_index o i) (expr_at-expr_key x i)
+      (expr_at-expr_key y i)
   expr_at-expr_key (is_node e t) = λ i. is_node (expr_at-expr_key e i) (name_at-name_key t i)
 
   pub exprs_at-exprs_key : (x : ExprTrees) → exprs_at (exprs_key x) ≡ x

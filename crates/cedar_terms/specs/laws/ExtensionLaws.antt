@@ -23,5 +23,6 @@ same_extension_decides x y = (
 )
 
 -- equal extension values hash alike
-pub extension_hash_respects : (x y : ExtensionParts) → same_extension x y ≡ true → extension_parts_hash x ≡ extension_parts_hash y
+pub extension_hash_respects : (x y : ExtensionParts) → same_extension x y ≡ true
+    → extension_parts_hash x ≡ extension_parts_hash y
 extension_hash_respects x y e = ap extension_parts_hash ((same_extension_decides x y).0 e)

@@ -10,7 +10,8 @@ use Rattle.std.proofs.lemmas.Bool.Decides.{nat_tests}
 use Rattle.std.specs.Cmp.Lexicographic.{slice_cmp}
 use Rattle.cedar_terms.specs.Keys.{Key, fork, key_cmp, list_key, nat_key, text_key, tip}
 
-then_reverse : (a b : Ordering) → ordering_reverse (ordering_then a b) ≡ ordering_then (ordering_reverse a) (ordering_reverse b)
+then_reverse : (a b : Ordering) → ordering_reverse (ordering_then a b)
+    ≡ ordering_then (ordering_reverse a) (ordering_reverse b)
 then_reverse Less b = refl
 then_reverse Equal b = refl
 then_reverse Greater b = refl
@@ -19,7 +20,8 @@ key_antisymm : (x y : Key) → key_cmp x y ≡ ordering_reverse (key_cmp y x)
 key_antisymm (tip a) (tip b) = int_cmp_total.antisymm a b
 key_antisymm (tip a) (fork c d) = refl
 key_antisymm (fork a b) (tip c) = refl
-key_antisymm (fork a b) (fork c d) = (λ i. ordering_then (key_antisymm a c i) (key_antisymm b d i)) ∙ sym (then_reverse (key_cmp c a) (key_cmp d b))
+key_antisymm (fork a b) (fork c d) = (λ i. ordering_then (key_antisymm a c i) (key_antisymm b d i))
+    ∙ sym (then_reverse (key_cmp c a) (key_cmp d b))
 
 then_equal : (a b : Ordering) → ordering_then a b ≡ Equal → (a ≡ Equal) × (b ≡ Equal)
 then_equal Less b e = absurd (cc)
@@ -45,7 +47,9 @@ pub key_cmp-itself : (x : Key) → key_cmp x x ≡ Equal
 key_cmp-itself (tip a) = tied_itself int_cmp_total a
 key_cmp-itself (fork a b) = (λ i. ordering_then (key_cmp-itself a i) (key_cmp-itself b i))
 
-then_less : (a b : Ordering) → ordering_then a b ≡ Less → (c d : Ordering) → ordering_then c d ≡ Less → (f g : Ordering) → (a ≡ Less → c ≡ Less → f ≡ Less) → (a ≡ Equal → f ≡ c) → (c ≡ Equal → f ≡ a) → (b ≡ Less → d ≡ Less → g ≡ Less) → ordering_then f g ≡ Less
+then_less : (a b : Ordering) → ordering_then a b ≡ Less → (c d : Ordering) → ordering_then c d ≡ Less → (f g : Ordering)
+    → (a ≡ Less → c ≡ Less → f ≡ Less) → (a ≡ Equal → f ≡ c) → (c ≡ Equal → f ≡ a) → (b ≡ Less → d ≡ Less → g ≡ Less)
+    → ordering_then f g ≡ Less
 then_less Less b p Less d q f g chain left right more = rw (chain refl refl) refl
 then_less Less b p Equal d q f g chain left right more = rw (right refl) refl
 then_less Less b p Greater d q f g chain left right more = absurd (cc)
@@ -63,11 +67,17 @@ key_trans (fork a b) (tip c) z p q = absurd (cc)
 key_trans (fork a b) (fork c d) (tip e) p q = absurd (cc)
 key_trans (fork a b) (fork c d) (fork e f) p q =
     then_less (key_cmp a c) (key_cmp b d) p (key_cmp c e) (key_cmp d f) q (key_cmp a e) (key_cmp b f)
-    (key_trans a c e) (λ s. ap (λ k. key_cmp k e) (key_cmp-Equal a c s)) (λ s. sym (ap (λ k. key_cmp a k) (key_cmp-Equal c e s))) (key_trans b d f)
+    (key_trans a c e) (λ s. ap (λ k. key_cmp k e) (key_cmp-Equal a c s))
+    (λ s. sym (ap (λ k. key_cmp a k) (key_cmp-Equal c e s))) (key_trans b d f)
 
 -- the order of keys is total
 pub key_cmp_total : IsTotalOrder key_cmp
-key_cmp_total = record { antisymm = key_antisymm; trans = key_trans; congr = λ x y z e. ap (λ k. key_cmp k z) (key_cmp-Equal x y e) }
+key_cmp_total = record {
+  antisymm = key_antisymm;
+  trans = key_trans;
+  congr =
+      λ x y z e. ap (λ k. key_cmp k z) (key_cmp-Equal x y e);
+}
 
 -- ---- the parts of a key
 
@@ -119,12 +129,14 @@ list_at g (tip n) = []
 list_at g (fork k l) = g k ∷ list_at g l
 
 -- where elements are read back from their keys, so are lists
-pub list_at-list_key : {A : Type 0} (f : A → Key) (g : Key → A) → ((x : A) → g (f x) ≡ x) → (xs : List A) → list_at g (list_key f xs) ≡ xs
+pub list_at-list_key : {A : Type 0} (f : A → Key) (g : Key → A) → ((x : A) → g (f x) ≡ x) → (xs : List A)
+    → list_at g (list_key f xs) ≡ xs
 list_at-list_key f g h [] = refl
 list_at-list_key f g h (x ∷ xs) = λ i. h x i ∷ list_at-list_key f g h xs i
 
 -- where elements of one key are the same, so are lists
-pub list_key-inj : {A : Type 0} (f : A → Key) → ((x y : A) → f x ≡ f y → x ≡ y) → (xs ys : List A) → list_key f xs ≡ list_key f ys → xs ≡ ys
+pub list_key-inj : {A : Type 0} (f : A → Key) → ((x y : A) → f x ≡ f y → x ≡ y) → (xs ys : List A)
+    → list_key f xs ≡ list_key f ys → xs ≡ ys
 list_key-inj f h [] [] e = refl
 list_key-inj f h [] (y ∷ ys) e = absurd (cc)
 list_key-inj f h (x ∷ xs) [] e = absurd (cc)
@@ -134,7 +146,8 @@ list_key-inj f h (x ∷ xs) (y ∷ ys) e =
     λ i. q i ∷ r i
 
 -- where elements are ordered as their keys, so are lists
-pub list_key-cmp : {A : Type 0} (f : A → Key) (R : A → A → Ordering) → ((x y : A) → key_cmp (f x) (f y) ≡ R x y) → (xs ys : List A) → key_cmp (list_key f xs) (list_key f ys) ≡ slice_cmp R xs ys
+pub list_key-cmp : {A : Type 0} (f : A → Key) (R : A → A → Ordering) → ((x y : A) → key_cmp (f x) (f y) ≡ R x y)
+    → (xs ys : List A) → key_cmp (list_key f xs) (list_key f ys) ≡ slice_cmp R xs ys
 list_key-cmp f R h [] [] = refl
 list_key-cmp f R h [] (y ∷ ys) = refl
 list_key-cmp f R h (x ∷ xs) [] = refl

@@ -4,10 +4,12 @@ use Rattle.std.proofs.Common.{ap, sym, ◌∙◌, subst}
 use Rattle.std.specs.Bool.{Decides}
 use Rattle.std.specs.Ordering.{bool_cmp, is_eq, on}
 use Rattle.std.specs.Cmp.{IsTotalOrder, IsEquivalence, on_total, eq_by_cmp_equiv, Equal-is, tied_itself}
-use Rattle.cedar_terms.specs.laws.KeyLaws.{key_cmp-Equal, key_cmp_total, left_at, right_at, read_back, int_at, nat_at, text_at, text_at-text_key, text_key-cmp}
+use Rattle.cedar_terms.specs.laws.KeyLaws.{key_cmp-Equal, key_cmp_total, left_at, right_at, read_back, int_at, nat_at}
+use Rattle.cedar_terms.specs.laws.KeyLaws.{text_at, text_at-text_key, text_key-cmp}
 use Rattle.cedar_terms.specs.Keys.{Key, tip, key_cmp}
 use Rattle.cedar_terms.specs.laws.NameKeyLaws.{uid_at, uid_at-uid_key, uid_key-cmp}
-use Rattle.cedar_terms.specs.LiteralTree.{LiteralTree, bool_literal, long_literal, string_literal, uid_literal, literal_cmp, same_literal}
+use Rattle.cedar_terms.specs.LiteralTree.{LiteralTree, bool_literal, long_literal, string_literal, uid_literal}
+use Rattle.cedar_terms.specs.LiteralTree.{literal_cmp, same_literal}
 use Rattle.cedar_terms.specs.ExprKeys.{bool_key, literal_key}
 use Rattle.cedar_terms.specs.ValueHash.{literal_hash}
 use Rattle.cedar_terms.specs.declared.literal.Literal.{Literal}
@@ -80,10 +82,12 @@ same_literal_equiv = eq_by_cmp_equiv literal_cmp_total
 -- two literals are equal exactly where they are the same value
 pub same_literal_decides : (x y : LiteralTree) → Decides (same_literal x y) (x ≡ y)
 same_literal_decides x y = (
-  λ e. literal_key-inj x y (key_cmp-Equal (literal_key x) (literal_key y) (literal_key-cmp x y ∙ (Equal-is (literal_cmp x y)).0 e)),
+  λ e. literal_key-inj x y (key_cmp-Equal (literal_key x) (literal_key y) (literal_key-cmp x y
+      ∙ (Equal-is (literal_cmp x y)).0 e)),
   λ e. ap (λ z. is_eq (literal_cmp x z)) (sym e) ∙ ap is_eq (tied_itself literal_cmp_total x),
 )
 
 -- equal literals hash alike
-pub literal_hash_respects : (x y : Literal) → on literal_tree same_literal x y ≡ true → literal_hash (literal_tree x) ≡ literal_hash (literal_tree y)
+pub literal_hash_respects : (x y : Literal) → on literal_tree same_literal x y ≡ true
+    → literal_hash (literal_tree x) ≡ literal_hash (literal_tree y)
 literal_hash_respects x y e = ap literal_hash ((same_literal_decides (literal_tree x) (literal_tree y)).0 e)

@@ -4,7 +4,8 @@ use Rattle.std.specs.Ordering.{nat_cmp, ordering_then}
 use Rattle.std.specs.Cmp.Lexicographic.{slice_cmp}
 use Rattle.cedar_ids.specs.Name.{NameParts, name_cmp}
 use Rattle.cedar_ids.specs.Uid.{UidParts, uid_cmp}
-use Rattle.cedar_terms.specs.laws.KeyLaws.{left_at, right_at, read_back, list_at, list_at-list_key, list_key-cmp, text_at, text_at-text_key, text_key-cmp}
+use Rattle.cedar_terms.specs.laws.KeyLaws.{left_at, right_at, read_back, list_at, list_at-list_key, list_key-cmp}
+use Rattle.cedar_terms.specs.laws.KeyLaws.{text_at, text_at-text_key, text_key-cmp}
 use Rattle.cedar_terms.specs.Keys.{Key, key_cmp, text_key, name_key, uid_key}
 
 -- the name of a key
@@ -13,7 +14,11 @@ name_at k = record { path = list_at text_at (right_at k); basename = text_at (le
 
 -- a name is read back from its key
 pub name_at-name_key : (n : NameParts) → name_at (name_key n) ≡ n
-name_at-name_key n = λ i. record { path = list_at-list_key text_key text_at text_at-text_key n.path i; basename = text_at-text_key n.basename i }
+name_at-name_key n = λ i. record {
+  path = list_at-list_key text_key text_at text_at-text_key n.path i;
+  basename =
+      text_at-text_key n.basename i;
+}
 
 -- names of one key are the same
 pub name_key-inj : (n m : NameParts) → name_key n ≡ name_key m → n ≡ m
@@ -22,7 +27,8 @@ name_key-inj n m e = read_back name_key name_at name_at-name_key n m e
 -- names are ordered as their keys are
 pub name_key-cmp : (n m : NameParts) → key_cmp (name_key n) (name_key m) ≡ name_cmp n m
 name_key-cmp n m =
-    λ i. ordering_then (text_key-cmp n.basename m.basename i) (list_key-cmp text_key (slice_cmp nat_cmp) text_key-cmp n.path m.path i)
+    λ i. ordering_then (text_key-cmp n.basename m.basename i)
+    (list_key-cmp text_key (slice_cmp nat_cmp) text_key-cmp n.path m.path i)
 
 -- the uid of a key
 abbrev pub uid_at : Key → UidParts

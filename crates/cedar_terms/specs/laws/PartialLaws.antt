@@ -11,10 +11,12 @@ use Rattle.cedar_terms.specs.PartialViews.{partial_hash, same_partial}
 
 -- two partial values are equal exactly where they are the same
 pub same_partial_decides : (x y : PartialValue) → Decides (same_partial x y) (x ≡ y)
-same_partial_decides (partials.Value v) (partials.Value w) = (λ e. ap partials.Value ((same_value_decides v w).0 e), λ e. (same_value_decides v w).1 (cc))
+same_partial_decides (partials.Value v) (partials.Value w) =
+    (λ e. ap partials.Value ((same_value_decides v w).0 e), λ e. (same_value_decides v w).1 (cc))
 same_partial_decides (partials.Value v) (partials.Residual e) = (λ h. absurd (cc), λ h. absurd (cc))
 same_partial_decides (partials.Residual d) (partials.Value w) = (λ h. absurd (cc), λ h. absurd (cc))
-same_partial_decides (partials.Residual d) (partials.Residual e) = (λ h. ap partials.Residual ((same_expr_decides d e).0 h), λ h. (same_expr_decides d e).1 (cc))
+same_partial_decides (partials.Residual d) (partials.Residual e) =
+    (λ h. ap partials.Residual ((same_expr_decides d e).0 h), λ h. (same_expr_decides d e).1 (cc))
 
 -- `==` is an equivalence
 pub same_partial_equiv : IsEquivalence same_partial

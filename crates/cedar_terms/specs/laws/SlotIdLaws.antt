@@ -5,7 +5,8 @@ use Rattle.std.proofs.lemmas.Bool.{eqb-true, false≢true, or_cases, and_parts, 
 use Rattle.std.specs.Bool.{Decides}
 use Rattle.std.specs.List.{filter, list_all, list_any}
 use Rattle.std.specs.Ordering.{as_partial_cmp, eq_by_cmp}
-use Rattle.std.specs.Cmp.{IsEquivalence, IsTotalOrder, IsPartialOrder, on_equiv, on_total, nat_eq_equiv, nat_cmp_total, unsigned_ties, po}
+use Rattle.std.specs.Cmp.{IsEquivalence, IsTotalOrder, IsPartialOrder, on_equiv, on_total, nat_eq_equiv, nat_cmp_total}
+use Rattle.std.specs.Cmp.{unsigned_ties, po}
 use Rattle.cedar_terms.specs.declared.slot.SlotId.{SlotId}
 use Rattle.cedar_terms.specs.declared.slot.SlotId.TheVariants.{Principal, Action, Resource}
 use Rattle.cedar_terms.specs.SlotTree.{all_slots, same_slot, slot_cmp, slot_hash, slot_index}
@@ -56,7 +57,8 @@ same_slot_decides x y = (
 )
 
 module _ (p : SlotId → Bool) where
-  each_of : (slots : List SlotId) → list_all p slots ≡ true → (s : SlotId) → list_any (same_slot s) slots ≡ true → p s ≡ true
+  each_of : (slots : List SlotId) → list_all p slots ≡ true → (s : SlotId) → list_any (same_slot s) slots ≡ true
+      → p s ≡ true
   each_of [] h s m = absurd (false≢true m)
   each_of (x ∷ xs) h s m = let both = and_parts (p x) (list_all p xs) h in
       elim (or_cases (same_slot s x) (list_any (same_slot s) xs) m) [
@@ -80,7 +82,8 @@ module _ (p : SlotId → Bool) where
   first_left_out true x xs h = absurd (cc)
   first_left_out false x xs h = (refl, h)
 
-  left_out : (slots : List SlotId) → filter p slots ≡ [] → (s : SlotId) → list_any (same_slot s) slots ≡ true → p s ≡ false
+  left_out : (slots : List SlotId) → filter p slots ≡ [] → (s : SlotId) → list_any (same_slot s) slots ≡ true
+      → p s ≡ false
   left_out [] h s m = absurd (false≢true m)
   left_out (x ∷ xs) h s m = let none = first_left_out (p x) x (filter p xs) h in
       elim (or_cases (same_slot s x) (list_any (same_slot s) xs) m) [

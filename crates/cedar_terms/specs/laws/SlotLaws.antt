@@ -7,7 +7,8 @@ use Rattle.std.proofs.lemmas.List.{reverse-append}
 use Rattle.std.proofs.lemmas.List.Concat.{flat_map-append}
 use Rattle.std.proofs.lemmas.List.Elements.{filter_map-append}
 use Rattle.cedar_ids.specs.Name.{NameParts}
-use Rattle.cedar_terms.specs.ExprTree.{Operator, ExprTree, set_node, call_node, not_node, binary_node, and_node, eq_node, in_node, is_node, expr_trees}
+use Rattle.cedar_terms.specs.ExprTree.{Operator, ExprTree, set_node, call_node, not_node, binary_node, and_node}
+use Rattle.cedar_terms.specs.ExprTree.{eq_node, in_node, is_node, expr_trees}
 use Rattle.cedar_terms.specs.Walk.{walk, walk_back, slot_of, slots_of}
 
 -- those of the second operand, then those of the first
@@ -41,5 +42,6 @@ slots_back (e ∷ es) =
 pub slots_of-set : (es : List ExprTree) → slots_of (set_node (expr_trees es)) ≡ flat_map slots_of (reverse es)
 slots_of-set es = slots_back es
 
-pub slots_of-call : (f : NameParts) (es : List ExprTree) → slots_of (call_node f (expr_trees es)) ≡ flat_map slots_of (reverse es)
+pub slots_of-call : (f : NameParts) (es : List ExprTree)
+    → slots_of (call_node f (expr_trees es)) ≡ flat_map slots_of (reverse es)
 slots_of-call f es = slots_back es

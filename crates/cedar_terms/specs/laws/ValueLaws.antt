@@ -3,13 +3,17 @@ use Rattle.std.specs.Prelude.{◌≡◌, zero, suc, pos, refl, true}
 use Rattle.std.proofs.Common.{ap, sym, ◌∙◌, subst}
 use Rattle.std.specs.Bool.{Decides}
 use Rattle.std.specs.Ordering.{is_eq, ordering_then, as_partial_cmp}
-use Rattle.std.specs.Cmp.{IsTotalOrder, IsEquivalence, IsPartialOrder, on_total, eq_by_cmp_equiv, Equal-is, tied_itself, po}
-use Rattle.cedar_terms.specs.laws.KeyLaws.{key_cmp-Equal, key_cmp_total, left_at, right_at, read_back, text_at, text_at-text_key, text_key-cmp}
+use Rattle.std.specs.Cmp.{IsTotalOrder, IsEquivalence, IsPartialOrder, on_total, eq_by_cmp_equiv, Equal-is, tied_itself}
+use Rattle.std.specs.Cmp.{po}
+use Rattle.cedar_terms.specs.laws.KeyLaws.{key_cmp-Equal, key_cmp_total, left_at, right_at, read_back, text_at}
+use Rattle.cedar_terms.specs.laws.KeyLaws.{text_at-text_key, text_key-cmp}
 use Rattle.cedar_terms.specs.Keys.{Key, tip, fork, key_cmp, nat_key, text_key, name_key}
 use Rattle.cedar_terms.specs.laws.NameKeyLaws.{name_at, name_at-name_key, name_key-cmp}
 use Rattle.cedar_terms.specs.laws.LiteralLaws.{literal_at, literal_at-literal_key, literal_key-cmp}
 use Rattle.cedar_terms.specs.ExprKeys.{literal_key}
-use Rattle.cedar_terms.specs.ValueTree.{ValueTree, literal_value, set_value, record_value, extension_value, ValueTrees, no_values, value_then, FieldTrees, no_fields, field_then, value_cmp, values_cmp, fields_cmp, same_value}
+use Rattle.cedar_terms.specs.ValueTree.{ValueTree, literal_value, set_value, record_value, extension_value, ValueTrees}
+use Rattle.cedar_terms.specs.ValueTree.{no_values, value_then, FieldTrees, no_fields, field_then, value_cmp, values_cmp}
+use Rattle.cedar_terms.specs.ValueTree.{fields_cmp, same_value}
 use Rattle.cedar_terms.specs.ValueHash.{value_hash}
 
 -- the key of a value: the place of its kind, and the keys of what it holds
@@ -58,7 +62,8 @@ mutual
 
   pub fields_at-fields_key : (x : FieldTrees) → fields_at (fields_key x) ≡ x
   fields_at-fields_key no_fields = refl
-  fields_at-fields_key (field_then k v fs) = λ i. field_then (text_at-text_key k i) (value_at-value_key v i) (fields_at-fields_key fs i)
+  fields_at-fields_key (field_then k v fs) = λ i. field_then (text_at-text_key k i) (value_at-value_key v i)
+      (fields_at-fields_key fs i)
 
 -- values of one key are the same
 pub value_key-inj : (x y : ValueTree) → value_key x ≡ value_key y → x ≡ y
@@ -82,7 +87,8 @@ mutual
   value_key-cmp (extension_value f a) (literal_value b) = refl
   value_key-cmp (extension_value f a) (set_value b) = refl
   value_key-cmp (extension_value f a) (record_value b) = refl
-  value_key-cmp (extension_value f a) (extension_value g b) = λ i. ordering_then (name_key-cmp f g i) (text_key-cmp a b i)
+  value_key-cmp (extension_value f a) (extension_value g b) =
+      λ i. ordering_then (name_key-cmp f g i) (text_key-cmp a b i)
 
   pub values_key-cmp : (x y : ValueTrees) → key_cmp (values_key x) (values_key y) ≡ values_cmp x y
   values_key-cmp no_values no_values = refl
@@ -94,7 +100,8 @@ mutual
   fields_key-cmp no_fields no_fields = refl
   fields_key-cmp no_fields (field_then l w ws) = refl
   fields_key-cmp (field_then k v vs) no_fields = refl
-  fields_key-cmp (field_then k v vs) (field_then l w ws) = λ i. ordering_then (ordering_then (text_key-cmp k l i) (value_key-cmp v w i)) (fields_key-cmp vs ws i)
+  fields_key-cmp (field_then k v vs) (field_then l w ws) =
+      λ i. ordering_then (ordering_then (text_key-cmp k l i) (value_key-cmp v w i)) (fields_key-cmp vs ws i)
 
 -- the order of values is total
 pub value_cmp_total : IsTotalOrder value_cmp
@@ -111,7 +118,8 @@ value_po = po value_cmp_total (λ x y. refl)
 -- two values are equal exactly where they are the same
 pub same_value_decides : (x y : ValueTree) → Decides (same_value x y) (x ≡ y)
 same_value_decides x y = (
-  λ e. value_key-inj x y (key_cmp-Equal (value_key x) (value_key y) (value_key-cmp x y ∙ (Equal-is (value_cmp x y)).0 e)),
+  λ e. value_key-inj x y (key_cmp-Equal (value_key x) (value_key y) (value_key-cmp x y
+      ∙ (Equal-is (value_cmp x y)).0 e)),
   λ e. ap (λ z. is_eq (value_cmp x z)) (sym e) ∙ ap is_eq (tied_itself value_cmp_total x),
 )
 

@@ -14,7 +14,8 @@ most_values : (vs : List ValueTree) → most (λ v. value_size v + 1) vs ≤ val
 most_values [] = omega arith
 most_values (v ∷ vs) = omega (arith, most_values vs)
 
-most_fields : (fs : List (String Global × ValueTree)) → most (λ v. value_size v + 1) (values_of fs) ≤ fields_size (field_trees fs) + 1
+most_fields : (fs : List (String Global × ValueTree)) → most (λ v. value_size v + 1) (values_of fs) ≤ fields_size
+    (field_trees fs) + 1
 most_fields [] = omega arith
 most_fields (f ∷ fs) = omega (arith, most_fields fs)
 

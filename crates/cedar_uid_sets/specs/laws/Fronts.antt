@@ -1,5 +1,6 @@
 -- Numbers that abbreviate names and eids.
-use Rattle.std.specs.Prelude.{◌≡◌, ℕ, zero, suc, ◌+◌, ◌*◌, ◌^◌, ◌<◌, Bool, true, false, ◌&&◌, cond, List, [], ◌∷◌, length, nat_le, nat_eq, slice_index, ⊤}
+use Rattle.std.specs.Prelude.{◌≡◌, ℕ, zero, suc, ◌+◌, ◌*◌, ◌^◌, ◌<◌, Bool, true, false, ◌&&◌, cond, List, [], ◌∷◌}
+use Rattle.std.specs.Prelude.{length, nat_le, nat_eq, slice_index, ⊤}
 use Rattle.cedar_ids.specs.Name.{NameParts, is_unqualified}
 use Rattle.cedar_ids.specs.TextOf.{IsName}
 use Rattle.cedar_ids.specs.UidOf.{uid_parts}
@@ -40,4 +41,5 @@ pub record Abbreviate (k f : ℕ) (u : EntityUID) : Type 0 where
 
 -- whether two uids have the same numbers, as the same uid has
 abbrev pub same_numbers : EntityUID → EntityUID → Bool
-same_numbers u v = nat_eq (front (uid_parts u).eid) (front (uid_parts v).eid) && nat_eq (kind (uid_parts u).name) (kind (uid_parts v).name)
+same_numbers u v = nat_eq (front (uid_parts u).eid) (front (uid_parts v).eid)
+    && nat_eq (kind (uid_parts u).name) (kind (uid_parts v).name)

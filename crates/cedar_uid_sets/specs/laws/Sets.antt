@@ -25,15 +25,18 @@ pub same_members : (s t : UidValues) → ((q : EntityUID) → set.contains s q �
 same_members = set.same_set uid_order_total one_equal
 
 -- the set made of a list has its members
-pub contains_listed : (ks : List EntityUID) (q : EntityUID) → set.contains (set.from_list {R = uid_order} ks) q ≡ is_member same_uid ks q
+pub contains_listed : (ks : List EntityUID) (q : EntityUID)
+    → set.contains (set.from_list {R = uid_order} ks) q ≡ is_member same_uid ks q
 contains_listed ks q = set.contains-from_list uid_order_total ks q ∙ ap (λ f. list_any (f q) ks) same_tests
 
 -- two lists with the same members make the same set
-pub same_listed : (ks ls : List EntityUID) → ((q : EntityUID) → is_member same_uid ks q ≡ is_member same_uid ls q) → set.from_list {R = uid_order} ks ≡ set.from_list ls
+pub same_listed : (ks ls : List EntityUID) → ((q : EntityUID) → is_member same_uid ks q ≡ is_member same_uid ls q)
+    → set.from_list {R = uid_order} ks ≡ set.from_list ls
 same_listed ks ls h = same_members _ _ (λ q. contains_listed ks q ∙ h q ∙ sym (contains_listed ls q))
 
 -- what is in two lists in turn is in one of them
-pub is_member-append : (ks ls : List EntityUID) (q : EntityUID) → is_member same_uid (ks ++ ls) q ≡ (is_member same_uid ks q || is_member same_uid ls q)
+pub is_member-append : (ks ls : List EntityUID) (q : EntityUID)
+    → is_member same_uid (ks ++ ls) q ≡ (is_member same_uid ks q || is_member same_uid ls q)
 is_member-append ks ls q = list_any-append (same_uid q) ks ls
 
 both_ways : (a b : Bool) → (a ≡ true → b ≡ true) → (b ≡ true → a ≡ true) → a ≡ b
@@ -44,7 +47,8 @@ both_ways false false h g = refl
 -- `same_uids` answers whether they are the same
 pub same_uids_decides : (s t : UidValues) → Decides (same_uids s t) (s ≡ t)
 same_uids_decides s t = (
-  λ h. same_members s t (λ q. both_ways _ _ (set.is_subset-contains uid_order_total s t (first_so _ _ h) q) (set.is_subset-contains uid_order_total t s (second_so (set.is_subset s t) _ h) q)),
+  λ h. same_members s t (λ q. both_ways _ _ (set.is_subset-contains uid_order_total s t (first_so _ _ h) q)
+      (set.is_subset-contains uid_order_total t s (second_so (set.is_subset s t) _ h) q)),
   λ e. subst (λ r. same_uids s r ≡ true) e (ap (λ b. b && b) (set.contains-is_subset uid_order_total s s (λ q h. h))),
 )
 

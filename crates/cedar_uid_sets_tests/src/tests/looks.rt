@@ -51,7 +51,8 @@ fn is_made_into(one: Result<SharedUid, AllocError>, want: &EntityUID) -> bool {
     }
 }
 
-// Whether a shared uid that could be made is equal to another one, stands beside it, and is made into the plain one alone.
+// Whether a shared uid that could be made is equal to another one, stands beside it, and is made into the plain one
+// alone.
 fn is_like(made: Result<SharedUid, AllocError>, other: &SharedUid) -> bool {
     match made {
         Ok(one) => {
@@ -64,8 +65,8 @@ fn is_like(made: Result<SharedUid, AllocError>, other: &SharedUid) -> bool {
     }
 }
 
-// Whether a shared uid is equal to its copy, which is made into the plain uid while it is shared, and to the shared copy of
-// the plain uid, which is made into that alone.
+// Whether a shared uid is equal to its copy, which is made into the plain uid while it is shared, and to the shared
+// copy of the plain uid, which is made into that alone.
 fn is_copied(alloc: Global, one: &SharedUid) -> bool {
     is_like(one.clone(), one) && is_like(SharedUid::copy_of(alloc, one.uid()), one)
 }

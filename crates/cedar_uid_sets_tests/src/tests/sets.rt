@@ -169,7 +169,8 @@ fn is_emptied(set: &mut UidSet, w: &Asked) -> bool {
     set.is_empty()
 }
 
-// Whether a set is the one that is wanted, the same once it is made of its pointers, is emptied uid by uid, and its copy at once.
+// Whether a set is the one that is wanted, the same once it is made of its pointers, is emptied uid by uid, and its
+// copy at once.
 pub(super) fn holds(set: UidSet, w: &Asked) -> Result<bool, Fail> {
     let right = is_right(&set, w);
     let (set, mut copy) = twice(set)?;
@@ -212,7 +213,8 @@ fn are_found(one: &UidSet, other: &UidSet, w: &Asked) -> bool {
     true
 }
 
-// Whether the uids of the sets of the two lists are found in both, and come in one walk, if they stand as their places do.
+// Whether the uids of the sets of the two lists are found in both, and come in one walk, if they stand as their places
+// do.
 pub(super) fn joins(alloc: Global, w: &Asked, in_order: bool) -> Result<bool, Fail> {
     let one = set_of(alloc, &w.uids, &w.first)?;
     let (one, other) = beside(one, set_of(alloc, &w.uids, &w.second))?;
@@ -254,8 +256,8 @@ pub(super) fn copies_apart(alloc: Global, w: &Asked) -> Result<bool, Fail> {
     told
 }
 
-// Puts the uid of 9 in, and then merges the ones from 1 to 7: whether the set of four has what it is to have after each, also
-// where one is refused.
+// Puts the uid of 9 in, and then merges the ones from 1 to 7: whether the set of four has what it is to have after
+// each, also where one is refused.
 fn is_as_it_was(set: &mut UidSet, other: SharedUid, uids: Vec<SharedUid>, w: &Asked) -> bool {
     let put = set.insert(other).is_ok();
     let want: &[usize] = if put { &[0, 1, 2, 3, 9] } else { &[0, 1, 2, 3] };

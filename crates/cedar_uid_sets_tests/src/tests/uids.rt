@@ -1,7 +1,7 @@
-// The uids that rows speak of by their places: `numbers 1000..1010`, the uids whose eids these numbers are; `alike 10..12`, four of
-// each number, whose eids begin with it; `fronts`, the twenty of a list. Places are told by a list: `7`, `2..5` for 2, 3 and 4,
-// `0..9/2` for each second of these, `3..8*5` for as many as 8 from 3 on by fives, turned at 8. What stands behind `-` is taken away
-// from what stands before it: `0..9 -0..9/2`.
+// The uids that rows speak of by their places: `numbers 1000..1010`, the uids whose eids these numbers are;
+// `alike 10..12`, four of each number, whose eids begin with it; `fronts`, the twenty of a list. Places are told by a
+// list: `7`, `2..5` for 2, 3 and 4, `0..9/2` for each second of these, `3..8*5` for as many as 8 from 3 on by fives,
+// turned at 8. What stands behind `-` is taken away from what stands before it: `0..9 -0..9/2`.
 use cedar_test_helpers::made;
 use cedar_test_helpers::tried::{beside, pushed};
 use cedar_uid_sets::SharedUid;
@@ -13,8 +13,8 @@ pub(super) fn cut<'a>(text: &'a str, mark: &str) -> (&'a str, &'a str) {
     text.split_once(mark).unwrap_or((text, ""))
 }
 
-// Types and eids that are short, long or alike at the front, in the order of the uids: by the last name of the type, then by
-// its path, then by the eid.
+// Types and eids that are short, long or alike at the front, in the order of the uids: by the last name of the type,
+// then by its path, then by the eid.
 const FRONTS: &str =
     "A.,A.a,A.a\0,A.a\0\0,A.aaaaaaaa,A.aaaaaaaa\0,A.aaaaaaaab,A.aaaaaaaac,A.b,A.é,A::A.,A::A.a,B::A.,\
 Abcdefgh.a,Abcdefghi.,Abcdefgi.,B.a,B.aaaaaaaaaaaaaaaab,C::B.a,Zzzzzzzzzzz.";

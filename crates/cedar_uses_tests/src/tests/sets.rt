@@ -111,7 +111,8 @@ fn ids_of(alloc: Global, set: &PolicySet, number: usize) -> Result<String, Fail>
     Ok(text)
 }
 
-// How many ids are renamed when a set of policies that forbid is taken into one of policies that permit, and the ids then.
+// How many ids are renamed when a set of policies that forbid is taken into one of policies that permit, and the ids
+// then.
 pub(super) fn left_by_taking_in(alloc: Global, given: &str, asked: &str) -> Result<String, Fail> {
     let (mut set, other) = beside(
         set_of(alloc, given, Effect::Permit)?,

@@ -1,5 +1,5 @@
-// Uses over stores. A list of users and groups is parted by commas, each with the groups that it belongs to behind its name; in a
-// log a name behind `-` is taken out.
+// Uses over stores. A list of users and groups is parted by commas, each with the groups that it belongs to behind its
+// name; in a log a name behind `-` is taken out.
 ghost use Rattle.std.specs.Prelude.{IfOk};
 ghost use Rattle.std.specs.List.{AllByRecursion};
 ghost use Rattle.cedar_entities.specs.Plain.{IsBare};
