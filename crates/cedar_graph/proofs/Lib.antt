@@ -2,5 +2,6 @@ pub mod Closing
 pub mod Keyed
 pub mod Members
 pub mod Numbers
+pub mod Orders
 pub mod Reaches
 pub mod Rows

@@ -39,6 +39,7 @@ ghost use Rattle.cedar_graph.specs.laws.Writings.{
 };
 
 use crate::arcs::{FixReading, Reading, read_arcs, read_fix};
+use crate::order::order_of;
 use crate::transitive_closure::{TCNode, Work};
 use cedar_components::{Reached, reach};
 use std::alloc::{AllocError, Global};
@@ -220,7 +221,7 @@ fn close_read<K: Clone + Eq + Hash, V: TCNode<K>, S: BuildHasher>(
     ensures work { IfOk result (CountsWork K.eq read.now nodes.old) }
 {
     let keys = read.reading.keys.as_slice();
-    let order = V::order(alloc, keys)?;
+    let order = order_of::<K, V>(alloc, keys, &read.reading.to)?;
     let reached = reach(
         alloc,
         &read.reading.from,

@@ -47,6 +47,7 @@ mod close;
 mod copies;
 pub mod err;
 mod numbering;
+mod order;
 pub mod transitive_closure;
 
 pub use err::{HasCycle, MissingTcEdge, Result, TcError};
