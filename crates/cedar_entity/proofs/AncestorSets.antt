@@ -126,3 +126,14 @@ pub same_after_row : {T E X : Type 0} (f : EntityView → X) → ((e : EntityVie
     → OnOk r (new ≡ with_row old ks) → OnErr r (new ≡ old) → f new ≡ f old
 same_after_row f same (Ok x) old new ks h g = ap f h ∙ same old ks
 same_after_row f same (Err x) old new ks h g = ap f g
+
+-- no parents and no indirect ancestors are no ancestors
+pub none_above : (parents indirect : set.FinSet uid_order) (i : Bool) → parents ≡ set.empty
+    → (i ≡ true → indirect ≡ set.empty) → not i ≡ false
+    → (q : EntityUID) → (set.contains parents q || set.contains indirect q) ≡ false
+none_above parents indirect true f g k q =
+    ap (λ s. set.contains s q || set.contains indirect q) f
+    ∙ ap (λ s. set.contains (set.empty {R = uid_order}) q || set.contains s q) (g refl)
+    ∙ ap (λ b. b || set.contains (set.empty {R = uid_order}) q) (set.contains-empty uid_order q)
+    ∙ set.contains-empty uid_order q
+none_above parents indirect false f g k q = absurd (cc)

@@ -1,5 +1,5 @@
 //! An entity: making, reading, changing, comparing and checking it.
-ghost use Rattle.std.specs.Prelude.{◌≡◌, IfOk, OnOk, IfErr, OnErr, MatchOption, None, IsTrue, ◌↔◌, [], length};
+ghost use Rattle.std.specs.Prelude.{◌≡◌, IfOk, OnOk, IfErr, OnErr, MatchOption, None, IsTrue, ◌↔◌, [], false, length};
 ghost use Rattle.std.specs.Option.{option_map, option_copied};
 ghost use Rattle.std.specs.FinSet as set;
 ghost use Rattle.std.specs.Set.{is_member};
@@ -326,6 +326,16 @@ impl Entity {
         ensures { result ≡ has_ancestor self.now other.now }
     {
         UidSet::either_contains(&self.parents, &self.indirect_ancestors, other)
+    }
+
+    // Whether there is an ancestor. It takes no memory.
+    pub(crate) fn has_ancestors(&self) -> bool
+        ensures { result ≡ false → (q : EntityUID) → has_ancestor self.now q ≡ false }
+    {
+        if !self.parents.is_empty() {
+            return true;
+        }
+        !self.indirect_ancestors.is_empty()
     }
 
     /// The keys of the attributes, in byte order. It takes no memory.

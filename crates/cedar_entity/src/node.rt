@@ -68,6 +68,11 @@ impl TCNode<EntityUID> for Entity {
         self.is_descendant_of(k)
     }
 
+    /// Whether there is an ancestor. It takes no memory.
+    fn may_have_edges(&self) -> bool {
+        self.has_ancestors()
+    }
+
     /// As [`Entity::remove_all_indirect_ancestors`]. It takes no memory and is never refused.
     fn reset_edges(&mut self, _alloc: Global) -> Result<(), AllocError>
         ensures exact { self.new ≡ record self.old { indirect = set.empty } }
@@ -143,6 +148,11 @@ impl TCNode<EntityUID> for SharedEntity {
     /// As that of the entity. It takes no memory.
     fn has_edge_to(&self, k: &EntityUID) -> bool {
         self.0.has_edge_to(k)
+    }
+
+    /// As that of the entity. It takes no memory.
+    fn may_have_edges(&self) -> bool {
+        self.0.has_ancestors()
     }
 
     /// As that of the entity, where it is shared on a copy of its own: that takes memory.

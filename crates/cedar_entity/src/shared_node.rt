@@ -98,6 +98,11 @@ impl TCNode<SharedUid> for Entity {
         self.is_descendant_of_shared(k)
     }
 
+    /// Whether there is an ancestor. It takes no memory.
+    fn may_have_edges(&self) -> bool {
+        self.has_ancestors()
+    }
+
     /// As [`Entity::remove_all_indirect_ancestors`]. It takes no memory and is never refused.
     fn reset_edges(&mut self, _alloc: Global) -> Result<(), AllocError>
         ensures exact { self.new ≡ record self.old { indirect = set.empty } }
@@ -178,6 +183,11 @@ impl TCNode<SharedUid> for SharedEntity {
     /// As that of the entity. It takes no memory.
     fn has_edge_to(&self, k: &SharedUid) -> bool {
         self.0.has_edge_to(k)
+    }
+
+    /// As that of the entity. It takes no memory.
+    fn may_have_edges(&self) -> bool {
+        self.0.has_ancestors()
     }
 
     /// As that of the entity, where it is shared on a copy of its own: that takes memory.

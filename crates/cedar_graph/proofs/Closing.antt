@@ -42,11 +42,13 @@ module _ {K V S : Type 0} {eq : K → K → Bool} (laws : IsEquivalence eq) (edg
   reached_found : (a b : K) → Reach (graph_of eq edges old) a b → is_some (get eq old a) ≡ true
   reached_found a b p = let f = first_edge (graph_of eq edges old) a b p.0 p.1 in edge_found eq edges old a f.0 f.1
 
-  -- where the arcs are all edges and the keys of the map are numbered, all that was reached has an edge
-  pub closed_has : AreSameEdges eq (graph_of eq edges old) keys E → ((q : K) → is_some (get eq old q) ≡ true → HasNumberBelow eq fixed keys q) → HasReached (graph_of eq edges old) (graph_of eq edges new)
+  -- where the arcs are all edges and the keys with edges are numbered, all that was reached has an edge
+  pub closed_has : AreSameEdges eq (graph_of eq edges old) keys E
+      → ((q b : K) → graph_of eq edges old q b ≡ true → HasNumberBelow eq fixed keys q)
+      → HasReached (graph_of eq edges old) (graph_of eq edges new)
   closed_has same all a b p =
-      let found = reached_found a b p in
-      row_done (graph_of eq edges old) same a b (all a found) found p
+      let f = first_edge (graph_of eq edges old) a b p.0 p.1 in
+      row_done (graph_of eq edges old) same a b (all a f.0 f.1) (reached_found a b p) p
 
   -- where they are the edges of the keys to fix and of those next to them, and the other nodes have an edge to all that they reach
   pub repaired_has : (ks : List K) → AreSameEdges eq (near_graph eq (graph_of eq edges old) ks) keys E

@@ -11,6 +11,7 @@ use Rattle.cedar_graph.specs.declared.err.TcError.TheVariants.{MissingTcEdge, Ha
 use Rattle.cedar_graph.specs.Faults.{MatchFault, UnlessMemory}
 use Rattle.std.specs.HashMap.{HashMap}
 use Rattle.cedar_graph.specs.Graph.{edge_at, graph_of, IsClosed, HasNoLoop}
+use Rattle.cedar_graph.specs.laws.Arcs.{HasNumber}
 use Rattle.cedar_graph.proofs.Reaches.{member_more}
 
 pub any_of_map : {X Y : Type 0} (test : Y → Bool) (f : X → Y) (xs : List X) → list_any test (map f xs) ≡ list_any (λ x. test (f x)) xs
@@ -61,6 +62,22 @@ module _ {K V S : Type 0} {eq : K → K → Bool} (laws : IsEquivalence eq) (edg
 
   pub no_loop_from_all : ((n : V) (x y : K) → eq x y ≡ true → edges n x ≡ edges n y) → AllByRecursion (λ e. edges e.1 e.0 ≡ false) m.entries → HasNoLoop (graph_of eq edges m)
   no_loop_from_all alike all a = no_loop_at alike a (lookup (eq a) m.entries) refl all
+
+module _ {K V S : Type 0} {eq : K → K → Bool} (laws : IsEquivalence eq) (edges : V → K → Bool) (m : HashMap K V S)
+    (keys : List K) where
+  numbered_at : (q b : K) (o : Option V) → lookup (eq q) m.entries ≡ o
+      → AllByRecursion (λ e. (b : K) → edges e.1 b ≡ true → HasNumber eq keys e.0) m.entries
+      → edge_at edges o b ≡ true → HasNumber eq keys q
+  numbered_at q b None is all h = absurd (cc)
+  numbered_at q b (Some v) is all h =
+      let f = found_entry (λ k v. (b : K) → edges v b ≡ true → HasNumber eq keys k) (eq q) m.entries v all is in
+      let n = f.2 b h in
+      (n.0, n.1, n.2, laws.congr q f.0 n.1 f.1 ∙ n.3)
+
+  -- the key of each node with an edge being numbered, each key with an edge is
+  pub numbered_from_all : AllByRecursion (λ e. (b : K) → edges e.1 b ≡ true → HasNumber eq keys e.0) m.entries
+      → (q b : K) → graph_of eq edges m q b ≡ true → HasNumber eq keys q
+  numbered_from_all all q b h = numbered_at q b (lookup (eq q) m.entries) refl all h
 
 pub unless_memory : {T K P : Type 0} (r : Result T (TcError K)) → P → UnlessMemory r P
 unless_memory (Ok x) p = p

@@ -16,14 +16,14 @@ ghost use Rattle.std.specs.Prelude.{
   Some,
 };
 ghost use Rattle.std.specs.Set.{ClonesAreEqual};
-ghost use Rattle.std.specs.HashMap.{get, hash_map_len};
+ghost use Rattle.std.specs.HashMap.{hash_map_len};
 ghost use Rattle.std.specs.HashSet.{contains, hash_set_len};
 ghost use Rattle.cedar_graph.specs.Graph.{graph_of};
-ghost use Rattle.cedar_graph.specs.laws.Arcs.{HasNumber};
+ghost use Rattle.cedar_graph.specs.laws.Arcs.{HasNumber, IsPrefix};
 ghost use Rattle.cedar_graph.specs.laws.Readings.{IsReadBelow, ReadsAll, ReadsArc, ReadsFix, ReadsOn};
 ghost use Rattle.indexmap.specs.IndexSet.{IsUnique};
 
-use crate::copies::{keys_of, members_of};
+use crate::copies::members_of;
 use crate::numbering::{number_of, put_key};
 use crate::transitive_closure::TCNode;
 use indexmap::IndexSet;
@@ -34,22 +34,51 @@ use std::hash::{BuildHasher, Hash};
 // Room for so many arcs is made at once where some keys are repaired.
 const ARCS: usize = 64;
 
-// Numbers for the keys of the map.
-fn number_keys<K: Clone + Eq + Hash, V, S: BuildHasher + Clone>(
+// How many nodes may have edges.
+fn count_edged<K: Clone + Eq + Hash, V: TCNode<K>, S: BuildHasher>(
+    nodes: &HashMap<K, V, S>,
+) -> usize {
+    let mut count: usize = 0;
+    for node in nodes.values() {
+        count = count.saturating_add(node.may_have_edges() as usize);
+    }
+    count
+}
+
+// Puts the key of a node in, unless the node has no edges.
+fn put_edged<K: Clone + Eq + Hash, V: TCNode<K>, S: BuildHasher>(
+    keys: &mut IndexSet<K, S>,
+    key: &K,
+    node: &V,
+) -> Result<(), AllocError>
+    requires copies { ClonesAreEqual K.eq K.is_clone }
+    requires unique { IsUnique K.eq keys.old }
+    ensures unique { OnOk result (IsUnique K.eq keys.new) }
+    ensures keys { OnOk result (IsPrefix keys.old.keys keys.new.keys) }
+    ensures one { OnOk result (length keys.new.keys ≤ length keys.old.keys + 1) }
+    ensures has { OnOk result ((b : K) → V.edges node.now b ≡ true → HasNumber K.eq keys.new.keys key.now) }
+{
+    if node.may_have_edges() {
+        put_key(keys, key)?;
+    }
+    Ok(())
+}
+
+// Numbers for the keys of the map whose nodes have edges.
+fn number_keys<K: Clone + Eq + Hash, V: TCNode<K>, S: BuildHasher + Clone>(
     alloc: Global,
     nodes: &HashMap<K, V, S>,
 ) -> Result<IndexSet<K, S>, AllocError>
     requires { ClonesAreEqual K.eq K.is_clone }
     ensures unique { IfOk result (IsUnique K.eq) }
-    ensures all { IfOk result (λ s. (q : K) →
-        is_some (get K.eq nodes.now q) ≡ true → HasNumber K.eq s.keys q) }
+    ensures all { IfOk result (λ s. (q b : K) →
+        graph_of K.eq V.edges nodes.now q b ≡ true → HasNumber K.eq s.keys q) }
     ensures len { IfOk result (λ s. length s.keys ≤ hash_map_len nodes.now) }
 {
-    let all = keys_of(alloc, nodes)?;
     let hasher = nodes.hasher().clone()?;
-    let mut keys = IndexSet::with_capacity_and_hasher(alloc, all.len(), hasher)?;
-    for key in &all {
-        put_key(&mut keys, *key)?;
+    let mut keys = IndexSet::with_capacity_and_hasher(alloc, count_edged(nodes), hasher)?;
+    for (key, node) in nodes {
+        put_edged(&mut keys, key, node)?;
     }
     Ok(keys)
 }

@@ -3,6 +3,7 @@ ghost use Rattle.std.specs.Prelude.{
   ◌≡◌,
   Bool,
   true,
+  false,
   map,
   ◌||◌,
   ◌≤◌,
@@ -78,6 +79,16 @@ pub trait TCNode<K: Eq + Drop> {
     /// Whether the node has an edge to `k`. Takes no memory.
     fn has_edge_to(&self, k: &K) -> bool
         ensures { result ≡ edges self.now k.now };
+
+    /// Whether the node may have an edge: `false` only where it has none. The default is `true`. A
+    /// closure neither numbers nor visits a node that has none. Takes no memory.
+    ///
+    /// The original has no such call.
+    fn may_have_edges(&self) -> bool
+        ensures { result ≡ false → (q : K) → edges self.now q ≡ false }
+    {
+        true
+    }
 
     /// Takes every edge away but the direct ones. Key, rest and the direct edges stay. May take
     /// memory; where it is refused, everything stays.

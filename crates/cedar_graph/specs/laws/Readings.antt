@@ -49,13 +49,13 @@ pub record AreRead {K S H : Type 0} (G : K → K → Bool) (read : FixReading K 
   pub fixed : read.fixed ≤ length read.reading.keys.keys
   pub edges : AreEdges G read.reading.keys.keys (IsArc read.reading)
 
--- the arcs are all edges of a map, and its keys are to be fixed, each of which was read once at most
+-- the arcs are all edges of a map, and its keys with edges are to be fixed, each of which was read once at most
 pub record ReadsAll {K V S H : Type 0} (eq : K → K → Bool) (edges : V → K → Bool) (nodes : HashMap K V S)
     (read : FixReading K S H) : Type 0 where
   pub arcs : AreArcs read.reading.from.items read.reading.to.items (length read.reading.keys.keys)
   pub fixed : read.fixed ≤ length read.reading.keys.keys
   pub same : AreSameEdges eq (graph_of eq edges nodes) read.reading.keys.keys (IsArc read.reading)
-  pub all : (q : K) → is_some (get eq nodes q) ≡ true → HasNumberBelow eq read.fixed read.reading.keys.keys q
+  pub all : (q b : K) → graph_of eq edges nodes q b ≡ true → HasNumberBelow eq read.fixed read.reading.keys.keys q
   pub few : read.fixed ≤ hash_map_len nodes
   pub reads : read.reading.reads ≤ read.fixed
 

@@ -1,38 +1,41 @@
-use Rattle.std.proofs.Common.{◌≡◌, true, ◌≤◌, inl, inr, arith, ap, ◌∙◌, length, map, take, take_all, slice_get}
-use Rattle.std.specs.Set.{is_member}
-use Rattle.cedar_graph.specs.laws.Arcs.{IsPrefix}
-use Rattle.cedar_graph.proofs.Members.{refs_more}
-use Rattle.cedar_graph.proofs.Keyed.{some_and, prefix_number}
+use Rattle.std.proofs.Common.{◌≡◌, ◌∷◌, [], true, arith, length-append, map, sym}
+use Rattle.std.specs.Borrow.{Bor}
+use Rattle.std.specs.Map.Iter.{deref_pair}
+use Rattle.std.proofs.lemmas.Map.Iter.{iter_end}
+use Rattle.std.proofs.lemmas.List.Elements.{All-map, All-push, recursion_from_All, All-same}
+use Rattle.cedar_graph.specs.laws.Arcs.{HasNumber}
+use Rattle.cedar_graph.proofs.Keyed.{prefix_number}
+use Rattle.cedar_graph.proofs.Members.{numbered_from_all}
 use Rattle.cedar_graph.proofs.arcs.number_keys.Goals as goal
 
 pub loop-key-preserved : goal.loop-key-preserved
 loop-key-preserved g c =
     let eq = g.K.PartialEq.eq in
-    let e = c.in_ok-put_key.ensures in
+    let edges = g.V.TCNode.edges in
+    let e = c.in_ok-put_edged.ensures in
     let i = c.loop-key.invariant in
-    let refs = c.deref-key-items.result.now in
-    let key = c.key-item.result in
-    let laws = g.met.K.Eq.laws in
     let now = c.loop-key.keys.keys in
-    let after = c.put_key.new.keys.keys in
-    let more : IsPrefix now after = e.more in
-    let f = some_and (slice_get after c.in_ok-put_key.field-0) (λ k. eq key.now k ≡ true) e.found in
+    let after = c.put_edged.new.keys.keys in
     record {
       unique = e.unique;
-      done = λ q m. elim (refs_more eq refs c.loop-key.key-index key q (omega arith) c.key-item.is m) [
-        | inl p ↦ prefix_number now after more eq q (i.done q p)
-        | inr h ↦ (c.in_ok-put_key.field-0, f.0, f.1, laws.congr q key.now f.0 h ∙ f.2)
-      ];
-      all = i.all;
-      len = omega (arith, i.len, e.one);
-      count = i.count;
+      done = All-push (λ (p : Bor g.row.K.Denot × Bor g.row.V.Denot). (b : g.row.K.Denot) → edges p.1.now b ≡ true
+          → HasNumber eq after p.0.now) c.loop-key.yielded (c.in-Some.key, c.in-Some.node)
+          (λ k d h b edge. prefix_number now after e.keys eq _ (i.done k d h b edge)) e.has;
+      len = omega (arith, e.one, i.len, length-append c.loop-key.yielded ((c.in-Some.key, c.in-Some.node) ∷ []));
     }
 
 pub returns-clause-all : goal.returns-clause-all
 returns-clause-all g c =
     let eq = g.K.PartialEq.eq in
-    let i = c.loop-key.invariant in
-    let refs = c.deref-key-items.result.now in
-    let over : length refs ≤ c.loop-key.key-index = omega arith in
-    let whole : take c.loop-key.key-index refs ≡ refs = take_all c.loop-key.key-index refs over in
-    λ q h. i.done q (ap (λ rs. is_member eq (map (λ x. x.now) rs) q) whole ∙ i.all q ∙ h)
+    let edges = g.V.TCNode.edges in
+    let m = c.args.nodes.now in
+    let keys = c.loop-key.keys.keys in
+    let gives = c.into_iter-key-iterator.ensures.into_iter_gives in
+    let whole = (iter_end deref_pair m.entries c.loop-key.yielded c.into_iter-key-iterator.result
+    c.loop-key.key-iterator c.next.new.self c.next.result gives.0 c.loop-key.yielded_by c.in-None.is
+    c.next.ensures.steps).0 in
+    let P : (g.row.K.Denot × g.row.V.Denot) → Type 0 = λ e. (b : g.row.K.Denot) → edges e.1 b ≡ true
+    → HasNumber eq keys e.0 in
+    numbered_from_all g.met.K.Eq.laws edges m keys (recursion_from_All P m.entries
+    (All-same P m.entries (map deref_pair c.loop-key.yielded) (sym whole)
+    (All-map P deref_pair c.loop-key.yielded c.loop-key.invariant.done)))

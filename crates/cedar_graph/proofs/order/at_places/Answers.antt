@@ -5,7 +5,7 @@ use Rattle.cedar_graph.proofs.Orders.{order_inside, placed}
 use Rattle.cedar_graph.proofs.order.at_places.Goals as goal
 
 pub offset_bounds-numbers-place : goal.offset_bounds-numbers-place
-offset_bounds-numbers-place c = 
+offset_bounds-numbers-place c =
     let inside = order_inside (length c.args.numbers.now) c.args.places.now c.requires c.loop-place.place-index (omega arith) in
     omega (arith, inside)
 
