@@ -7,6 +7,7 @@ ghost use Rattle.std.specs.Prelude.{
   ◌-◌,
   ℕ,
   [],
+  Bool,
   true,
   length,
   is_some,
@@ -19,8 +20,9 @@ ghost use Rattle.std.specs.Set.{ClonesAreEqual};
 ghost use Rattle.std.specs.HashMap.{hash_map_len};
 ghost use Rattle.std.specs.HashSet.{contains, hash_set_len};
 ghost use Rattle.cedar_graph.specs.Graph.{graph_of};
-ghost use Rattle.cedar_graph.specs.laws.Arcs.{HasNumber, IsPrefix};
-ghost use Rattle.cedar_graph.specs.laws.Readings.{IsReadBelow, ReadsAll, ReadsArc, ReadsFix, ReadsOn};
+ghost use Rattle.cedar_graph.specs.laws.Arcs.{HasNumber};
+ghost use Rattle.cedar_graph.specs.laws.Readings.{AreNodesAt, IsReadBelow, PutsEdged, ReadsAll, ReadsArc, ReadsFix};
+ghost use Rattle.cedar_graph.specs.laws.Readings.{ReadsNode, ReadsNodes, ReadsOn};
 ghost use Rattle.indexmap.specs.IndexSet.{IsUnique};
 
 use crate::copies::members_of;
@@ -45,42 +47,58 @@ fn count_edged<K: Clone + Eq + Hash, V: TCNode<K>, S: BuildHasher>(
     count
 }
 
-// Puts the key of a node in, unless the node has no edges.
-fn put_edged<K: Clone + Eq + Hash, V: TCNode<K>, S: BuildHasher>(
-    keys: &mut IndexSet<K, S>,
+// Numbers for the keys of nodes that have edges, and these nodes in the order of the numbers.
+#[derive(Drop)]
+struct Edged<'a, K: Eq + Hash, V, S: BuildHasher> {
+    keys: IndexSet<K, S>,
+    nodes: Vec<&'a V>,
+}
+
+// Puts a node and its key in, unless the node has no edges.
+fn put_edged<'a, K: Clone + Eq + Hash, V: TCNode<K>, S: BuildHasher>(
+    edged: &mut Edged<'a, K, V, S>,
     key: &K,
-    node: &V,
+    node: &'a V,
 ) -> Result<(), AllocError>
     requires copies { ClonesAreEqual K.eq K.is_clone }
-    requires unique { IsUnique K.eq keys.old }
-    ensures unique { OnOk result (IsUnique K.eq keys.new) }
-    ensures keys { OnOk result (IsPrefix keys.old.keys keys.new.keys) }
-    ensures one { OnOk result (length keys.new.keys ≤ length keys.old.keys + 1) }
-    ensures has { OnOk result ((b : K) → V.edges node.now b ≡ true → HasNumber K.eq keys.new.keys key.now) }
+    requires unique { IsUnique K.eq edged.old.keys }
+    requires len { length edged.old.nodes.items ≡ length edged.old.keys.keys }
+    ensures { OnOk result (PutsEdged K.eq V.edges key.now node.now
+        edged.old.keys edged.new.keys edged.old.nodes.items edged.new.nodes.items) }
 {
-    if node.may_have_edges() {
-        put_key(keys, key)?;
+    if !node.may_have_edges() {
+        return Ok(());
+    }
+    put_key(&mut edged.keys, key)?;
+    if edged.keys.len() > edged.nodes.len() {
+        edged.nodes.push(node)?;
     }
     Ok(())
 }
 
-// Numbers for the keys of the map whose nodes have edges.
-fn number_keys<K: Clone + Eq + Hash, V: TCNode<K>, S: BuildHasher + Clone>(
+// Numbers for the keys of the map whose nodes have edges, and these nodes.
+fn number_edged<'a, K: Clone + Eq + Hash, V: TCNode<K>, S: BuildHasher + Clone>(
     alloc: Global,
-    nodes: &HashMap<K, V, S>,
-) -> Result<IndexSet<K, S>, AllocError>
+    nodes: &'a HashMap<K, V, S>,
+) -> Result<Edged<'a, K, V, S>, AllocError>
     requires { ClonesAreEqual K.eq K.is_clone }
-    ensures unique { IfOk result (IsUnique K.eq) }
-    ensures all { IfOk result (λ s. (q b : K) →
-        graph_of K.eq V.edges nodes.now q b ≡ true → HasNumber K.eq s.keys q) }
-    ensures len { IfOk result (λ s. length s.keys ≤ hash_map_len nodes.now) }
+    ensures unique { IfOk result (λ e. IsUnique K.eq e.keys) }
+    ensures all { IfOk result (λ e. (q b : K) →
+        graph_of K.eq V.edges nodes.now q b ≡ true → HasNumber K.eq e.keys.keys q) }
+    ensures nodes { IfOk result (λ e. AreNodesAt K.eq nodes.now e.keys.keys e.nodes.items) }
+    ensures len { IfOk result (λ e. length e.nodes.items ≡ length e.keys.keys) }
+    ensures few { IfOk result (λ e. length e.keys.keys ≤ hash_map_len nodes.now) }
 {
+    let count = count_edged(nodes);
     let hasher = nodes.hasher().clone()?;
-    let mut keys = IndexSet::with_capacity_and_hasher(alloc, count_edged(nodes), hasher)?;
+    let mut edged = Edged {
+        keys: IndexSet::with_capacity_and_hasher(alloc, count, hasher)?,
+        nodes: Vec::with_capacity(alloc, count)?,
+    };
     for (key, node) in nodes {
-        put_edged(&mut keys, key, node)?;
+        put_edged(&mut edged, key, node)?;
     }
-    Ok(keys)
+    Ok(edged)
 }
 
 #[derive(Drop)]
@@ -108,7 +126,27 @@ fn add_arc<K: Clone + Eq + Hash, S: BuildHasher>(
     Ok(b)
 }
 
-// The arcs of a node.
+// The arcs of a node, whose key has the number `a`.
+fn read_node<K: Clone + Eq + Hash, V: TCNode<K>, S: BuildHasher>(
+    alloc: Global,
+    node: &V,
+    s: &mut Reading<K, S>,
+    a: usize,
+) -> Result<(), AllocError>
+    requires copies { ClonesAreEqual K.eq K.is_clone }
+    requires unique { IsUnique K.eq s.old.keys }
+    requires within { a < length s.old.keys.keys }
+    ensures { OnOk result (ReadsNode K.eq (V.edges node.now) a s.old s.new) }
+{
+    s.reads = s.reads.saturating_add(1);
+    let edges = node.out_edges(alloc)?;
+    for edge in &edges {
+        add_arc(s, a, *edge)?;
+    }
+    Ok(())
+}
+
+// The arcs of the node at the key of a number, if there is one.
 fn read_row<K: Clone + Eq + Hash, V: TCNode<K>, S: BuildHasher>(
     alloc: Global,
     nodes: &HashMap<K, V, S>,
@@ -121,17 +159,10 @@ fn read_row<K: Clone + Eq + Hash, V: TCNode<K>, S: BuildHasher>(
     ensures read { OnOk result (IsReadBelow K.eq (graph_of K.eq V.edges nodes.now) (a + 1) s.new) }
     ensures on { OnOk result (ReadsOn 1 s.old s.new) }
 {
-    let edges = match nodes.get(&s.keys[a]) {
-        Some(node) => {
-            s.reads = s.reads.saturating_add(1);
-            node.out_edges(alloc)?
-        }
-        None => return Ok(()),
-    };
-    for edge in &edges {
-        add_arc(s, a, *edge)?;
+    match nodes.get(&s.keys[a]) {
+        Some(node) => read_node(alloc, node, s, a),
+        None => Ok(()),
     }
-    Ok(())
 }
 
 // The arcs of the nodes of some numbers.
@@ -180,7 +211,24 @@ pub(crate) struct FixReading<K: Eq + Hash, S: BuildHasher> {
     pub(crate) near: usize,
 }
 
-// The arcs of the nodes of the map: each node's edges are read once.
+// The arcs of nodes that have numbers in their order.
+fn read_nodes<K: Clone + Eq + Hash, V: TCNode<K>, S: BuildHasher>(
+    alloc: Global,
+    nodes: &[&V],
+    s: &mut Reading<K, S>,
+) -> Result<(), AllocError>
+    requires copies { ClonesAreEqual K.eq K.is_clone }
+    requires fresh { (G : K → K → Bool) → IsReadBelow K.eq G 0 s.old }
+    requires within { length nodes.now ≤ length s.old.keys.keys }
+    ensures { OnOk result (ReadsNodes K.eq V.edges nodes.now s.old s.new) }
+{
+    for a in 0..nodes.len() {
+        read_node(alloc, nodes[a], s, a)?;
+    }
+    Ok(())
+}
+
+// The arcs of the nodes of the map: the edges of each node that has some are read once.
 pub(crate) fn read_arcs<K: Clone + Eq + Hash, V: TCNode<K>, S: BuildHasher + Clone>(
     alloc: Global,
     nodes: &HashMap<K, V, S>,
@@ -188,10 +236,10 @@ pub(crate) fn read_arcs<K: Clone + Eq + Hash, V: TCNode<K>, S: BuildHasher + Clo
     requires { ClonesAreEqual K.eq K.is_clone }
     ensures { IfOk result (ReadsAll K.eq V.edges nodes.now) }
 {
-    let keys = number_keys(alloc, nodes)?;
-    let count = keys.len();
-    let mut s = nothing_read(alloc, keys, 0)?;
-    read_rows(alloc, nodes, &mut s, 0, count)?;
+    let edged = number_edged(alloc, nodes)?;
+    let count = edged.nodes.len();
+    let mut s = nothing_read(alloc, edged.keys, count)?;
+    read_nodes(alloc, &edged.nodes, &mut s)?;
     Ok(FixReading {
         reading: s,
         fixed: count,

@@ -1,13 +1,14 @@
 -- What is read of a map of nodes: numbers for keys, and arcs between them.
-use Rattle.std.specs.Prelude.{◌≡◌, ℕ, ◌<◌, ◌≤◌, ◌+◌, ◌++◌, ◌∷◌, [], ◌⊎◌, Bool, true, length, take, slice_get, Some}
-use Rattle.std.specs.Prelude.{is_some, IsSomeAnd}
+use Rattle.std.specs.Prelude.{◌≡◌, ℕ, List, ◌<◌, ◌≤◌, ◌+◌, ◌++◌, ◌∷◌, [], ◌⊎◌, Bool, true, length, take, slice_get, Some}
+use Rattle.std.specs.Prelude.{IsSomeAnd}
+use Rattle.std.specs.Borrow.{Bor}
 use Rattle.std.specs.Set.{is_member}
 use Rattle.std.specs.HashMap.{HashMap, get, hash_map_len}
 use Rattle.std.specs.HashSet.{HashSet, contains, hash_set_len}
 use Rattle.indexmap.specs.IndexSet.{IndexSet, IsUnique}
 use Rattle.cedar_components.specs.Reach.{HasArc, AreArcs}
 use Rattle.cedar_graph.specs.Graph.{graph_of}
-use Rattle.cedar_graph.specs.laws.Arcs.{AreArcsOf, AreEdges, AreSameEdges, HasNumberBelow, IsPrefix, near_graph}
+use Rattle.cedar_graph.specs.laws.Arcs.{AreArcsOf, AreEdges, AreSameEdges, HasNumber, HasNumberBelow, IsPrefix, near_graph}
 use Rattle.cedar_graph.specs.declared.arcs.Reading.{Reading}
 use Rattle.cedar_graph.specs.declared.arcs.FixReading.{FixReading}
 
@@ -42,6 +43,37 @@ pub record IsReadBelow {K S H : Type 0} (eq : K → K → Bool) (G : K → K →
 pub record ReadsOn {K S H : Type 0} (n : ℕ) (old new : Reading K S H) : Type 0 where
   pub keys : IsPrefix old.keys.keys new.keys.keys
   pub reads : new.reads ≤ old.reads + n
+
+-- a node was put in under its key, unless it has no edges: keys and nodes go on by at most one, at the same place
+pub record PutsEdged {K V S : Type 0} (eq : K → K → Bool) (edges : V → K → Bool) (key : K) (node : V)
+    (old new : IndexSet K S) (rows more : List (Bor V)) : Type 0 where
+  pub unique : IsUnique eq new
+  pub keys : IsPrefix old.keys new.keys
+  pub one : length new.keys ≤ length old.keys + 1
+  pub len : length more ≡ length new.keys
+  pub has : (b : K) → edges node b ≡ true → HasNumber eq new.keys key
+  pub nodes : (i : ℕ) (k : K) (r : Bor V) → slice_get new.keys i ≡ Some k → slice_get more i ≡ Some r
+      → ((slice_get old.keys i ≡ Some k) × (slice_get rows i ≡ Some r)) ⊎ ((eq key k ≡ true) × (r.now ≡ node))
+
+-- at the place of each key stands the node that the map has under it
+abbrev pub AreNodesAt : {K V S : Type 0} → (K → K → Bool) → HashMap K V S → List K → List (Bor V) → Type 0
+AreNodesAt {K} {V} eq nodes keys rows = (i : ℕ) (k : K) (r : Bor V) → slice_get keys i ≡ Some k
+    → slice_get rows i ≡ Some r → get eq nodes k ≡ Some r.now
+
+-- in each graph in which the key of number a has these edges, one more row of arcs is read
+pub record ReadsNode {K S H : Type 0} (eq : K → K → Bool) (row : K → Bool) (a : ℕ) (old new : Reading K S H)
+    : Type 0 where
+  pub unique : IsUnique eq new.keys
+  pub on : ReadsOn 1 old new
+  pub read : (G : K → K → Bool) → IsReadBelow eq G a old
+      → ((x q : K) → slice_get old.keys.keys a ≡ Some x → row q ≡ G x q) → IsReadBelow eq G (a + 1) new
+
+-- in each graph in which the first keys have the edges of these nodes, their rows of arcs are read
+pub record ReadsNodes {K V S H : Type 0} (eq : K → K → Bool) (edges : V → K → Bool) (rows : List (Bor V))
+    (old new : Reading K S H) : Type 0 where
+  pub on : ReadsOn (length rows) old new
+  pub read : (G : K → K → Bool) → ((i : ℕ) (x q : K) (r : Bor V) → slice_get old.keys.keys i ≡ Some x
+      → slice_get rows i ≡ Some r → edges r.now q ≡ G x q) → IsReadBelow eq G (length rows) new
 
 -- the arcs are edges of the graph, between numbers of keys, of which the first are to be fixed
 pub record AreRead {K S H : Type 0} (G : K → K → Bool) (read : FixReading K S H) : Type 0 where
