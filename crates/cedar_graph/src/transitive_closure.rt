@@ -145,7 +145,8 @@ pub trait TCNode<K: Eq + Drop> {
 
     /// The order in which the nodes like to be given edges to these keys: the numbers below
     /// `keys.len()`, which are the keys' places, each once. The default is 0, 1, 2, .., as the keys
-    /// come. It asks no node, and no edge depends on it. Takes memory and may be refused it.
+    /// come. It asks no node, and no edge depends on it. A closure asks it once, for copies of the
+    /// keys that edges lead to. Takes memory and may be refused it.
     ///
     /// The original has no such call.
     fn order(alloc: Global, keys: &[K]) -> std::result::Result<Vec<usize>, AllocError>
@@ -211,14 +212,15 @@ pub struct Work {
 /// further edge leads to a key that was reached.
 ///
 /// Takes memory for copies of keys, for numbers in the number of keys and edges, and for the lists
-/// of what each strong component of the graph reaches. Lists each node's edges once, and then costs
-/// what the keys, the edges read and the edges added cost, and nothing for a pair of keys without
-/// an edge. Asks [`TCNode::order`] once, and hands each node what it lacks in one call of
+/// of what each strong component of the graph reaches. Lists the edges of each node that may have
+/// some once, asks [`TCNode::may_have_edges`] twice of each node, and then costs what the keys with
+/// edges, the edges read and the edges added cost, and nothing for a pair of keys without an edge.
+/// Asks [`TCNode::order`] once, and hands each node what it lacks in one call of
 /// [`TCNode::add_edges_to`]. It does not recurse, whatever the graph is, but where lists are sorted,
 /// as a node type's [`TCNode::order`] may do with all keys: in the logarithm of a list's length.
 ///
-/// The keys are numbered in a set that hashes as the map does, by a copy of its builder of hashers:
-/// so whoever picks keys makes them collide here only where they collide in the map.
+/// The keys that have edges or to which edges lead are numbered in a set that hashes as the map does, by a copy of its
+/// builder of hashers: so whoever picks keys makes them collide here only where they collide in the map.
 ///
 /// Unlike the original it takes the allocator and may answer `TcError::Memory`.
 pub fn compute_tc<K: Clone + Eq + Hash + Debug + Display, V: TCNode<K>, S: BuildHasher + Clone>(
