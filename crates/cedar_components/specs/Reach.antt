@@ -28,12 +28,17 @@ Goes E a b = (z : ℕ) × E a z × Leads E z b
 abbrev pub IsWithin : List ℕ → ℕ → ℕ → ℕ → Type 0
 IsWithin xs i j y = (k : ℕ) × (i ≤ k) × (k < j) × (slice_index xs k ≡ y)
 
--- what each number below n reaches: `component` has a place for each number, the same for those that reach one another, and from `start` at that place up to the next one `lists` has what it reaches
+-- what each number below n reaches: `component` has a place for each number, the same for those that reach one another,
+-- and from `start` at that place up to the next one `lists` has what it reaches
 pub record IsReach (E : ℕ → ℕ → Type 0) (n : ℕ) (component start lists : List ℕ) : Type 0 where
   pub component_len : length component ≡ n
   pub component_in : (x : ℕ) → x < n → slice_index component x + 1 < length start
-  pub ordered : (x : ℕ) → x < n → slice_index start (slice_index component x) ≤ slice_index start (slice_index component x + 1)
+  pub ordered : (x : ℕ) → x < n
+      → slice_index start (slice_index component x) ≤ slice_index start (slice_index component x + 1)
   pub inside : (x : ℕ) → x < n → slice_index start (slice_index component x + 1) ≤ length lists
   pub lists_in : (k : ℕ) → k < length lists → slice_index lists k < n
-  pub sound : (x y : ℕ) → x < n → IsWithin lists (slice_index start (slice_index component x)) (slice_index start (slice_index component x + 1)) y → Goes E x y
-  pub complete : (x y : ℕ) → x < n → Goes E x y → IsWithin lists (slice_index start (slice_index component x)) (slice_index start (slice_index component x + 1)) y
+  pub sound : (x y : ℕ) → x < n
+      → IsWithin lists (slice_index start (slice_index component x)) (slice_index start (slice_index component x + 1)) y
+      → Goes E x y
+  pub complete : (x y : ℕ) → x < n → Goes E x y
+      → IsWithin lists (slice_index start (slice_index component x)) (slice_index start (slice_index component x + 1)) y

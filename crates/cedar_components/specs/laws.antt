@@ -1,2 +1,6 @@
 -- What only the private contracts and the proofs cite.
+pub mod Arcs
+pub mod Components
+pub mod Lists
+pub mod Numbers
 pub mod Search

@@ -1,10 +1,28 @@
-//! The components of a graph: searches against its edges, from each number that is not in a component, in the order that a first search left, from its end.
-ghost use Rattle.std.specs.Prelude.{◌≡◌, ℕ, ◌+◌, ◌-◌, ◌*◌, ◌<◌, ◌≤◌, List, [], ◌∷◌, ◌++◌, length, slice_index, slice_set, OnOk, IfOk, sum_by};
-ghost use Rattle.cedar_components.specs.Reach.{AreArcs, HasArc};
-ghost use Rattle.cedar_components.specs.laws.Search.{AreLinks, IsFinishOrder, AreComponentsFrom, AreComponents, is_zero};
+//! The components of a graph: searches against its edges, from each number that is not in a
+//! component, in the order that a first search left, from its end.
+ghost use Rattle.std.specs.Prelude.{◌≡◌, ◌+◌, ◌-◌, ◌<◌, length, slice_index, OnOk, IfOk};
+ghost use Rattle.cedar_components.specs.laws.Arcs.{IsArc};
+ghost use Rattle.cedar_components.specs.laws.Components.{
+  AreComponents,
+  Gathers,
+  HasComponent,
+  IsGathered,
+  IsGathering,
+  IsSearched,
+  Joins,
+};
 
 use crate::links::Arcs;
 use std::alloc::{AllocError, Global};
+
+// The arcs of a graph, with the chains of the numbers that they lead to, and the order in which a
+// search finished its numbers.
+#[derive(Drop)]
+pub(crate) struct Searched<'a> {
+    pub(crate) arcs: Arcs<'a>,
+    pub(crate) order: &'a [usize],
+    pub(crate) numbers: usize,
+}
 
 #[derive(Drop)]
 struct Components {
@@ -15,8 +33,7 @@ struct Components {
 // Gives a number its component.
 fn join(s: &mut Components, v: usize, b: usize) -> Result<(), AllocError>
     requires { v < length s.old.component.items }
-    ensures component { OnOk result (s.new.component.items ≡ slice_set s.old.component.items v b) }
-    ensures queue { OnOk result (s.new.queue.items ≡ s.old.queue.items ++ v ∷ []) }
+    ensures { OnOk result (Joins v b s.old s.new) }
 {
     s.queue.push(v)?;
     s.component[v] = b;
@@ -24,29 +41,14 @@ fn join(s: &mut Components, v: usize, b: usize) -> Result<(), AllocError>
 }
 
 // Gives a number that leads to the queue's number at `i` its component, if it has none.
-fn meet(
-    arcs: &Arcs,
-    order: &[usize],
-    s: &mut Components,
-    n: usize,
-    b: usize,
-    i: usize,
-    v: usize,
-) -> Result<(), AllocError>
-    requires arcs { AreArcs arcs.now.from.now arcs.now.to.now n }
-    requires order { IsFinishOrder (HasArc arcs.now.from.now arcs.now.to.now) n order.now }
-    requires some { 0 < b }
-    requires in_order { b ≤ length order.now }
+fn meet(g: &Searched, s: &mut Components, b: usize, i: usize, v: usize) -> Result<(), AllocError>
+    requires state { IsGathering g.now b i s.old }
     requires in_queue { i < length s.old.queue.items }
-    requires components { AreComponentsFrom (HasArc arcs.now.from.now arcs.now.to.now) n order.now b s.old.component.items s.old.queue.items i }
-    requires within { v < n }
-    requires edge { HasArc arcs.now.from.now arcs.now.to.now v (slice_index s.old.queue.items i) }
-    ensures components { OnOk result (AreComponentsFrom (HasArc arcs.now.from.now arcs.now.to.now) n order.now b s.new.component.items s.new.queue.items i) }
-    ensures less { OnOk result (2 * sum_by is_zero s.new.component.items + length s.new.queue.items ≤ 2 * sum_by is_zero s.old.component.items + length s.old.queue.items) }
-    ensures longer { OnOk result (length s.old.queue.items ≤ length s.new.queue.items) }
-    ensures stays { OnOk result ((x : ℕ) → 0 < slice_index s.old.component.items x → 0 < slice_index s.new.component.items x) }
+    requires within { v < g.now.numbers }
+    requires edge { IsArc g.now.arcs v (slice_index s.old.queue.items i) }
+    ensures gathers { OnOk result (Gathers g.now b i s.old s.new) }
     ensures same { OnOk result (slice_index s.new.queue.items i ≡ slice_index s.old.queue.items i) }
-    ensures met { OnOk result (0 < slice_index s.new.component.items v) }
+    ensures met { OnOk result (HasComponent s.new v) }
 {
     if s.component[v] != 0 {
         return Ok(());
@@ -56,84 +58,55 @@ fn meet(
 }
 
 // Gives all that leads to the queue's number at `i` its component.
-fn spread(
-    arcs: &Arcs,
-    order: &[usize],
-    s: &mut Components,
-    n: usize,
-    b: usize,
-    i: usize,
-) -> Result<(), AllocError>
-    requires arcs { AreArcs arcs.now.from.now arcs.now.to.now n }
-    requires links { AreLinks arcs.now.to.now arcs.now.head.now arcs.now.link.now n }
-    requires order { IsFinishOrder (HasArc arcs.now.from.now arcs.now.to.now) n order.now }
-    requires some { 0 < b }
-    requires in_order { b ≤ length order.now }
+fn spread(g: &Searched, s: &mut Components, b: usize, i: usize) -> Result<(), AllocError>
+    requires state { IsGathering g.now b i s.old }
     requires in_queue { i < length s.old.queue.items }
-    requires components { AreComponentsFrom (HasArc arcs.now.from.now arcs.now.to.now) n order.now b s.old.component.items s.old.queue.items i }
-    ensures components { OnOk result (AreComponentsFrom (HasArc arcs.now.from.now arcs.now.to.now) n order.now b s.new.component.items s.new.queue.items (i + 1)) }
-    ensures less { OnOk result (2 * sum_by is_zero s.new.component.items + length s.new.queue.items ≤ 2 * sum_by is_zero s.old.component.items + length s.old.queue.items) }
-    ensures longer { OnOk result (length s.old.queue.items ≤ length s.new.queue.items) }
-    ensures stays { OnOk result ((x : ℕ) → 0 < slice_index s.old.component.items x → 0 < slice_index s.new.component.items x) }
+    ensures { OnOk result (Gathers g.now b (i + 1) s.old s.new) }
 {
+    let head = g.arcs.head;
+    let link = g.arcs.link;
+    let from = g.arcs.from;
     let x = s.queue[i];
-    let mut p = arcs.head[x];
+    let mut p = head[x];
     while p > 0 {
-        meet(arcs, order, s, n, b, i, arcs.from[p - 1])?;
-        p = arcs.link[p - 1];
+        meet(g, s, b, i, from[p - 1])?;
+        p = link[p - 1];
     }
     Ok(())
 }
 
 // Makes the component of a root.
-fn gather(
-    arcs: &Arcs,
-    order: &[usize],
-    s: &mut Components,
-    n: usize,
-    b: usize,
-) -> Result<(), AllocError>
-    requires arcs { AreArcs arcs.now.from.now arcs.now.to.now n }
-    requires links { AreLinks arcs.now.to.now arcs.now.head.now arcs.now.link.now n }
-    requires order { IsFinishOrder (HasArc arcs.now.from.now arcs.now.to.now) n order.now }
+fn gather(g: &Searched, s: &mut Components, b: usize) -> Result<(), AllocError>
+    requires state { IsGathered g.now b s.old }
     requires some { 0 < b }
-    requires in_order { b ≤ length order.now }
-    requires empty { s.old.queue.items ≡ [] }
-    requires fresh { slice_index s.old.component.items (slice_index order.now (b - 1)) ≡ 0 }
-    requires components { AreComponentsFrom (HasArc arcs.now.from.now arcs.now.to.now) n order.now b s.old.component.items [] 0 }
-    ensures components { OnOk result (AreComponentsFrom (HasArc arcs.now.from.now arcs.now.to.now) n order.now (b - 1) s.new.component.items [] 0) }
-    ensures empty { OnOk result (s.new.queue.items ≡ []) }
+    requires fresh { slice_index s.old.component.items (slice_index g.now.order.now (b - 1)) ≡ 0 }
+    ensures { OnOk result (IsGathered g.now (b - 1) s.new) }
 {
-    join(s, order[b - 1], b)?;
+    join(s, g.order[b - 1], b)?;
     let mut i = 0;
     while i < s.queue.len() {
-        spread(arcs, order, s, n, b, i)?;
+        spread(g, s, b, i)?;
         i += 1;
     }
     s.queue.clear();
     Ok(())
 }
 
-// The component of each number: those of one component lead to one another, and an edge never leads to a higher component.
-pub(crate) fn make_components(
-    alloc: Global,
-    arcs: &Arcs,
-    order: &[usize],
-    n: usize,
-) -> Result<Vec<usize>, AllocError>
-    requires arcs { AreArcs arcs.now.from.now arcs.now.to.now n }
-    requires links { AreLinks arcs.now.to.now arcs.now.head.now arcs.now.link.now n }
-    requires order { IsFinishOrder (HasArc arcs.now.from.now arcs.now.to.now) n order.now }
-    ensures { IfOk result (λ component. AreComponents (HasArc arcs.now.from.now arcs.now.to.now) n (length order.now) component.items) }
+// The component of each number: those of one component lead to one another, and an edge never
+// leads to a higher component.
+pub(crate) fn make_components(alloc: Global, g: &Searched) -> Result<Vec<usize>, AllocError>
+    requires { IsSearched g.now }
+    ensures { IfOk result (λ component.
+        AreComponents (IsArc g.now.arcs) g.now.numbers (length g.now.order.now) component.items) }
 {
     let mut s = Components {
-        component: vec![in alloc; 0; n]?,
+        component: vec![in alloc; 0; g.numbers]?,
         queue: Vec::new(alloc),
     };
-    let mut b = order.len();
+    let mut b = g.order.len();
     while b > 0 {
-        if s.component[order[b - 1]] == 0 {
-            gather(arcs, order, &mut s, n, b)?;
+        if s.component[g.order[b - 1]] == 0 {
+            gather(g, &mut s, b)?;
         }
         b -= 1;
     }

@@ -23,7 +23,7 @@ mod list_order;
 mod search;
 
 use crate::component_lists::{Lists, make_lists};
-use crate::components::make_components;
+use crate::components::{Searched, make_components};
 use crate::links::{Arcs, make_links};
 use crate::search::finish_order;
 use std::alloc::{AllocError, Global};
@@ -75,13 +75,17 @@ pub fn reach(
     let finished = finish_order(alloc, &forward, count)?;
     let last = finished.len();
     let links_back = make_links(alloc, to, count)?;
-    let backward = Arcs {
-        from,
-        to,
-        head: &links_back.head,
-        link: &links_back.link,
+    let backward = Searched {
+        arcs: Arcs {
+            from,
+            to,
+            head: &links_back.head,
+            link: &links_back.link,
+        },
+        order: &finished,
+        numbers: count,
     };
-    let component = make_components(alloc, &backward, &finished, count)?;
+    let component = make_components(alloc, &backward)?;
     let Lists { start, lists } = make_lists(alloc, &forward, &component, order, last, count)?;
     Ok(Reached {
         component,

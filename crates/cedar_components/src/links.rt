@@ -1,6 +1,7 @@
 //! The places of each value of a list.
-ghost use Rattle.std.specs.Prelude.{◌≡◌, ℕ, ◌<◌, length, slice_index, IfOk};
-ghost use Rattle.cedar_components.specs.laws.Search.{AreLinks};
+ghost use Rattle.std.specs.Prelude.{IfOk};
+ghost use Rattle.cedar_components.specs.laws.Arcs.{AreLinks};
+ghost use Rattle.cedar_components.specs.laws.Numbers.{AllBelow};
 
 use std::alloc::{AllocError, Global};
 
@@ -23,7 +24,7 @@ pub(crate) struct Arcs<'a> {
 
 // The places of each value of a list of numbers below n, as chains from the last to the first.
 pub(crate) fn make_links(alloc: Global, ends: &[usize], n: usize) -> Result<Links, AllocError>
-    requires { (k : ℕ) → k < length ends.now → slice_index ends.now k < n }
+    requires { AllBelow n ends.now }
     ensures { IfOk result (λ l. AreLinks ends.now l.head.items l.link.items n) }
 {
     let mut head = vec![in alloc; 0; n]?;

@@ -1,15 +1,14 @@
-use Rattle.std.proofs.Common.{◌≡◌, arith, get_or}
+use Rattle.std.proofs.Common.{◌≡◌, ◌<◌, arith, get_or, length}
 use Rattle.std.proofs.lemmas.Grind.{common_steps}
-use Rattle.cedar_components.specs.Reach.{HasArc}
-use Rattle.cedar_components.proofs.ComponentSteps.{joined_before}
+use Rattle.cedar_components.proofs.Gathering.{joins}
 use Rattle.cedar_components.proofs.components.meet.Goals as goal
 
-pub returns-clause-components : goal.returns-clause-components
-returns-clause-components c =
+pub returns-clause-gathers : goal.returns-clause-gathers
+returns-clause-gathers c =
     let s = c.args.s.now in
+    let v = c.args.v in
     let r = c.requires in
-    let e = c.in_ok-join.ensures in
-    let x = get_or s.queue.items c.args.i 0 in
-    let q = r.components.queue_in c.args.i r.in_queue in
-    let unseen : get_or s.component.items c.args.v 0 ≡ 0 = grind (arith, common_steps) in
-    rw (e.component, e.queue) (joined_before (HasArc c.args.arcs.now.from.now c.args.arcs.now.to.now) c.args.n c.args.order.now c.args.b s.component.items s.queue.items c.args.i c.args.v x r.components r.order r.within unseen r.some r.in_order (omega (arith, r.in_queue)) q.0 q.1 r.edge)
+    let within : v < length s.component.items = omega (arith, r.within, r.state.components.component_len) in
+    let unseen : get_or s.component.items v 0 ≡ 0 = grind (arith, common_steps) in
+    joins c.args.g.now c.args.b v s c.join.new.s c.in_ok-join.ensures within r.state.some c.args.i r.state unseen
+    r.in_queue r.edge

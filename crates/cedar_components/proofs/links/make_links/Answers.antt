@@ -11,5 +11,8 @@ loop-k-preserved c =
     let k_in : k < length ends = omega arith in
     let a = get_or ends k 0 in
     let a_in = c.requires k k_in in
-    let read : c.index.result.now ≡ get_or c.loop-k.head.items a 0 = c.index.ensures ∙ get_or_default_zero c.loop-k.head.items a c.index.result.now (omega (arith, i.head_len)) in
-    rw (c.in_ok-push.ensures.items, read) (linked ends k c.loop-k.head.items c.loop-k.link.items c.args.n i k_in a refl a_in)
+    let head = c.loop-k.head.items in
+    let last = c.index.result.now in
+    let in_head : a < length head = omega (arith, i.head_len) in
+    let read : last ≡ get_or head a 0 = c.index.ensures ∙ get_or_default_zero head a last in_head in
+    rw (c.in_ok-push.ensures.items, read) (linked ends k head c.loop-k.link.items c.args.n i k_in a refl a_in)

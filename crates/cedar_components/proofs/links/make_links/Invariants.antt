@@ -1,4 +1,4 @@
-use Rattle.cedar_components.specs.laws.Search.{AreLinksTo}
+use Rattle.cedar_components.specs.laws.Arcs.{AreLinksTo}
 use Rattle.cedar_components.proofs.links.make_links.Given as goal
 
 abbrev pub invariant-loop-k : goal.invariant-loop-k

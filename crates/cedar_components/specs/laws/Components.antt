@@ -1,0 +1,79 @@
+-- What the components keep while they are made.
+use Rattle.std.specs.Prelude.{◌≡◌, ℕ, ◌+◌, ◌-◌, ◌*◌, ◌<◌, ◌≤◌, ◌⊎◌, ◌==◌, if◌then◌else◌, List, ◌∷◌, [], ◌++◌}
+use Rattle.std.specs.Prelude.{length, slice_index, slice_set, sum_by}
+use Rattle.cedar_components.specs.Reach.{Leads}
+use Rattle.cedar_components.specs.laws.Numbers.{IsFrom}
+use Rattle.cedar_components.specs.laws.Arcs.{IsArc, AreBackward}
+use Rattle.cedar_components.specs.laws.Search.{IsFinishOrder}
+use Rattle.cedar_components.specs.declared.components.Components.{Components}
+use Rattle.cedar_components.specs.declared.components.Searched.{Searched}
+
+-- 1 at 0, and otherwise 0
+abbrev pub is_zero : ℕ → ℕ
+is_zero x = if x == 0 then 1 else 0
+
+-- component has, for each number that has a component, one more than the place of the component's root in the order,
+-- and 0 for the others; the places from b on are done, and the component of the place before b is in the making: what
+-- leads to a number of the queue from place i on may still be without a component
+pub record AreComponentsFrom (E : ℕ → ℕ → Type 0) (n : ℕ) (out : List ℕ) (b : ℕ) (component queue : List ℕ)
+    (i : ℕ) : Type 0 where
+  pub component_len : length component ≡ n
+  pub component_in : (x : ℕ) → x < n → slice_index component x ≤ length out
+  pub above : (x : ℕ) → x < n → 0 < slice_index component x → b ≤ slice_index component x
+  pub queue_in : (k : ℕ) → k < length queue
+      → (slice_index queue k < n) × (slice_index component (slice_index queue k) ≡ b)
+  pub to_root : (x : ℕ) → x < n → 0 < slice_index component x
+      → Leads E x (slice_index out (slice_index component x - 1))
+  pub spans : (x : ℕ) → x < n → 0 < slice_index component x
+      → (s : ℕ) × (slice_index out s ≡ x) × (s < slice_index component x)
+      × ((z : ℕ) → s ≤ z → z < slice_index component x
+      → Leads E (slice_index out (slice_index component x - 1)) (slice_index out z))
+  pub later : (z : ℕ) → b ≤ z → z < length out → 0 < slice_index component (slice_index out z)
+  pub closed : (x v : ℕ) → x < n → v < n → 0 < slice_index component x → E v x
+      → ((0 < slice_index component v) × (slice_index component x ≤ slice_index component v)) ⊎ IsFrom queue i x
+
+-- each number has a component; those of one component lead to one another, and an edge never leads to a higher one
+pub record AreComponents (E : ℕ → ℕ → Type 0) (n count : ℕ) (component : List ℕ) : Type 0 where
+  pub component_len : length component ≡ n
+  pub component_in : (x : ℕ) → x < n → (0 < slice_index component x) × (slice_index component x ≤ count)
+  pub mutual_ : (x y : ℕ) → x < n → y < n → slice_index component x ≡ slice_index component y → Leads E x y
+  pub down : (x y : ℕ) → x < n → y < n → E x y → slice_index component y ≤ slice_index component x
+
+-- the order is one in which a search finishes the numbers
+pub record IsSearched (g : Searched) : Type 0 where
+  pub arcs : AreBackward g.arcs g.numbers
+  pub order : IsFinishOrder (IsArc g.arcs) g.numbers g.order.now
+
+-- the components of the places from b on are made
+pub record IsGathered (g : Searched) (b : ℕ) (s : Components) : Type 0 where
+  pub searched : IsSearched g
+  pub in_order : b ≤ length g.order.now
+  pub empty : s.queue.items ≡ []
+  pub components : AreComponentsFrom (IsArc g.arcs) g.numbers g.order.now b s.component.items [] 0
+
+-- the component of the place before b is in the making: all that leads to the queue's numbers before place i has one
+pub record IsGathering (g : Searched) (b i : ℕ) (s : Components) : Type 0 where
+  pub searched : IsSearched g
+  pub some : 0 < b
+  pub in_order : b ≤ length g.order.now
+  pub components : AreComponentsFrom (IsArc g.arcs) g.numbers g.order.now b s.component.items s.queue.items i
+
+-- x has a component
+abbrev pub HasComponent : Components → ℕ → Type 0
+HasComponent s x = 0 < slice_index s.component.items x
+
+-- number v is given component b
+pub record Joins (v b : ℕ) (old new : Components) : Type 0 where
+  pub component : new.component.items ≡ slice_set old.component.items v b
+  pub queue : new.queue.items ≡ old.queue.items ++ v ∷ []
+
+-- what is left to do: numbers without a component count twice, those of the queue once
+abbrev pub work_left : Components → ℕ
+work_left s = 2 * sum_by is_zero s.component.items + length s.queue.items
+
+-- the component grows, up to place i of the queue
+pub record Gathers (g : Searched) (b i : ℕ) (old new : Components) : Type 0 where
+  pub state : IsGathering g b i new
+  pub less : work_left new ≤ work_left old
+  pub longer : length old.queue.items ≤ length new.queue.items
+  pub stays : (x : ℕ) → HasComponent old x → HasComponent new x

@@ -1,0 +1,26 @@
+-- Lists of numbers.
+use Rattle.std.specs.Prelude.{◌≡◌, ℕ, ◌<◌, ◌≤◌, ◌⊎◌, List, length, slice_index}
+use Rattle.std.specs.List.{range_with_len}
+use Rattle.std.specs.List.Sorted.{IsPermutation}
+
+-- x is in the list
+abbrev pub IsIn : List ℕ → ℕ → Type 0
+IsIn xs x = (i : ℕ) × (i < length xs) × (slice_index xs i ≡ x)
+
+-- x is in the list from place i on
+abbrev pub IsFrom : List ℕ → ℕ → ℕ → Type 0
+IsFrom xs i x = (k : ℕ) × (i ≤ k) × (k < length xs) × (slice_index xs k ≡ x)
+
+-- each number of the list is below n
+abbrev pub AllBelow : ℕ → List ℕ → Type 0
+AllBelow n xs = (k : ℕ) → k < length xs → slice_index xs k < n
+
+-- the list has each number below n once
+abbrev pub IsOrder : ℕ → List ℕ → Type 0
+IsOrder n = IsPermutation (range_with_len 0 n)
+
+-- the numbers of a list grow by those that pass
+pub record Adds (old new : List ℕ) (X : ℕ → Type 0) : Type 0 where
+  pub more : (y : ℕ) → IsIn old y → IsIn new y
+  pub only : (y : ℕ) → IsIn new y → IsIn old y ⊎ X y
+  pub has : (y : ℕ) → X y → IsIn new y
