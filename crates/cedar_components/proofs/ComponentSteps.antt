@@ -1,5 +1,6 @@
 -- The steps that gather the components.
-use Rattle.std.proofs.Common.{◌≡◌, ◌≢◌, ℕ, ◌+◌, ◌-◌, ◌<◌, ◌≤◌, ◌⊎◌, inl, inr, List, [], ◌∷◌, ◌++◌}
+use Rattle.std.proofs.Common.{◌≡◌, ◌≢◌, ℕ, ◌+◌, ◌-◌, ◌<◌, ◌≤◌, ◌⊎◌, inl, inr}
+use Rattle.std.proofs.Common.{List, [], ◌∷◌, ◌++◌}
 use Rattle.std.proofs.Common.{length, get_or, set, refl, ap, subst, ◌∙◌, arith}
 use Rattle.std.proofs.Common.{length-append, length-set, get_or-set_same, get_or-set_other}
 use Rattle.std.proofs.lemmas.List.{get_or_append_left}
@@ -89,8 +90,8 @@ rooted E n out b component s o some within fresh =
 module _ (E : ℕ → ℕ → Type 0) (n : ℕ) (out : List ℕ) (b : ℕ) (component queue : List ℕ) (i : ℕ)
     (s : AreComponentsFrom E n out b component queue i) where
   -- what leads to a number of the component joins it
-  pub joined_before : (v x : ℕ) → IsFinishOrder E n out → v < n → get_or component v 0 ≡ 0 → 0 < b → b ≤ length out
-      → i ≤ length queue → x < n → get_or component x 0 ≡ b → E v x
+  pub joined_before : (v x : ℕ) → IsFinishOrder E n out → v < n → get_or component v 0 ≡ 0 → 0 < b
+      → b ≤ length out → i ≤ length queue → x < n → get_or component x 0 ≡ b → E v x
       → AreComponentsFrom E n out b (set component v b) (queue ++ v ∷ []) i
   joined_before v x o within fresh some in_order in_queue inside is e =
       let pos : 0 < get_or component x 0 = omega arith in
@@ -160,7 +161,8 @@ module _ (E : ℕ → ℕ → Type 0) (n : ℕ) (out : List ℕ) (b : ℕ) (comp
 
 -- all places are done
 pub components_from_all : (E : ℕ → ℕ → Type 0) (n : ℕ) (out component : List ℕ)
-    → AreComponentsFrom E n out 0 component [] 0 → IsFinishOrder E n out → AreComponents E n (length out) component
+    → AreComponentsFrom E n out 0 component [] 0 → IsFinishOrder E n out
+    → AreComponents E n (length out) component
 components_from_all E n out component s o =
     let some : (x : ℕ) → x < n → 0 < get_or component x 0 =
     λ x h. let p = o.all x h in rw p.2 at (s.later p.0 (omega arith) p.1) in
@@ -193,10 +195,10 @@ zero_less xs v b h is some =
 module _ (E : ℕ → ℕ → Type 0) (n count : ℕ) (component : List ℕ) (p : ℕ) (L : List ℕ)
     (s : AreComponents E n count component) (inside : (x y : ℕ) → x < n → E x y → y < n)
     (direct : (x w : ℕ) → x < n → get_or component x 0 ≡ p → E x w → IsIn L w)
-    (lower : (x w y : ℕ) → x < n → get_or component x 0 ≡ p → E x w → get_or component w 0 < p → (ys : List ℕ)
-    → Walk E w ys y → IsIn L y) where
-  pub reached_by_component : (x z y : ℕ) → x < n → get_or component x 0 ≡ p → E x z → (ys : List ℕ) → Walk E z ys y
-      → IsIn L y
+    (lower : (x w y : ℕ) → x < n → get_or component x 0 ≡ p → E x w → get_or component w 0 < p
+    → (ys : List ℕ) → Walk E w ys y → IsIn L y) where
+  pub reached_by_component : (x z y : ℕ) → x < n → get_or component x 0 ≡ p → E x z → (ys : List ℕ)
+      → Walk E z ys y → IsIn L y
   reached_by_component x z y h is e [] w = subst (IsIn L) w (direct x z h is e)
   reached_by_component x z y h is e (u ∷ ys) w =
       let z_in = inside x z h e in

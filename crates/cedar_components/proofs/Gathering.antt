@@ -1,13 +1,12 @@
 -- What the components keep as numbers join them.
-use Rattle.std.proofs.Common.{◌≡◌, ◌≢◌, ℕ, ◌+◌, ◌-◌, ◌<◌, ◌≤◌, inl, inr, [], ◌∷◌, arith, length}
-use Rattle.std.proofs.Common.{length-append, get_or, set, get_or-set_same, get_or-set_other}
+use Rattle.std.proofs.Common.{◌≡◌, ℕ, ◌-◌, ◌<◌, ◌≤◌, inl, inr, [], ◌∷◌, arith, length}
+use Rattle.std.proofs.Common.{length-append, get_or, get_or-set_same, get_or-set_other}
 use Rattle.std.proofs.lemmas.Bool.{cases_eq}
 use Rattle.cedar_components.specs.laws.Arcs.{IsArc}
 use Rattle.cedar_components.specs.laws.Components.{IsGathered, IsGathering, Gathers, HasComponent, Joins}
 use Rattle.cedar_components.specs.declared.components.Components.{Components}
 use Rattle.cedar_components.specs.declared.components.Searched.{Searched}
-use Rattle.cedar_components.proofs.ComponentSteps.{rooted, joined_before, lowered, zero_less}
-use Rattle.cedar_components.proofs.Steps.{positive_kept}
+use Rattle.cedar_components.proofs.ComponentSteps.{rooted, joined_before, zero_less}
 
 module _ (g : Searched) (b v : ℕ) (s t : Components) (j : Joins v b s t) (within : v < length s.component.items)
     (some : 0 < b) where

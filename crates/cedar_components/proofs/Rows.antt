@@ -3,9 +3,10 @@ use Rattle.std.proofs.Common.{◌≡◌, ℕ, ◌+◌, ◌<◌, ◌≤◌, arith
 use Rattle.cedar_components.specs.Reach.{IsReach}
 use Rattle.cedar_components.specs.laws.Lists.{AreLists, AreReached}
 
-pub reach_from : (E : ℕ → ℕ → Type 0) (n count : ℕ) (component start lists : List ℕ) → length component ≡ n
-    → ((x : ℕ) → x < n → get_or component x 0 ≤ count) → AreLists (count + 1) n start lists
-    → AreReached E n component (count + 1) start lists → IsReach E n component start lists
+pub reach_from : (E : ℕ → ℕ → Type 0) (n count : ℕ) (component start lists : List ℕ)
+    → length component ≡ n → ((x : ℕ) → x < n → get_or component x 0 ≤ count)
+    → AreLists (count + 1) n start lists → AreReached E n component (count + 1) start lists
+    → IsReach E n component start lists
 reach_from E n count component start lists len within l r = record {
   component_len = len;
   component_in = λ x h. omega (arith, within x h, l.start_len);

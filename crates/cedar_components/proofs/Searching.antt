@@ -1,5 +1,6 @@
 -- What a search keeps as it goes on.
-use Rattle.std.proofs.Common.{◌≡◌, ℕ, ◌+◌, ◌-◌, ◌*◌, ◌<◌, [], ◌∙◌, arith, length, get_or, set, sum, get_or-set_same}
+use Rattle.std.proofs.Common.{◌≡◌, ℕ, ◌+◌, ◌-◌, ◌*◌, ◌<◌, [], ◌∙◌, arith}
+use Rattle.std.proofs.Common.{length, get_or, set, sum, get_or-set_same}
 use Rattle.std.proofs.lemmas.Grind.{get_or_default_zero}
 use Rattle.cedar_components.specs.laws.Arcs.{IsArc}
 use Rattle.cedar_components.specs.laws.Search.{IsSearch, Searches, IsSeen, IsUnseen, Opens, Finishes, GoesOn, work_left}
@@ -17,10 +18,12 @@ module _ (w : ℕ) (s t : Search) (o : Opens w s t) where
   opens_seen within = rw (o.start, get_or-set_same s.start.items w (length s.out.items + 1) 0 within) (omega arith)
 
   -- a search begins with a number that was not seen
-  pub root_opened : (a : Arcs) → Searches a (length s.start.items) s → IsUnseen s w → s.path.items ≡ [] → GoesOn a s t
+  pub root_opened : (a : Arcs) → Searches a (length s.start.items) s → IsUnseen s w → s.path.items ≡ []
+      → GoesOn a s t
   root_opened a h unseen none =
       let n = length s.start.items in
-      let begun = opened_root (IsArc a) n s.start.items s.path.items s.out.items w h.search unseen.within unseen.fresh none in
+      let begun = opened_root (IsArc a) n s.start.items s.path.items s.out.items w h.search unseen.within
+      unseen.fresh none in
       let read = read_kept a.from.now a.to.now n s.start.items s.next.items w (length s.out.items) h.read in
       record {
         searches = record {
@@ -71,7 +74,8 @@ module _ (a : Arcs) (s : Search) (h : Searches a (length s.start.items) s) (v m 
     target_in = arc_inside a.from.now a.to.now (length s.start.items) h.arcs.arcs v (get_or a.to.now (m - 1) 0) arc
 
     -- it leads to a number that was not seen, which is opened
-    pub opened : (t : Search) → Opens (get_or a.to.now (m - 1) 0) s t → get_or s.start.items (get_or a.to.now (m - 1) 0) 0 ≡ 0
+    pub opened : (t : Search) → Opens (get_or a.to.now (m - 1) 0) s t
+        → get_or s.start.items (get_or a.to.now (m - 1) 0) 0 ≡ 0
         → IsSearch (IsArc a) (length s.start.items) t.start.items t.path.items t.out.items
     opened t o fresh =
         let n = length s.start.items in

@@ -1,5 +1,6 @@
 -- The steps of the search keep what it promises.
-use Rattle.std.proofs.Common.{◌≡◌, ◌≢◌, ℕ, ◌+◌, ◌-◌, ◌<◌, ◌≤◌, ◌⊎◌, inl, inr, List, [], ◌∷◌, ◌++◌}
+use Rattle.std.proofs.Common.{◌≡◌, ◌≢◌, ℕ, ◌+◌, ◌-◌, ◌<◌, ◌≤◌, ◌⊎◌, inl, inr}
+use Rattle.std.proofs.Common.{List, [], ◌∷◌, ◌++◌}
 use Rattle.std.proofs.Common.{length, get_or, set, refl, sym, ap, subst, ◌∙◌, arith}
 use Rattle.std.proofs.Common.{length-append, length-set, get_or-set_same, get_or-set_other}
 use Rattle.std.proofs.lemmas.List.{get_or_append_left}
@@ -10,7 +11,7 @@ use Rattle.std.proofs.lemmas.Grind.{common_steps}
 use Rattle.std.proofs.lemmas.Bool.{cases_lt, cases_eq}
 use Rattle.cedar_components.specs.Reach.{Walk, Leads, AreArcs, HasArc}
 use Rattle.cedar_components.specs.laws.Numbers.{IsIn}
-use Rattle.cedar_components.specs.laws.Arcs.{IsArc, AreForward, AreLinks, AreLinksTo}
+use Rattle.cedar_components.specs.laws.Arcs.{IsArc, AreForward, AreLinksTo}
 use Rattle.cedar_components.specs.laws.Search.{IsSearch, AreRead, IsFinishOrder}
 use Rattle.cedar_components.specs.declared.links.Arcs.{Arcs}
 
@@ -161,8 +162,9 @@ module _ (E : ℕ → ℕ → Type 0) (n : ℕ) (start rest out : List ℕ) (v :
   }
 
 -- the last open number has an edge to a number that has not been seen, which is opened
-pub opened_next : (E : ℕ → ℕ → Type 0) (n : ℕ) (start path out : List ℕ) (v w : ℕ) → IsSearch E n start path out
-    → w < n → get_or start w 0 ≡ 0 → 0 < length path → v ≡ get_or path (length path - 1) 0 → E v w
+pub opened_next : (E : ℕ → ℕ → Type 0) (n : ℕ) (start path out : List ℕ) (v w : ℕ)
+    → IsSearch E n start path out → w < n → get_or start w 0 ≡ 0 → 0 < length path
+    → v ≡ get_or path (length path - 1) 0 → E v w
     → IsSearch E n (set start w (length out + 1)) (path ++ w ∷ []) out
 opened_next E n start path out v w s within fresh some last e =
     let from : (i : ℕ) → i < length path → Leads E (get_or path i 0) v =
@@ -178,8 +180,9 @@ finished_last E n start path rest out v s is read inside =
     finished E n start rest out v (subst (λ p. IsSearch E n start p out) is s) read inside
 
 -- numbers are opened from the start
-pub opened_root : (E : ℕ → ℕ → Type 0) (n : ℕ) (start path out : List ℕ) (w : ℕ) → IsSearch E n start path out
-    → w < n → get_or start w 0 ≡ 0 → path ≡ [] → IsSearch E n (set start w (length out + 1)) (path ++ w ∷ []) out
+pub opened_root : (E : ℕ → ℕ → Type 0) (n : ℕ) (start path out : List ℕ) (w : ℕ)
+    → IsSearch E n start path out → w < n → get_or start w 0 ≡ 0 → path ≡ []
+    → IsSearch E n (set start w (length out + 1)) (path ++ w ∷ []) out
 opened_root E n start path out w s within fresh none =
     let empty : length path ≡ 0 = ap length none in
     opened E n start path out w s within fresh (λ i h. absurd (omega arith))
@@ -251,7 +254,8 @@ module _ (a : Arcs) (n : ℕ) (forward : AreForward a n) (start next : List ℕ)
 
   -- one more arc is read
   pub read_next : (after : List ℕ) (v m : ℕ) → v < n → m ≡ get_or next v 0 → 0 < m
-      → ((x : ℕ) → 0 < get_or start x 0 → 0 < get_or after x 0) → 0 < get_or after (get_or a.to.now (m - 1) 0) 0
+      → ((x : ℕ) → 0 < get_or start x 0 → 0 < get_or after x 0)
+      → 0 < get_or after (get_or a.to.now (m - 1) 0) 0
       → AreRead a.from.now a.to.now n after (set next v (get_or a.link.now (m - 1) 0))
   read_next after v m h is some stays seen =
       let from = a.from.now in
@@ -281,7 +285,9 @@ module _ (a : Arcs) (n : ℕ) (forward : AreForward a n) (start next : List ℕ)
               elim (cases_eq j k) [
                 | inl same ↦ rw same seen
                 | inr ne ↦ elim (cases_lt j k) [
-                  | inl lt ↦ let lower = links.link_all j k k_in lt (j_from ∙ e ∙ sym k_from) in absurd (omega arith)
+                  | inl lt ↦
+                      let lower = links.link_all j k k_in lt (j_from ∙ e ∙ sym k_from) in
+                      absurd (omega arith)
                   | inr ge ↦ stays (get_or to j 0) (r.read x j hx j_in j_from (rw e (omega arith)))
                 ]
               ]
@@ -292,7 +298,8 @@ module _ (a : Arcs) (n : ℕ) (forward : AreForward a n) (start next : List ℕ)
 sum_by_itself : (xs : List ℕ) → sum_by (λ (x : ℕ). x) xs ≡ sum xs
 sum_by_itself xs = refl
 
-pub sum_less : (xs : List ℕ) (i m y : ℕ) → i < length xs → m ≡ get_or xs i 0 → y < m → sum (set xs i y) + 1 ≤ sum xs
+pub sum_less : (xs : List ℕ) (i m y : ℕ) → i < length xs → m ≡ get_or xs i 0 → y < m
+    → sum (set xs i y) + 1 ≤ sum xs
 sum_less xs i m y h is less =
     omega (arith, sum_by-set (λ (x : ℕ). x) xs i y 0 h, sum_by_itself xs, sum_by_itself (set xs i y))
 
@@ -310,8 +317,9 @@ read_kept from to n start next w m r = record {
 }
 
 -- where no number is open and all have been seen, the order is whole
-pub order_from_search : (E : ℕ → ℕ → Type 0) (n : ℕ) (start path out : List ℕ) → IsSearch E n start path out
-    → path ≡ [] → ((x : ℕ) → x < n → 0 < get_or start x 0) → IsFinishOrder E n out
+pub order_from_search : (E : ℕ → ℕ → Type 0) (n : ℕ) (start path out : List ℕ)
+    → IsSearch E n start path out → path ≡ [] → ((x : ℕ) → x < n → 0 < get_or start x 0)
+    → IsFinishOrder E n out
 order_from_search E n start path out s none all = record {
   inside = λ q h. (s.out_in q h).0;
   all = λ x h. elim (s.seen x h (all x h)) [

@@ -38,7 +38,9 @@ pub record IsReach (E : ℕ → ℕ → Type 0) (n : ℕ) (component start lists
   pub inside : (x : ℕ) → x < n → slice_index start (slice_index component x + 1) ≤ length lists
   pub lists_in : (k : ℕ) → k < length lists → slice_index lists k < n
   pub sound : (x y : ℕ) → x < n
-      → IsWithin lists (slice_index start (slice_index component x)) (slice_index start (slice_index component x + 1)) y
+      → IsWithin lists (slice_index start (slice_index component x))
+      (slice_index start (slice_index component x + 1)) y
       → Goes E x y
   pub complete : (x y : ℕ) → x < n → Goes E x y
-      → IsWithin lists (slice_index start (slice_index component x)) (slice_index start (slice_index component x + 1)) y
+      → IsWithin lists (slice_index start (slice_index component x))
+      (slice_index start (slice_index component x + 1)) y

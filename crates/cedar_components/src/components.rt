@@ -5,6 +5,7 @@ ghost use Rattle.cedar_components.specs.laws.Arcs.{IsArc};
 ghost use Rattle.cedar_components.specs.laws.Components.{
   AreComponents,
   Gathers,
+  HasArcToPlace,
   HasComponent,
   IsGathered,
   IsGathering,
@@ -41,12 +42,16 @@ fn join(s: &mut Components, v: usize, b: usize) -> Result<(), AllocError>
 }
 
 // Gives a number that leads to the queue's number at `i` its component, if it has none.
-fn meet(g: &Searched, s: &mut Components, b: usize, i: usize, v: usize) -> Result<(), AllocError>
-    requires state { IsGathering g.now b i s.old }
-    requires in_queue { i < length s.old.queue.items }
-    requires within { v < g.now.numbers }
-    requires edge { IsArc g.now.arcs v (slice_index s.old.queue.items i) }
-    ensures gathers { OnOk result (Gathers g.now b i s.old s.new) }
+fn meet(
+    graph: &Searched,
+    s: &mut Components,
+    b: usize,
+    i: usize,
+    v: usize,
+) -> Result<(), AllocError>
+    requires state { IsGathering graph.now b i s.old }
+    requires arc { HasArcToPlace graph.now s.old i v }
+    ensures gathers { OnOk result (Gathers graph.now b i s.old s.new) }
     ensures same { OnOk result (slice_index s.new.queue.items i ≡ slice_index s.old.queue.items i) }
     ensures met { OnOk result (HasComponent s.new v) }
 {
@@ -58,34 +63,34 @@ fn meet(g: &Searched, s: &mut Components, b: usize, i: usize, v: usize) -> Resul
 }
 
 // Gives all that leads to the queue's number at `i` its component.
-fn spread(g: &Searched, s: &mut Components, b: usize, i: usize) -> Result<(), AllocError>
-    requires state { IsGathering g.now b i s.old }
+fn spread(graph: &Searched, s: &mut Components, b: usize, i: usize) -> Result<(), AllocError>
+    requires state { IsGathering graph.now b i s.old }
     requires in_queue { i < length s.old.queue.items }
-    ensures { OnOk result (Gathers g.now b (i + 1) s.old s.new) }
+    ensures { OnOk result (Gathers graph.now b (i + 1) s.old s.new) }
 {
-    let head = g.arcs.head;
-    let link = g.arcs.link;
-    let from = g.arcs.from;
+    let head = graph.arcs.head;
+    let link = graph.arcs.link;
+    let from = graph.arcs.from;
     let x = s.queue[i];
     let mut p = head[x];
     while p > 0 {
-        meet(g, s, b, i, from[p - 1])?;
+        meet(graph, s, b, i, from[p - 1])?;
         p = link[p - 1];
     }
     Ok(())
 }
 
 // Makes the component of a root.
-fn gather(g: &Searched, s: &mut Components, b: usize) -> Result<(), AllocError>
-    requires state { IsGathered g.now b s.old }
+fn gather(graph: &Searched, s: &mut Components, b: usize) -> Result<(), AllocError>
+    requires state { IsGathered graph.now b s.old }
     requires some { 0 < b }
-    requires fresh { slice_index s.old.component.items (slice_index g.now.order.now (b - 1)) ≡ 0 }
-    ensures { OnOk result (IsGathered g.now (b - 1) s.new) }
+    requires fresh { slice_index s.old.component.items (slice_index graph.now.order.now (b - 1)) ≡ 0 }
+    ensures { OnOk result (IsGathered graph.now (b - 1) s.new) }
 {
-    join(s, g.order[b - 1], b)?;
+    join(s, graph.order[b - 1], b)?;
     let mut i = 0;
     while i < s.queue.len() {
-        spread(g, s, b, i)?;
+        spread(graph, s, b, i)?;
         i += 1;
     }
     s.queue.clear();
@@ -94,19 +99,19 @@ fn gather(g: &Searched, s: &mut Components, b: usize) -> Result<(), AllocError>
 
 // The component of each number: those of one component lead to one another, and an edge never
 // leads to a higher component.
-pub(crate) fn make_components(alloc: Global, g: &Searched) -> Result<Vec<usize>, AllocError>
-    requires { IsSearched g.now }
+pub(crate) fn make_components(alloc: Global, graph: &Searched) -> Result<Vec<usize>, AllocError>
+    requires { IsSearched graph.now }
     ensures { IfOk result (λ component.
-        AreComponents (IsArc g.now.arcs) g.now.numbers (length g.now.order.now) component.items) }
+        AreComponents (IsArc graph.now.arcs) graph.now.numbers (length graph.now.order.now) component.items) }
 {
     let mut s = Components {
-        component: vec![in alloc; 0; g.numbers]?,
+        component: vec![in alloc; 0; graph.numbers]?,
         queue: Vec::new(alloc),
     };
-    let mut b = g.order.len();
+    let mut b = graph.order.len();
     while b > 0 {
-        if s.component[g.order[b - 1]] == 0 {
-            gather(g, &mut s, b)?;
+        if s.component[graph.order[b - 1]] == 0 {
+            gather(graph, &mut s, b)?;
         }
         b -= 1;
     }

@@ -14,7 +14,8 @@ pub record AreLinksTo (ends : List ℕ) (m : ℕ) (head link : List ℕ) (n : �
   pub link_in : (k : ℕ) → k < m → slice_index link k ≤ k
   pub link_end : (k : ℕ) → k < m → 0 < slice_index link k
       → slice_index ends (slice_index link k - 1) ≡ slice_index ends k
-  pub link_all : (j k : ℕ) → k < m → j < k → slice_index ends j ≡ slice_index ends k → j < slice_index link k
+  pub link_all : (j k : ℕ) → k < m → j < k → slice_index ends j ≡ slice_index ends k
+      → j < slice_index link k
 
 -- the chains of the whole list
 abbrev pub AreLinks : List ℕ → List ℕ → List ℕ → ℕ → Type 0

@@ -1,5 +1,6 @@
 -- What the components keep while they are made.
-use Rattle.std.specs.Prelude.{◌≡◌, ℕ, ◌+◌, ◌-◌, ◌*◌, ◌<◌, ◌≤◌, ◌⊎◌, ◌==◌, if◌then◌else◌, List, ◌∷◌, [], ◌++◌}
+use Rattle.std.specs.Prelude.{◌≡◌, ℕ, ◌+◌, ◌-◌, ◌*◌, ◌<◌, ◌≤◌, ◌⊎◌, ◌==◌}
+use Rattle.std.specs.Prelude.{List, ◌∷◌, [], ◌++◌, if◌then◌else◌}
 use Rattle.std.specs.Prelude.{length, slice_index, slice_set, sum_by}
 use Rattle.cedar_components.specs.Reach.{Leads}
 use Rattle.cedar_components.specs.laws.Numbers.{IsFrom}
@@ -15,8 +16,8 @@ is_zero x = if x == 0 then 1 else 0
 -- component has, for each number that has a component, one more than the place of the component's root in the order,
 -- and 0 for the others; the places from b on are done, and the component of the place before b is in the making: what
 -- leads to a number of the queue from place i on may still be without a component
-pub record AreComponentsFrom (E : ℕ → ℕ → Type 0) (n : ℕ) (out : List ℕ) (b : ℕ) (component queue : List ℕ)
-    (i : ℕ) : Type 0 where
+pub record AreComponentsFrom (E : ℕ → ℕ → Type 0) (n : ℕ) (out : List ℕ) (b : ℕ)
+    (component queue : List ℕ) (i : ℕ) : Type 0 where
   pub component_len : length component ≡ n
   pub component_in : (x : ℕ) → x < n → slice_index component x ≤ length out
   pub above : (x : ℕ) → x < n → 0 < slice_index component x → b ≤ slice_index component x
@@ -70,6 +71,12 @@ pub record Joins (v b : ℕ) (old new : Components) : Type 0 where
 -- what is left to do: numbers without a component count twice, those of the queue once
 abbrev pub work_left : Components → ℕ
 work_left s = 2 * sum_by is_zero s.component.items + length s.queue.items
+
+-- number v has an arc to the queue's number at place i
+pub record HasArcToPlace (g : Searched) (s : Components) (i v : ℕ) : Type 0 where
+  pub in_queue : i < length s.queue.items
+  pub within : v < g.numbers
+  pub arc : IsArc g.arcs v (slice_index s.queue.items i)
 
 -- the component grows, up to place i of the queue
 pub record Gathers (g : Searched) (b i : ℕ) (old new : Components) : Type 0 where

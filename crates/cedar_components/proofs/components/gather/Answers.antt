@@ -7,7 +7,7 @@ use Rattle.cedar_components.proofs.components.gather.Goals as goal
 
 pub loop-i-init : goal.loop-i-init
 loop-i-init c =
-    let g = c.args.g.now in
+    let g = c.args.graph.now in
     let b = c.args.b in
     let s = c.args.s.now in
     let t = c.join.new.s in
@@ -26,7 +26,7 @@ loop-i-init c =
 
 pub returns : goal.returns
 returns c =
-    let g = c.args.g.now in
+    let g = c.args.graph.now in
     let s = c.loop-i.s in
     let i = c.loop-i.invariant in
     let whole : length s.queue.items ≤ c.loop-i.i = grind (arith, common_steps) in

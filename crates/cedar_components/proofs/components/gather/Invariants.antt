@@ -5,8 +5,8 @@ use Rattle.cedar_components.proofs.components.gather.Given as goal
 abbrev pub invariant-loop-i : goal.invariant-loop-i
 invariant-loop-i l = record {
   bound : l.i ≤ length l.s.queue.items;
-  state : IsGathering l.g l.b l.i l.s;
-  root : HasComponent l.s (slice_index l.g.order.now (l.b - 1));
+  state : IsGathering l.graph l.b l.i l.s;
+  root : HasComponent l.s (slice_index l.graph.order.now (l.b - 1));
 }
 
 abbrev pub decreases-loop-i : goal.decreases-loop-i

@@ -7,7 +7,7 @@ use Rattle.cedar_components.proofs.components.make_components.Goals.{then-index-
 
 pub returns : goal.returns
 returns c =
-    let g = c.args.g.now in
+    let g = c.args.graph.now in
     let i = c.loop-b.invariant in
     let done : c.loop-b.b ≡ 0 = omega arith in
     components_from_all (IsArc g.arcs) g.numbers g.order.now c.loop-b.s.component.items (rw done at i.components)
@@ -15,7 +15,7 @@ returns c =
 
 pub loop-b-preserved : goal.loop-b-preserved
 loop-b-preserved c =
-    let g = c.args.g.now in
+    let g = c.args.graph.now in
     let i = c.loop-b.invariant in
     let s = c.loop-b.s in
     let b = c.loop-b.b in

@@ -9,7 +9,7 @@ pub loop-p-preserved : goal.loop-p-preserved
 loop-p-preserved c =
     let i = c.loop-p.invariant in
     let e = c.in_ok-meet.ensures in
-    let g = c.args.g.now in
+    let g = c.args.graph.now in
     let to = g.arcs.to.now in
     let head = g.arcs.head.now in
     let link = g.arcs.link.now in
@@ -33,14 +33,16 @@ loop-p-preserved c =
         | inr above ↦ e.gathers.stays (get_or g.arcs.from.now j 0) (i.read j above j_in at_x)
         | inl below ↦ elim (cases_eq j (p - 1)) [
           | inl same ↦ rw same e.met
-          | inr ne ↦ let lower = links.link_all j (p - 1) within (omega arith) (at_x ∙ sym is) in absurd (omega arith)
+          | inr ne ↦
+              let lower = links.link_all j (p - 1) within (omega arith) (at_x ∙ sym is) in
+              absurd (omega arith)
         ]
       ];
     }
 
 pub returns : goal.returns
 returns c =
-    let g = c.args.g.now in
+    let g = c.args.graph.now in
     let s = c.loop-p.s in
     let i = c.loop-p.invariant in
     let h = i.gathers.state in
