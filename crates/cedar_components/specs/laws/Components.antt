@@ -40,12 +40,12 @@ pub record AreComponents (E : ℕ → ℕ → Type 0) (n count : ℕ) (component
   pub mutual_ : (x y : ℕ) → x < n → y < n → slice_index component x ≡ slice_index component y → Leads E x y
   pub down : (x y : ℕ) → x < n → y < n → E x y → slice_index component y ≤ slice_index component x
 
--- the order is one in which a search finishes the numbers
+-- the arcs have the chains of those that they lead to, and the order is one in which a search finishes the numbers
 pub record IsSearched (g : Searched) : Type 0 where
   pub arcs : AreBackward g.arcs g.numbers
   pub order : IsFinishOrder (IsArc g.arcs) g.numbers g.order.now
 
--- the components of the places from b on are made
+-- the components of the places from b on are made, and the queue is empty
 pub record IsGathered (g : Searched) (b : ℕ) (s : Components) : Type 0 where
   pub searched : IsSearched g
   pub in_order : b ≤ length g.order.now
