@@ -254,13 +254,27 @@ impl Entity {
         }) }
     {
         let parents = UidSet::from_pointers(parents)?;
-        Ok(Entity {
+        Ok(Entity::with_parent_set(alloc, uid, parents))
+    }
+
+    /// An entity with a uid, these parents and nothing else. It takes no memory, and costs the same however many
+    /// parents there are. It is our own.
+    pub fn with_parent_set(alloc: Global, uid: EntityUID, parents: UidSet) -> Entity
+        ensures { result ≡ record {
+          uid = uid;
+          attrs = [];
+          tags = [];
+          parents = parents;
+          indirect = set.empty;
+        } }
+    {
+        Entity {
             uid,
             attrs: BTreeMap::new(alloc),
             indirect_ancestors: UidSet::new(alloc),
             parents,
             tags: BTreeMap::new(alloc),
-        })
+        }
     }
 
     /// The uid. It takes no memory.

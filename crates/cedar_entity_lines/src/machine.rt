@@ -17,7 +17,7 @@ use cedar_graph::TcError;
 use cedar_ids::entity::EntityUID;
 use cedar_lines::writing::push_line;
 use cedar_slice::slice;
-use cedar_uid_sets::{SharedUid, Union};
+use cedar_uid_sets::{SharedUid, UidSet, Union};
 use std::alloc::{AllocError, Global};
 use std::hash::{BuildHasher, BuildHasherDefault, FoldHasher};
 use std::marker::Model;
@@ -148,8 +148,8 @@ impl<S: BuildHasher + Copy> LineStore<S> {
         ensures { OnOk result ((s : EntityState) → Holds self.old s → AreAsciiUids (uid ∷ parents.items) →
             (out : List ℕ) → EntityWrites (Ent uid parents.items) s self.new out out) }
     {
-        let entity = Entity::with_shared_parents(alloc, uid, parents)?;
-        let entity = Rc::new(alloc, entity)?;
+        let parents = UidSet::from_pointers(parents)?;
+        let entity = Rc::new(alloc, Entity::with_parent_set(alloc, uid, parents))?;
         self.waiting.push(entity)?;
         Ok(())
     }

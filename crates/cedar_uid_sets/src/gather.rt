@@ -21,15 +21,19 @@ fn gathered(uids: Vec<SharedUid>) -> Result<UidSet, AllocError>
 impl UidSet {
     /// The set of shared uids in any order, of which some may be equal.
     ///
-    /// Where they ascend, each once, the vector is taken as it is, after a comparison a uid, and no memory is taken.
-    /// Else they are sorted and put in one after another: that takes memory, and is refused only where that is.
+    /// Where no two are equal the vector is taken, and no memory: after a comparison a uid where they ascend, and else
+    /// once they are sorted. Where two are equal they are put in one after another: that takes memory, and is refused
+    /// only where that is.
     pub fn from_pointers(mut uids: Vec<SharedUid>) -> Result<UidSet, AllocError>
         ensures { IfOk result (λ s. s ≡ set.from_list uids.items) }
     {
         if ascend(&uids) {
             return Ok(UidSet::from_ascending(uids));
         }
-        uids.sort()?;
+        uids.sort_unstable();
+        if ascend(&uids) {
+            return Ok(UidSet::from_ascending(uids));
+        }
         gathered(uids)
     }
 }

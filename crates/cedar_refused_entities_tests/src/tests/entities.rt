@@ -22,7 +22,8 @@ const MAKING: &str = "
     Entity::new_with_attr_partial_value | a c b / d / k=2 k=1 / t=1 | a b c / d / k=1 / t=1
     - Entity::new_with_attr_partial_value | a | a / / /
     - Entity::with_shared_parents | a, b c | a b c / / /
-    Entity::with_shared_parents | a, c b | a b c / / /
+    - Entity::with_shared_parents | a, c b | a b c / / /
+    Entity::with_shared_parents | a, c b c | a b c / / /
     Entity::clone | a b / c / k=1 / | a b / c / k=1 /
     Entity::clone | a | a / / /
     - SharedEntity::clone | a

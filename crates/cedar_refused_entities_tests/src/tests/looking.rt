@@ -8,6 +8,7 @@ use cedar_entity::entity::Entity;
 use cedar_graph::TCNode;
 use cedar_ids::entity::EntityUID;
 use cedar_refusals::{both, refuse, relent};
+use cedar_uid_sets::UidSet;
 use std::alloc::Global;
 
 // Whether the entity with a uid is found in a store.
@@ -104,15 +105,18 @@ fn takes_apart(mut entity: Entity, parent: &EntityUID) -> bool {
 }
 
 fn reads_an_entity(alloc: Global) -> bool {
-    let made = both(entity(alloc, "a b / c / k=1 / t=1"), uid_of(alloc, "d"));
+    let others = both(uid_of(alloc, "d"), uid_of(alloc, "e"));
+    let made = both(entity(alloc, "a b / c / k=1 / t=1"), others);
     match both(made, uid_of(alloc, "b")) {
-        Some(((entity, other), parent)) => {
+        Some(((entity, (other, further)), parent)) => {
             refuse(alloc, 0);
             let read = is_entity_read(&entity, &parent);
             let apart = takes_apart(entity, &parent);
             let plain = Entity::with_uid(alloc, other);
-            let alone = walked(&plain) == 0;
+            let orphan = Entity::with_parent_set(alloc, further, UidSet::new(alloc));
+            let alone = walked(&plain) == 0 && walked(&orphan) == 0;
             drop(plain);
+            drop(orphan);
             let refused = relent(alloc);
             drop(parent);
             read && apart && alone && !refused

@@ -75,6 +75,7 @@ struct OnSets;
 const SETS: &str = "
     UidSet::from_set | b a c | a b c
     - UidSet::from_pointers | a b c | a b c
+    - UidSet::from_pointers | c a b | a b c
     UidSet::from_pointers | c a b a | a b c
     UidSet::insert | a b, c | a b c
     UidSet::insert | b c d e, a | a b c d e
