@@ -36,7 +36,7 @@ fn leads<K: Eq + Display + Drop, V: TCNode<K>>(
     Ok(text)
 }
 
-// Writes how many edges a node has, and how many direct ones.
+// Writes how many edges a node has, and how many direct ones, and whether it says that it has none.
 fn put_counts<K: Eq + Drop, V: TCNode<K>>(
     alloc: Global,
     text: &mut String,
@@ -45,6 +45,7 @@ fn put_counts<K: Eq + Drop, V: TCNode<K>>(
     let all = node.out_edges(alloc)?.len();
     let direct = node.direct_edges(alloc)?.len();
     write!(text, "; {all} {direct}")?;
+    put_word(text, if node.may_have_edges() { "" } else { " bare" })?;
     Ok(())
 }
 

@@ -203,6 +203,12 @@ const NODES: &str =
 plain uids: A.a A.b | A.c; A.a A.b A.c => A::\"a\" no yes yes; 2 1; 3 1; 1 1\n\
 plain uids: A.a A.b | A.c; A.d A.b => A::\"a\" no yes; 2 1; 3 1; 1 1\n\
 plain shared uids: A.a A.b | A.c; A.d A.b => A::\"a\" no yes; 2 1; 3 1; 1 1\n\
+# one without an edge says so, and no other\n\
+plain uids: A.a; A.b => A::\"a\" no; 0 0 bare; 1 0; 0 0 bare\n\
+plain shared uids: A.a; A.b => A::\"a\" no; 0 0 bare; 1 0; 0 0 bare\n\
+plain uids: A.a | A.c; A.b => A::\"a\" no; 1 0; 2 0; 0 0 bare\n\
+counted uids: A.a; A.b => A::\"a\" no; 0 0 bare; 1 0; 0 0 bare; 0 stay\n\
+counted shared uids: A.a; A.b => A::\"a\" no; 0 0 bare; 1 0; 0 0 bare; 0 stay\n\
 # one that shares an entity grows apart\n\
 counted uids: A.a A.b | A.c; A.a A.b A.c => A::\"a\" no yes yes; 2 1; 3 1; 1 1; 2 stay\n\
 counted uids: A.a A.b | A.c; A.d A.b => A::\"a\" no yes; 2 1; 3 1; 1 1; 2 stay\n\
