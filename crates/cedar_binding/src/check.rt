@@ -32,7 +32,7 @@ pub fn check_bindings(alloc: Global, slots: &[Slot], values: &SlotEnv) -> Result
     }
     match wrong_action(values) {
         None => Ok(()),
-        Some(uid) => Err(LinkingError::NotAnAction { uid: copy_of(uid)? }),
+        Some(uid) => Err(LinkingError::NotAnAction { uid: uid.clone()? }),
     }
 }
 
@@ -89,13 +89,6 @@ fn wrong_action(values: &SlotEnv) -> Option<&EntityUID>
             Some(uid)
         }
     }
-}
-
-// A copy of a uid.
-fn copy_of(uid: &EntityUID) -> Result<EntityUID, AllocError>
-    ensures { IfOk result (λ copy. copy ≡ uid.now) }
-{
-    uid.clone()
 }
 
 // Whether nothing is left over.

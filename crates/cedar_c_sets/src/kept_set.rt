@@ -284,23 +284,12 @@ impl<S: BuildHasher + Copy> KeptSet<S> {
     {
         let mut set = self.set.clone()?;
         match set.merge_policyset(alloc, &other.set, rename) {
-            Ok(renaming) => match texts_of_renaming(alloc, &renaming) {
-                Ok(answer) => {
-                    drop(renaming);
-                    self.answer = answer;
-                    self.set = set;
-                    Ok(())
-                }
-                Err(_want) => {
-                    drop(renaming);
-                    drop(set);
-                    Err(Reason::NoMemory)
-                }
-            },
-            Err(error) => {
-                drop(set);
-                Err(self.refuse(by_set(alloc, &error)))
+            Ok(renaming) => {
+                self.answer = texts_of_renaming(alloc, &renaming)?;
+                self.set = set;
+                Ok(())
             }
+            Err(error) => Err(self.refuse(by_set(alloc, &error))),
         }
     }
 

@@ -93,10 +93,10 @@ abbrev pub KeepsTexts : {A B H : Type 0} → Result A Reason → KeptStore B H �
 KeepsTexts r i j = (j.answer ≡ i.answer) × KeepsRefusal r i.refusal.items j.refusal.items
 
 -- what a call gave is kept: the store; or the error is told, and what is kept is the store without entities
-abbrev pub Settles : {A B H : Type 0} → Result StoreView EntitiesError → Result A Reason → KeptStore B H → Type 0
-Settles (Ok S) (Ok a) k = k.store ≡ S
-Settles (Err e) (Err w) k = (k.store ≡ empty_store) × IsToldBy e w k.refusal.items
-Settles given answer k = ⊥
+abbrev pub KeepsGiven : {A B H : Type 0} → Result StoreView EntitiesError → Result A Reason → KeptStore B H → Type 0
+KeepsGiven (Ok S) (Ok a) k = k.store ≡ S
+KeepsGiven (Err e) (Err w) k = (k.store ≡ empty_store) × IsToldBy e w k.refusal.items
+KeepsGiven given answer k = ⊥
 
 -- what adding a list to a store gives
 pub record AddGives (m : TCComputation) (L : List EntityView) (S : StoreView)
@@ -122,15 +122,15 @@ pub record RemoveGives (m : TCComputation) (U : List EntityUID) (S : StoreView)
 -- a list is added to a store, put over it, or uids are taken out of it, and what that gives is kept
 abbrev pub Adds : {A B H : Type 0} → TCComputation → List EntityView → StoreView → Result A Reason → KeptStore B H
     → Type 0
-Adds m L S r k = (given : Result StoreView EntitiesError) × AddGives m L S given × Settles given r k
+Adds m L S r k = (given : Result StoreView EntitiesError) × AddGives m L S given × KeepsGiven given r k
 
 abbrev pub Upserts : {A B H : Type 0} → TCComputation → List EntityView → StoreView → Result A Reason → KeptStore B H
     → Type 0
-Upserts m L S r k = (given : Result StoreView EntitiesError) × UpsertGives m L S given × Settles given r k
+Upserts m L S r k = (given : Result StoreView EntitiesError) × UpsertGives m L S given × KeepsGiven given r k
 
 abbrev pub Removes : {A B H : Type 0} → TCComputation → List EntityUID → StoreView → Result A Reason → KeptStore B H
     → Type 0
-Removes m U S r k = (given : Result StoreView EntitiesError) × RemoveGives m U S given × Settles given r k
+Removes m U S r k = (given : Result StoreView EntitiesError) × RemoveGives m U S given × KeepsGiven given r k
 
 -- entities that lists say become the store, are added to it or put over it, in the mode of a number; or that is not
 -- read

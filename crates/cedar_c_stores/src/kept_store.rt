@@ -5,7 +5,7 @@ ghost use Rattle.cedar_entities.specs.Plain.{IsPlainStore, entities_in};
 ghost use Rattle.cedar_entities.specs.World.{empty_world};
 ghost use Rattle.cedar_entity.specs.View.{has_ancestor};
 ghost use Rattle.cedar_c_stores.specs.Stores.{Adds, Asks, AsksFor, Copies, IsAbove, IsParent, IsSlice, IsToldBy};
-ghost use Rattle.cedar_c_stores.specs.Stores.{IsUntold, KeepsTexts, Listing, Removes, Settles, SlicesAt, Upserts};
+ghost use Rattle.cedar_c_stores.specs.Stores.{IsUntold, KeepsGiven, KeepsTexts, Listing, Removes, SlicesAt, Upserts};
 ghost use Rattle.cedar_c_stores.specs.Stores.{Validates, empty_store, has_parent};
 ghost use Rattle.cedar_c_lists.specs.Texts.{AreTextsOf, IsTextOf};
 ghost use Rattle.cedar_c_lists.specs.declared.reason.Reason.TheVariants as reasons;
@@ -103,12 +103,12 @@ impl<S: BuildHasher + Copy> KeptStore<S> {
     }
 
     // What a call gave is kept.
-    fn settle(
+    fn keep_given(
         &mut self,
         alloc: Global,
         given: Result<Entities<S>, EntitiesError>,
     ) -> Result<(), Reason>
-        ensures settles { Settles given result self.new }
+        ensures keeps { KeepsGiven given result self.new }
         ensures texts { KeepsTexts result self.old self.new }
     {
         match given {
@@ -135,7 +135,7 @@ impl<S: BuildHasher + Copy> KeptStore<S> {
     {
         let store = mem::replace(&mut self.store, Entities::with_hasher(alloc, self.hasher));
         let given = store.add_entities(alloc, list, mode);
-        self.settle(alloc, given)
+        self.keep_given(alloc, given)
     }
 
     // Entities become the store: it is what adding them to the store without entities gives. A refusal leaves the store
@@ -166,7 +166,7 @@ impl<S: BuildHasher + Copy> KeptStore<S> {
     {
         let store = mem::replace(&mut self.store, Entities::with_hasher(alloc, self.hasher));
         let given = store.upsert_entities(alloc, list, mode);
-        self.settle(alloc, given)
+        self.keep_given(alloc, given)
     }
 
     // Takes entities out, as `Entities::remove_entities` does. A refusal leaves the store without entities. Takes
@@ -182,7 +182,7 @@ impl<S: BuildHasher + Copy> KeptStore<S> {
     {
         let store = mem::replace(&mut self.store, Entities::with_hasher(alloc, self.hasher));
         let given = store.remove_entities(alloc, uids, mode);
-        self.settle(alloc, given)
+        self.keep_given(alloc, given)
     }
 
     /// Whether the store has an entity with the uid that a text is. Takes memory for the uid.

@@ -26,14 +26,12 @@ ghost use Rattle.cedar_entities.specs.World.{World, empty_world, graph};
 use crate::dereference::{Dereference, unknown_of};
 use crate::incoming::{Incoming, shared_all, stays_plain, uids_in, with_uids};
 use crate::index::{Index, forget, join, leave, list_if_it_pays, touched_by};
-use crate::settling::{check, mend, settle, settle_whole};
+use crate::settling::{check, mend, settle_touched, settle_whole};
 use crate::sought::listed;
 use crate::store_iters::{IntoIter, Iter};
 use crate::store_same::{have_deep_equals, have_keys_of};
 use crate::store_valid::check_each;
-use crate::touching::{
-    absent_uids, held_uids, losses_by, note_all, plain_copy_of, pointers_of, strip_each,
-};
+use crate::touching::{absent_uids, held_uids, losses_by, note_all, pointers_of, strip_each};
 use cedar_entity::entity::Entity;
 use cedar_entity::err::EntitiesError;
 use cedar_entity::node::SharedEntity;
@@ -112,7 +110,7 @@ fn put_new<S: BuildHasher>(
     let Incoming { uid, entity } = coming;
     if let Some(present) = entities.get(&uid) {
         if !present.0.deep_eq(&entity) {
-            return Err(EntitiesError::Duplicate(plain_copy_of(uid.uid())?));
+            return Err(EntitiesError::Duplicate(uid.uid().clone()?));
         }
         return Ok(());
     }
@@ -237,7 +235,7 @@ fn add_to<S: BuildHasher + Clone>(
     put_all(entities, list)?;
     let touched = touched_by(alloc, entities, index, &inserted)?;
     join(alloc, index, entities, &joining);
-    settle(alloc, entities, &touched, tc_computation)
+    settle_touched(alloc, entities, &touched, tc_computation)
 }
 
 // Adds entities.
@@ -416,7 +414,7 @@ impl<S: BuildHasher + Clone> Entities<S> {
         let stays = stays_plain(tc_computation, &coming);
         overwrite_all(&mut entities, coming)?;
         join(alloc, &mut index, &entities, &joining);
-        settle(alloc, &mut entities, &touched, tc_computation)?;
+        settle_touched(alloc, &mut entities, &touched, tc_computation)?;
         Ok(Entities {
             entities,
             partial,

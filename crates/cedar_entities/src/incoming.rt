@@ -6,7 +6,6 @@ ghost use Rattle.cedar_entities.specs.Plain.{AreBare, IsBare, entities_in};
 
 use crate::entities::TCComputation;
 use crate::settling::computes;
-use crate::touching::copy_of;
 use cedar_entity::entity::Entity;
 use cedar_uid_sets::SharedUid;
 use std::alloc::{AllocError, Global};
@@ -70,7 +69,7 @@ pub(crate) fn uids_in(alloc: Global, list: &[Incoming]) -> Result<Vec<SharedUid>
 {
     let mut uids = Vec::new(alloc);
     for entity in list {
-        uids.push(copy_of(&entity.uid)?)?;
+        uids.push(entity.uid.clone()?)?;
     }
     Ok(uids)
 }

@@ -14,7 +14,7 @@ ghost use Rattle.cedar_entities.specs.laws.Held.{held, held_map};
 ghost use Rattle.cedar_entities.specs.laws.Indexes.{HasChildren, IsIndexOf, is_parent_at, parentage};
 
 use crate::sought::listed;
-use crate::touching::{copy_of, note_all, touched_by_any};
+use crate::touching::{note_all, touched_by_any};
 use cedar_children::Children;
 use cedar_entity::err::EntitiesError;
 use cedar_entity::node::SharedEntity;
@@ -74,7 +74,7 @@ fn keys_in_order<S: BuildHasher>(
 {
     let mut keys = Vec::new(alloc);
     for (key, _) in entities {
-        keys.push(copy_of(key)?)?;
+        keys.push(key.clone()?)?;
     }
     let set = UidSet::from_pointers(keys)?;
     Ok(set.into_pointers())

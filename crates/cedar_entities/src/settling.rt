@@ -45,7 +45,7 @@ pub(crate) fn check<S: BuildHasher>(
 }
 
 // Gives the entities that are touched the ancestors that they reach.
-fn repair<S: BuildHasher + Clone>(
+fn repair_touched<S: BuildHasher + Clone>(
     alloc: Global,
     entities: &mut HashMap<SharedUid, SharedEntity, S>,
     touched: &HashSet<SharedUid, S>,
@@ -66,7 +66,7 @@ fn repair<S: BuildHasher + Clone>(
 }
 
 // Ends an adding or an overwriting, as the mode says.
-pub(crate) fn settle<S: BuildHasher + Clone>(
+pub(crate) fn settle_touched<S: BuildHasher + Clone>(
     alloc: Global,
     entities: &mut HashMap<SharedUid, SharedEntity, S>,
     touched: &HashSet<SharedUid, S>,
@@ -83,13 +83,13 @@ pub(crate) fn settle<S: BuildHasher + Clone>(
     match tc_computation {
         TCComputation::AssumeAlreadyComputed => Ok(()),
         TCComputation::EnforceAlreadyComputed => check(alloc, entities),
-        TCComputation::ComputeNow => repair(alloc, entities, touched, true),
+        TCComputation::ComputeNow => repair_touched(alloc, entities, touched, true),
     }
 }
 
 // Gives all entities the ancestors that they reach, and refuses where one reaches itself. So all that a map held where
 // it was empty before is repaired, whatever passes for touched.
-fn close<S: BuildHasher + Clone>(
+fn close_whole<S: BuildHasher + Clone>(
     alloc: Global,
     entities: &mut HashMap<SharedUid, SharedEntity, S>,
 ) -> Result<(), EntitiesError>
@@ -129,7 +129,7 @@ pub(crate) fn settle_whole<S: BuildHasher + Clone>(
     match tc_computation {
         TCComputation::AssumeAlreadyComputed => Ok(()),
         TCComputation::EnforceAlreadyComputed => check(alloc, entities),
-        TCComputation::ComputeNow => close(alloc, entities),
+        TCComputation::ComputeNow => close_whole(alloc, entities),
     }
 }
 
@@ -149,11 +149,11 @@ pub(crate) fn mend<S: BuildHasher + Clone>(
     ensures named { IfErr result (λ e. WhereComputed tc_computation (NamesOneOf (contains same_uid touched.now) e)) }
 {
     match tc_computation {
-        TCComputation::AssumeAlreadyComputed => repair(alloc, entities, touched, false),
+        TCComputation::AssumeAlreadyComputed => repair_touched(alloc, entities, touched, false),
         TCComputation::EnforceAlreadyComputed => {
-            repair(alloc, entities, touched, false)?;
+            repair_touched(alloc, entities, touched, false)?;
             check(alloc, entities)
         }
-        TCComputation::ComputeNow => repair(alloc, entities, touched, true),
+        TCComputation::ComputeNow => repair_touched(alloc, entities, touched, true),
     }
 }

@@ -7,7 +7,6 @@ ghost use Rattle.cedar_ids.specs.declared.entity.EntityUID.{EntityUID};
 ghost use Rattle.cedar_entity.specs.View.{has_ancestor};
 ghost use Rattle.cedar_entities.specs.laws.Losses.{is_stripped};
 
-use crate::touching::copy_of;
 use cedar_entity::entity::Entity;
 use cedar_uid_sets::SharedUid;
 use std::alloc::{AllocError, Global};
@@ -99,7 +98,7 @@ pub(crate) fn listed<S: BuildHasher>(
 {
     let mut list = Vec::new(alloc);
     for uid in uids {
-        list.push(copy_of(uid)?)?;
+        list.push(uid.clone()?)?;
     }
     Ok(list)
 }
@@ -136,7 +135,7 @@ fn push_if(hits: &mut Vec<SharedUid>, uid: &SharedUid, is_hit: bool) -> Result<(
     if !is_hit {
         return Ok(());
     }
-    hits.push(copy_of(uid)?)?;
+    hits.push(uid.clone()?)?;
     Ok(())
 }
 

@@ -36,20 +36,6 @@ pub(crate) struct Loss {
     pub(crate) lost: UidSet,
 }
 
-// The uid, shared once more.
-pub(crate) fn copy_of(uid: &SharedUid) -> Result<SharedUid, AllocError>
-    ensures { IfOk result (λ copy. copy ≡ uid.now) }
-{
-    uid.clone()
-}
-
-// A copy of a uid.
-pub(crate) fn plain_copy_of(uid: &EntityUID) -> Result<EntityUID, AllocError>
-    ensures { IfOk result (λ copy. copy ≡ uid.now) }
-{
-    uid.clone()
-}
-
 // The uids of a set, each shared once more.
 pub(crate) fn pointers_of(uids: &UidSet) -> Result<Vec<SharedUid>, AllocError>
     ensures { IfOk result (λ v. (q : EntityUID) → is_member same_uid v.items q ≡ set.contains uids.now q) }
@@ -65,7 +51,7 @@ fn ancestors_of(alloc: Global, entity: &Entity) -> Result<Vec<SharedUid>, AllocE
     let mut all = Vec::new(alloc);
     let ancestors: Vec<&SharedUid> = entity.out_edges(alloc)?;
     for ancestor in ancestors {
-        all.push(copy_of(ancestor)?)?;
+        all.push(ancestor.clone()?)?;
     }
     Ok(all)
 }
@@ -80,7 +66,7 @@ fn with_ancestors(
         is_member same_uid v.items q ≡ (same_uid uid.now q || has_ancestor entity.now q)) }
 {
     let mut all = ancestors_of(alloc, entity)?;
-    all.push(copy_of(uid)?)?;
+    all.push(uid.clone()?)?;
     Ok(all)
 }
 
@@ -176,7 +162,7 @@ pub(crate) fn touched_by_any<S: BuildHasher>(
     let mut copies = Vec::new(alloc);
     for (key, node) in entities {
         if sought.has_any(&node.0) {
-            copies.push(copy_of(key)?)?;
+            copies.push(key.clone()?)?;
         }
     }
     Ok(copies)
@@ -212,7 +198,7 @@ fn with_counts<S: BuildHasher>(
     for uid in uids {
         all.push(Counted {
             count: count_at(entities, uid),
-            uid: copy_of(uid)?,
+            uid: uid.clone()?,
         })?;
     }
     Ok(all)
@@ -308,7 +294,7 @@ fn loss_of<S: BuildHasher + Clone>(
 {
     let hits = uids.hits(alloc, entity)?;
     let lost = lost_with_all(alloc, entities, &hits, transitive)?;
-    let uid = copy_of(key)?;
+    let uid = key.clone()?;
     Ok(Loss { uid, lost })
 }
 

@@ -123,13 +123,6 @@ impl StaticallyTyped for Entity {
     }
 }
 
-// A copy of a uid.
-fn copy_of(uid: &EntityUID) -> Result<EntityUID, AllocError>
-    ensures { IfOk result (λ copy. copy ≡ uid.now) }
-{
-    uid.clone()
-}
-
 // A copy of attributes or tags.
 fn copy_of_fields(
     fields: &BTreeMap<String, PartialValue>,
@@ -551,17 +544,17 @@ impl Entity {
     {
         match fault {
             Fault::SelfAncestor => {
-                let uid = copy_of(&self.uid)?;
+                let uid = self.uid.clone()?;
                 Err(EntitiesError::SelfAncestor { uid })
             }
             Fault::DuplicateAncestor(ancestor) => {
-                let ancestor = copy_of(ancestor)?;
-                let uid = copy_of(&self.uid)?;
+                let ancestor = ancestor.clone()?;
+                let uid = self.uid.clone()?;
                 Err(EntitiesError::DuplicateAncestor { uid, ancestor })
             }
             Fault::ActionParentIsNotAction(parent) => {
-                let parent = copy_of(parent)?;
-                let uid = copy_of(&self.uid)?;
+                let parent = parent.clone()?;
+                let uid = self.uid.clone()?;
                 Err(EntitiesError::ActionParentIsNotAction { uid, parent })
             }
             Fault::ReservedKey(key) => {

@@ -35,7 +35,7 @@ use Rattle.cedar_slice.specs.laws.OneSlice.{slice_edges}
 use Rattle.cedar_entity_lines.specs.EntityCommand.{Ent, Build, Add, Upsert, Remove, Slice, Anc}
 use Rattle.cedar_entity_lines.specs.EntityOutput.{EntityState, Adds, Overwrites, AreAncestors, ShowsAncestors, count_line, uid_text, field_of}
 use Rattle.cedar_entity_lines.specs.Holding.{StoreAndWaiting, IsAsciiUid, IsAsciiGiven, IsAsciiWorld, AreAsciiUids, Holds, EntityWrites}
-use Rattle.cedar_entity_lines.specs.laws.Machines.{Refused, Settles}
+use Rattle.cedar_entity_lines.specs.laws.Machines.{Refused, KeepsAndTells}
 use Rattle.cedar_entity_lines.specs.laws.OneAnswer.{all_at}
 use mathlib.Core.List.{append-nil}
 use Rattle.std.proofs.lemmas.List.{map-append}
@@ -220,27 +220,32 @@ settled n W none plain ascii = record {
 -- the store takes an adding
 pub add_takes : (m n : StoreAndWaiting) (s : EntityState) (list : List EntityView) (store : StoreView) (r : Result StoreView EntitiesError) (old new : List ℕ) → Holds m s → list ≡ m.waiting → store ≡ m.store → n.waiting ≡ []
     → ((W : World) → IsPlainStore W store → AreBare list → AddsPlain ComputeNow W (map given_of list) r)
-    → Settles r n old new → EntityWrites Add s n old new
-add_takes m n s list store (Ok S) old new h same at none adds settles =
+    → KeepsAndTells r n old new → EntityWrites Add s n old new
+add_takes m n s list store (Ok S) old new h same at none adds tells =
     let L : map given_of list ≡ s.waiting = ap (map given_of) same ∙ h.waiting in
     let bare = subst AreBare (sym same) h.bare in
     let before = subst (IsPlainStore s.world) (sym at) h.plain in
     let given = subst (λ l. AddsPlain ComputeNow s.world l (Ok S)) L (adds s.world before bare) in
     let plain : IsPlainStore (added s.world s.waiting) S = given.ok in
-    let k = settles (added s.world s.waiting) plain in (
+    let k = tells (added s.world s.waiting) plain in (
       record { waiting = []; world = added s.world s.waiting },
       count_line (added s.world s.waiting),
       (refl, inr (inr ((given.agree, (λ c. plain.acyclic c.0 c.1)), refl, refl))),
       settled n (added s.world s.waiting) none k.0 (added_ascii s.world s.waiting h.ascii_world h.ascii_waiting),
       k.1,
     )
-add_takes m n s list store (Err e) old new h same at none adds settles =
+add_takes m n s list store (Err e) old new h same at none adds tells =
     let L : map given_of list ≡ s.waiting = ap (map given_of) same ∙ h.waiting in
     let bare = subst AreBare (sym same) h.bare in
     let before = subst (IsPlainStore s.world) (sym at) h.plain in
     let given = subst (λ l. AddsPlain ComputeNow s.world l (Err e)) L (adds s.world before bare) in
-    let r = refused_adds s.world s.waiting e old new h.ascii_waiting given.err settles.1 in
-    (record { waiting = []; world = empty_world }, r.0, (refl, r.1), settled n empty_world none settles.0 empty_ascii, r.2)
+    let r = refused_adds s.world s.waiting e old new h.ascii_waiting given.err tells.1 in (
+      record { waiting = []; world = empty_world },
+      r.0,
+      (refl, r.1),
+      settled n empty_world none tells.0 empty_ascii,
+      r.2,
+    )
 
 -- a build is an adding to the store without entities
 pub build_takes : (m n : StoreAndWaiting) (s : EntityState) (old new : List ℕ) → Holds m s → n.waiting ≡ m.waiting → IsPlainStore empty_world n.store
@@ -252,34 +257,39 @@ build_takes m n s old new h same plain o takes =
 -- the store takes an overwriting
 pub upsert_takes : (m n : StoreAndWaiting) (s : EntityState) (list : List EntityView) (store : StoreView) (r : Result StoreView EntitiesError) (old new : List ℕ) → Holds m s → list ≡ m.waiting → store ≡ m.store → n.waiting ≡ []
     → ((W : World) → IsPlainStore W store → AreBare list → UpsertsPlain ComputeNow W (map given_of list) r)
-    → Settles r n old new → EntityWrites Upsert s n old new
-upsert_takes m n s list store (Ok S) old new h same at none upserts settles =
+    → KeepsAndTells r n old new → EntityWrites Upsert s n old new
+upsert_takes m n s list store (Ok S) old new h same at none upserts tells =
     let L : map given_of list ≡ s.waiting = ap (map given_of) same ∙ h.waiting in
     let bare = subst AreBare (sym same) h.bare in
     let before = subst (IsPlainStore s.world) (sym at) h.plain in
     let given = subst (λ l. UpsertsPlain ComputeNow s.world l (Ok S)) L (upserts s.world before bare) in
     let plain : IsPlainStore (overwritten s.world s.waiting) S = given.ok in
-    let k = settles (overwritten s.world s.waiting) plain in (
+    let k = tells (overwritten s.world s.waiting) plain in (
       record { waiting = []; world = overwritten s.world s.waiting },
       count_line (overwritten s.world s.waiting),
       (refl, inr ((λ c. plain.acyclic c.0 c.1), refl, refl)),
       settled n (overwritten s.world s.waiting) none k.0 (overwritten_ascii s.world s.waiting h.ascii_world h.ascii_waiting),
       k.1,
     )
-upsert_takes m n s list store (Err e) old new h same at none upserts settles =
+upsert_takes m n s list store (Err e) old new h same at none upserts tells =
     let L : map given_of list ≡ s.waiting = ap (map given_of) same ∙ h.waiting in
     let bare = subst AreBare (sym same) h.bare in
     let before = subst (IsPlainStore s.world) (sym at) h.plain in
     let given = subst (λ l. UpsertsPlain ComputeNow s.world l (Err e)) L (upserts s.world before bare) in
-    let r = refused_overwrites s.world s.waiting e old new given.err settles.1 in
-    (record { waiting = []; world = empty_world }, r.0, (refl, r.1), settled n empty_world none settles.0 empty_ascii, r.2)
+    let r = refused_overwrites s.world s.waiting e old new given.err tells.1 in (
+      record { waiting = []; world = empty_world },
+      r.0,
+      (refl, r.1),
+      settled n empty_world none tells.0 empty_ascii,
+      r.2,
+    )
 
 -- the store takes a removal
 pub remove_takes : (m n : StoreAndWaiting) (s : EntityState) (us : List EntityUID) (store : StoreView) (r : Result StoreView EntitiesError) (old new : List ℕ) → Holds m s → store ≡ m.store → n.waiting ≡ m.waiting
     → ((W : World) → IsPlainStore W store → RemovesPlain W us r)
-    → Settles r n old new → EntityWrites (Remove us) s n old new
-remove_takes m n s us store (Ok S) old new h at same removes settles =
-    let k = settles (deleted s.world us) (removes s.world (subst (IsPlainStore s.world) (sym at) h.plain)).ok in (
+    → KeepsAndTells r n old new → EntityWrites (Remove us) s n old new
+remove_takes m n s us store (Ok S) old new h at same removes tells =
+    let k = tells (deleted s.world us) (removes s.world (subst (IsPlainStore s.world) (sym at) h.plain)).ok in (
       record { waiting = s.waiting; world = deleted s.world us },
       count_line (deleted s.world us),
       (refl, (refl, refl)),
@@ -292,18 +302,18 @@ remove_takes m n s us store (Ok S) old new h at same removes settles =
       },
       k.1,
     )
-remove_takes m n s us store (Err e) old new h at same removes settles =
+remove_takes m n s us store (Err e) old new h at same removes tells =
     let given = removes s.world (subst (IsPlainStore s.world) (sym at) h.plain) in
-    absurd (subst (λ x. Refused x old new) given.err settles.1)
+    absurd (subst (λ x. Refused x old new) given.err tells.1)
 
 -- the store takes a slice
 pub slice_takes : (m n : StoreAndWaiting) (s : EntityState) (us : List EntityUID) (r : Result StoreView EntitiesError) (old new : List ℕ) → Holds m s → n.waiting ≡ m.waiting
     → IfOk r (λ S. (W : World) → IsPlainStore W m.store → IsPlainSlice W us S)
     → IfErr r (λ e. e ≡ errors.Memory)
-    → Settles r n old new → EntityWrites (Slice us) s n old new
-slice_takes m n s us (Ok S) old new h same ok err settles =
+    → KeepsAndTells r n old new → EntityWrites (Slice us) s n old new
+slice_takes m n s us (Ok S) old new h same ok err tells =
     let p = ok s.world h.plain in
-    let k = settles p.world p.is_plain in (
+    let k = tells p.world p.is_plain in (
       record { waiting = s.waiting; world = p.world },
       count_line p.world,
       (refl, (p.is_slice, refl)),
@@ -316,7 +326,7 @@ slice_takes m n s us (Ok S) old new h same ok err settles =
       },
       k.1,
     )
-slice_takes m n s us (Err e) old new h same ok err settles = absurd (subst (λ x. Refused x old new) err settles.1)
+slice_takes m n s us (Err e) old new h same ok err tells = absurd (subst (λ x. Refused x old new) err tells.1)
 
 -- the ancestors are written
 pub anc_takes : (m : StoreAndWaiting) (s : EntityState) (u : EntityUID) (old new : List ℕ) → Holds m s → (text : List ℕ) × ShowsAncestors s.world u text × (new ≡ old ++ text) → EntityWrites (Anc u) s m old new

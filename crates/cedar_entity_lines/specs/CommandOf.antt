@@ -4,11 +4,11 @@ use Rattle.cedar_entity_lines.specs.declared.command.EntityCommand as code
 use Rattle.cedar_entity_lines.specs.declared.command.EntityCommand.TheVariants as read
 
 -- the command that was read, as contracts see it
-abbrev pub command_of : code.EntityCommand → EntityCommand
-command_of (read.Ent u ps) = Ent u ps.items
-command_of read.Build = Build
-command_of read.Add = Add
-command_of read.Upsert = Upsert
-command_of (read.Remove us) = Remove us.items
-command_of (read.Slice us) = Slice us.items
-command_of (read.Anc u) = Anc u
+abbrev pub entity_command_of : code.EntityCommand → EntityCommand
+entity_command_of (read.Ent u ps) = Ent u ps.items
+entity_command_of read.Build = Build
+entity_command_of read.Add = Add
+entity_command_of read.Upsert = Upsert
+entity_command_of (read.Remove us) = Remove us.items
+entity_command_of (read.Slice us) = Slice us.items
+entity_command_of (read.Anc u) = Anc u

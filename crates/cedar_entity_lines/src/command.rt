@@ -3,7 +3,7 @@ ghost use Rattle.std.specs.Prelude.{◌≡◌, ◌∷◌, [], List, IfOk, map};
 ghost use Rattle.cedar_ids.specs.declared.entity.EntityUID.{EntityUID};
 ghost use Rattle.cedar_lines.specs.Reads.{ReadsAs};
 ghost use Rattle.cedar_entity_lines.specs.EntityCommand.{AreTexts, IsEntityCommand};
-ghost use Rattle.cedar_entity_lines.specs.CommandOf.{command_of};
+ghost use Rattle.cedar_entity_lines.specs.CommandOf.{entity_command_of};
 
 use crate::parent_fields::{KnownUids, parents_of_fields};
 use crate::uid_text::{KnownType, uid_of_text};
@@ -109,7 +109,7 @@ fn anc_fields(
 
 // The command that a word is by itself, if there is one.
 fn command_of_word(word: &str) -> Option<EntityCommand>
-    ensures { ReadsAs (λ c. IsEntityCommand c (word.now ∷ [])) command_of result }
+    ensures { ReadsAs (λ c. IsEntityCommand c (word.now ∷ [])) entity_command_of result }
 {
     if word == "build" {
         return Some(EntityCommand::Build);
@@ -135,7 +135,7 @@ pub fn read_entity_command(
     fields: &[&str],
 ) -> Result<Option<EntityCommand>, AllocError>
     ensures { IfOk result (ReadsAs
-        (λ c. IsEntityCommand c (map (λ f. f.now) fields.now)) command_of) }
+        (λ c. IsEntityCommand c (map (λ f. f.now) fields.now)) entity_command_of) }
 {
     let Some((word, rest)) = fields.split_first() else {
         return Ok(None);

@@ -5,10 +5,10 @@ ghost use Rattle.std.specs.Fmt.{decimal};
 ghost use Rattle.cedar_lines.specs.Lines.{written_line};
 ghost use Rattle.cedar_entity_lines.specs.EntityCommand.{Ent, Build, Add, Upsert, Remove, Slice};
 ghost use Rattle.cedar_entity_lines.specs.EntityOutput.{EntityState, no_entity, ShowsAncestors, uid_text, field_of};
-ghost use Rattle.cedar_entity_lines.specs.CommandOf.{command_of};
+ghost use Rattle.cedar_entity_lines.specs.CommandOf.{entity_command_of};
 ghost use Rattle.cedar_entity_lines.specs.Holding.{Holds, EntityWrites, TakesEntity, IsAsciiUid, AreAsciiUids};
 ghost use Rattle.cedar_entity_lines.specs.Holding.{HasAsciiUids};
-ghost use Rattle.cedar_entity_lines.specs.laws.Machines.{IsTold, Refused, Settles};
+ghost use Rattle.cedar_entity_lines.specs.laws.Machines.{IsTold, Refused, KeepsAndTells};
 
 use crate::command::{EntityCommand, ent_fields};
 use crate::parent_fields::KnownUids;
@@ -156,7 +156,7 @@ impl<S: BuildHasher + Copy> LineStore<S> {
 
     // Keeps the store that a call gave and adds its count or, where the call was refused, keeps the store
     // without entities and adds why.
-    fn settle(
+    fn keep_and_tell(
         &mut self,
         alloc: Global,
         given: Result<Entities<S>, EntitiesError>,
@@ -164,7 +164,7 @@ impl<S: BuildHasher + Copy> LineStore<S> {
     ) -> Result<(), AllocError>
         requires { IfErr given IsTold }
         ensures waiting { self.new.waiting ≡ self.old.waiting }
-        ensures settles { OnOk result (Settles given self.new out.old.items out.new.items) }
+        ensures tells { OnOk result (KeepsAndTells given self.new out.old.items out.new.items) }
     {
         match given {
             Ok(store) => {
@@ -189,7 +189,7 @@ impl<S: BuildHasher + Copy> LineStore<S> {
         let hasher = *self.store.hasher();
         let store = mem::replace(&mut self.store, Entities::with_hasher(alloc, hasher));
         let given = store.add_entities(alloc, list, TCComputation::ComputeNow);
-        self.settle(alloc, given, out)
+        self.keep_and_tell(alloc, given, out)
     }
 
     // The entities that wait become the store.
@@ -210,7 +210,7 @@ impl<S: BuildHasher + Copy> LineStore<S> {
         let hasher = *self.store.hasher();
         let store = mem::replace(&mut self.store, Entities::with_hasher(alloc, hasher));
         let given = store.upsert_entities(alloc, list, TCComputation::ComputeNow);
-        self.settle(alloc, given, out)
+        self.keep_and_tell(alloc, given, out)
     }
 
     // The entities with these uids go out of the store.
@@ -226,7 +226,7 @@ impl<S: BuildHasher + Copy> LineStore<S> {
         let hasher = *self.store.hasher();
         let store = mem::replace(&mut self.store, Entities::with_hasher(alloc, hasher));
         let given = store.remove_entities(alloc, uids, TCComputation::ComputeNow);
-        self.settle(alloc, given, out)
+        self.keep_and_tell(alloc, given, out)
     }
 
     // The store becomes its slice at these uids.
@@ -240,7 +240,7 @@ impl<S: BuildHasher + Copy> LineStore<S> {
             EntityWrites (Slice uids.items) s self.new out.old.items out.new.items) }
     {
         let given = slice(alloc, &self.store, &uids);
-        self.settle(alloc, given, out)
+        self.keep_and_tell(alloc, given, out)
     }
 
     // The ancestors of an entity are written.
@@ -292,8 +292,8 @@ impl<S: BuildHasher + Copy> LineStore<S> {
         command: EntityCommand,
         out: &mut Vec<u8>,
     ) -> Result<(), AllocError>
-        ensures { OnOk result ((s : EntityState) → Holds self.old s → HasAsciiUids (command_of command) →
-            EntityWrites (command_of command) s self.new out.old.items out.new.items) }
+        ensures { OnOk result ((s : EntityState) → Holds self.old s → HasAsciiUids (entity_command_of command) →
+            EntityWrites (entity_command_of command) s self.new out.old.items out.new.items) }
     {
         match command {
             EntityCommand::Ent(uid, parents) => self.ent(alloc, uid, parents),

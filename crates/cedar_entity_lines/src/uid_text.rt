@@ -1,7 +1,6 @@
 //! Reading uids of which many have one type: the types that were read are known by their texts, and shared.
 ghost use Rattle.std.specs.Prelude.{◌≡◌, ◌++◌, List, ℕ, IfOk, MatchOption, IfSome, IsTrue, codes};
-ghost use Rattle.std.specs.List.{list_all};
-ghost use Rattle.cedar_ids.specs.laws.PlainBytes.{is_plain_byte};
+ghost use Rattle.cedar_ids.specs.Escape.{is_own_escape};
 ghost use Rattle.cedar_ids.specs.Name.{NameParts};
 ghost use Rattle.cedar_ids.specs.TextOf.{IsNameText, IsPrinted};
 ghost use Rattle.cedar_ids.specs.UidOf.{uid_parts};
@@ -11,6 +10,7 @@ ghost use Rattle.cedar_lines.specs.Reads.{ReadsAs};
 
 use cedar_ids::entity::{Eid, EntityType, EntityUID};
 use cedar_ids::err::ParseErrors;
+use cedar_ids::escape::is_own_escape;
 use cedar_lines::field::uid_field;
 use std::alloc::{AllocError, Global};
 use std::marker::Model;
@@ -77,32 +77,25 @@ fn read_type(
     }
 }
 
-// Whether a text is printable ASCII without quotes and backslashes, so that it is its own escape.
-fn is_plain(text: &str) -> bool
-    ensures { result ≡ list_all is_plain_byte text.now }
-{
-    text.as_bytes().iter().all(|b| 32 <= *b && *b < 127 && *b != b'\'' && *b != b'"' && *b != b'\\')
-}
-
 // What stands between `::"` at the front and a `"` at the end, where that is its own escape.
 fn eid_after(text: &str) -> Option<&str>
     ensures split { IfSome result (λ e. text.now ≡ codes "::\"" ++ (e.now ++ codes "\"")) }
-    ensures plain { IfSome result (λ e. IsTrue (list_all is_plain_byte e.now)) }
+    ensures own_escape { IfSome result (λ e. IsTrue (is_own_escape e.now)) }
 {
     let eid = text.strip_prefix("::\"")?.strip_suffix('"')?;
-    if is_plain(eid) {
+    if is_own_escape(eid.as_bytes()) {
         return Some(eid);
     }
     None
 }
 
 // What stands before the first `::"`, and between that and a last `"`, where the second is its own escape.
-fn plain_halves(text: &str) -> Option<(&str, &str)>
+fn unescaped_halves(text: &str) -> Option<(&str, &str)>
     ensures split { IfSome result (λ r. text.now ≡ r.0.now ++ (codes "::\"" ++ (r.1.now ++ codes "\""))) }
-    ensures plain { IfSome result (λ r. IsTrue (list_all is_plain_byte r.1.now)) }
+    ensures own_escape { IfSome result (λ r. IsTrue (is_own_escape r.1.now)) }
 {
     let (name, eid) = text.strip_suffix('"')?.split_once("::\"")?;
-    if is_plain(eid) {
+    if is_own_escape(eid.as_bytes()) {
         return Some((name, eid));
     }
     None
@@ -110,7 +103,7 @@ fn plain_halves(text: &str) -> Option<(&str, &str)>
 
 // The uid of a type and an eid that is its own escape. Its text is that of the type, the mark, the eid and a quote.
 fn uid_of_parts(alloc: Global, ty: EntityType, eid: &str) -> Result<EntityUID, AllocError>
-    requires { IsTrue (list_all is_plain_byte eid.now) }
+    requires { IsTrue (is_own_escape eid.now) }
     ensures { IfOk result (λ u. (name : List ℕ) → IsNameText (type_name ty) name →
         IsPrinted (uid_parts u) (name ++ (codes "::\"" ++ (eid.now ++ codes "\"")))) }
 {
@@ -165,7 +158,7 @@ fn uid_of_halves(
     name: &str,
     eid: &str,
 ) -> Result<Option<EntityUID>, AllocError>
-    requires { IsTrue (list_all is_plain_byte eid.now) }
+    requires { IsTrue (is_own_escape eid.now) }
     ensures { IfOk result (λ o. IfSome o (λ u. IsPrinted (uid_parts u) (name.now
         ++ (codes "::\"" ++ (eid.now ++ codes "\""))))) }
 {
@@ -176,7 +169,7 @@ fn uid_of_halves(
 }
 
 // The uid with a text, where that is read without an escape and of a name.
-fn uid_of_plain(
+fn uid_without_escape(
     alloc: Global,
     known: &mut Vec<KnownType>,
     text: &str,
@@ -186,7 +179,7 @@ fn uid_of_plain(
     if let Some(uid) = uid_of_known(alloc, known, text)? {
         return Ok(Some(uid));
     }
-    match plain_halves(text) {
+    match unescaped_halves(text) {
         None => Ok(None),
         Some((name, eid)) => uid_of_halves(alloc, known, name, eid),
     }
@@ -201,7 +194,7 @@ pub(crate) fn uid_of_text(
 ) -> Result<Option<EntityUID>, AllocError>
     ensures { IfOk result (ReadsAs (λ (u : EntityUID). IsPrinted (uid_parts u) text.now) (λ u. u)) }
 {
-    if let Some(uid) = uid_of_plain(alloc, known, text)? {
+    if let Some(uid) = uid_without_escape(alloc, known, text)? {
         return Ok(Some(uid));
     }
     uid_field(alloc, text)

@@ -2,5 +2,4 @@ pub mod Components
 pub mod Decoding
 pub mod EidTexts
 pub mod Names
-pub mod PlainTexts
 pub mod UidSteps

@@ -1,6 +1,6 @@
 -- How the characters of an eid are written.
 use Rattle.std.specs.Prelude.{ℕ, List, [], ◌∷◌, ◌++◌, Bool, Option, Some, None, false, if◌then◌else◌, ◌==◌, nat_lt}
-use Rattle.std.specs.Prelude.{◌||◌, codes}
+use Rattle.std.specs.Prelude.{◌||◌, ◌&&◌, not, nat_le, codes}
 use Rattle.std.specs.List.{flat_map, list_all}
 use Rattle.std.specs.Fmt.{digits}
 
@@ -28,6 +28,14 @@ is_ascii_byte c = nat_lt c 128
 -- each character is ASCII
 abbrev pub is_ascii : List ℕ → Bool
 is_ascii text = list_all is_ascii_byte text
+
+-- an ASCII character that is its own escape: neither a control character, nor a quote, nor a backslash
+abbrev pub is_own_escape_byte : ℕ → Bool
+is_own_escape_byte c = nat_le 32 c && nat_lt c 127 && not (c == 39) && not (c == 34) && not (c == 92)
+
+-- each character is ASCII and its own escape
+abbrev pub is_own_escape : List ℕ → Bool
+is_own_escape text = list_all is_own_escape_byte text
 
 -- what is known of the text of any text
 abbrev pub escaped_output : List ℕ → Option (List ℕ)

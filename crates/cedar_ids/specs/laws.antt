@@ -7,7 +7,7 @@ pub mod NameLaws
 pub mod NameReading
 pub mod NameTextLaws
 pub mod NameTexts
-pub mod PlainBytes
+pub mod OwnEscapes
 pub mod PrintedLaws
 pub mod TextLaws
 pub mod UidLaws

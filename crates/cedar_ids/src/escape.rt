@@ -1,10 +1,8 @@
 //! How an eid or a policy id is written: the table of escapes.
 ghost use Rattle.std.specs.Prelude.{◌≡◌, ◌<◌};
-ghost use Rattle.std.specs.List.{list_all};
 ghost use Rattle.std.specs.Str.{IsAscii};
 ghost use Rattle.std.specs.Fmt.{WritesOnOk};
-ghost use Rattle.cedar_ids.specs.Escape.{escape, escaped, escaped_output};
-ghost use Rattle.cedar_ids.specs.laws.PlainBytes.{is_plain_byte};
+ghost use Rattle.cedar_ids.specs.Escape.{escape, escaped, escaped_output, is_own_escape, is_own_escape_byte};
 
 use std::fmt;
 
@@ -21,7 +19,7 @@ impl fmt::Display for Escaped<'_> {
 
     fn fmt<W: fmt::Write>(&self, f: &mut fmt::Formatter<W>) -> fmt::Result {
         let text = self.0;
-        if is_plain(text.as_bytes()) {
+        if is_own_escape(text.as_bytes()) {
             f.write_str(text)
         } else if text.is_ascii() {
             write_escapes(text.as_bytes(), f)
@@ -31,15 +29,19 @@ impl fmt::Display for Escaped<'_> {
     }
 }
 
-// Says whether each byte is written as it is.
-pub(crate) fn is_plain(text: &[u8]) -> bool
-    ensures { result ≡ list_all is_plain_byte text.now }
+/// Says whether a text is printable ASCII without quotes and backslashes: such a text is its own escape, so it is
+/// written as it is.
+///
+/// Takes no memory. Its cost is linear in the text. It is this project's own.
+pub fn is_own_escape(text: &[u8]) -> bool
+    ensures { result ≡ is_own_escape text.now }
 {
-    text.iter().all(|b| is_plain_byte(*b))
+    text.iter().all(|b| is_own_escape_byte(*b))
 }
 
-fn is_plain_byte(b: u8) -> bool
-    ensures { result ≡ is_plain_byte b }
+// Says whether a byte is an ASCII character that is its own escape.
+fn is_own_escape_byte(b: u8) -> bool
+    ensures { result ≡ is_own_escape_byte b }
 {
     b >= 0x20 && b < 0x7f && b != b'\'' && b != b'"' && b != b'\\'
 }

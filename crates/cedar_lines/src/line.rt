@@ -1,7 +1,7 @@
 //! The fields of a line.
 ghost use Rattle.std.specs.Prelude.{◌≡◌, IfOk, OnOk, IsTrue, map, ◌==◌};
 ghost use Rattle.std.specs.List.{list_all, slice_split};
-ghost use Rattle.cedar_lines.specs.Lines.{is_plain};
+ghost use Rattle.cedar_lines.specs.Lines.{is_line_byte};
 
 use std::alloc::AllocError;
 
@@ -14,22 +14,22 @@ fn set_fields<'a>(fields: &mut Vec<&'a str>, line: &'a str) -> Result<(), AllocE
 }
 
 // Whether a byte is a tab or printable ASCII.
-fn is_plain_byte(b: u8) -> bool
-    ensures { result ≡ is_plain b }
+fn is_line_byte(b: u8) -> bool
+    ensures { result ≡ is_line_byte b }
 {
     b == b'\t' || (32 <= b && b <= 126)
 }
 
 // Whether a line has tabs and printable ASCII alone. It is gone through to its end, which costs less a byte than to
 // stop at the first that is neither.
-fn is_plain(line: &[u8]) -> bool
-    ensures { result ≡ list_all is_plain line.now }
+fn has_line_bytes_alone(line: &[u8]) -> bool
+    ensures { result ≡ list_all is_line_byte line.now }
 {
-    let mut plain = true;
+    let mut is_readable = true;
     for b in line {
-        plain = plain & is_plain_byte(*b);
+        is_readable = is_readable & is_line_byte(*b);
     }
-    plain
+    is_readable
 }
 
 /// Whether a line has tabs and printable ASCII alone. If it has, what stands between its tabs takes the place of the
@@ -38,11 +38,11 @@ fn is_plain(line: &[u8]) -> bool
 /// Takes memory where there is no room for as many fields, and is refused only where that is; then nothing is said of
 /// the fields. Its cost is linear in the line. It is this project's own.
 pub fn read_fields<'a>(fields: &mut Vec<&'a str>, line: &'a [u8]) -> Result<bool, AllocError>
-    ensures plain { IfOk result (λ plain. plain ≡ list_all is_plain line.now) }
-    ensures fields { IfOk result (λ plain. IsTrue plain →
+    ensures readable { IfOk result (λ is_readable. is_readable ≡ list_all is_line_byte line.now) }
+    ensures fields { IfOk result (λ is_readable. IsTrue is_readable →
         map (λ x. x.now) fields.new.items ≡ slice_split (λ b. b == 9) line.now) }
 {
-    if !is_plain(line) {
+    if !has_line_bytes_alone(line) {
         return Ok(false);
     }
     let Ok(text) = str::from_utf8(line) else {

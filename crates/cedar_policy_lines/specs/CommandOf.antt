@@ -5,11 +5,11 @@ use Rattle.cedar_policy_lines.specs.declared.command.PolicyCommand as code
 use Rattle.cedar_policy_lines.specs.declared.command.PolicyCommand.TheVariants as read
 
 -- the command that was read, as contracts see it
-abbrev pub command_of : code.PolicyCommand → PolicyCommand
-command_of (read.Static i e) = Static i e
-command_of (read.Template i w) = Template i w
-command_of (read.Link t l e) = Link t l (env_of e)
-command_of (read.Unlink i) = Unlink i
-command_of read.Other = Other
-command_of (read.Merge b) = Merge b
-command_of read.Ids = Ids
+abbrev pub policy_command_of : code.PolicyCommand → PolicyCommand
+policy_command_of (read.Static i e) = Static i e
+policy_command_of (read.Template i w) = Template i w
+policy_command_of (read.Link t l e) = Link t l (env_of e)
+policy_command_of (read.Unlink i) = Unlink i
+policy_command_of read.Other = Other
+policy_command_of (read.Merge b) = Merge b
+policy_command_of read.Ids = Ids

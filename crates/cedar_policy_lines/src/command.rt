@@ -6,7 +6,7 @@ ghost use Rattle.cedar_lines.specs.Reads.{ReadsAs};
 ghost use Rattle.cedar_binding.specs.Bindings.{binds};
 ghost use Rattle.cedar_binding.specs.Views.{env_of};
 ghost use Rattle.cedar_policy_lines.specs.PolicyCommand.{IsPolicyCommand, Other, Ids, bound_more};
-ghost use Rattle.cedar_policy_lines.specs.CommandOf.{command_of};
+ghost use Rattle.cedar_policy_lines.specs.CommandOf.{policy_command_of};
 ghost use Rattle.cedar_policy_lines.specs.laws.PolicyReading.{only, bindings_of, static_of, template_of, link_of};
 ghost use Rattle.cedar_policy_lines.specs.laws.PolicyReading.{unlink_of, merge_of, bare_of, command_by};
 
@@ -83,7 +83,7 @@ fn bindings_of(alloc: Global, fields: &[&str]) -> Result<Option<SlotEnv>, AllocE
 
 // The command of `static`.
 fn static_of(alloc: Global, fields: &[&str]) -> Result<Option<PolicyCommand>, AllocError>
-    ensures { IfOk result (λ o. option_map command_of o ≡ static_of (map (λ f. f.now) fields.now)) }
+    ensures { IfOk result (λ o. option_map policy_command_of o ≡ static_of (map (λ f. f.now) fields.now)) }
 {
     let Some((id, rest)) = fields.split_first() else {
         return Ok(None);
@@ -99,7 +99,7 @@ fn static_of(alloc: Global, fields: &[&str]) -> Result<Option<PolicyCommand>, Al
 
 // The command of `template`.
 fn template_of(alloc: Global, fields: &[&str]) -> Result<Option<PolicyCommand>, AllocError>
-    ensures { IfOk result (λ o. option_map command_of o ≡ template_of (map (λ f. f.now) fields.now)) }
+    ensures { IfOk result (λ o. option_map policy_command_of o ≡ template_of (map (λ f. f.now) fields.now)) }
 {
     let Some((id, rest)) = fields.split_first() else {
         return Ok(None);
@@ -116,7 +116,7 @@ fn template_of(alloc: Global, fields: &[&str]) -> Result<Option<PolicyCommand>, 
 
 // The command of `link`.
 fn link_of(alloc: Global, fields: &[&str]) -> Result<Option<PolicyCommand>, AllocError>
-    ensures { IfOk result (λ o. option_map command_of o ≡ link_of (map (λ f. f.now) fields.now)) }
+    ensures { IfOk result (λ o. option_map policy_command_of o ≡ link_of (map (λ f. f.now) fields.now)) }
 {
     let Some((template, rest)) = fields.split_first() else {
         return Ok(None);
@@ -134,7 +134,7 @@ fn link_of(alloc: Global, fields: &[&str]) -> Result<Option<PolicyCommand>, Allo
 
 // The command of `unlink`.
 fn unlink_of(alloc: Global, fields: &[&str]) -> Result<Option<PolicyCommand>, AllocError>
-    ensures { IfOk result (λ o. option_map command_of o ≡ unlink_of (map (λ f. f.now) fields.now)) }
+    ensures { IfOk result (λ o. option_map policy_command_of o ≡ unlink_of (map (λ f. f.now) fields.now)) }
 {
     let Some(id) = only(fields) else {
         return Ok(None);
@@ -144,7 +144,7 @@ fn unlink_of(alloc: Global, fields: &[&str]) -> Result<Option<PolicyCommand>, Al
 
 // The command of `merge`.
 fn merge_of(fields: &[&str]) -> Option<PolicyCommand>
-    ensures { option_map command_of result ≡ merge_of (map (λ f. f.now) fields.now) }
+    ensures { option_map policy_command_of result ≡ merge_of (map (λ f. f.now) fields.now) }
 {
     let word = only(fields)?;
     let rename = renaming_of(word)?;
@@ -153,7 +153,7 @@ fn merge_of(fields: &[&str]) -> Option<PolicyCommand>
 
 // The command of `other`.
 fn other_of(fields: &[&str]) -> Option<PolicyCommand>
-    ensures { option_map command_of result ≡ bare_of Other (map (λ f. f.now) fields.now) }
+    ensures { option_map policy_command_of result ≡ bare_of Other (map (λ f. f.now) fields.now) }
 {
     if fields.is_empty() {
         return Some(PolicyCommand::Other);
@@ -163,7 +163,7 @@ fn other_of(fields: &[&str]) -> Option<PolicyCommand>
 
 // The command of `ids`.
 fn ids_of(fields: &[&str]) -> Option<PolicyCommand>
-    ensures { option_map command_of result ≡ bare_of Ids (map (λ f. f.now) fields.now) }
+    ensures { option_map policy_command_of result ≡ bare_of Ids (map (λ f. f.now) fields.now) }
 {
     if fields.is_empty() {
         return Some(PolicyCommand::Ids);
@@ -177,7 +177,7 @@ fn command_by(
     word: &str,
     fields: &[&str],
 ) -> Result<Option<PolicyCommand>, AllocError>
-    ensures { IfOk result (λ o. option_map command_of o ≡ command_by word.now (map (λ f. f.now) fields.now)) }
+    ensures { IfOk result (λ o. option_map policy_command_of o ≡ command_by word.now (map (λ f. f.now) fields.now)) }
 {
     if word == "static" {
         return static_of(alloc, fields);
@@ -211,7 +211,7 @@ pub fn read_policy_command(
     alloc: Global,
     fields: &[&str],
 ) -> Result<Option<PolicyCommand>, AllocError>
-    ensures { IfOk result (ReadsAs (λ c. IsPolicyCommand c (map (λ f. f.now) fields.now)) command_of) }
+    ensures { IfOk result (ReadsAs (λ c. IsPolicyCommand c (map (λ f. f.now) fields.now)) policy_command_of) }
 {
     let Some((word, rest)) = fields.split_first() else {
         return Ok(None);

@@ -6,7 +6,7 @@ ghost use Rattle.cedar_policy_lines.specs.PolicyCommand.{Static as static_comman
 ghost use Rattle.cedar_policy_lines.specs.PolicyCommand.{Link as link_command, Unlink as unlink_command};
 ghost use Rattle.cedar_policy_lines.specs.PolicyCommand.{Other as other_command, Merge as merge_command};
 ghost use Rattle.cedar_policy_lines.specs.PolicyCommand.{Ids as ids_command};
-ghost use Rattle.cedar_policy_lines.specs.CommandOf.{command_of};
+ghost use Rattle.cedar_policy_lines.specs.CommandOf.{policy_command_of};
 ghost use Rattle.cedar_policy_lines.specs.PolicyOutput.{PolicyWrites};
 
 use crate::command::PolicyCommand;
@@ -150,7 +150,7 @@ impl<S: BuildHasher + Copy> PolicySets<S> {
         command: PolicyCommand,
         out: &mut Vec<u8>,
     ) -> Result<(), AllocError>
-        ensures { OnOk result (PolicyWrites (command_of command) self.old self.new out.old.items out.new.items) }
+        ensures { OnOk result (PolicyWrites (policy_command_of command) self.old self.new out.old.items out.new.items) }
     {
         match command {
             PolicyCommand::Static(id, effect) => self.add_static(alloc, id, effect, out),

@@ -1,9 +1,8 @@
 //! What the commands on policy sets write.
 ghost use Rattle.std.specs.Prelude.{◌≡◌, ◌++◌, ◌∷◌, OnOk, IfOk, map, codes, ℕ, List};
-ghost use Rattle.std.specs.List.{flat_map, list_all};
+ghost use Rattle.std.specs.List.{flat_map};
 ghost use Rattle.std.specs.String.{string_bytes};
 ghost use Rattle.cedar_ids.specs.UidOf.{uid_parts};
-ghost use Rattle.cedar_ids.specs.laws.PlainBytes.{is_plain_byte};
 ghost use Rattle.cedar_policy_set.specs.Refusals.{told_by_set, told_by_linking, told_by_unlinking};
 ghost use Rattle.cedar_policy_set.specs.Merge.{body_ids, policy_ids};
 ghost use Rattle.cedar_policy_lines.specs.PolicyOutput.{ok_line, merged_line, id_text, uid_text, id_field};
@@ -11,6 +10,7 @@ ghost use Rattle.cedar_policy_lines.specs.PolicyOutput.{renamed_fields, ids_line
 ghost use Rattle.cedar_policy_lines.specs.laws.Machines.{Said, SaidMerged, refused_with};
 
 use cedar_ids::entity::EntityUID;
+use cedar_ids::escape::is_own_escape;
 use cedar_ids::policy_id::PolicyID;
 use cedar_lines::writing::push_line;
 use cedar_policy::{LinkingError, Policy};
@@ -75,26 +75,12 @@ fn push_refused_uid(
     Ok(())
 }
 
-// Whether each byte is written as it is.
-fn is_own_text(text: &[u8]) -> bool
-    ensures { result ≡ list_all is_plain_byte text.now }
-{
-    text.iter().all(|b| is_own_escape(*b))
-}
-
-// Whether a byte is written as it is.
-fn is_own_escape(b: u8) -> bool
-    ensures { result ≡ is_plain_byte b }
-{
-    b >= 0x20 && b < 0x7f && b != b'\'' && b != b'"' && b != b'\\'
-}
-
 // Adds the text of an id. That of most is the id itself, which needs no text of its own first.
 fn push_id_text(alloc: Global, out: &mut Vec<u8>, id: &PolicyID) -> Result<(), AllocError>
     ensures { OnOk result (out.new.items ≡ out.old.items ++ id_text id.now) }
 {
     let own = id.as_ref().as_bytes();
-    if is_own_text(own) {
+    if is_own_escape(own) {
         out.extend_from_slice(own)?;
         return Ok(());
     }

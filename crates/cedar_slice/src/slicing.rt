@@ -19,20 +19,6 @@ use std::alloc::{AllocError, Global};
 use std::collections::HashSet;
 use std::hash::BuildHasher;
 
-// The uid, shared once more.
-fn copy_of(uid: &SharedUid) -> Result<SharedUid, AllocError>
-    ensures { IfOk result (λ copy. copy ≡ uid.now) }
-{
-    uid.clone()
-}
-
-// A copy of an entity, which shares the uids of its ancestors.
-fn copy_of_entity(entity: &Entity) -> Result<Entity, AllocError>
-    ensures { IfOk result (λ copy. copy ≡ entity.now) }
-{
-    entity.clone()
-}
-
 // Notes some uids.
 fn note_all<S: BuildHasher>(
     noted: &mut HashSet<SharedUid, S>,
@@ -42,7 +28,7 @@ fn note_all<S: BuildHasher>(
         ≡ (contains same_uid noted.old q || is_member same_uid uids.entry q)) }
 {
     for uid in uids {
-        noted.insert(copy_of(uid)?)?;
+        noted.insert(uid.clone()?)?;
     }
     Ok(())
 }
@@ -105,7 +91,7 @@ fn copy_held<S: BuildHasher + Clone>(
     ensures keyed { OnOk result (IsKeyed store.now.held) }
 {
     if let Some(entity) = store.stored(uid.uid()) {
-        list.push(copy_of_entity(entity)?)?;
+        list.push(entity.clone()?)?;
     }
     Ok(())
 }

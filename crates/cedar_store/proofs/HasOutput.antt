@@ -2,7 +2,7 @@
 use Rattle.std.specs.Prelude.{◌≡◌, ℕ, ◌+◌, ◌==◌, ◌⊎◌, List, [], ◌∷◌, Bool, true, false, Option, Some, None}
 use Rattle.std.proofs.Common.{sym, refl, ◌∙◌, inl, inr}
 use Rattle.std.specs.List.{slice_split, list_all}
-use Rattle.cedar_lines.specs.Lines.{is_plain}
+use Rattle.cedar_lines.specs.Lines.{is_line_byte}
 use Rattle.cedar_entity_lines.specs.EntityCommand.{EntityCommand, IsEntityCommand}
 use Rattle.cedar_entity_lines.specs.laws.OneAnswer.{entity_gives}
 use Rattle.cedar_entity_lines.specs.laws.ReadCommands.{Found, entity_command_found}
@@ -43,14 +43,15 @@ found_by fs (inr nothing) (inr entity) (inr policy) = inr (none_found fs nothing
 command_found : (fs : List (List ℕ)) → Found (λ c. IsCommand c fs)
 command_found fs = found_by fs (nothing_found fs) (entity_command_found fs) (policy_found fs)
 
-plain_line : (b : Bool) (fs : List (List ℕ)) → Found (λ c. IsCommand c fs) → Found (λ c. (b ≡ true) × IsCommand c fs)
-plain_line true fs (inl c) = inl (c.0, (refl, c.1))
-plain_line true fs (inr none) = inr (λ c h. none c h.1)
-plain_line false fs f = inr (λ c h. let e = h.0 in cc)
+readable_line : (b : Bool) (fs : List (List ℕ)) → Found (λ c. IsCommand c fs) → Found (λ c. (b ≡ true) × IsCommand c fs)
+readable_line true fs (inl c) = inl (c.0, (refl, c.1))
+readable_line true fs (inr none) = inr (λ c h. none c h.1)
+readable_line false fs f = inr (λ c h. let e = h.0 in cc)
 
 -- the command that a line is
 line_found : (l : List ℕ) → Found (λ c. IsLine c l)
-line_found l = plain_line (list_all is_plain l) (slice_split (λ b. b == 9) l) (command_found (slice_split (λ b. b == 9) l))
+line_found l = readable_line (list_all is_line_byte l) (slice_split (λ b. b == 9) l)
+    (command_found (slice_split (λ b. b == 9) l))
 
 -- ---- what a command gives
 

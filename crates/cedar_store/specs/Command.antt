@@ -1,7 +1,7 @@
 -- The commands of the program, and which line is which command.
 use Rattle.std.specs.Prelude.{◌≡◌, ℕ, List, [], ◌∷◌, ◌==◌, IsTrue}
 use Rattle.std.specs.List.{slice_split, list_all}
-use Rattle.cedar_lines.specs.Lines.{is_plain}
+use Rattle.cedar_lines.specs.Lines.{is_line_byte}
 use Rattle.cedar_entity_lines.specs.EntityCommand.{EntityCommand, IsEntityCommand}
 use Rattle.cedar_policy_lines.specs.PolicyCommand.{PolicyCommand, IsPolicyCommand}
 
@@ -19,4 +19,4 @@ IsCommand (Policy c) fs = IsPolicyCommand c fs
 
 -- the line has tabs and printable ASCII alone, and the fields between its tabs are those of the command
 abbrev pub IsLine : Command → List ℕ → Type 0
-IsLine c line = IsTrue (list_all is_plain line) × IsCommand c (slice_split (λ b. b == 9) line)
+IsLine c line = IsTrue (list_all is_line_byte line) × IsCommand c (slice_split (λ b. b == 9) line)

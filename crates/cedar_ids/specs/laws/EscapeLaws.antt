@@ -24,20 +24,21 @@ decode_from-append s [] ys = refl
 decode_from-append s (b ∷ xs) ys = ap (λ z. emits s b ++ z) (decode_from-append (next_scan s b) xs ys)
     ∙ sym (append_assoc (emits s b) _ _)
 
-is_plain : Scan → Bool
-is_plain Plain = true
-is_plain Slash = false
-is_plain (Digits n) = false
+-- no escape has begun
+is_outside_escapes : Scan → Bool
+is_outside_escapes Plain = true
+is_outside_escapes Slash = false
+is_outside_escapes (Digits n) = false
 
-plain_is : (s : Scan) → is_plain s ≡ true → s ≡ Plain
-unfolding is_plain
+plain_is : (s : Scan) → is_outside_escapes s ≡ true → s ≡ Plain
+unfolding is_outside_escapes
 plain_is Plain e = refl
 plain_is Slash e = absurd (cc)
 plain_is (Digits n) e = absurd (cc)
 
 -- the escape of c is read as c, and leads back to where it began
 reads_back : ℕ → Bool
-reads_back c = bytes_eq (decode_from Plain (escape c)) (c ∷ []) && is_plain (scan_after Plain (escape c))
+reads_back c = bytes_eq (decode_from Plain (escape c)) (c ∷ []) && is_outside_escapes (scan_after Plain (escape c))
 
 unfoldable pub all_below : (ℕ → Bool) → ℕ → Bool
 all_below p zero = true
@@ -54,7 +55,7 @@ below_at p (suc n) c e l =
 
 -- a check of each ASCII character
 ascii_reads_back : all_below reads_back 128 ≡ true
-unfolding all_below reads_back is_plain scan_after decode_from digits
+unfolding all_below reads_back is_outside_escapes scan_after decode_from digits
 ascii_reads_back = refl
 
 escape_back : (c : ℕ) → c < 128 → (decode_from Plain (escape c) ≡ c ∷ []) × (scan_after Plain (escape c) ≡ Plain)
@@ -62,9 +63,10 @@ unfolding reads_back
 escape_back c l =
     let e = below_at reads_back 128 c ascii_reads_back l in (
       (bytes_eq-Decides (decode_from Plain (escape c)) (c ∷ [])).0
-          (first_so (bytes_eq (decode_from Plain (escape c)) (c ∷ [])) (is_plain (scan_after Plain (escape c))) e),
+          (first_so (bytes_eq (decode_from Plain (escape c)) (c ∷ []))
+          (is_outside_escapes (scan_after Plain (escape c))) e),
       plain_is _ (second_so (bytes_eq (decode_from Plain (escape c)) (c ∷ []))
-          (is_plain (scan_after Plain (escape c))) e),
+          (is_outside_escapes (scan_after Plain (escape c))) e),
     )
 
 below : (c : ℕ) → is_ascii_byte c ≡ true → c < 128

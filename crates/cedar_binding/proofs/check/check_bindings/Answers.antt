@@ -1,4 +1,4 @@
-use Rattle.std.proofs.Common.{Some, ap, refl, sym, ◌∙◌}
+use Rattle.std.proofs.Common.{rules, ◌≡◌, Some, ap, refl, sym, ◌∙◌}
 use Rattle.std.proofs.lemmas.Bool.{false≢true}
 use Rattle.std.specs.Option.{option_copied, option_map}
 use Rattle.cedar_ids.specs.UidOf.{uid_parts}
@@ -27,9 +27,11 @@ returns-in-None c =
 
 pub returns : goal.returns
 returns c =
-    let empty = (rw c.if-not-are_empty.false at c.are_empty.ensures).0 refl in (
+    let empty = (rw c.if-not-are_empty.false at c.are_empty.ensures).0 refl in
+    let copy : c.in_ok-clone-in-Some.field-0 ≡ c.in-Some.uid.now = search rules in (
       fits c.args.slots.now (env_of c.args.values.now)
           (sym c.in_ok-unbound_values.ensures ∙ sym c.deref.ensures.value ∙ empty.0)
           (sym c.in_ok-extra_values.ensures ∙ sym c.deref-2.ensures.value ∙ empty.1),
-      sym c.wrong_action.ensures ∙ ap (λ o. option_map uid_parts (option_copied o)) c.in-Some.is ∙ ap (λ u. Some (uid_parts u)) (sym c.in_ok-copy_of-in-Some.ensures),
+      sym c.wrong_action.ensures ∙ ap (λ o. option_map uid_parts (option_copied o)) c.in-Some.is
+          ∙ ap (λ u. Some (uid_parts u)) (sym copy),
     )

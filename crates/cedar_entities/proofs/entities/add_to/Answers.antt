@@ -32,7 +32,7 @@ returns-clause-adds g c =
     let D = held_map m in
     let L = c.args.list.items in
     let n = c.put_all.new.entities in
-    let N = held_map c.settle.new.entities in
+    let N = held_map c.settle_touched.new.entities in
     let put = put_in m n D L refl c.in_ok-put_all.ensures.ok in
     let fresh = c.in_ok-fresh.fresh.items in
     let all : fresh ≡ filter (λ u. not (is_some (held m u))) (uids_of L) =
@@ -46,11 +46,12 @@ returns-clause-adds g c =
     (all ∙ ap (λ h. filter (λ u. not (is_some (h u))) (uids_of L)) (stored m D refl)) in
     let touched = known_touched D D A (inserted_in D L) (contains same_uid c.in_ok-touched.touched) refl same
     (c.in_ok-touched.ensures.ok D c.list_if_it_pays.ensures.index (added_alike n D L A put same)) in
-    adds_settled m c.args.tc_computation L n N c.settle.result c.in_ok-put_all.ensures.agree c.in_ok-put_all.ensures.ok
-    (on_ok_weaker c.settle.result (subst (λ f. IsSettled c.args.tc_computation f (held_map n) N) touched)
-    c.settle.ensures.ok) c.settle.ensures.err
-    (IfErr-weaker c.settle.result _ _
-    (λ e. subst (λ f. WhereComputed c.args.tc_computation (NamesOneOf f e)) touched) c.settle.ensures.named)
+    adds_settled m c.args.tc_computation L n N c.settle_touched.result
+    c.in_ok-put_all.ensures.agree c.in_ok-put_all.ensures.ok
+    (on_ok_weaker c.settle_touched.result (subst (λ f. IsSettled c.args.tc_computation f (held_map n) N) touched)
+    c.settle_touched.ensures.ok) c.settle_touched.ensures.err
+    (IfErr-weaker c.settle_touched.result _ _
+    (λ e. subst (λ f. WhereComputed c.args.tc_computation (NamesOneOf f e)) touched) c.settle_touched.ensures.named)
 
 pub returns-clause-children : goal.returns-clause-children
 returns-clause-children g c =
@@ -58,7 +59,7 @@ returns-clause-children g c =
     let D = held_map m in
     let L = c.args.list.items in
     let n = c.put_all.new.entities in
-    let N = held_map c.settle.new.entities in
+    let N = held_map c.settle_touched.new.entities in
     let put = put_in m n D L refl c.in_ok-put_all.ensures.ok in
     let fresh = c.in_ok-fresh.fresh.items in
     let all : fresh ≡ filter (λ u. not (is_some (held m u))) (uids_of L) =
@@ -66,8 +67,10 @@ returns-clause-children g c =
     let A = c.deref-2.result.now in
     let same : (q : EntityUID) → is_member same_uid A q ≡ is_member same_uid (inserted_in D L) q = λ q. ap (λ l. is_member same_uid l q) (c.deref-2.ensures.value ∙ c.in_ok-joining.ensures) ∙ c.in_ok-note_all.ensures.ok q ∙ ap (λ ks. is_member same_uid ks q || is_member same_uid fresh q) c.with_hasher-inserted.ensures.empty
     ∙ ap (λ us. is_member same_uid us q) (all ∙ ap (λ h. filter (λ u. not (is_some (h u))) (uids_of L)) (stored m D refl)) in
-    on_ok_weaker c.settle.result
-    (λ s. children_back c.settle.new.entities N c.join.new.index.children refl (if_some _ _ c.join.new.index.children
+    on_ok_weaker c.settle_touched.result
+    (λ s. children_back c.settle_touched.new.entities N c.join.new.index.children refl
+    (if_some _ _ c.join.new.index.children
     (λ ch h p q. h p q ∙ children_in D N L A (held n) same (λ x. ap (λ f. f x) (stored n (with_first D L) put))
     (λ x. settled_kept c.args.tc_computation _ (held_map n) N s x ∙ ap (λ M. option_map kept (finmap.get M x)) put) p q)
-    (c.join.ensures.children (parentage (finmap.get D)) c.list_if_it_pays.ensures.index.children))) c.settle.ensures.ok
+    (c.join.ensures.children
+    (parentage (finmap.get D)) c.list_if_it_pays.ensures.index.children))) c.settle_touched.ensures.ok

@@ -1,4 +1,4 @@
-use Rattle.std.proofs.Common.{◌≡◌, ap, sym, subst, ◌∙◌, None}
+use Rattle.std.proofs.Common.{rules, ◌≡◌, ap, sym, subst, ◌∙◌, None}
 use Rattle.std.specs.Option.{option_map, option_copied, IfSome}
 use Rattle.std.proofs.lemmas.Bool.{false≢true}
 use Rattle.cedar_entities.specs.laws.Held.{held, shared}
@@ -8,14 +8,17 @@ use Rattle.cedar_entities.proofs.entities.put_new.Goals as goal
 
 pub returns-in-Some-clause-ok : goal.returns-in-Some-clause-ok
 returns-in-Some-clause-ok g c q =
-    let key : c.coming.inside.uid ≡ c.args.coming.uid = c.coming.invariant ∙ ap (λ (e : EntityView). e.uid) c.coming.view_is in
+    let key : c.coming.inside.uid ≡ c.args.coming.uid = c.coming.invariant
+    ∙ ap (λ (e : EntityView). e.uid) c.coming.view_is in
     stays_held (held c.args.entities.now) c.args.coming (shared c.in-Some.present.now)
     (ap (held c.args.entities.now) (sym key) ∙ ap (option_map shared) (sym c.get.ensures.value ∙ ap option_copied c.in-Some.is)) q
 
 pub returns-then-not-deep_eq-clause-err : goal.returns-then-not-deep_eq-clause-err
 returns-then-not-deep_eq-clause-err g c =
-    let key : c.coming.inside.uid ≡ c.args.coming.uid = c.coming.invariant ∙ ap (λ (e : EntityView). e.uid) c.coming.view_is in (
-      c.in_ok-plain_copy_of.ensures ∙ c.uid-then-not-deep_eq.ensures ∙ key,
+    let key : c.coming.inside.uid ≡ c.args.coming.uid = c.coming.invariant
+    ∙ ap (λ (e : EntityView). e.uid) c.coming.view_is in
+    let copy : c.in_ok-clone.field-0 ≡ c.uid-then-not-deep_eq.result.now = search rules in (
+      copy ∙ c.uid-then-not-deep_eq.ensures ∙ key,
       shared c.in-Some.present.now,
       ap (held c.args.entities.now) (sym key) ∙ ap (option_map shared) (sym c.get.ensures.value ∙ ap option_copied c.in-Some.is),
       λ d. false≢true (sym c.if-not-deep_eq.true ∙ c.deep_eq.ensures.equal.1
@@ -27,12 +30,14 @@ returns-clause-keys g c = put_keys c.args.entities.now c.insert.new.self c.comin
 
 pub returns-clause-agrees : goal.returns-clause-agrees
 returns-clause-agrees g c =
-    let key : c.coming.inside.uid ≡ c.args.coming.uid = c.coming.invariant ∙ ap (λ (e : EntityView). e.uid) c.coming.view_is in
+    let key : c.coming.inside.uid ≡ c.args.coming.uid = c.coming.invariant
+    ∙ ap (λ (e : EntityView). e.uid) c.coming.view_is in
     let none : held c.args.entities.now c.args.coming.uid ≡ None =
     ap (held c.args.entities.now) (sym key) ∙ ap (option_map shared) (sym c.get.ensures.value ∙ ap option_copied c.in_default.is) in
     subst (λ o. IfSome o (λ h. IsDeepEqual h c.args.coming)) (sym none) tt
 
 pub returns-clause-ok : goal.returns-clause-ok
 returns-clause-ok g c =
-    let key : c.coming.inside.uid ≡ c.args.coming.uid = c.coming.invariant ∙ ap (λ (e : EntityView). e.uid) c.coming.view_is in
+    let key : c.coming.inside.uid ≡ c.args.coming.uid = c.coming.invariant
+    ∙ ap (λ (e : EntityView). e.uid) c.coming.view_is in
     put c.args.entities.now c.insert.new.self c.coming.inside.uid _ c.args.coming key c.coming.view_is (sym c.get.ensures.value ∙ ap option_copied c.in_default.is) c.in_ok-insert.ensures.updates.0

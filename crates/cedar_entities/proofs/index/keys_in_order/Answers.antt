@@ -17,8 +17,8 @@ use Rattle.cedar_entities.proofs.index.keys_in_order.Goals as goal
 pub loop-key-preserved : goal.loop-key-preserved
 loop-key-preserved g c q =
     ap (λ l. is_member same_uid l q) c.in_ok-push.ensures.items
-    ∙ member_push c.loop-key.keys.items c.in_ok-copy_of.field-0 q
-    ∙ ap (λ u. is_member same_uid c.loop-key.keys.items q || same_uid u q) c.in_ok-copy_of.ensures
+    ∙ member_push c.loop-key.keys.items c.in_ok-clone.field-0 q
+    ∙ ap (λ u. is_member same_uid c.loop-key.keys.items q || same_uid u q) c.in_ok-clone.ensures.cases
     ∙ ap (λ b. b || same_uid c.in-Some.key.now q) (c.loop-key.invariant q)
     ∙ sym (seen_key (map deref_pair c.loop-key.yielded) c.in-Some.key.now c.in-Some.field-0-1.now q)
     ∙ ap (λ l. is_some (lookup (same_uid q) l)) (sym (map_append_one deref_pair c.loop-key.yielded (c.in-Some.key, c.in-Some.field-0-1)))

@@ -12,6 +12,6 @@ pub returns : goal.returns
 returns c q =
     let old = is_member same_uid c.args.hits.now.items q in
     ap (λ l. is_member same_uid l q) c.in_ok-push.ensures.items
-    ∙ member_push c.args.hits.now.items c.in_ok-copy_of.field-0 q
-    ∙ ap (λ u. old || same_uid u q) c.in_ok-copy_of.ensures
+    ∙ member_push c.args.hits.now.items c.in_ok-clone.field-0 q
+    ∙ ap (λ u. old || same_uid u q) c.in_ok-clone.ensures.cases
     ∙ ap (λ b. old || b) (sym (ap (λ b. same_uid c.args.uid.now q && b) c.if-not-is_hit.false ∙ and_on (same_uid c.args.uid.now q)))

@@ -12,8 +12,8 @@ loop-ancestor-preserved c q =
     let all = c.loop-ancestor.all.items in
     let done = map (λ x. x.now) c.loop-ancestor.yielded in
     ap (λ l. is_member same_uid l q) c.in_ok-push.ensures.items
-    ∙ member_push all c.in_ok-copy_of.field-0 q
-    ∙ ap (λ k. is_member same_uid all q || same_uid k q) c.in_ok-copy_of.ensures
+    ∙ member_push all c.in_ok-clone.field-0 q
+    ∙ ap (λ k. is_member same_uid all q || same_uid k q) c.in_ok-clone.ensures.cases
     ∙ ap (λ b. b || same_uid c.in-Some.ancestor.now q) (c.loop-ancestor.invariant q)
     ∙ sym (member_push done c.in-Some.ancestor.now q) ∙ ap (λ l. is_member same_uid l q) (sym (map_append_one (λ x. x.now) c.loop-ancestor.yielded c.in-Some.ancestor))
 

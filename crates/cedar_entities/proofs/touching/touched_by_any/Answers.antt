@@ -25,7 +25,9 @@ loop-key-preserved-in_ok-push g c q =
     let hits : list_any (is_ancestor_in (held m c.in-Some.key.now)) u.keys ≡ true = ap (λ o. list_any (is_ancestor_in (option_map shared o)) u.keys) found ∙ sym (ap (λ e. list_any (has_ancestor e) u.keys) c.deref.ensures) ∙ ap (list_any (has_ancestor c.deref.result.now)) (sym c.in_ok-sought.ensures) ∙ sym c.has_any.ensures ∙ c.if-has_any.true in
     listed_key (λ x. list_any (is_ancestor_in (held m x)) u.keys) (map deref_pair c.loop-key.yielded) c.in-Some.key.now c.in-Some.node.now q (is_member same_uid c.loop-key.copies.items q) (c.loop-key.invariant q)
     (is_member same_uid c.push.new.self.items q)
-    (ap (λ l. is_member same_uid l q) c.in_ok-push.ensures.items ∙ member_push c.loop-key.copies.items c.in_ok-copy_of.field-0 q ∙ ap (λ k. is_member same_uid c.loop-key.copies.items q || same_uid k q) c.in_ok-copy_of.ensures)
+    (ap (λ l. is_member same_uid l q) c.in_ok-push.ensures.items
+    ∙ member_push c.loop-key.copies.items c.in_ok-clone.field-0 q
+    ∙ ap (λ k. is_member same_uid c.loop-key.copies.items q || same_uid k q) c.in_ok-clone.ensures.cases)
     hits ∙ ap (λ l. is_some (lookup (same_uid q) l) && list_any (is_ancestor_in (held m q)) u.keys) (sym (map_append_one deref_pair c.loop-key.yielded (c.in-Some.key, c.in-Some.node)))
 
 pub loop-key-preserved : goal.loop-key-preserved

@@ -10,7 +10,7 @@ pub returns : goal.returns
 returns c q =
     let all = c.in_ok-all.all.items in
     ap (λ l. is_member same_uid l q) c.in_ok-push.ensures.items
-    ∙ member_push all c.in_ok-copy_of.field-0 q
-    ∙ ap (λ k. is_member same_uid all q || same_uid k q) c.in_ok-copy_of.ensures
+    ∙ member_push all c.in_ok-clone.field-0 q
+    ∙ ap (λ k. is_member same_uid all q || same_uid k q) c.in_ok-clone.ensures.cases
     ∙ ap (λ b. b || same_uid c.args.uid.now q) (c.in_ok-all.ensures q)
     ∙ or_both (has_ancestor c.args.entity.now q) (same_uid c.args.uid.now q)

@@ -11,6 +11,7 @@ loop-uid-preserved g c q =
     let within : c.loop-uid.uid-index < length c.args.uids.now = omega arith in
     ap (λ l. counts l q) c.in_ok-push.ensures.items
     ∙ counts_push c.loop-uid.all.items _ q
-    ∙ ap (λ b. b || same_uid c.in_ok-copy_of.field-0 q) (c.loop-uid.invariant q)
-    ∙ ap (λ u. is_member same_uid (take c.loop-uid.uid-index c.args.uids.now) q || same_uid u q) c.in_ok-copy_of.ensures
+    ∙ ap (λ b. b || same_uid c.in_ok-clone.field-0 q) (c.loop-uid.invariant q)
+    ∙ ap (λ u. is_member same_uid (take c.loop-uid.uid-index c.args.uids.now) q
+    || same_uid u q) c.in_ok-clone.ensures.cases
     ∙ sym (member_more c.args.uids.now c.loop-uid.uid-index c.uid-item.result q within c.uid-item.is)

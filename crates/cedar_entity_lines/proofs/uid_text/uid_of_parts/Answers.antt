@@ -1,11 +1,17 @@
-use Rattle.std.proofs.Common.{◌≡◌, ◌∙◌, ap}
+use Rattle.std.proofs.Common.{◌≡◌, ◌∙◌, ◌++◌, ap, codes, subst, sym}
+use Rattle.cedar_ids.specs.Name.{NameParts}
+use Rattle.cedar_ids.specs.TextOf.{IsPrinted}
 use Rattle.cedar_ids.specs.UidOf.{uid_parts}
 use Rattle.cedar_ids.specs.Views.{type_name, eid_bytes}
-use Rattle.cedar_entity_lines.proofs.PlainUids.{plain_printed}
+use Rattle.cedar_ids.specs.laws.OwnEscapes.{own_escape_escaped, own_escape_is_ascii}
 use Rattle.cedar_entity_lines.proofs.uid_text.uid_of_parts.Goals as goal
 
 pub returns : goal.returns
 returns c name is =
-    let eid : eid_bytes c.new.result ≡ c.args.eid.now = ap eid_bytes c.new.ensures ∙ c.in_ok-eid.ensures.ok in
-    plain_printed (type_name c.args.ty) name c.args.eid.now (uid_parts c.from_components.result) is c.requires
-    (c.from_components.ensures ∙ λ i. record { name = type_name c.args.ty; eid = eid i })
+    let e = c.args.eid.now in
+    let eid : eid_bytes c.new.result ≡ e = ap eid_bytes c.new.ensures ∙ c.in_ok-eid.ensures.ok in
+    let parts : uid_parts c.from_components.result ≡ record { name = type_name c.args.ty; eid = e } =
+    c.from_components.ensures ∙ (λ i. record { name = type_name c.args.ty; eid = eid i }) in
+    let same = sym (own_escape_escaped e c.requires) in
+    subst (λ v. IsPrinted v (name ++ (codes "::\"" ++ (e ++ codes "\"")))) (sym parts)
+    (is.0, own_escape_is_ascii e c.requires, λ i. is.1 i ++ (codes "::\"" ++ (same i ++ codes "\"")))

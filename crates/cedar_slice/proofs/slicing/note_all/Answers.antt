@@ -11,7 +11,8 @@ loop-uid-preserved g c q =
     let done = map (λ x. x.now) c.loop-uid.yielded in
     let first = contains same_uid c.args.noted.now q in
     noted_push first (contains same_uid c.loop-uid.noted q) (contains same_uid c.insert.new.self q) done c.in-Some.uid.now q (c.loop-uid.invariant q)
-    (c.in_ok-insert.ensures.updates.0 q ∙ ap (λ k. cond (same_uid k q) true (contains same_uid c.loop-uid.noted q)) c.in_ok-copy_of.ensures)
+    (c.in_ok-insert.ensures.updates.0 q ∙ ap (λ k. cond (same_uid k q) true
+    (contains same_uid c.loop-uid.noted q)) c.in_ok-clone.ensures.cases)
     ∙ ap (λ k. first || is_member same_uid k q) (sym (map_append_one (λ x. x.now) c.loop-uid.yielded c.in-Some.uid))
 
 pub returns : goal.returns

@@ -10,5 +10,5 @@ returns-clause-adds g c =
       subst (λ S. AddGives c.args.mode (entities_in c.args.list.items) S c.add_entities-given.result)
           c.replace-store.ensures.value
           (record { partial = e.partial; adds = e.adds; plain = e.plain }),
-      c.settle.ensures.settles,
+      c.keep_given.ensures.keeps,
     )

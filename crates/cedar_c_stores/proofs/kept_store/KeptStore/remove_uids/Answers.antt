@@ -9,5 +9,5 @@ returns-clause-removes g c =
       subst (λ S. RemoveGives c.args.mode c.args.uids.items S c.remove_entities-given.result)
           c.replace-store.ensures.value
           (record { partial = e.partial; removes = e.removes; plain = e.plain }),
-      c.settle.ensures.settles,
+      c.keep_given.ensures.keeps,
     )

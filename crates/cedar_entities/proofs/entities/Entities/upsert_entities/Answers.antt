@@ -25,8 +25,8 @@ use Rattle.cedar_entities.specs.laws.Losses.{loses, loses_uid}
 use Rattle.std.specs.FinSet as set
 use Rattle.cedar_entities.proofs.entities.Entities.upsert_entities.Goals as goal
 
-pub returns-in_err-settle-clause-upserts : goal.returns-in_err-settle-clause-upserts
-returns-in_err-settle-clause-upserts g c =
+pub returns-in_err-settle_touched-clause-upserts : goal.returns-in_err-settle_touched-clause-upserts
+returns-in_err-settle_touched-clause-upserts g c =
     let is = ap (λ (s : StoreView). s.held) c.self.view_is in
     let L = map (λ r. r.value) c.args.list.items in
     let m = c.self.inside.entities in
@@ -44,21 +44,22 @@ returns-in_err-settle-clause-upserts g c =
     ∙ ap (λ l. option_or (last_entity l q) (held c.strip_each.new.entities q)) c.in_ok-coming.ensures) in
     let touched = known_touched (held_map m) D A (uids_of L) (contains same_uid c.in_ok-touched.touched) is same
     (c.in_ok-touched.ensures.ok (held_map m) c.list_if_it_pays.ensures.index (λ q. refl)) in
-    let e = c.in_err-settle.field-0.0 in
-    upserts_refused c.args.tc_computation D L _ e c.from_residual-in_err-settle.ensures.1
-    (subst (λ E. MatchRefusal e (λ _. ⊥) (IsClosureRefused c.args.tc_computation E)) laid c.in_err-settle.ensures.err)
-    (subst (λ f. WhereComputed c.args.tc_computation (NamesOneOf f e)) touched c.in_err-settle.ensures.named)
+    let e = c.in_err-settle_touched.field-0.0 in
+    upserts_refused c.args.tc_computation D L _ e c.from_residual-in_err-settle_touched.ensures.1
+    (subst (λ E. MatchRefusal e (λ _. ⊥)
+    (IsClosureRefused c.args.tc_computation E)) laid c.in_err-settle_touched.ensures.err)
+    (subst (λ f. WhereComputed c.args.tc_computation (NamesOneOf f e)) touched c.in_err-settle_touched.ensures.named)
 
-pub returns-in_err-settle-clause-strips : goal.returns-in_err-settle-clause-strips
-returns-in_err-settle-clause-strips g c =
+pub returns-in_err-settle_touched-clause-strips : goal.returns-in_err-settle_touched-clause-strips
+returns-in_err-settle_touched-clause-strips g c =
     strips_plain c.args.tc_computation c.args.self (map (λ r. r.value) c.args.list.items) _
-    (returns-in_err-settle-clause-upserts g c)
+    (returns-in_err-settle_touched-clause-upserts g c)
 
-pub returns-in_err-settle-clause-plain : goal.returns-in_err-settle-clause-plain
-returns-in_err-settle-clause-plain g c =
+pub returns-in_err-settle_touched-clause-plain : goal.returns-in_err-settle_touched-clause-plain
+returns-in_err-settle_touched-clause-plain g c =
     upserts_plain c.args.tc_computation c.args.self (map (λ r. r.value) c.args.list.items) _
-    (none_came _ _ c.in_err-settle.field-0.0 c.from_residual-in_err-settle.ensures.1)
-    (returns-in_err-settle-clause-upserts g c)
+    (none_came _ _ c.in_err-settle_touched.field-0.0 c.from_residual-in_err-settle_touched.ensures.1)
+    (returns-in_err-settle_touched-clause-upserts g c)
 
 pub returns-clause-upserts : goal.returns-clause-upserts
 returns-clause-upserts g c =
@@ -79,12 +80,12 @@ returns-clause-upserts g c =
     ∙ ap (λ l. option_or (last_entity l q) (held c.strip_each.new.entities q)) c.in_ok-coming.ensures) in
     let touched = known_touched (held_map m) D A (uids_of L) (contains same_uid c.in_ok-touched.touched) is same
     (c.in_ok-touched.ensures.ok (held_map m) c.list_if_it_pays.ensures.index (λ q. refl)) in
-    let N = held_map c.settle.new.entities in
+    let N = held_map c.settle_touched.new.entities in
     let s : StoreView = record { held = N; partial = c.self.inside.partial } in
     upserts_settled c.args.tc_computation D L s
     (subst (λ f. IsSettled c.args.tc_computation f (put_over D L) N) touched
     (subst (λ E. IsSettled c.args.tc_computation (contains same_uid c.in_ok-touched.touched) E N) laid
-    c.in_ok-settle.ensures.ok))
+    c.in_ok-settle_touched.ensures.ok))
 
 pub returns-clause-strips : goal.returns-clause-strips
 returns-clause-strips g c =
@@ -151,7 +152,7 @@ pub invariant_of-result : goal.invariant_of-result
 invariant_of-result g c =
     let m = c.self.inside.entities in
     let n = c.overwrite_all.new.entities in
-    let N = held_map c.settle.new.entities in
+    let N = held_map c.settle_touched.new.entities in
     let D = c.args.self.held in
     let L = map (λ r. r.value) c.args.list.items in
     let is = ap (λ (s : StoreView). s.held) c.self.view_is in
@@ -166,10 +167,12 @@ invariant_of-result g c =
     let listed : (q : EntityUID) → is_member same_uid A q ≡ is_member same_uid (uids_of L) q = λ q. ap (λ l. is_member same_uid l q) (c.deref-4.ensures.value ∙ c.in_ok-joining.ensures) ∙ same q in
     let touched = known_touched (held_map c.self.inside.entities) c.args.self.held c.note_all.new.noted.keys (uids_of L) (contains same_uid c.in_ok-touched.touched) is same
     (c.in_ok-touched.ensures.ok (held_map c.self.inside.entities) c.list_if_it_pays.ensures.index (λ q. refl)) in
-    let ok = subst (λ f. IsSettled c.args.tc_computation f (put_over c.args.self.held L) (held_map c.settle.new.entities)) touched
-    (subst (λ D. IsSettled c.args.tc_computation (contains same_uid c.in_ok-touched.touched) D (held_map c.settle.new.entities)) laid c.in_ok-settle.ensures.ok) in
+    let ok = subst (λ f. IsSettled c.args.tc_computation f (put_over c.args.self.held L)
+    (held_map c.settle_touched.new.entities)) touched
+    (subst (λ D. IsSettled c.args.tc_computation (contains same_uid c.in_ok-touched.touched) D
+    (held_map c.settle_touched.new.entities)) laid c.in_ok-settle_touched.ensures.ok) in
     let keeps = λ (x : EntityUID). settled_kept c.args.tc_computation _ (put_over D L) N ok x in (
-      c.in_ok-settle.ensures.keys,
+      c.in_ok-settle_touched.ensures.keys,
       record {
         plain = λ t.
             let p = c.plain_if.ensures.plain t in

@@ -10,11 +10,14 @@ use Rattle.cedar_entity_lines.proofs.machine.LineStore.add.Goals as goal
 pub returns : goal.returns
 returns g c =
     let old : StoreAndWaiting = record { waiting = entities_in c.self.inside.waiting.items; store = c.self.inside.store } in
-    on_ok_weaker c.settle.result
-    (λ k s h. add_takes old c.settle.new.self s (entities_in c.replace-list.result.items) c.replace-store.result c.add_entities-given.result c.args.out.now.items c.settle.new.out.items
+    on_ok_weaker c.keep_and_tell.result
+    (λ k s h. add_takes old c.keep_and_tell.new.self s (entities_in c.replace-list.result.items) c.replace-store.result
+    c.add_entities-given.result c.args.out.now.items c.keep_and_tell.new.out.items
     (subst (λ m. Holds m s) (sym c.self.view_is) h)
     (ap (λ (v : Vec (Rc EntityView Global) Global). entities_in v.items) c.replace-list.ensures.value)
     c.replace-store.ensures.value
-    (c.settle.ensures.waiting ∙ ap (λ (v : Vec (Rc EntityView Global) Global). entities_in v.items) c.replace-list.ensures.after ∙ ap entities_in c.new.ensures.items)
+    (c.keep_and_tell.ensures.waiting
+    ∙ ap (λ (v : Vec (Rc EntityView Global) Global). entities_in v.items) c.replace-list.ensures.after
+    ∙ ap entities_in c.new.ensures.items)
     c.add_entities-given.ensures.plain k)
-    c.settle.ensures.settles
+    c.keep_and_tell.ensures.tells

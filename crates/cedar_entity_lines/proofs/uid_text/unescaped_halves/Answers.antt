@@ -1,10 +1,10 @@
 use Rattle.std.proofs.Common.{◌≡◌, ◌∙◌, ◌++◌, ◌∷◌, [], ap, sym, lit<, take, Some, append_assoc}
 use Rattle.std.proofs.lemmas.List.{take-append-drop}
 use Rattle.std.proofs.lemmas.Str.Pattern.{strip_suffix_char}
-use Rattle.cedar_entity_lines.proofs.uid_text.plain_halves.Goals as goal
+use Rattle.cedar_entity_lines.proofs.uid_text.unescaped_halves.Goals as goal
 
-pub returns-then-is_plain-clause-split : goal.returns-then-is_plain-clause-split
-returns-then-is_plain-clause-split c =
+pub returns-then-is_own_escape-clause-split : goal.returns-then-is_own_escape-clause-split
+returns-then-is_own_escape-clause-split c =
     let front = c.in_ok-strip_suffix.field-0.now in
     let whole : c.args.text.now ≡ front ++ 34 ∷ [] = strip_suffix_char 34 c.args.text.now (Some c.in_ok-strip_suffix.field-0) c.in_ok-strip_suffix.ensures.cases (lit< tt) in
     let h = c.in_ok-name.ensures.cases in

@@ -3,7 +3,7 @@ use Rattle.cedar_entities.proofs.Closures.{refused_as, refused_so, repair_of_who
 use Rattle.cedar_ids.specs.declared.entity.EntityUID.{EntityUID}
 use Rattle.cedar_entities.specs.Refusals.{NamesOneOf}
 use Rattle.cedar_entities.specs.laws.Held.{held}
-use Rattle.cedar_entities.proofs.settling.close.Goals as goal
+use Rattle.cedar_entities.proofs.settling.close_whole.Goals as goal
 
 pub returns-in_err-compute_tc-clause-err : goal.returns-in_err-compute_tc-clause-err
 returns-in_err-compute_tc-clause-err g c =
