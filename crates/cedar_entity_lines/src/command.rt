@@ -6,8 +6,8 @@ ghost use Rattle.cedar_entity_lines.specs.EntityCommand.{AreTexts, IsEntityComma
 ghost use Rattle.cedar_entity_lines.specs.CommandOf.{entity_command_of};
 
 use crate::parent_fields::{KnownUids, parents_of_fields};
-use crate::uid_text::{KnownType, uid_of_text};
 use cedar_ids::entity::EntityUID;
+use cedar_lines::known_types::{KnownTypes, uid_of_text};
 use cedar_uid_sets::SharedUid;
 use std::alloc::{AllocError, Global};
 
@@ -33,7 +33,7 @@ pub enum EntityCommand {
 // The uids whose texts the fields are, if each is one.
 fn uid_fields(
     alloc: Global,
-    known: &mut Vec<KnownType>,
+    known: &mut KnownTypes,
     fields: &[&str],
 ) -> Result<Option<Vec<EntityUID>>, AllocError>
     ensures { IfOk result (ReadsAs

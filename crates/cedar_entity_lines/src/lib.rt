@@ -9,7 +9,6 @@
 mod command;
 mod machine;
 mod parent_fields;
-mod uid_text;
 
 pub use command::{EntityCommand, read_entity_command};
 pub use machine::LineStore;

@@ -7,7 +7,7 @@ ghost use Rattle.cedar_ids.specs.declared.entity.EntityUID.{EntityUID};
 ghost use Rattle.cedar_lines.specs.Reads.{ReadsAs};
 ghost use Rattle.cedar_entity_lines.specs.EntityCommand.{AreTexts};
 
-use crate::uid_text::{KnownType, uid_of_text};
+use cedar_lines::known_types::{KnownTypes, uid_of_text};
 use cedar_uid_sets::SharedUid;
 use std::alloc::{AllocError, Global};
 use std::marker::Model;
@@ -37,7 +37,7 @@ impl Model for KnownParent {
 /// what a line is. It is this project's own.
 #[derive(Drop)]
 pub struct KnownUids {
-    pub(crate) types: Vec<KnownType>,
+    pub(crate) types: KnownTypes,
     parents: Vec<Option<KnownParent>>,
 }
 
@@ -45,9 +45,14 @@ impl KnownUids {
     /// Nothing is known. It takes no memory.
     pub fn new(alloc: Global) -> KnownUids {
         KnownUids {
-            types: Vec::new(alloc),
+            types: KnownTypes::new(alloc),
             parents: Vec::new(alloc),
         }
+    }
+
+    /// The types alone, for lines whose uids are nobody's parents.
+    pub fn types(&mut self) -> &mut KnownTypes {
+        &mut self.types
     }
 }
 

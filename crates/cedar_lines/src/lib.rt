@@ -1,4 +1,5 @@
-//! What the program's lines share: the fields of a line, a field that is a uid, and a line that is written.
+//! What the program's lines share: the fields of a line, a field that is a uid, the types that such fields name, and a
+//! line that is written.
 //!
 //! `specs/Lines.antt` says which bytes a line may have and how a line is written, `specs/Reads.antt` what reading
 //! answers. The lines on the store are those of `cedar_entity_lines`, those on policy sets those of
@@ -6,5 +7,6 @@
 #![tactic(auto)]
 
 pub mod field;
+pub mod known_types;
 pub mod line;
 pub mod writing;

@@ -15,6 +15,7 @@ use cedar_binding::{bound_to, no_bindings};
 use cedar_body::Effect;
 use cedar_ids::entity::EntityUID;
 use cedar_ids::policy_id::PolicyID;
+use cedar_lines::known_types::KnownTypes;
 use cedar_policy::SlotEnv;
 use cedar_terms::slot::SlotId;
 use std::alloc::{AllocError, Global};
@@ -65,12 +66,16 @@ fn is_bound(values: &SlotEnv, slot: SlotId) -> bool
 }
 
 // The bindings that the fields are, if they are some: one field for each slot that is bound.
-fn bindings_of(alloc: Global, fields: &[&str]) -> Result<Option<SlotEnv>, AllocError>
+fn bindings_of(
+    alloc: Global,
+    known: &mut KnownTypes,
+    fields: &[&str],
+) -> Result<Option<SlotEnv>, AllocError>
     ensures { IfOk result (λ o. option_map env_of o ≡ bindings_of (map (λ f. f.now) fields.now)) }
 {
     let mut values = no_bindings(alloc);
     for field in fields {
-        let Some((slot, uid)) = binding_of(alloc, field)? else {
+        let Some((slot, uid)) = binding_of(alloc, known, field)? else {
             return Ok(None);
         };
         if is_bound(&values, slot) {
@@ -115,7 +120,11 @@ fn template_of(alloc: Global, fields: &[&str]) -> Result<Option<PolicyCommand>, 
 }
 
 // The command of `link`.
-fn link_of(alloc: Global, fields: &[&str]) -> Result<Option<PolicyCommand>, AllocError>
+fn link_of(
+    alloc: Global,
+    known: &mut KnownTypes,
+    fields: &[&str],
+) -> Result<Option<PolicyCommand>, AllocError>
     ensures { IfOk result (λ o. option_map policy_command_of o ≡ link_of (map (λ f. f.now) fields.now)) }
 {
     let Some((template, rest)) = fields.split_first() else {
@@ -124,7 +133,7 @@ fn link_of(alloc: Global, fields: &[&str]) -> Result<Option<PolicyCommand>, Allo
     let Some((id, rest)) = rest.split_first() else {
         return Ok(None);
     };
-    let Some(values) = bindings_of(alloc, rest)? else {
+    let Some(values) = bindings_of(alloc, known, rest)? else {
         return Ok(None);
     };
     let template = PolicyID::from_string(alloc, template)?;
@@ -174,6 +183,7 @@ fn ids_of(fields: &[&str]) -> Option<PolicyCommand>
 // The command with this word and these fields behind it.
 fn command_by(
     alloc: Global,
+    known: &mut KnownTypes,
     word: &str,
     fields: &[&str],
 ) -> Result<Option<PolicyCommand>, AllocError>
@@ -186,7 +196,7 @@ fn command_by(
         return template_of(alloc, fields);
     }
     if word == "link" {
-        return link_of(alloc, fields);
+        return link_of(alloc, known, fields);
     }
     if word == "unlink" {
         return unlink_of(alloc, fields);
@@ -205,10 +215,14 @@ fn command_by(
 
 /// The command whose fields these are, if they are those of a line on policy sets: the word and what stands behind it.
 ///
-/// An id is any field, the empty one too. Takes memory for the ids and the bindings, and is refused only where that is;
-/// its cost is linear in the fields. It is this project's own.
+/// An id is any field, the empty one too. The types of the uids that it binds are known from then on, and shared with
+/// the lines to come.
+///
+/// Takes memory for the ids, the bindings and what is known, and is refused only where that is; its cost is linear in
+/// the fields. It is this project's own.
 pub fn read_policy_command(
     alloc: Global,
+    known: &mut KnownTypes,
     fields: &[&str],
 ) -> Result<Option<PolicyCommand>, AllocError>
     ensures { IfOk result (ReadsAs (λ c. IsPolicyCommand c (map (λ f. f.now) fields.now)) policy_command_of) }
@@ -216,5 +230,5 @@ pub fn read_policy_command(
     let Some((word, rest)) = fields.split_first() else {
         return Ok(None);
     };
-    command_by(alloc, word, rest)
+    command_by(alloc, known, word, rest)
 }

@@ -12,6 +12,7 @@ use Rattle.cedar_policy_lines.specs.laws.PolicyReading.{policy_command}
 use Rattle.cedar_policy_lines.specs.laws.ReadCommands.{command_is_read, read_is_command}
 use Rattle.cedar_store.specs.Command.{Command, Nothing, Entity, Policy, IsCommand, IsLine}
 use Rattle.cedar_store.specs.Output.{State, Written, Gives, IsOutput, IsOutputFrom, HasOneOutput, start, after, not_command}
+use Rattle.cedar_store.proofs.Joined.{none_found}
 use Rattle.cedar_store.proofs.OneOutput.{one_output}
 
 -- ---- which command a line is
@@ -28,11 +29,6 @@ nothing_found [] = inr (λ e. cc)
 nothing_found ([] ∷ []) = inl refl
 nothing_found ((b ∷ w) ∷ []) = inr (λ e. cc)
 nothing_found (w ∷ t ∷ ts) = inr (λ e. cc)
-
-none_found : (fs : List (List ℕ)) → (fs ≡ [] ∷ [] → ⊥) → ((c : EntityCommand) → IsEntityCommand c fs → ⊥) → ((c : PolicyCommand) → IsPolicyCommand c fs → ⊥) → (c : Command) → IsCommand c fs → ⊥
-none_found fs nothing entity policy Nothing h = nothing h
-none_found fs nothing entity policy (Entity c) h = entity c h
-none_found fs nothing entity policy (Policy c) h = policy c h
 
 found_by : (fs : List (List ℕ)) → (fs ≡ [] ∷ []) ⊎ (fs ≡ [] ∷ [] → ⊥) → Found (λ c. IsEntityCommand c fs) → Found (λ c. IsPolicyCommand c fs) → Found (λ c. IsCommand c fs)
 found_by fs (inl e) entity policy = inl (Nothing, e)

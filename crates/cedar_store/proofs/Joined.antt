@@ -1,20 +1,18 @@
 -- What the parts of a session make of its state.
-use Rattle.std.specs.Prelude.{◌≡◌, ℕ, Bool, true, false, List, [], Result, Ok, Err, IfOk, OnErr, is_err}
+use Rattle.std.specs.Prelude.{◌≡◌, ◌↔◌, ◌==◌, ℕ, Bool, true, false, List, [], ◌∷◌, Result, Ok, Err, IfOk, IsTrue, OnErr, is_err}
 use Rattle.std.proofs.Common.{refl, sym, subst, ◌∙◌}
+use Rattle.std.proofs.lemmas.Bool.{false≢true}
+use Rattle.std.specs.List.{list_all, slice_split}
 use mathlib.Core.List.{append-nil}
-use Rattle.cedar_entity_lines.specs.EntityCommand.{EntityCommand}
+use Rattle.cedar_lines.specs.Lines.{is_line_byte}
+use Rattle.cedar_entity_lines.specs.EntityCommand.{EntityCommand, IsEntityCommand}
 use Rattle.cedar_entity_lines.specs.Holding as held
-use Rattle.cedar_entity_lines.specs.laws.ReadCommands as reading
-use Rattle.cedar_policy_lines.specs.PolicyCommand.{PolicyCommand}
+use Rattle.cedar_policy_lines.specs.PolicyCommand.{PolicyCommand, IsPolicyCommand}
 use Rattle.cedar_policy_lines.specs.PolicyOutput.{PolicyGives, PolicyWrites}
 use Rattle.cedar_store.specs.Command.{Command, Nothing, Entity, Policy, IsCommand}
 use Rattle.cedar_store.specs.Output.{State}
 use Rattle.cedar_store.specs.Sessions.{SessionView, StandsAt, Takes}
-use Rattle.cedar_store.specs.laws.Sessions.{SessionGives, HasAsciiUids}
-
--- an empty line changes nothing
-pub nothing_takes : (m : SessionView) (s : State) (out : List ℕ) → StandsAt m s → SessionGives Nothing s m out out
-nothing_takes m s out h = (s, [], (refl, refl), h, sym (append-nil out))
+use Rattle.cedar_store.specs.laws.Sessions.{SessionGives, TakesKind}
 
 -- the session takes a command on the store
 pub entity_takes : (m n : SessionView) (s : State) (c : EntityCommand) (old new : List ℕ) → StandsAt m s → n.boards ≡ m.boards → n.is_lost ≡ m.is_lost
@@ -59,8 +57,22 @@ pub lost_where_refused : {E : Type 0} (r : Result Bool E) (b : Bool) → b ≡ i
 lost_where_refused (Ok known) b e = tt
 lost_where_refused (Err f) b e = e
 
--- the uids that a command puts in have ASCII eids
-pub command_ascii : (c : Command) (fs : List (List ℕ)) → IsCommand c fs → HasAsciiUids c
-command_ascii Nothing fs h = tt
-command_ascii (Entity c) fs h = reading.command_ascii c fs h
-command_ascii (Policy c) fs h = tt
+-- a line whose fields are taken as a command of some kind is taken
+pub line_taken : {A : Type 0} (kind : A → Command) (line : List ℕ) (fs : List (List ℕ)) (s : State) (v : SessionView) (old new : List ℕ) → list_all is_line_byte line ≡ true → fs ≡ slice_split (λ b. b == 9) line
+    → TakesKind kind true fs s v old new → Takes true line s v old new
+line_taken kind line fs s v old new readable same h =
+    (kind h.0, h.2, h.3, (readable, subst (λ x. IsCommand (kind h.0) x) same h.1), h.4, h.5, h.6)
+
+-- fields that are not those of an empty line, of a command on the store or of one on policy sets are those of none
+pub none_found : (fs : List (List ℕ)) → (fs ≡ [] ∷ [] → ⊥) → ((c : EntityCommand) → IsEntityCommand c fs → ⊥) → ((c : PolicyCommand) → IsPolicyCommand c fs → ⊥) → (c : Command) → IsCommand c fs → ⊥
+none_found fs nothing entity policy Nothing h = nothing h
+none_found fs nothing entity policy (Entity c) h = entity c h
+none_found fs nothing entity policy (Policy c) h = policy c h
+
+-- a line whose fields are those of neither kind of command is taken where it is empty, and changes nothing
+pub line_left : (b : Bool) (line : List ℕ) (fs : List (List ℕ)) (s : State) (v : SessionView) (old new : List ℕ) → list_all is_line_byte line ≡ true → fs ≡ slice_split (λ b. b == 9) line
+    → IsTrue b ↔ (fs ≡ [] ∷ []) → ((c : EntityCommand) → IsEntityCommand c fs → ⊥) → ((c : PolicyCommand) → IsPolicyCommand c fs → ⊥) → StandsAt v s → new ≡ old → Takes b line s v old new
+line_left true line fs s v old new readable same empty entity policy h kept =
+    (Nothing, s, [], (readable, sym same ∙ empty.0 refl), (refl, refl), h, kept ∙ sym (append-nil old))
+line_left false line fs s v old new readable same empty entity policy h kept =
+    (λ c k. none_found fs (λ e. false≢true (empty.1 e)) entity policy c (subst (λ x. IsCommand c x) (sym same) k.1), h, kept)

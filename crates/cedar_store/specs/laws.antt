@@ -1,3 +1,2 @@
-pub mod CommandOf
 pub mod FirstLine
 pub mod Sessions

@@ -9,7 +9,6 @@
 //! takes such lines one by one.
 #![tactic(auto, using(cedar_ids::specs::laws::UidOfLaws::same_uid_decides))]
 
-mod line;
 mod program;
 mod session;
 
@@ -72,9 +71,10 @@ pub mod iters {
     pub use cedar_scope::iters::ConstraintTypeNames;
 }
 
-/// What lines share: their fields, a field that is a uid, and lines that are written.
+/// What lines share: their fields, a field that is a uid, the types that such fields name, and lines that are written.
 pub mod lines {
     pub use cedar_lines::field::uid_field;
+    pub use cedar_lines::known_types::{KnownTypes, uid_of_text};
     pub use cedar_lines::line::read_fields;
     pub use cedar_lines::writing::push_line;
 }
@@ -87,6 +87,7 @@ pub mod entity_lines {
 /// The lines on policy sets: reading them, and the two sets that they change.
 pub mod policy_lines {
     pub use cedar_lines::field::uid_field;
+    pub use cedar_lines::known_types::KnownTypes;
     pub use cedar_policy_lines::{PolicyCommand, PolicySets, read_policy_command};
 }
 

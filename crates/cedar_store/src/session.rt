@@ -1,15 +1,14 @@
 //! A session: what takes the lines of the program one by one, and answers each.
-ghost use Rattle.std.specs.Prelude.{◌≡◌, ◌++◌, IfOk, OnOk, OnErr, IsErr};
+ghost use Rattle.std.specs.Prelude.{◌≡◌, ◌↔◌, ◌++◌, ◌∷◌, [], IfOk, IsTrue, OnOk, OnErr, IsErr, map};
+ghost use Rattle.cedar_store.specs.Command.{Entity, Policy};
 ghost use Rattle.cedar_store.specs.Sessions.{StandsAt, IsLost, Takes};
-ghost use Rattle.cedar_store.specs.laws.CommandOf.{command_of};
-ghost use Rattle.cedar_store.specs.laws.Sessions.{SessionGives, HasAsciiUids};
+ghost use Rattle.cedar_store.specs.laws.Sessions.{TakesKind};
 ghost use Rattle.cedar_store.specs.Output.{State, start, not_command};
 
-use crate::line::{Command, command_of_fields};
-use cedar_entity_lines::{KnownUids, LineStore};
+use cedar_entity_lines::{KnownUids, LineStore, read_entity_command};
 use cedar_lines::line::read_fields;
 use cedar_lines::writing::push_line;
-use cedar_policy_lines::PolicySets;
+use cedar_policy_lines::{PolicySets, read_policy_command};
 use std::alloc::{AllocError, Global};
 use std::hash::{BuildHasher, BuildHasherDefault, FoldHasher};
 use std::marker::Model;
@@ -49,6 +48,16 @@ pub fn push_not_command(alloc: Global, out: &mut Vec<u8>, number: usize) -> Resu
     push_line(out, text.as_str())
 }
 
+// Whether the fields are those of an empty line.
+fn is_nothing(fields: &[&str]) -> bool
+    ensures { IsTrue result ↔ (map (λ f. f.now) fields.now ≡ [] ∷ []) }
+{
+    match fields.split_first() {
+        Some((word, rest)) => word.is_empty() && rest.is_empty(),
+        None => false,
+    }
+}
+
 impl Session {
     /// A session before its first line: nothing waits, the store is empty, and so are both policy sets. It hashes by a
     /// fixed seed, so that whoever picks the ids of its lines can make it slow: where strangers do,
@@ -74,20 +83,47 @@ impl<S: BuildHasher + Copy> Session<S> {
         }
     }
 
-    // Takes a command.
-    fn take(&mut self, alloc: Global, command: Command, out: &mut Vec<u8>) -> Result<(), AllocError>
-        ensures { OnOk result ((s : State) → StandsAt self.old s → HasAsciiUids (command_of command) →
-            SessionGives (command_of command) s self.new out.old.items out.new.items) }
+    // Takes the fields of a line on the store, and says whether they are those of one.
+    fn take_on_store(
+        &mut self,
+        alloc: Global,
+        fields: &[&str],
+        out: &mut Vec<u8>,
+    ) -> Result<bool, AllocError>
+        ensures { IfOk result (λ taken. (s : State) → StandsAt self.old s →
+            TakesKind Entity taken (map (λ f. f.now) fields.now) s self.new out.old.items out.new.items) }
     {
-        match command {
-            Command::Nothing => Ok(()),
-            Command::Entity(command) => self.entities.take(alloc, command, out),
-            Command::Policy(command) => self.sets.take(alloc, command, out),
+        match read_entity_command(alloc, &mut self.known, fields)? {
+            None => Ok(false),
+            Some(command) => {
+                self.entities.take(alloc, command, out)?;
+                Ok(true)
+            }
+        }
+    }
+
+    // Takes the fields of a line on policy sets, and says whether they are those of one.
+    fn take_on_sets(
+        &mut self,
+        alloc: Global,
+        fields: &[&str],
+        out: &mut Vec<u8>,
+    ) -> Result<bool, AllocError>
+        ensures { IfOk result (λ taken. (s : State) → StandsAt self.old s →
+            TakesKind Policy taken (map (λ f. f.now) fields.now) s self.new out.old.items out.new.items) }
+    {
+        match read_policy_command(alloc, self.known.types(), fields)? {
+            None => Ok(false),
+            Some(command) => {
+                self.sets.take(alloc, command, out)?;
+                Ok(true)
+            }
         }
     }
 
     // Takes a line, and says whether it is a command. What the fields are before says nothing: they are set to those
-    // of the line. Lines of entities are the most, so the store is asked for these first.
+    // of the line. Lines of entities are the most, so the store is asked for these first. A command goes from where it
+    // is read straight to what it is for.
     pub(crate) fn take_fields_of<'a>(
         &mut self,
         alloc: Global,
@@ -106,13 +142,15 @@ impl<S: BuildHasher + Copy> Session<S> {
         if waits {
             return Ok(true);
         }
-        match command_of_fields(alloc, &mut self.known, fields)? {
-            None => Ok(false),
-            Some(command) => {
-                self.take(alloc, command, out)?;
-                Ok(true)
-            }
+        let on_store = self.take_on_store(alloc, fields, out)?;
+        if on_store {
+            return Ok(true);
         }
+        let on_sets = self.take_on_sets(alloc, fields, out)?;
+        if on_sets {
+            return Ok(true);
+        }
+        Ok(is_nothing(fields))
     }
 
     /// Takes a line, given without its line feed, and says whether it is a command. One that is has its answer added

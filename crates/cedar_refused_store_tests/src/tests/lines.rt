@@ -1,6 +1,7 @@
 // The calls that lines share, and those by which lines on policy sets are read and answered. Fields stand apart by
 // blanks, but for `read_fields`, by tabs.
 use cedar_lines::field::uid_field;
+use cedar_lines::known_types::{KnownTypes, uid_of_text};
 use cedar_lines::line::read_fields;
 use cedar_lines::writing::push_line;
 use cedar_policy_lines::{PolicyCommand, PolicySets, read_policy_command};
@@ -15,6 +16,11 @@ const LINES: &str = "
     uid_field | A::\"a\" | A::\"a\"
     - uid_field | A::b | none
     uid_field | A::\"'\" | none
+    uid_of_text | A::\"a\" | A::\"a\"
+    uid_of_text | A::\"a\" A::\"b\" | A::\"b\"
+    uid_of_text | A::\"a\" B::\"b\" | B::\"b\"
+    uid_of_text | A::\"a\" A::\"'\" | none
+    - uid_of_text | A::b | none
     read_fields | ent\tA::\"a\"\tA::\"b\" | 3
     - read_fields | \u{e9} | none
     push_line | anc A::\"a\" | anc A::\"a\"
@@ -53,13 +59,15 @@ fn read(alloc: Global, number: usize, row: Row<'_>) -> Tried {
     let fields: Result<Vec<&str>, std::alloc::AllocError> = row.given.split(' ').collect(alloc);
     match fields {
         Ok(fields) => {
+            let mut known = KnownTypes::new(alloc);
             refuse(alloc, number);
             let tried = judged(
                 alloc,
-                read_policy_command(alloc, fields.as_slice()),
+                read_policy_command(alloc, &mut known, fields.as_slice()),
                 row.want,
                 |command| command.is_some() == (row.want == "some"),
             );
+            drop(known);
             drop(fields);
             tried
         }
@@ -72,7 +80,9 @@ fn command(alloc: Global, text: &str) -> Option<PolicyCommand> {
     let fields: Result<Vec<&str>, std::alloc::AllocError> = text.split(' ').collect(alloc);
     match fields {
         Ok(fields) => {
-            let command = read_policy_command(alloc, fields.as_slice());
+            let mut known = KnownTypes::new(alloc);
+            let command = read_policy_command(alloc, &mut known, fields.as_slice());
+            drop(known);
             drop(fields);
             match command {
                 Ok(command) => command,
@@ -151,6 +161,39 @@ fn parted(alloc: Global, number: usize, row: Row<'_>) -> Tried {
     Tried { answer, refused }
 }
 
+// Whether the text before, if there is one, could be read, so that its type is known.
+fn are_known(alloc: Global, known: &mut KnownTypes, before: &str) -> bool {
+    match before {
+        "" => true,
+        text => match uid_of_text(alloc, known, text) {
+            Ok(uid) => uid.is_some(),
+            Err(_) => false,
+        },
+    }
+}
+
+fn shared(alloc: Global, number: usize, row: Row<'_>) -> Tried {
+    let (before, text) = row.given.rsplit_once(' ').unwrap_or(("", row.given));
+    let mut known = KnownTypes::new(alloc);
+    let well = are_known(alloc, &mut known, before);
+    let tried = if well {
+        refuse(alloc, number);
+        judged(
+            alloc,
+            uid_of_text(alloc, &mut known, text),
+            row.want,
+            |uid| match uid {
+                Some(uid) => is_worded(alloc, uid, row.want),
+                None => row.want == "none",
+            },
+        )
+    } else {
+        unmade()
+    };
+    drop(known);
+    tried
+}
+
 fn written(alloc: Global, number: usize, row: Row<'_>) -> Tried {
     let mut out = Vec::new(alloc);
     refuse(alloc, number);
@@ -179,6 +222,7 @@ impl Calls for OnLines {
                     },
                 )
             }
+            "uid_of_text" => shared(alloc, number, row),
             "read_fields" => parted(alloc, number, row),
             "push_line" => written(alloc, number, row),
             "read_policy_command" => read(alloc, number, row),

@@ -1,7 +1,6 @@
--- What a session makes of a command.
-use Rattle.std.specs.Prelude.{◌≡◌, ℕ, List, ◌++◌}
-use Rattle.cedar_entity_lines.specs.Holding as held
-use Rattle.cedar_store.specs.Command.{Command, Nothing, Entity, Policy}
+-- What a session makes of a command, and of fields that may be one.
+use Rattle.std.specs.Prelude.{◌≡◌, ℕ, Bool, true, false, List, ◌++◌}
+use Rattle.cedar_store.specs.Command.{Command, IsCommand}
 use Rattle.cedar_store.specs.Output.{State, Gives}
 use Rattle.cedar_store.specs.Sessions.{SessionView, StandsAt}
 
@@ -9,8 +8,8 @@ use Rattle.cedar_store.specs.Sessions.{SessionView, StandsAt}
 abbrev pub SessionGives : Command → State → SessionView → List ℕ → List ℕ → Type 0
 SessionGives c s v old new = (t : State) × (out : List ℕ) × Gives s c t out × StandsAt v t × (new ≡ old ++ out)
 
--- the uids that a command puts in have ASCII eids
-abbrev pub HasAsciiUids : Command → Type 0
-HasAsciiUids Nothing = Unit {0}
-HasAsciiUids (Entity c) = held.HasAsciiUids c
-HasAsciiUids (Policy c) = Unit {0}
+-- fields that are those of a command of one kind are taken as that command; with any others the session stands where it
+-- stood, and nothing is added
+abbrev pub TakesKind : {A : Type 0} → (A → Command) → Bool → List (List ℕ) → State → SessionView → List ℕ → List ℕ → Type 0
+TakesKind {A} kind true fs s v old new = (a : A) × IsCommand (kind a) fs × SessionGives (kind a) s v old new
+TakesKind {A} kind false fs s v old new = ((a : A) → IsCommand (kind a) fs → ⊥) × StandsAt v s × (new ≡ old)

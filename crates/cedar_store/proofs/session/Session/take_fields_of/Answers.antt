@@ -2,10 +2,10 @@ use Rattle.std.proofs.Common.{◌≡◌, ◌==◌, ◌∙◌, refl, sym, subst, 
 use Rattle.std.specs.List.{list_all, slice_split}
 use Rattle.cedar_lines.specs.Lines.{is_line_byte}
 use Rattle.cedar_entity_lines.specs.EntityCommand.{Ent}
-use Rattle.cedar_store.specs.Command.{Entity, IsCommand}
+use Rattle.cedar_store.specs.Command.{Entity, Policy}
 use Rattle.cedar_store.specs.Sessions.{SessionView, StandsAt}
-use Rattle.cedar_store.specs.laws.CommandOf.{command_of}
-use Rattle.cedar_store.proofs.Joined.{command_ascii, entity_takes}
+use Rattle.cedar_store.specs.laws.Sessions.{TakesKind}
+use Rattle.cedar_store.proofs.Joined.{entity_takes, line_taken, line_left}
 use Rattle.cedar_store.proofs.session.Session.take_fields_of.Goals as goal
 
 pub returns-then-waits : goal.returns-then-waits
@@ -18,39 +18,43 @@ returns-then-waits g c s h =
     let same : map (λ f. f.now) c.deref.result.now ≡ slice_split (λ b. b == 9) c.args.line.now = ap (map (λ f. f.now)) c.deref.ensures.value ∙ c.in_ok-is_text.ensures.fields text in
     let took = rw c.if-waits.true at c.in_ok-waits.ensures in
     let is = subst (λ v. StandsAt v s) (sym c.self.view_is) h in
-    let k = entity_takes old new s (Ent took.0 took.1) c.args.out.now.items c.args.out.now.items is refl refl (took.3 s.entities is.entities c.args.out.now.items) in (
-      Entity (Ent took.0 took.1),
-      k.0,
-      k.1,
-      (
-        readable,
-        subst
-            (λ fs. IsCommand (Entity (Ent took.0 took.1)) fs) same took.2,
-      ),
-      k.2,
-      k.3,
-      k.4,
-    )
+    line_taken Entity c.args.line.now (map (λ f. f.now) c.deref.result.now) s new c.args.out.now.items c.args.out.now.items readable same
+    (Ent took.0 took.1, took.2, entity_takes old new s (Ent took.0 took.1) c.args.out.now.items c.args.out.now.items is refl refl (took.3 s.entities is.entities c.args.out.now.items))
 
-pub returns-in_ok-take-in-Some : goal.returns-in_ok-take-in-Some
-returns-in_ok-take-in-Some g c s h =
+pub returns-then-on_store : goal.returns-then-on_store
+returns-then-on_store g c s h =
     let i = c.self.inside in
     let text : c.in_ok-is_text.is_text ≡ true = c.if-not-is_text.false in
     let readable : list_all is_line_byte c.args.line.now ≡ true = sym c.in_ok-is_text.ensures.readable ∙ text in
     let same : map (λ f. f.now) c.deref-2.result.now ≡ slice_split (λ b. b == 9) c.args.line.now = ap (map (λ f. f.now)) c.deref-2.ensures.value ∙ c.in_ok-is_text.ensures.fields text in
     let left = (rw c.if-waits.false at c.in_ok-waits.ensures).1 in
     let is = subst (λ m. StandsAt (record { entities = m; boards = i.sets; is_lost = i.is_lost }) s) (sym left) (subst (λ v. StandsAt v s) (sym c.self.view_is) h) in
-    let known = rw c.in-Some.is at c.in_ok-command_of_fields.ensures in
-    let k = c.in_ok-take-in-Some.ensures s is (command_ascii (command_of c.in-Some.command) _ known) in (
-      command_of c.in-Some.command,
-      k.0,
-      k.1,
-      (
-        readable,
-        subst
-            (λ fs. IsCommand (command_of c.in-Some.command) fs) same known,
-      ),
-      k.2,
-      k.3,
-      k.4,
-    )
+    let took = rw c.if-on_store.true at (c.in_ok-on_store.ensures s is) in
+    line_taken Entity c.args.line.now (map (λ f. f.now) c.deref-2.result.now) s _ c.args.out.now.items _ readable same took
+
+pub returns-then-on_sets : goal.returns-then-on_sets
+returns-then-on_sets g c s h =
+    let i = c.self.inside in
+    let text : c.in_ok-is_text.is_text ≡ true = c.if-not-is_text.false in
+    let readable : list_all is_line_byte c.args.line.now ≡ true = sym c.in_ok-is_text.ensures.readable ∙ text in
+    let same : map (λ f. f.now) c.deref-3.result.now ≡ slice_split (λ b. b == 9) c.args.line.now = ap (map (λ f. f.now)) c.deref-3.ensures.value ∙ c.in_ok-is_text.ensures.fields text in
+    let left = (rw c.if-waits.false at c.in_ok-waits.ensures).1 in
+    let is = subst (λ m. StandsAt (record { entities = m; boards = i.sets; is_lost = i.is_lost }) s) (sym left) (subst (λ v. StandsAt v s) (sym c.self.view_is) h) in
+    let none = rw c.if-on_store.false at (c.in_ok-on_store.ensures s is) in
+    let took = rw c.if-on_sets.true at (c.in_ok-on_sets.ensures s none.1) in
+    line_taken Policy c.args.line.now (map (λ f. f.now) c.deref-3.result.now) s _ c.args.out.now.items _ readable same
+    (subst (λ o. TakesKind Policy true (map (λ f. f.now) c.deref-3.result.now) s c.take_on_sets.new.self o c.take_on_sets.new.out.items) none.2 took)
+
+pub returns : goal.returns
+returns g c s h =
+    let i = c.self.inside in
+    let text : c.in_ok-is_text.is_text ≡ true = c.if-not-is_text.false in
+    let readable : list_all is_line_byte c.args.line.now ≡ true = sym c.in_ok-is_text.ensures.readable ∙ text in
+    let same : map (λ f. f.now) c.deref-4.result.now ≡ slice_split (λ b. b == 9) c.args.line.now = ap (map (λ f. f.now)) c.deref-4.ensures.value ∙ c.in_ok-is_text.ensures.fields text in
+    let left = (rw c.if-waits.false at c.in_ok-waits.ensures).1 in
+    let is = subst (λ m. StandsAt (record { entities = m; boards = i.sets; is_lost = i.is_lost }) s) (sym left) (subst (λ v. StandsAt v s) (sym c.self.view_is) h) in
+    let none = rw c.if-on_store.false at (c.in_ok-on_store.ensures s is) in
+    let more = rw c.if-on_sets.false at (c.in_ok-on_sets.ensures s none.1) in
+    let fields = map (λ f. f.now) c.deref-4.result.now in
+    line_left c.is_nothing.result c.args.line.now fields s _ c.args.out.now.items _ readable same c.is_nothing.ensures
+    none.0 more.0 more.1 (more.2 ∙ none.2)

@@ -2,7 +2,7 @@ use Rattle.std.proofs.Common.{◌∙◌, ◌++◌, ap, sym, subst}
 use Rattle.std.specs.String.{string_bytes}
 use Rattle.cedar_ids.specs.TextOf.{IsNameText, IsPrinted}
 use Rattle.cedar_ids.specs.UidOf.{uid_parts}
-use Rattle.cedar_entity_lines.proofs.uid_text.uid_of_type.Goals as goal
+use Rattle.cedar_lines.proofs.known_types.uid_of_type.Goals as goal
 
 -- the text is that of the type and what follows it
 pub returns : goal.returns

@@ -1,7 +1,7 @@
 use Rattle.std.proofs.Common.{◌≡◌, ◌∙◌, ◌++◌, ◌∷◌, [], ap, sym, lit<, take, Some, append_assoc}
 use Rattle.std.proofs.lemmas.List.{take-append-drop}
 use Rattle.std.proofs.lemmas.Str.Pattern.{strip_suffix_char}
-use Rattle.cedar_entity_lines.proofs.uid_text.unescaped_halves.Goals as goal
+use Rattle.cedar_lines.proofs.known_types.unescaped_halves.Goals as goal
 
 pub returns-then-is_own_escape-clause-split : goal.returns-then-is_own_escape-clause-split
 returns-then-is_own_escape-clause-split c =

@@ -8,16 +8,16 @@ ghost use Rattle.cedar_ids.specs.Views.{type_name};
 ghost use Rattle.cedar_ids.specs.declared.entity.EntityUID.{EntityUID};
 ghost use Rattle.cedar_lines.specs.Reads.{ReadsAs};
 
+use crate::field::uid_field;
 use cedar_ids::entity::{Eid, EntityType, EntityUID};
 use cedar_ids::err::ParseErrors;
 use cedar_ids::escape::is_own_escape;
-use cedar_lines::field::uid_field;
 use std::alloc::{AllocError, Global};
 use std::marker::Model;
 
 // A type, and its text. Contracts see the name of the type.
 #[derive(Drop)]
-pub(crate) struct KnownType {
+struct KnownType {
     text: String,
     ty: EntityType,
 }
@@ -33,6 +33,22 @@ impl Model for KnownType {
     ghost view = { λ k. type_name k.ty };
 
     ghost invariant = { λ k. IsNameText (type_name k.ty) (string_bytes k.text) };
+}
+
+/// The types that fields before have named, by their texts, so that uids to come share them: up to 16, those that came
+/// first. It says nothing of what a line is. It is this project's own.
+#[derive(Drop)]
+pub struct KnownTypes {
+    types: Vec<KnownType>,
+}
+
+impl KnownTypes {
+    /// Nothing is known. It takes no memory.
+    pub fn new(alloc: Global) -> KnownTypes {
+        KnownTypes {
+            types: Vec::new(alloc),
+        }
+    }
 }
 
 // So many types are known at the most.
@@ -185,16 +201,21 @@ fn uid_without_escape(
     }
 }
 
-// The uid with an ASCII eid whose text a field is, if there is one. Where the eid has no escape its type is shared with
-// other uids of that type, and neither has a location. Any other text is read by itself.
-pub(crate) fn uid_of_text(
+/// The uid with an ASCII eid whose text a field is, if there is one: what [`uid_field`] answers. Where the eid has no
+/// escape its type is shared with other uids of that type, and neither has a location; any other text is read by
+/// itself. A type that is read so is known from then on, while there is room.
+///
+/// Takes memory for the uid, for its type where that is not known, and for what is known then, and is refused only
+/// where that is. Its cost is linear in the field and in the texts of the types that are known. It is this project's
+/// own.
+pub fn uid_of_text(
     alloc: Global,
-    known: &mut Vec<KnownType>,
+    known: &mut KnownTypes,
     text: &str,
 ) -> Result<Option<EntityUID>, AllocError>
     ensures { IfOk result (ReadsAs (λ (u : EntityUID). IsPrinted (uid_parts u) text.now) (λ u. u)) }
 {
-    if let Some(uid) = uid_without_escape(alloc, known, text)? {
+    if let Some(uid) = uid_without_escape(alloc, &mut known.types, text)? {
         return Ok(Some(uid));
     }
     uid_field(alloc, text)

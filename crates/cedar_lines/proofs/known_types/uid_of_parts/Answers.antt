@@ -4,7 +4,7 @@ use Rattle.cedar_ids.specs.TextOf.{IsPrinted}
 use Rattle.cedar_ids.specs.UidOf.{uid_parts}
 use Rattle.cedar_ids.specs.Views.{type_name, eid_bytes}
 use Rattle.cedar_ids.specs.laws.OwnEscapes.{own_escape_escaped, own_escape_is_ascii}
-use Rattle.cedar_entity_lines.proofs.uid_text.uid_of_parts.Goals as goal
+use Rattle.cedar_lines.proofs.known_types.uid_of_parts.Goals as goal
 
 pub returns : goal.returns
 returns c name is =
