@@ -1,4 +1,3 @@
-mod Entered
-mod Entries
+mod Parted
 mod Told
 mod Written

@@ -1,5 +1,5 @@
 -- What a reader's answer says of a policy or a template, as a truth value.
-use Rattle.std.specs.Prelude.{◌≡◌, ◌↔◌, ℕ, List, [], ◌∷◌, Bool, true, false, not, Option, Some, None, IsTrue, is_some, refl}
+use Rattle.std.specs.Prelude.{◌≡◌, ℕ, List, [], true, Option, Some, None, is_some, refl}
 use Rattle.std.specs.declared.rc.Rc.{Rc}
 use Rattle.std.specs.declared.alloc.Global.{Global}
 use Rattle.std.proofs.Common.{sym}
@@ -11,21 +11,7 @@ use Rattle.std.specs.Cmp.Derive.Mapped.{pointwise-map}
 use Rattle.cedar_body.specs.Bodies.{BodyParts}
 use Rattle.cedar_body.specs.BodyEquality.{same_body}
 use Rattle.cedar_policy_set.specs.BoardTexts.{body_line, is_known_body}
-use Rattle.cedar_policy_set.specs.Views.{bodies_of}
-use Rattle.cedar_policy_set.specs.Validity.{is_slotless}
-use Rattle.cedar_terms.specs.declared.slot.SlotId.{SlotId}
-
-pub link_told : (o : Option (List ℕ)) (v : Bool) → (IsTrue v ↔ (o ≡ None)) → not v ≡ is_some o
-link_told None true h = refl
-link_told None false h = absurd (cc (h.1 refl))
-link_told (Some l) true h = absurd (cc (h.0 refl))
-link_told (Some l) false h = refl
-
-pub slots_told : (ss : List SlotId) (v : Bool) → (IsTrue v ↔ (ss ≡ [])) → v ≡ is_slotless ss
-slots_told [] true h = refl
-slots_told [] false h = absurd (cc (h.1 refl))
-slots_told (s ∷ ss) true h = absurd (cc (h.0 refl))
-slots_told (s ∷ ss) false h = refl
+use Rattle.cedar_policy_maps.specs.Views.{bodies_of}
 
 pub bodies_told : (ts us : List (Rc BodyParts Global)) → pointwise same_body (bodies_of ts) (bodies_of us) ≡ pointwise (λ t u. same_body t.value u.value) ts us
 bodies_told ts us = pointwise-map (λ (t : Rc BodyParts Global). t.value) same_body ts us

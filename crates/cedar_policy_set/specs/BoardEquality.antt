@@ -3,7 +3,7 @@ use Rattle.std.specs.Prelude.{Bool, ◌&&◌}
 use Rattle.std.specs.Cmp.Lexicographic.{pointwise}
 use Rattle.cedar_body.specs.BodyEquality.{same_body}
 use Rattle.cedar_policy.specs.PolicyEquality.{same_policy}
-use Rattle.cedar_policy_set.specs.Boards.{Board}
+use Rattle.cedar_policy_maps.specs.Boards.{Board}
 
 -- equal bodies and equal policies, at equal places of the two orders
 abbrev pub same_board : Board → Board → Bool

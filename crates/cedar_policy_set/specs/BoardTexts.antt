@@ -6,7 +6,7 @@ use Rattle.cedar_body.specs.Bodies.{BodyParts}
 use Rattle.cedar_body.specs.BodyTexts.{body_output}
 use Rattle.cedar_policy.specs.Policies.{PolicyParts}
 use Rattle.cedar_policy.specs.PolicyTexts.{policy_output}
-use Rattle.cedar_policy_set.specs.Boards.{Board}
+use Rattle.cedar_policy_maps.specs.Boards.{Board}
 
 -- whether the text of a body, or of a policy, is known, and that text
 abbrev pub is_known_body : BodyParts → Bool

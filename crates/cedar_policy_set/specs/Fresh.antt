@@ -1,7 +1,7 @@
 -- New ids for a merge: policy0, policy1 and so on, as far as neither set binds them.
 use Rattle.std.specs.Prelude.{◌≡◌, ℕ, ◌+◌, List, [], ◌∷◌, ◌++◌, Bool, false, ◌||◌, if◌then◌else◌, codes, suc, zero}
 use Rattle.std.specs.Fmt.{digits_onto}
-use Rattle.cedar_policy_set.specs.Boards.{Board, is_bound}
+use Rattle.cedar_policy_maps.specs.Boards.{Board, is_bound}
 
 -- the decimal text of a number, which has no more digits than the number and one
 unfoldable pub numeral : ℕ → List ℕ

@@ -11,7 +11,7 @@ use Rattle.cedar_policy.specs.Policies.{PolicyParts, policy_id}
 use Rattle.cedar_policy.specs.PolicyEquality.{same_policy}
 use Rattle.cedar_policy_set.specs.declared.err.PolicySetError.{PolicySetError}
 use Rattle.cedar_policy_set.specs.declared.err.PolicySetError.TheVariants.{Occupied, Memory}
-use Rattle.cedar_policy_set.specs.Boards.{Board, Binding, Static, Template, Link, is_body_at, is_policy_at, is_bound}
+use Rattle.cedar_policy_maps.specs.Boards.{Board, Binding, Static, Template, Link, is_body_at, is_policy_at, is_bound}
 use Rattle.cedar_policy_set.specs.Fresh.{numbered, is_bound_in_either, AreFree}
 
 -- whether a body, or a policy, has an id

@@ -13,7 +13,7 @@ use Rattle.cedar_policy_set.specs.declared.err.PolicySetTemplateRemovalError.{Po
 use Rattle.cedar_policy_set.specs.declared.err.PolicySetTemplateRemovalError.TheVariants as templates
 use Rattle.cedar_policy_set.specs.declared.err.PolicySetUnlinkError.{PolicySetUnlinkError}
 use Rattle.cedar_policy_set.specs.declared.err.PolicySetUnlinkError.TheVariants as unlinks
-use Rattle.cedar_policy_set.specs.Boards.{Board, Binding, without_id}
+use Rattle.cedar_policy_maps.specs.Boards.{Board, Binding, without_id}
 use Rattle.cedar_policy_set.specs.Steps.{Refusal, occupied, no_body, no_such_template, arity, not_an_action, id_conflict, no_link, not_a_link, no_template, with_links, not_a_template, no_static, not_static}
 
 -- what an error tells; want of memory tells nothing

@@ -8,8 +8,8 @@ use Rattle.cedar_body.specs.Bodies.{BodyParts, body_slots}
 use Rattle.cedar_body.specs.BodyEquality.{same_body}
 use Rattle.cedar_binding.specs.Bindings.{EnvParts, unbound, extra, wrong_action}
 use Rattle.cedar_policy.specs.Policies.{PolicyParts, static_policy}
-use Rattle.cedar_policy_set.specs.Lists.{ids_in}
-use Rattle.cedar_policy_set.specs.Boards.{Board, Binding, Static, Template, Link, bound_at, is_bound, is_body_at, has_links, with_template, with_policy, with_both, without_id}
+use Rattle.cedar_policy_maps.specs.Lists.{ids_in}
+use Rattle.cedar_policy_maps.specs.Boards.{Board, Binding, Static, Template, Link, bound_at, is_bound, is_body_at, has_links, with_template, with_policy, with_both, without_id}
 
 -- why a call is refused: an id is taken; there is no body of an id; there is no template of an id to link; the
 -- bindings don't fit its slots; the action's slot is bound to no action; the id of a link is taken; there is no link of an id; there is something else than

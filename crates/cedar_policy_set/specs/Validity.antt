@@ -1,7 +1,6 @@
 -- What validating a set answers.
-use Rattle.std.specs.Prelude.{◌≡◌, List, [], ◌∷◌, ◌++◌, Bool, true, false, ◌&&◌, Some, None, Result, Ok, Err, is_some, All}
+use Rattle.std.specs.Prelude.{◌≡◌, List, ◌∷◌, ◌++◌, Bool, ◌&&◌, Some, None, Result, Ok, Err, is_some, All}
 use Rattle.std.specs.List.{find}
-use Rattle.cedar_terms.specs.declared.slot.SlotId.{SlotId}
 use Rattle.cedar_body.specs.Bodies.{BodyParts, body_slots}
 use Rattle.cedar_policy.specs.Policies.{PolicyParts, policy_id}
 use Rattle.cedar_policy.specs.Validation.{HasActions, IsTemplateFault, clause_fault}
@@ -9,12 +8,8 @@ use Rattle.cedar_policy.specs.declared.err.TemplateValidationError.{TemplateVali
 use Rattle.cedar_policy.specs.declared.err.TemplateValidationError.TheVariants as templates
 use Rattle.cedar_policy_set.specs.declared.err.PolicySetValidationError.{PolicySetValidationError}
 use Rattle.cedar_policy_set.specs.declared.err.PolicySetValidationError.TheVariants.{InvalidTemplate, LinkToSlotlessTemplate, Memory}
-use Rattle.cedar_policy_set.specs.Boards.{Board}
-
--- there are no slots
-abbrev pub is_slotless : List SlotId → Bool
-is_slotless [] = true
-is_slotless (s ∷ ss) = false
+use Rattle.cedar_policy_maps.specs.Boards.{Board}
+use Rattle.cedar_policy_maps.specs.Lists.{is_slotless}
 
 -- a link of a template without slots
 abbrev pub is_slotless_link : PolicyParts → Bool

@@ -4,10 +4,9 @@ ghost use Rattle.std.specs.Cmp.{partial_equiv_from_equiv};
 ghost use Rattle.std.specs.Cmp.Lexicographic.{pointwise};
 ghost use Rattle.cedar_body.specs.BodyEquality.{same_body};
 ghost use Rattle.cedar_policy_set.specs.BoardEquality.{same_board};
-ghost use Rattle.cedar_policy_set.specs.Views.{bodies_of};
+ghost use Rattle.cedar_policy_maps.specs.Views.{bodies_of};
 ghost use Rattle.cedar_policy_set.specs.laws.EqualityLaws.{same_board_equiv};
 
-use crate::maps::{copy_of_bodies, copy_of_ids, copy_of_policies};
 use crate::policy_set::PolicySet;
 use cedar_policy::Template;
 use std::alloc::AllocError;
@@ -18,26 +17,8 @@ impl<S: BuildHasher + Copy> Clone for PolicySet<S> {
     ghost is_clone = { λ x y. y ≡ x };
 
     fn clone(&self) -> Result<PolicySet<S>, AllocError> {
-        let templates = copy_of_bodies(&self.templates)?;
-        let links = match copy_of_policies(&self.links) {
-            Ok(links) => links,
-            Err(error) => {
-                drop(templates);
-                return Err(error);
-            }
-        };
-        match copy_of_ids(&self.template_to_links_map) {
-            Ok(template_to_links_map) => Ok(PolicySet {
-                templates,
-                links,
-                template_to_links_map,
-            }),
-            Err(error) => {
-                drop(templates);
-                drop(links);
-                Err(error)
-            }
-        }
+        let maps = self.maps.clone()?;
+        Ok(PolicySet { maps })
     }
 }
 
@@ -47,8 +28,8 @@ impl<S: BuildHasher + Copy> PartialEq for PolicySet<S> {
     ghost laws = { partial_equiv_from_equiv same_board_equiv };
 
     fn eq(&self, other: &PolicySet<S>) -> bool {
-        same_bodies(self.shared_bodies(), other.shared_bodies())
-            && self.all_policies() == other.all_policies()
+        same_bodies(self.maps.shared_bodies(), other.maps.shared_bodies())
+            && self.maps.all_policies() == other.maps.all_policies()
     }
 }
 

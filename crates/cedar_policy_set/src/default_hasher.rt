@@ -1,6 +1,6 @@
 //! The constructors of policy sets that hash by the default builder of hashers.
 ghost use Rattle.std.specs.Prelude.{◌≡◌, IfOk, Ok};
-ghost use Rattle.cedar_policy_set.specs.Boards.{empty_board, HasOwnId};
+ghost use Rattle.cedar_policy_maps.specs.Boards.{empty_board, HasOwnId};
 ghost use Rattle.cedar_policy_set.specs.Refusals.{Makes, told_by_set};
 ghost use Rattle.cedar_policy_set.specs.Steps.{add_step, add_then};
 
@@ -21,7 +21,7 @@ impl PolicySet {
     /// The set with this policy alone, and with its template: what adding it to the set without a binding leaves. A link
     /// has to have another id than its template; the original asks nothing. Takes memory for the two places, and is refused only
     /// where that is.
-    #[tactic(auto, using(crate::specs::laws::BoardLaws::alone))]
+    #[tactic(auto, using(cedar_policy_maps::specs::laws::BoardLaws::alone))]
     pub fn singleton(alloc: Global, policy: Policy) -> Result<PolicySet, AllocError>
         requires { HasOwnId policy }
         ensures { IfOk result (λ s. add_step empty_board policy ≡ Ok s) }
@@ -30,7 +30,7 @@ impl PolicySet {
         let _whole = policy.is_static();
         let _total = policy.env();
         let mut set = PolicySet::new(alloc);
-        match set.put_both(policy) {
+        match set.maps.put_both(policy) {
             Ok(()) => Ok(set),
             Err(error) => {
                 drop(set);

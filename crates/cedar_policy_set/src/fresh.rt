@@ -1,12 +1,12 @@
 //! New ids for a merge: policy0, policy1 and so on, as far as neither set binds them.
 ghost use Rattle.std.specs.Prelude.{◌≡◌, ◌+◌, ◌^◌, ◌<◌, IfOk, List, ℕ, length};
 ghost use Rattle.std.specs.Map.{keys_of, values_of};
-ghost use Rattle.cedar_policy_set.specs.Boards.{AreOnce};
+ghost use Rattle.cedar_policy_maps.specs.Boards.{AreOnce};
 ghost use Rattle.cedar_policy_set.specs.Fresh.{numbered, is_bound_in_either, free_below, IsFree, AreFree};
 ghost use Rattle.cedar_policy_set.specs.laws.FreshLaws.{count};
 
-use crate::policy_set::PolicySet;
 use cedar_ids::policy_id::PolicyID;
+use cedar_policy_maps::PolicyMaps;
 use indexmap::{IndexMap, IndexSet};
 use std::alloc::{AllocError, Global};
 use std::hash::BuildHasher;
@@ -23,8 +23,8 @@ fn numbered(alloc: Global, number: u128) -> Result<PolicyID, AllocError>
 
 // Whether one of two sets binds an id.
 fn is_bound_in_either<S: BuildHasher + Copy>(
-    here: &PolicySet<S>,
-    other: &PolicySet<S>,
+    here: &PolicyMaps<S>,
+    other: &PolicyMaps<S>,
     id: &PolicyID,
 ) -> bool
     ensures { result ≡ is_bound_in_either here.now other.now id.now }
@@ -35,8 +35,8 @@ fn is_bound_in_either<S: BuildHasher + Copy>(
 // The first free id from this number on, with its number.
 fn next_free<S: BuildHasher + Copy>(
     alloc: Global,
-    here: &PolicySet<S>,
-    other: &PolicySet<S>,
+    here: &PolicyMaps<S>,
+    other: &PolicyMaps<S>,
     start: u128,
 ) -> Result<(PolicyID, u128), AllocError>
     requires { free_below (is_bound_in_either here.now other.now) start + count here.now other.now < 2 ^ 100 }
@@ -55,7 +55,7 @@ fn next_free<S: BuildHasher + Copy>(
 }
 
 // How many ids two sets have, those of static policies twice.
-fn count_ids<S: BuildHasher + Copy>(here: &PolicySet<S>, other: &PolicySet<S>) -> u128
+fn count_ids<S: BuildHasher + Copy>(here: &PolicyMaps<S>, other: &PolicyMaps<S>) -> u128
     ensures count { result ≡ count here.now other.now }
     ensures small { result < 2 ^ 66 }
 {
@@ -63,7 +63,7 @@ fn count_ids<S: BuildHasher + Copy>(here: &PolicySet<S>, other: &PolicySet<S>) -
 }
 
 // How many ids a set has, those of static policies twice.
-fn size<S: BuildHasher + Copy>(set: &PolicySet<S>) -> u128
+fn size<S: BuildHasher + Copy>(set: &PolicyMaps<S>) -> u128
     ensures size { result ≡ length set.now.policies + length set.now.bodies }
     ensures small { result < 2 ^ 65 }
 {
@@ -74,8 +74,8 @@ fn size<S: BuildHasher + Copy>(set: &PolicySet<S>) -> u128
 pub(crate) fn fresh_ids<S: BuildHasher + Copy>(
     alloc: Global,
     ids: IndexSet<PolicyID, S>,
-    here: &PolicySet<S>,
-    other: &PolicySet<S>,
+    here: &PolicyMaps<S>,
+    other: &PolicyMaps<S>,
 ) -> Result<IndexMap<PolicyID, PolicyID, S>, AllocError>
     requires { AreOnce (λ (i : List ℕ). i) ids.keys }
     ensures keys { IfOk result (λ r. keys_of r.entries ≡ ids.keys) }

@@ -3,16 +3,16 @@ ghost use Rattle.std.specs.Prelude.{◌≡◌, ◌<◌, length, IfOk, IfErr, OnO
 ghost use Rattle.cedar_body.specs.BodyEquality.{same_body};
 ghost use Rattle.cedar_body.specs.Bodies.{body_slots};
 ghost use Rattle.cedar_binding.specs.Views.{env_of};
-ghost use Rattle.cedar_policy_set.specs.Boards.{empty_board, bound_at, Template as template_binding};
+ghost use Rattle.cedar_policy_maps.specs.Boards.{empty_board, bound_at, Template as template_binding};
 ghost use Rattle.cedar_policy_set.specs.Refusals.{IsRefusal, Steps, Makes, told_by_set, told_by_linking};
 ghost use Rattle.cedar_policy_set.specs.Steps.{add_static_step, add_template_step, add_step, link_onto, link_step, add_then, UnlinksTo};
-ghost use Rattle.cedar_policy_set.specs.laws.Joins.{HasNoTemplate, Stands, StandsThere};
+ghost use Rattle.cedar_policy_set.specs.laws.Standing.{HasNoTemplate, Stands, StandsThere};
 
 use crate::err::PolicySetError;
-use crate::found::Found;
 use crate::policy_set::PolicySet;
 use cedar_ids::policy_id::PolicyID;
 use cedar_policy::{LinkingError, Policy, SlotEnv, StaticPolicy, Template};
+use cedar_policy_maps::Found;
 use std::alloc::{AllocError, Global};
 use std::hash::BuildHasher;
 use std::rc::Rc;
@@ -56,13 +56,13 @@ impl<S: BuildHasher + Copy> PolicySet<S> {
     pub fn add_static(&mut self, alloc: Global, policy: StaticPolicy) -> Result<(), PolicySetError>
         ensures { Steps told_by_set result self.old self.new (add_static_step self.old policy) }
     {
-        if self.is_bound(policy.id()) {
+        if self.maps.is_bound(policy.id()) {
             let id: Result<PolicyID, AllocError> = policy.id().clone();
             drop(policy);
             return Err(PolicySetError::Occupied { id: id? });
         }
         let policy = Policy::from_static(alloc, policy)?;
-        self.put_both(policy)?;
+        self.maps.put_both(policy)?;
         Ok(())
     }
 
@@ -73,13 +73,13 @@ impl<S: BuildHasher + Copy> PolicySet<S> {
     pub fn add_template(&mut self, alloc: Global, template: Template) -> Result<(), PolicySetError>
         ensures { Steps told_by_set result self.old self.new (add_template_step self.old template) }
     {
-        if self.is_bound(template.id()) {
+        if self.maps.is_bound(template.id()) {
             let id: Result<PolicyID, AllocError> = template.id().clone();
             drop(template);
             return Err(PolicySetError::Occupied { id: id? });
         }
         let template = Rc::new(alloc, template)?;
-        self.put_template(template)?;
+        self.maps.put_template(template)?;
         Ok(())
     }
 
@@ -108,12 +108,12 @@ impl<S: BuildHasher + Copy> PolicySet<S> {
     {
         // No effect at run time: this call says that a policy that is no link is its body.
         let _whole = policy.is_static();
-        if self.is_bound(policy.id()) {
+        if self.maps.is_bound(policy.id()) {
             let id: Result<PolicyID, AllocError> = policy.id().clone();
             drop(policy);
             return Err(PolicySetError::Occupied { id: id? });
         }
-        self.put_both(policy)?;
+        self.maps.put_both(policy)?;
         Ok(())
     }
 
@@ -122,7 +122,7 @@ impl<S: BuildHasher + Copy> PolicySet<S> {
         requires { policy.link ≡ None → ⊥ }
         ensures { Steps told_by_set result self.old self.new (add_step self.old policy) }
     {
-        match self.found(policy.template().id()) {
+        match self.maps.found(policy.template().id()) {
             None => self.add_with_template(policy),
             Some(Found::Template(template)) => {
                 let same = are_same(template, policy.template());
@@ -149,12 +149,12 @@ impl<S: BuildHasher + Copy> PolicySet<S> {
             drop(policy);
             return Err(PolicySetError::Occupied { id: id? });
         }
-        if self.is_bound(policy.id()) {
+        if self.maps.is_bound(policy.id()) {
             let id: Result<PolicyID, AllocError> = policy.id().clone();
             drop(policy);
             return Err(PolicySetError::Occupied { id: id? });
         }
-        self.put_policy(policy)?;
+        self.maps.put_policy(policy)?;
         Ok(())
     }
 
@@ -166,18 +166,18 @@ impl<S: BuildHasher + Copy> PolicySet<S> {
     {
         // No effect at run time: this call says that exactly the slots of its template are bound.
         let _total = policy.env();
-        let is_taken = policy.id() == policy.template().id() || self.is_bound(policy.id());
+        let is_taken = policy.id() == policy.template().id() || self.maps.is_bound(policy.id());
         if is_taken {
             let id: Result<PolicyID, AllocError> = policy.id().clone();
             drop(policy);
             return Err(PolicySetError::Occupied { id: id? });
         }
-        self.put_both(policy)?;
+        self.maps.put_both(policy)?;
         Ok(())
     }
 
     // Puts a link of a template in the set last: to take it out again leaves the former set.
-    #[tactic(auto, using(crate::specs::laws::BoardLaws::no_template_step, crate::specs::laws::LinkLaws::link_undone, crate::specs::laws::LinkLaws::link_there))]
+    #[tactic(auto, using(crate::specs::laws::StepLaws::no_template_step, crate::specs::laws::LinkLaws::link_undone, crate::specs::laws::LinkLaws::link_there))]
     pub(crate) fn join_link(
         &mut self,
         alloc: Global,
@@ -213,7 +213,7 @@ impl<S: BuildHasher + Copy> PolicySet<S> {
         ensures { IfOk result (λ o. MatchOption o (HasNoTemplate (bound_at self.now id.now))
             (λ t. bound_at self.now id.now ≡ Some (template_binding t.value))) }
     {
-        match self.found(id) {
+        match self.maps.found(id) {
             None => Ok(None),
             Some(Found::Policy(_policy)) => Ok(None),
             Some(Found::Template(template)) => Ok(Some(template.clone()?)),
@@ -221,7 +221,7 @@ impl<S: BuildHasher + Copy> PolicySet<S> {
     }
 
     // Puts a link of this template, which stands under its id, last.
-    #[tactic(auto, using(crate::specs::laws::BoardLaws::unfit_is_refused, crate::specs::laws::BoardLaws::fit_is_not_refused, crate::specs::laws::BoardLaws::fit_goes_on))]
+    #[tactic(auto, using(crate::specs::laws::StepLaws::unfit_is_refused, crate::specs::laws::StepLaws::fit_is_not_refused, crate::specs::laws::StepLaws::fit_goes_on))]
     fn link_template(
         &mut self,
         alloc: Global,
@@ -232,14 +232,14 @@ impl<S: BuildHasher + Copy> PolicySet<S> {
         requires { Stands self.old template.value }
         ensures { Steps told_by_linking result self.old self.new (link_onto template.value self.old new_id (env_of values)) }
     {
-        let occupied = self.is_bound(&new_id);
+        let occupied = self.maps.is_bound(&new_id);
         let policy = Template::link(alloc, template, new_id, values)?;
         if occupied {
             return Err(LinkingError::PolicyIdConflict {
                 id: own_id_of(policy),
             });
         }
-        self.put_policy(policy)?;
+        self.maps.put_policy(policy)?;
         Ok(())
     }
 }

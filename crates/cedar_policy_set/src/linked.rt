@@ -2,7 +2,7 @@
 ghost use Rattle.std.specs.Prelude.{◌≡◌, ◌<◌, IfOk, Some, length};
 ghost use Rattle.std.specs.Borrow.{sem, RestsIfErr};
 ghost use Rattle.cedar_binding.specs.Views.{env_of};
-ghost use Rattle.cedar_policy_set.specs.Boards.{last_policy};
+ghost use Rattle.cedar_policy_maps.specs.Boards.{last_policy};
 ghost use Rattle.cedar_policy_set.specs.Refusals.{Answers, told_by_linking};
 ghost use Rattle.cedar_policy_set.specs.Steps.{link_step, UnlinksTo};
 ghost use Rattle.cedar_policy_set.specs.contracts.policy_set.PolicySet.{the_row};
@@ -45,6 +45,14 @@ impl<S: BuildHasher + Copy> PolicySet<S> {
     {
         self.join_link(alloc, template_id, new_id, values)?;
         Ok(Linked { set: self })
+    }
+
+    // The policy that went last.
+    fn last(&self) -> &Policy
+        requires { 0 < length self.now.policies }
+        ensures { Some result.now ≡ last_policy self.now }
+    {
+        self.maps.last()
     }
 }
 

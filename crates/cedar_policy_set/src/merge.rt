@@ -1,26 +1,25 @@
 //! Merging another policy set into this one.
-ghost use Rattle.std.specs.Prelude.{◌≡◌, ◌↔◌, ◌&&◌, ◌++◌, ◌+◌, ◌∷◌, [], true, false, not, length, IfOk, OnErr, OnOk, IsTrue, List, ℕ};
+ghost use Rattle.std.specs.Prelude.{◌≡◌, ◌↔◌, ◌&&◌, ◌++◌, ◌+◌, ◌∷◌, [], true, false, not, length, if◌then◌else◌, IfOk, OnErr, OnOk, IsTrue, List, ℕ};
 ghost use Rattle.std.specs.List.{list_any};
 ghost use Rattle.std.specs.Map.{values_of};
 ghost use Rattle.std.specs.Option.{option_copied, unwrap_or};
 ghost use Rattle.cedar_body.specs.Bodies.{with_id};
 ghost use Rattle.cedar_policy.specs.Policies.{policy_id, with_policy_id};
 ghost use Rattle.cedar_ids.specs.Texts.{same_text};
-ghost use Rattle.cedar_policy_set.specs.Boards.{AreOnce, bound_at};
+ghost use Rattle.cedar_policy_maps.specs.Boards.{AreOnce, bound_at};
 ghost use Rattle.cedar_policy_set.specs.Fresh.{is_bound_in_either};
 ghost use Rattle.cedar_policy_set.specs.Merge.{has_body, body_ids, policy_ids, is_same_at, conflicting, gathered, conflicts, Differ, renamed_body, renamed_policy, joined_bodies, joined_policies, merged, new_id, IsRenaming, Merges, AreBelow, bound_ids};
 ghost use Rattle.cedar_policy_set.specs.laws.GatherLaws.{in_groups, looked_at};
-ghost use Rattle.cedar_policy_set.specs.laws.TakenIn.{standing_bodies};
+ghost use Rattle.cedar_policy_set.specs.laws.MergeTakesIn.{standing_bodies};
 ghost use Rattle.cedar_policy_set.specs.laws.MergeSteps.{Refuses, with_template_renamed};
-ghost use Rattle.cedar_policy_set.specs.Views.{bodies_of};
+ghost use Rattle.cedar_policy_maps.specs.Views.{bodies_of};
 
 use crate::err::PolicySetError;
 use crate::fresh::fresh_ids;
-use crate::grow::{Parted, part};
-use crate::lists::is_link;
 use crate::policy_set::PolicySet;
 use cedar_ids::policy_id::PolicyID;
 use cedar_policy::{Policy, Template};
+use cedar_policy_maps::{Parted, PolicyMaps, is_link};
 use indexmap::{IndexMap, IndexSet};
 use std::alloc::{AllocError, Global};
 use std::hash::BuildHasher;
@@ -56,15 +55,15 @@ impl<S: BuildHasher + Copy> PolicySet<S> {
         ensures below { IfOk result (λ r. AreBelow (length (bound_ids self.old other.now) + length r.entries) (values_of r.entries)) }
     {
         // No effect at run time: these calls say that both sets are boards.
-        let _boards = (self.is_empty(), other.is_empty());
-        let ids = conflicting_ids(alloc, self, other)?;
+        let _boards = (self.maps.is_empty(), other.maps.is_empty());
+        let ids = conflicting_ids(alloc, &self.maps, &other.maps)?;
         if let Some(id) = refused(&ids, rename_duplicates) {
             let id: Result<PolicyID, AllocError> = id.clone();
             drop(ids);
             return Err(PolicySetError::Occupied { id: id? });
         }
-        let renaming = fresh_ids(alloc, ids, self, other)?;
-        match self.put_merged(alloc, other, &renaming) {
+        let renaming = fresh_ids(alloc, ids, &self.maps, &other.maps)?;
+        match put_merged(alloc, &mut self.maps, &other.maps, &renaming) {
             Ok(()) => Ok(renaming),
             Err(error) => {
                 drop(renaming);
@@ -72,28 +71,27 @@ impl<S: BuildHasher + Copy> PolicySet<S> {
             }
         }
     }
+}
 
-    // Puts what two sets bind, the other's under new ids, in the place of all.
-    fn put_merged(
-        &mut self,
-        alloc: Global,
-        other: &PolicySet<S>,
-        renaming: &IndexMap<PolicyID, PolicyID, S>,
-    ) -> Result<(), AllocError>
-        requires { IsRenaming self.old other.now renaming.now.entries }
-        ensures ok { OnOk result (self.new ≡ merged self.old other.now (new_id renaming.now.entries)) }
-        ensures err { OnErr result (self.new ≡ self.old) }
-    {
-        // No effect at run time: these borrows say how the maps agree.
-        let _ = &self.templates;
-        let _ = &other.templates;
-        let bodies = parted_bodies(alloc, self, other, renaming)?;
-        match parted_policies(alloc, self, other, renaming) {
-            Ok(policies) => self.take_in(alloc, bodies, policies),
-            Err(error) => {
-                drop(bodies);
-                Err(error)
-            }
+// Puts what two sets bind, the other's under new ids, in the place of all.
+fn put_merged<S: BuildHasher + Copy>(
+    alloc: Global,
+    here: &mut PolicyMaps<S>,
+    other: &PolicyMaps<S>,
+    renaming: &IndexMap<PolicyID, PolicyID, S>,
+) -> Result<(), AllocError>
+    requires { IsRenaming here.old other.now renaming.now.entries }
+    ensures ok { OnOk result (here.new ≡ merged here.old other.now (new_id renaming.now.entries)) }
+    ensures err { OnErr result (here.new ≡ here.old) }
+{
+    // No effect at run time: these calls say that both are boards.
+    let _boards = (here.is_empty(), other.is_empty());
+    let bodies = parted_bodies(alloc, here, other, renaming)?;
+    match parted_policies(alloc, here, other, renaming) {
+        Ok(policies) => here.take_in(alloc, bodies, policies),
+        Err(error) => {
+            drop(bodies);
+            Err(error)
         }
     }
 }
@@ -129,8 +127,8 @@ pub(crate) enum Group {
 #[tactic(auto, using(crate::specs::laws::GatherLaws::conflicts_in_groups))]
 fn conflicting_ids<S: BuildHasher + Copy>(
     alloc: Global,
-    here: &PolicySet<S>,
-    other: &PolicySet<S>,
+    here: &PolicyMaps<S>,
+    other: &PolicyMaps<S>,
 ) -> Result<IndexSet<PolicyID, S>, AllocError>
     ensures { IfOk result (λ ids. ids.keys ≡ conflicts here.now other.now) }
 {
@@ -147,8 +145,8 @@ fn conflicting_ids<S: BuildHasher + Copy>(
 // Gathers the ids that conflict, group after group.
 fn gather_all<S: BuildHasher + Copy>(
     ids: &mut IndexSet<PolicyID, S>,
-    here: &PolicySet<S>,
-    other: &PolicySet<S>,
+    here: &PolicyMaps<S>,
+    other: &PolicyMaps<S>,
 ) -> Result<(), AllocError>
     ensures { OnOk result (ids.new.keys ≡ in_groups ids.old.keys here.now other.now) }
 {
@@ -161,8 +159,8 @@ fn gather_all<S: BuildHasher + Copy>(
 // Gathers the ids of bodies there that conflict and are looked at in this group.
 fn gather_bodies<S: BuildHasher + Copy>(
     ids: &mut IndexSet<PolicyID, S>,
-    here: &PolicySet<S>,
-    other: &PolicySet<S>,
+    here: &PolicyMaps<S>,
+    other: &PolicyMaps<S>,
     group: Group,
 ) -> Result<(), AllocError>
     ensures { OnOk result (ids.new.keys ≡ gathered ids.old.keys (conflicting here.now other.now (looked_at group here.now other.now) (body_ids other.now))) }
@@ -176,8 +174,8 @@ fn gather_bodies<S: BuildHasher + Copy>(
 // Gathers the ids of policies there that conflict and are looked at in this group.
 fn gather_policies<S: BuildHasher + Copy>(
     ids: &mut IndexSet<PolicyID, S>,
-    here: &PolicySet<S>,
-    other: &PolicySet<S>,
+    here: &PolicyMaps<S>,
+    other: &PolicyMaps<S>,
     group: Group,
 ) -> Result<(), AllocError>
     ensures { OnOk result (ids.new.keys ≡ gathered ids.old.keys (conflicting here.now other.now (looked_at group here.now other.now) (policy_ids other.now))) }
@@ -191,8 +189,8 @@ fn gather_policies<S: BuildHasher + Copy>(
 // Gathers an id, if it conflicts and is looked at in this group.
 fn gather_one<S: BuildHasher + Copy>(
     ids: &mut IndexSet<PolicyID, S>,
-    here: &PolicySet<S>,
-    other: &PolicySet<S>,
+    here: &PolicyMaps<S>,
+    other: &PolicyMaps<S>,
     id: &PolicyID,
     group: Group,
 ) -> Result<(), AllocError>
@@ -206,8 +204,8 @@ fn gather_one<S: BuildHasher + Copy>(
 
 // Whether an id is looked at in this group and is not bound alike in both sets.
 fn is_conflicting<S: BuildHasher + Copy>(
-    here: &PolicySet<S>,
-    other: &PolicySet<S>,
+    here: &PolicyMaps<S>,
+    other: &PolicyMaps<S>,
     id: &PolicyID,
     group: Group,
 ) -> bool
@@ -218,8 +216,8 @@ fn is_conflicting<S: BuildHasher + Copy>(
 
 // Whether an id is looked at in this group.
 fn is_looked_at<S: BuildHasher + Copy>(
-    here: &PolicySet<S>,
-    other: &PolicySet<S>,
+    here: &PolicyMaps<S>,
+    other: &PolicyMaps<S>,
     id: &PolicyID,
     group: Group,
 ) -> bool
@@ -235,8 +233,8 @@ fn is_looked_at<S: BuildHasher + Copy>(
 
 // Whether a body here and one there have an id.
 fn have_bodies<S: BuildHasher + Copy>(
-    here: &PolicySet<S>,
-    other: &PolicySet<S>,
+    here: &PolicyMaps<S>,
+    other: &PolicyMaps<S>,
     id: &PolicyID,
 ) -> bool
     ensures { result ≡ (has_body here.now id.now && has_body other.now id.now) }
@@ -246,13 +244,13 @@ fn have_bodies<S: BuildHasher + Copy>(
 
 // Whether an id is bound alike in both sets.
 fn is_same_at<S: BuildHasher + Copy>(
-    here: &PolicySet<S>,
-    other: &PolicySet<S>,
+    here: &PolicyMaps<S>,
+    other: &PolicyMaps<S>,
     id: &PolicyID,
 ) -> bool
     ensures { result ≡ is_same_at here.now other.now id.now }
 {
-    here.get(id) == other.get(id) && here.get_template(id) == other.get_template(id)
+    here.policy_at(id) == other.policy_at(id) && here.template_at(id) == other.template_at(id)
 }
 
 // The id that was found for an id, else the id itself.
@@ -265,11 +263,24 @@ fn new_or<'a>(new: Option<&'a PolicyID>, id: &'a PolicyID) -> &'a PolicyID
     }
 }
 
+// Puts something last among what stands there or what joins.
+fn part<T: Drop>(parted: &mut Parted<T>, stands: bool, thing: T) -> Result<(), AllocError>
+    ensures stand { OnOk result (parted.new.stand.items ≡ parted.old.stand.items ++ (if stands then thing ∷ [] else [])) }
+    ensures join { OnOk result (parted.new.join.items ≡ parted.old.join.items ++ (if not stands then thing ∷ [] else [])) }
+{
+    if stands {
+        parted.stand.push(thing)?;
+    } else {
+        parted.join.push(thing)?;
+    }
+    Ok(())
+}
+
 // The bodies of the other set, under their new ids.
 fn parted_bodies<S: BuildHasher + Copy>(
     alloc: Global,
-    here: &PolicySet<S>,
-    other: &PolicySet<S>,
+    here: &PolicyMaps<S>,
+    other: &PolicyMaps<S>,
     renaming: &IndexMap<PolicyID, PolicyID, S>,
 ) -> Result<Parted<Rc<Template>>, AllocError>
     ensures stand { IfOk result (λ p. bodies_of p.stand.items ≡ standing_bodies here.now (new_id renaming.now.entries) other.now.bodies) }
@@ -289,7 +300,7 @@ fn parted_bodies<S: BuildHasher + Copy>(
 fn part_bodies<S: BuildHasher + Copy>(
     alloc: Global,
     parted: &mut Parted<Rc<Template>>,
-    here: &PolicySet<S>,
+    here: &PolicyMaps<S>,
     theirs: &[Rc<Template>],
     renaming: &IndexMap<PolicyID, PolicyID, S>,
 ) -> Result<(), AllocError>
@@ -306,7 +317,7 @@ fn part_bodies<S: BuildHasher + Copy>(
 fn part_body<S: BuildHasher + Copy>(
     alloc: Global,
     parted: &mut Parted<Rc<Template>>,
-    here: &PolicySet<S>,
+    here: &PolicyMaps<S>,
     template: &Rc<Template>,
     renaming: &IndexMap<PolicyID, PolicyID, S>,
 ) -> Result<(), AllocError>
@@ -335,8 +346,8 @@ fn renamed_body(
 // The policies of the other set, under their new ids.
 fn parted_policies<S: BuildHasher + Copy>(
     alloc: Global,
-    here: &PolicySet<S>,
-    other: &PolicySet<S>,
+    here: &PolicyMaps<S>,
+    other: &PolicyMaps<S>,
     renaming: &IndexMap<PolicyID, PolicyID, S>,
 ) -> Result<Parted<Policy>, AllocError>
     ensures { IfOk result (λ p. p.join.items ≡ joined_policies here.now (new_id renaming.now.entries) other.now.policies) }
@@ -355,7 +366,7 @@ fn parted_policies<S: BuildHasher + Copy>(
 fn part_policies<S: BuildHasher + Copy>(
     alloc: Global,
     parted: &mut Parted<Policy>,
-    here: &PolicySet<S>,
+    here: &PolicyMaps<S>,
     theirs: &[Policy],
     renaming: &IndexMap<PolicyID, PolicyID, S>,
 ) -> Result<(), AllocError>
@@ -371,7 +382,7 @@ fn part_policies<S: BuildHasher + Copy>(
 fn part_policy<S: BuildHasher + Copy>(
     alloc: Global,
     parted: &mut Parted<Policy>,
-    here: &PolicySet<S>,
+    here: &PolicyMaps<S>,
     policy: &Policy,
     renaming: &IndexMap<PolicyID, PolicyID, S>,
 ) -> Result<(), AllocError>

@@ -1,21 +1,22 @@
 //! Policy sets: making and reading them.
-ghost use Rattle.std.specs.Prelude.{◌≡◌, ◌↔◌, [], IfErr, IsErr, IsTrue};
+ghost use Rattle.std.specs.Prelude.{◌≡◌, ◌↔◌, IfErr, IsErr, IsTrue};
 ghost use Rattle.std.specs.List.{find};
 ghost use Rattle.std.specs.Option.{option_copied, option_map};
-ghost use Rattle.cedar_policy_set.specs.Boards.{empty_board, is_body_at, is_policy_at, IsBoard};
-ghost use Rattle.cedar_policy_set.specs.Lists.{slotted_in, statics_in};
-ghost use Rattle.cedar_policy_set.specs.Maps.{board_in, maps_of, CanMakeSet};
+ghost use Rattle.cedar_policy_maps.specs.Boards.{empty_board, is_body_at, is_policy_at, IsBoard};
+ghost use Rattle.cedar_policy_maps.specs.Lists.{slotted_in, statics_in};
+ghost use Rattle.cedar_policy_maps.specs.Maps.{board_in, maps_of, CanMakeSet};
 ghost use Rattle.cedar_policy_set.specs.Refusals.{Answers, told_by_listing};
 ghost use Rattle.cedar_policy_set.specs.Steps.{get_linked_step};
 
 use crate::err::PolicySetGetLinksError;
-use crate::iters::{AllTemplates, IntoPolicies, LinkedIds, Policies, StaticPolicies, Templates};
-use crate::lists::read_policies;
-use crate::maps::keep_templates;
 use cedar_ids::policy_id::PolicyID;
 use cedar_policy::{Policy, Template};
+use cedar_policy_maps::{
+    AllTemplates, IntoPolicies, LinkedIds, Policies, PolicyMaps, StaticPolicies, Templates,
+};
 use indexmap::{IndexMap, IndexSet};
 use std::alloc::Global;
+use std::fmt;
 use std::hash::{BuildHasher, BuildHasherDefault, FoldHasher};
 use std::marker::Model;
 use std::rc::Rc;
@@ -30,26 +31,27 @@ use std::rc::Rc;
 /// Its maps hash ids by the hashers that `S` builds, and so do those that its calls make. By default they have a fixed
 /// seed, so that whoever picks the ids can make them collide, and each call slow: a set of ids that strangers pick is made by
 /// [`PolicySet::with_hasher`] with a builder that has a random key. No contract sees the builder.
-#[derive(Debug, Drop)]
+#[derive(Drop)]
 pub struct PolicySet<S: BuildHasher = BuildHasherDefault<FoldHasher>> {
-    pub(crate) templates: IndexMap<PolicyID, Rc<Template>, S>,
-    pub(crate) links: IndexMap<PolicyID, Policy, S>,
-    // Of templates alone: on the body of a static policy stands that policy.
-    pub(crate) template_to_links_map: IndexMap<PolicyID, IndexSet<PolicyID, S>, S>,
+    pub(crate) maps: PolicyMaps<S>,
 }
 
 impl<S: BuildHasher> Model for PolicySet<S> {
-    ghost use Rattle.cedar_policy_set.specs.Boards.{Board};
-    ghost use Rattle.cedar_policy_set.specs.Codes.{board_code};
-    ghost use Rattle.cedar_policy_set.specs.Maps.{board_in, maps_of, DoAgree};
+    ghost use Rattle.cedar_policy_maps.specs.Boards.{Board};
+    ghost use Rattle.cedar_policy_maps.specs.Codes.{board_code};
 
     ghost Value = { Board };
 
     ghost coded = { board_code };
 
-    ghost view = { λ s. board_in (maps_of s.templates.entries s.links.entries s.template_to_links_map.entries) };
+    ghost view = { λ s. s.maps };
+}
 
-    ghost invariant = { λ s. DoAgree (maps_of s.templates.entries s.links.entries s.template_to_links_map.entries) };
+impl<S: BuildHasher> fmt::Debug for PolicySet<S> {
+    /// Writes the three maps that the set is kept in.
+    fn fmt<W: fmt::Write>(&self, f: &mut fmt::Formatter<W>) -> fmt::Result {
+        fmt::Debug::fmt(&self.maps, f)
+    }
 }
 
 impl<S: BuildHasher + Copy> PolicySet<S> {
@@ -60,15 +62,13 @@ impl<S: BuildHasher + Copy> PolicySet<S> {
         ensures { result ≡ empty_board }
     {
         PolicySet {
-            templates: IndexMap::with_hasher(alloc, hasher),
-            links: IndexMap::with_hasher(alloc, hasher),
-            template_to_links_map: IndexMap::with_hasher(alloc, hasher),
+            maps: PolicyMaps::with_hasher(alloc, hasher),
         }
     }
 
     /// What builds the set's hashers. It takes no memory.
     pub fn hasher(&self) -> &S {
-        self.templates.hasher()
+        self.maps.hasher()
     }
 
     /// The set that is kept in these three maps: bodies, static policies' too, policies, and under each body's id the ids of
@@ -87,16 +87,8 @@ impl<S: BuildHasher + Copy> PolicySet<S> {
         requires { CanMakeSet (maps_of templates.entries links.entries template_to_links_map.entries) }
         ensures { result ≡ board_in (maps_of templates.entries links.entries template_to_links_map.entries) }
     {
-        // These say what holds of every map, that no two keys are equal, and of every policy.
-        let _bodies = templates.len();
-        let _policies = links.len();
-        read_policies(links.values().as_slice());
-        let mut template_to_links_map = template_to_links_map;
-        keep_templates(&mut template_to_links_map, &links);
         PolicySet {
-            templates,
-            links,
-            template_to_links_map,
+            maps: PolicyMaps::from_raw_components(templates, links, template_to_links_map),
         }
     }
 
@@ -105,16 +97,14 @@ impl<S: BuildHasher + Copy> PolicySet<S> {
         ensures value { IsTrue result ↔ (self.now ≡ empty_board) }
         ensures board { IsBoard self.now }
     {
-        // No effect at run time: this borrow says that the set is a board.
-        let _ = &self.templates;
-        are_empty(self.shared_bodies(), self.all_policies())
+        self.maps.is_empty()
     }
 
     /// The policy with this id, a static policy or a link, if there is one: one look-up.
     pub fn get(&self, id: &PolicyID) -> Option<&Policy>
         ensures { option_copied result ≡ find (is_policy_at id.now) self.now.policies }
     {
-        self.policy_at(id)
+        self.maps.policy_at(id)
     }
 
     /// The body with this id, of a static policy or a template, as it is shared, if there is one: one look-up. The
@@ -122,65 +112,56 @@ impl<S: BuildHasher + Copy> PolicySet<S> {
     pub fn get_template_arc(&self, id: &PolicyID) -> Option<&Rc<Template>>
         ensures { option_map (λ t. t.now.value) result ≡ find (is_body_at id.now) self.now.bodies }
     {
-        self.body_at(id)
+        self.maps.body_at(id)
     }
 
     /// The body with this id, of a static policy or a template, if there is one: one look-up.
     pub fn get_template(&self, id: &PolicyID) -> Option<&Template>
         ensures { option_copied result ≡ find (is_body_at id.now) self.now.bodies }
     {
-        match self.body_at(id) {
-            None => None,
-            Some(template) => Some(&**template),
-        }
+        self.maps.template_at(id)
     }
 
     /// All policies, static policies and links, in the order in which they joined.
     pub fn policies(&self) -> Policies<'_>
         ensures { result ≡ self.now.policies }
     {
-        Policies::of(self.all_policies())
+        self.maps.policies()
     }
 
     /// All policies, static policies and links, in the order in which they joined; the set is taken apart.
     pub fn into_policies(self) -> IntoPolicies
         ensures { result ≡ self.policies }
     {
-        let PolicySet {
-            templates,
-            links,
-            template_to_links_map: map,
-        } = self;
-        drop(templates);
-        drop(map);
-        IntoPolicies::of(links)
+        let PolicySet { maps } = self;
+        maps.into_policies()
     }
 
     /// All bodies, of static policies and of templates, in the order in which they joined.
     pub fn all_templates(&self) -> AllTemplates<'_>
         ensures { result ≡ self.now.bodies }
     {
-        AllTemplates::of(self.shared_bodies())
+        self.maps.all_templates()
     }
 
     /// The bodies that have slots, in the order in which they joined.
     pub fn templates(&self) -> Templates<'_>
         ensures { result ≡ slotted_in self.now.bodies }
     {
-        Templates::of(self.shared_bodies())
+        self.maps.templates()
     }
 
     /// The static policies, in the order in which they joined.
     pub fn static_policies(&self) -> StaticPolicies<'_>
         ensures { result ≡ statics_in self.now.policies }
     {
-        StaticPolicies::of(self.all_policies())
+        self.maps.static_policies()
     }
 
     /// The ids of the policies on the body with this id, in the order in which they joined: of a template its links, of a
     /// static policy itself. `MissingTemplate` comes where no body has the id. It takes memory only for the id that a
     /// refusal names, and costs two look-ups at most.
-    #[tactic(auto, using(crate::specs::laws::BoardLaws::listed))]
+    #[tactic(auto, using(crate::specs::laws::StepLaws::listed))]
     pub fn get_linked_policies(
         &self,
         id: &PolicyID,
@@ -188,16 +169,9 @@ impl<S: BuildHasher + Copy> PolicySet<S> {
         ensures listed { Answers told_by_listing (λ i. i) result (get_linked_step self.now id.now) }
         ensures refused { IfErr result (λ e. IsErr (get_linked_step self.now id.now)) }
     {
-        match self.ids_on(id) {
+        match self.maps.linked_ids(id) {
             None => Err(PolicySetGetLinksError::MissingTemplate(id.clone()?)),
-            Some(ids) => Ok(LinkedIds::of(ids)),
+            Some(ids) => Ok(ids),
         }
     }
-}
-
-// Whether both lists are empty.
-pub(crate) fn are_empty(bodies: &[Rc<Template>], policies: &[Policy]) -> bool
-    ensures { IsTrue result ↔ ((bodies.now ≡ []) × (policies.now ≡ [])) }
-{
-    bodies.is_empty() && policies.is_empty()
 }

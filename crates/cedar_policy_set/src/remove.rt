@@ -1,17 +1,16 @@
 //! What leaves a policy set: links, static policies, templates.
 ghost use Rattle.std.specs.Prelude.{◌≡◌, IfErr, IsErr};
-ghost use Rattle.cedar_policy_set.specs.Boards.{policy_binding, Template as template_binding};
+ghost use Rattle.cedar_policy_maps.specs.Boards.{policy_binding, Template as template_binding};
 ghost use Rattle.cedar_policy_set.specs.Refusals.{TakesFromBoard, told_by_unlinking, told_by_removal, told_by_template_removal};
 ghost use Rattle.cedar_policy_set.specs.Steps.{unlink_step, remove_static_step, remove_template_step};
 
 use crate::err::{
     PolicySetPolicyRemovalError, PolicySetTemplateRemovalError, PolicySetUnlinkError,
 };
-use crate::found::Found;
-use crate::lists::is_link;
 use crate::policy_set::PolicySet;
 use cedar_ids::policy_id::PolicyID;
 use cedar_policy::{Policy, Template};
+use cedar_policy_maps::{Found, is_link};
 use std::hash::BuildHasher;
 
 impl<S: BuildHasher + Copy> PolicySet<S> {
@@ -26,9 +25,9 @@ impl<S: BuildHasher + Copy> PolicySet<S> {
         ensures taken { TakesFromBoard told_by_unlinking policy_binding result self.old self.new id.now (unlink_step self.old id.now) }
         ensures refused { IfErr result (λ e. IsErr (unlink_step self.old id.now)) }
     {
-        // No effect at run time: this borrow says that the set is a board.
-        let _ = &self.templates;
-        match self.found(id) {
+        // No effect at run time: this call says that the set is a board.
+        let _board = self.maps.is_empty();
+        match self.maps.found(id) {
             None => return Err(PolicySetUnlinkError::UnlinkingError(id.clone()?)),
             Some(Found::Template(_template)) => {
                 return Err(PolicySetUnlinkError::NotLinkError(id.clone()?));
@@ -39,7 +38,7 @@ impl<S: BuildHasher + Copy> PolicySet<S> {
                 }
             }
         }
-        let (body, policy) = self.take(id);
+        let (body, policy) = self.maps.take(id);
         drop(body);
         match policy {
             Some(policy) => Ok(policy),
@@ -56,9 +55,9 @@ impl<S: BuildHasher + Copy> PolicySet<S> {
         ensures taken { TakesFromBoard told_by_removal policy_binding result self.old self.new id.now (remove_static_step self.old id.now) }
         ensures refused { IfErr result (λ e. IsErr (remove_static_step self.old id.now)) }
     {
-        // No effect at run time: this borrow says that the set is a board.
-        let _ = &self.templates;
-        match self.found(id) {
+        // No effect at run time: this call says that the set is a board.
+        let _board = self.maps.is_empty();
+        match self.maps.found(id) {
             None => return Err(PolicySetPolicyRemovalError::RemovePolicyNoLinkError(id.clone()?)),
             Some(Found::Template(_template)) => {
                 return Err(PolicySetPolicyRemovalError::RemovePolicyNoLinkError(id.clone()?));
@@ -71,7 +70,7 @@ impl<S: BuildHasher + Copy> PolicySet<S> {
                 }
             }
         }
-        let (body, policy) = self.take(id);
+        let (body, policy) = self.maps.take(id);
         drop(body);
         match policy {
             Some(policy) => Ok(policy),
@@ -92,7 +91,7 @@ impl<S: BuildHasher + Copy> PolicySet<S> {
     ) -> Result<Template, PolicySetTemplateRemovalError>
         ensures { TakesFromBoard told_by_template_removal template_binding result self.old self.new id.now (remove_template_step self.old id.now) }
     {
-        let template = match self.found(id) {
+        let template = match self.maps.found(id) {
             None => {
                 return Err(PolicySetTemplateRemovalError::RemovePolicyNoTemplateError(id.clone()?));
             }
@@ -104,11 +103,11 @@ impl<S: BuildHasher + Copy> PolicySet<S> {
                 template
             }
         };
-        if self.is_linked(id) {
+        if self.maps.is_linked(id) {
             return Err(PolicySetTemplateRemovalError::RemoveTemplateWithLinksError(id.clone()?));
         }
         let template = template.clone()?;
-        let (body, policy) = self.take(id);
+        let (body, policy) = self.maps.take(id);
         drop(body);
         drop(policy);
         Ok(template)

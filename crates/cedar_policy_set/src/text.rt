@@ -1,11 +1,11 @@
 //! How policy sets are written.
-ghost use Rattle.std.specs.Prelude.{◌≡◌, ◌&&◌, ◌++◌, true};
+ghost use Rattle.std.specs.Prelude.{◌≡◌, ◌↔◌, ◌&&◌, ◌++◌, [], true, IsTrue};
 ghost use Rattle.std.specs.Fmt.{WritesOnOk};
 ghost use Rattle.std.specs.List.{list_all, flat_map};
 ghost use Rattle.cedar_policy_set.specs.BoardTexts.{board_output, bodies_text, body_line, known_body, is_known_body, is_known_policy, orders_text, policies_text, policy_line, titled_text};
-ghost use Rattle.cedar_policy_set.specs.Views.{bodies_of};
+ghost use Rattle.cedar_policy_maps.specs.Views.{bodies_of};
 
-use crate::policy_set::{PolicySet, are_empty};
+use crate::policy_set::PolicySet;
 use cedar_policy::{Policy, Template};
 use std::fmt;
 use std::hash::BuildHasher;
@@ -17,7 +17,7 @@ impl<S: BuildHasher + Copy> fmt::Display for PolicySet<S> {
     /// Writes all bodies and then all policies, each on lines of its own; of a set without a binding it says that. It takes
     /// no memory.
     fn fmt<W: fmt::Write>(&self, f: &mut fmt::Formatter<W>) -> fmt::Result {
-        write_orders(self.shared_bodies(), self.all_policies(), f)
+        write_orders(self.maps.shared_bodies(), self.maps.all_policies(), f)
     }
 }
 
@@ -35,6 +35,13 @@ fn write_orders<W: fmt::Write>(
         return f.write_str("<empty policyset>");
     }
     write_titled(bodies, policies, f)
+}
+
+// Whether both orders are empty.
+fn are_empty(bodies: &[Rc<Template>], policies: &[Policy]) -> bool
+    ensures { IsTrue result ↔ ((bodies.now ≡ []) × (policies.now ≡ [])) }
+{
+    bodies.is_empty() && policies.is_empty()
 }
 
 // Writes the two orders, each under its title.

@@ -3,13 +3,13 @@ ghost use Rattle.std.specs.Prelude.{◌≡◌, OnOk, IfErr, All};
 ghost use Rattle.std.specs.List.{find};
 ghost use Rattle.std.specs.Option.{option_copied};
 ghost use Rattle.cedar_policy_set.specs.Validity.{is_slotless_link, HasSlottedLinks, IsSetFault, IsValidBody, ValidatesSet};
-ghost use Rattle.cedar_policy_set.specs.Views.{bodies_of};
+ghost use Rattle.cedar_policy_maps.specs.Views.{bodies_of};
 ghost use Rattle.cedar_policy_set.specs.laws.BodyFaults.{IsBodyFault, IsFirstFault};
 
 use crate::err::PolicySetValidationError;
-use crate::lists::{has_no_slots, is_link};
 use crate::policy_set::PolicySet;
 use cedar_policy::{Policy, Template, TemplateValidationError};
+use cedar_policy_maps::{has_no_slots, is_link};
 use std::alloc::Global;
 use std::hash::BuildHasher;
 use std::rc::Rc;
@@ -38,13 +38,13 @@ impl<S: BuildHasher + Copy> PolicySet<S> {
         ensures ok { OnOk result (HasSlottedLinks self.now × All IsValidBody self.now.bodies) }
         ensures err { IfErr result (λ e. IsSetFault e self.now) }
     {
-        if let Some(link) = first_slotless(self.all_policies()) {
+        if let Some(link) = first_slotless(self.maps.all_policies()) {
             return Err(PolicySetValidationError::LinkToSlotlessTemplate {
                 link_id: link.id().clone()?,
                 template_id: link.template().id().clone()?,
             });
         }
-        validate_bodies(alloc, self.shared_bodies())?;
+        validate_bodies(alloc, self.maps.shared_bodies())?;
         Ok(())
     }
 }

@@ -6,6 +6,7 @@ mod bindings;
 mod bodies;
 mod constraints;
 mod looking;
+mod maps;
 mod parts;
 mod policies;
 mod replays;

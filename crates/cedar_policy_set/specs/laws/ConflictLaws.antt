@@ -12,11 +12,11 @@ use Rattle.cedar_body.specs.BodyEquality.{same_body}
 use Rattle.cedar_binding.specs.Bindings.{EnvParts}
 use Rattle.cedar_policy.specs.Policies.{PolicyParts, policy_id, static_policy}
 use Rattle.cedar_policy.specs.PolicyEquality.{same_policy}
-use Rattle.cedar_policy_set.specs.Boards.{Board, Binding, Static, Template, Link, bound_at, bound_among, binding_by, is_bound, is_body_at, is_policy_at, IsHeld, IsHeldBy, AreHeld, IsBoard}
+use Rattle.cedar_policy_maps.specs.Boards.{Board, Binding, Static, Template, Link, bound_at, bound_among, binding_by, is_bound, is_body_at, is_policy_at, IsHeld, IsHeldBy, AreHeld, IsBoard}
 use Rattle.cedar_policy_set.specs.Merge.{has_body, has_policy, body_ids, policy_ids, is_same_at, conflicting, conflicts, same_binding, Differ}
-use Rattle.cedar_policy_set.specs.laws.BoardLaws.{none_bound}
+use Rattle.cedar_policy_maps.specs.laws.BoardLaws.{none_bound}
 use Rattle.cedar_policy_set.specs.laws.MergeLaws.{found_there}
-use Rattle.cedar_policy_set.specs.laws.OnceLaws.{find-unless, found_passes, any-map}
+use Rattle.cedar_policy_maps.specs.laws.OnceLaws.{find-unless, found_passes, any-map}
 use Rattle.cedar_policy_set.specs.laws.RenamingLaws.{is_in, either_of, in_gathered, conflict_found, first_of, second_of}
 
 -- ---- what stands in the two orders at a bound id

@@ -3,7 +3,7 @@ use Rattle.std.specs.Cmp.{IsEquivalence, and_equiv, on_equiv}
 use Rattle.std.proofs.lemmas.Cmp.{lists_equiv}
 use Rattle.cedar_body.specs.laws.BodyLaws.{same_body_equiv}
 use Rattle.cedar_policy.specs.laws.PolicyLaws.{same_policy_equiv}
-use Rattle.cedar_policy_set.specs.Boards.{Board}
+use Rattle.cedar_policy_maps.specs.Boards.{Board}
 use Rattle.cedar_policy_set.specs.BoardEquality.{same_board}
 
 -- it is an equivalence

@@ -10,11 +10,11 @@ use Rattle.cedar_ids.specs.Texts.{same_text}
 use Rattle.cedar_ids.specs.laws.TextLaws.{same_text_equiv, same_text_decides}
 use Rattle.cedar_body.specs.Bodies.{BodyParts}
 use Rattle.cedar_policy.specs.Policies.{policy_id}
-use Rattle.cedar_policy_set.specs.Boards.{Board, AreOnce, is_bound}
+use Rattle.cedar_policy_maps.specs.Boards.{Board, AreOnce, is_bound}
 use Rattle.cedar_policy_set.specs.Fresh.{numbered, is_bound_in_either, free_below, IsFree, AreFree}
 use Rattle.cedar_policy_set.specs.Merge.{body_ids, policy_ids, ids_of}
 use Rattle.cedar_policy_set.specs.laws.Numerals.{numbered_is}
-use Rattle.cedar_policy_set.specs.laws.OnceLaws.{any-map}
+use Rattle.cedar_policy_maps.specs.laws.OnceLaws.{any-map}
 
 -- the bound ones
 unfoldable bound_below : (List ℕ → Bool) → ℕ → ℕ

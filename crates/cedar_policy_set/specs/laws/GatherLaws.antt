@@ -5,12 +5,12 @@ use Rattle.std.specs.List.{filter}
 use Rattle.std.proofs.lemmas.Bool.{false≢true}
 use Rattle.cedar_ids.specs.Texts.{same_text}
 use Rattle.cedar_body.specs.Bodies.{BodyParts}
-use Rattle.cedar_policy_set.specs.Boards.{Board}
+use Rattle.cedar_policy_maps.specs.Boards.{Board}
 use Rattle.cedar_policy_set.specs.Merge.{has_body, has_policy, body_ids, policy_ids, is_same_at, conflicting, gathered, conflicts}
 use Rattle.cedar_policy_set.specs.declared.merge.Group.{Group}
 use Rattle.cedar_policy_set.specs.declared.merge.Group.TheVariants.{Bodies, Policies, Links, Templates}
 use Rattle.cedar_policy_set.specs.laws.MergeSteps.{gathered_all}
-use Rattle.cedar_policy_set.specs.laws.OnceLaws.{any-map}
+use Rattle.cedar_policy_maps.specs.laws.OnceLaws.{any-map}
 use Rattle.cedar_policy_set.specs.laws.RenamingLaws.{itself, first_of, second_of, is_in, in_step, still_there, gathers, in_conflicting}
 
 -- which ids a group looks at: those of bodies here; of policies here, but where both boards have a body; of policies

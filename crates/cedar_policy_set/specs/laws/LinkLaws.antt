@@ -9,11 +9,11 @@ use Rattle.cedar_terms.specs.declared.slot.SlotId.{SlotId}
 use Rattle.cedar_body.specs.Bodies.{BodyParts, body_slots}
 use Rattle.cedar_binding.specs.Bindings.{EnvParts, unbound, extra, wrong_action}
 use Rattle.cedar_policy.specs.Policies.{PolicyParts}
-use Rattle.cedar_policy_set.specs.Boards.{Board, Binding, Static, Template, Link, bound_at, bound_among, is_bound, is_body_at, is_policy_at, with_policy, without_id}
+use Rattle.cedar_policy_maps.specs.Boards.{Board, Binding, Static, Template, Link, bound_at, bound_among, is_bound, is_body_at, is_policy_at, with_policy, without_id}
 use Rattle.cedar_policy_set.specs.Steps.{Refusal, id_conflict, fitting, link_onto, link_at, link_step, unlinked_at, unlink_step, UnlinksTo}
 use Rattle.cedar_binding.specs.declared.err.LinkingError.{LinkingError}
 use Rattle.cedar_policy_set.specs.Refusals.{Steps, told_by_linking}
-use Rattle.cedar_policy_set.specs.laws.BoardLaws.{undone}
+use Rattle.cedar_policy_maps.specs.laws.BoardLaws.{undone}
 
 abbrev link_of : BodyParts → List ℕ → EnvParts → PolicyParts
 link_of t l e = record { template = t; link = Some l; env = e }

@@ -1,6 +1,6 @@
 -- Walks over lists: a step that is refused, and a body that is not valid.
-use Rattle.std.specs.Prelude.{◌≡◌, ℕ, ◌<◌, suc, zero, List, [], ◌∷◌, ◌++◌, length, Option, Some, None, Result, Ok, Err, All}
-use Rattle.std.proofs.Common.{◌+◌, ◌≤◌, sym, ap, arith, take, drop, get_or, subst}
+use Rattle.std.specs.Prelude.{◌≡◌, ℕ, ◌<◌, suc, List, ◌∷◌, length, Option, Some, None, Result, Ok, Err, All}
+use Rattle.std.proofs.Common.{◌+◌, ◌≤◌, sym, ap, take, drop, get_or, subst}
 use Rattle.std.proofs.lemmas.List.{take_all, take_more}
 use Rattle.std.proofs.lemmas.List.Elements.{All-map, All-push}
 use Rattle.std.specs.declared.rc.Rc.{Rc}
@@ -9,11 +9,12 @@ use Rattle.cedar_body.specs.Bodies.{BodyParts}
 use Rattle.cedar_policy.specs.Policies.{PolicyParts}
 use Rattle.cedar_policy_set.specs.declared.err.PolicySetValidationError.{PolicySetValidationError}
 use Rattle.cedar_policy_set.specs.declared.err.PolicySetValidationError.TheVariants.{InvalidTemplate, LinkToSlotlessTemplate, Memory}
-use Rattle.cedar_policy_set.specs.Boards.{Board}
+use Rattle.cedar_policy_maps.specs.Boards.{Board}
 use Rattle.cedar_policy_set.specs.Refusals.{IsRefusal}
 use Rattle.cedar_policy_set.specs.Steps.{Refusal, add_step, add_then}
 use Rattle.cedar_policy_set.specs.Validity.{IsValidBody}
-use Rattle.cedar_policy_set.specs.Views.{bodies_of}
+use Rattle.cedar_policy_maps.specs.Views.{bodies_of}
+use Rattle.cedar_policy_maps.specs.laws.Walks.{parted}
 use Rattle.cedar_policy_set.specs.laws.BodyFaults.{IsBodyFault, IsFirstFault}
 
 refused_at : (r : Refusal) (s : Result Board Refusal) (ps : List PolicyParts) → s ≡ Err r → add_then s ps ≡ Err r
@@ -23,12 +24,6 @@ refused_at r s ps e = ap (λ t. add_then t ps) e
 pub refused_then : (o : Option Refusal) (b : Board) (p : PolicyParts) (ps : List PolicyParts) → IsRefusal o (add_step b p) → IsRefusal o (add_then (Ok b) (p ∷ ps))
 refused_then None b p ps h = tt
 refused_then (Some r) b p ps h = refused_at r (add_step b p) ps h
-
-pub parted : (ts : List (Rc BodyParts Global)) (k : ℕ) (t : Rc BodyParts Global) → k < length ts → t ≡ get_or ts k t →
-    bodies_of ts ≡ bodies_of (take k ts) ++ t.value ∷ bodies_of (drop (suc k) ts)
-parted [] k t l e = absurd (omega arith)
-parted (u ∷ us) zero t l e = λ i. (sym e i).value ∷ bodies_of us
-parted (u ∷ us) (suc k) t l e = ap (λ xs. u.value ∷ xs) (parted us k t (omega arith) e)
 
 -- the first body that is not valid, where those before it are
 pub first_fault : (e : PolicySetValidationError) (ts : List (Rc BodyParts Global)) (k : ℕ) (t : Rc BodyParts Global) → k < length ts → t ≡ get_or ts k t →

@@ -13,9 +13,9 @@ use Rattle.cedar_body.specs.BodyEquality.{same_body}
 use Rattle.cedar_body.specs.laws.BodyLaws.{same_body_decides}
 use Rattle.cedar_policy.specs.Policies.{PolicyParts, policy_id}
 use Rattle.cedar_policy.specs.PolicyEquality.{same_policy}
-use Rattle.cedar_policy_set.specs.Boards.{Board, is_bound, is_body_at, is_policy_at, AreOnce, IsHeldBy, IsHeld, AreHeld, IsBoard}
+use Rattle.cedar_policy_maps.specs.Boards.{Board, is_bound, is_body_at, is_policy_at, AreOnce, IsHeldBy, IsHeld, AreHeld, IsBoard}
 use Rattle.cedar_policy_set.specs.Merge.{has_body, has_policy, is_same_at, renamed_body, renamed_policy, joined_bodies, joined_policies, merged}
-use Rattle.cedar_policy_set.specs.laws.OnceLaws.{is_at, once-filter, none_is, find-unless}
+use Rattle.cedar_policy_maps.specs.laws.OnceLaws.{is_at, once-filter, none_is, find-unless}
 
 -- what a merge asks of a renaming: ids of the other board stay apart, and what goes to an id that is bound here keeps
 -- its id and is the same in both

@@ -5,19 +5,16 @@ use Rattle.std.specs.declared.rc.Rc.{Rc}
 use Rattle.std.specs.declared.alloc.Global.{Global}
 use Rattle.std.specs.List.{filter, list_any}
 use Rattle.std.specs.Option.{option_map, unwrap_or}
-use Rattle.std.proofs.lemmas.List.{map-append, append_assoc, take_more}
+use Rattle.std.proofs.lemmas.List.{map-append, append_assoc}
 use Rattle.std.proofs.lemmas.List.Elements.{filter-append}
 use Rattle.cedar_ids.specs.Texts.{same_text}
 use Rattle.cedar_body.specs.Bodies.{BodyParts, with_id}
-use Rattle.cedar_body.specs.BodyEquality.{same_body}
-use Rattle.cedar_body.specs.laws.BodyLaws.{same_body_decides}
 use Rattle.cedar_policy.specs.Policies.{PolicyParts, policy_id, renamed, with_policy_id}
-use Rattle.cedar_policy.specs.PolicyEquality.{same_policy}
-use Rattle.cedar_policy.specs.laws.PolicyLaws.{same_policy_decides}
-use Rattle.cedar_policy_set.specs.Boards.{Board, AreOnce, is_bound}
+use Rattle.cedar_policy_maps.specs.Boards.{Board, AreOnce, is_bound}
 use Rattle.cedar_policy_set.specs.Merge.{has_body, has_policy, body_ids, policy_ids, conflicting, conflicts, gathered, is_same_at, renamed_body, renamed_policy, joined_bodies, joined_policies}
-use Rattle.cedar_policy_set.specs.Views.{bodies_of}
-use Rattle.cedar_policy_set.specs.laws.OnceLaws.{once-push}
+use Rattle.cedar_policy_maps.specs.Views.{bodies_of}
+use Rattle.cedar_policy_maps.specs.laws.OnceLaws.{once-push}
+use Rattle.cedar_policy_maps.specs.laws.Walks.{bodies_more, policies_more}
 
 -- the first of some ids is refused, where none may be renamed
 abbrev pub Refuses : Option (List ℕ) → List (List ℕ) → Bool → Type 0
@@ -69,13 +66,6 @@ pub gathered_all : (a b c d : List (List ℕ)) → gathered (gathered (gathered 
 gathered_all a b c d =
     sym (gathered-append [] a (b ++ (c ++ d)) ∙ gathered-append (gathered [] a) b (c ++ d) ∙ gathered-append (gathered (gathered [] a) b) c d)
 
--- equal bodies and equal policies are the same
-pub same_body_is : (t u : BodyParts) → same_body t u ≡ true → t ≡ u
-same_body_is t u e = (same_body_decides t u).0 e
-
-pub same_policy_is : (p q : PolicyParts) → same_policy p q ≡ true → p ≡ q
-same_policy_is p q e = (same_policy_decides p q).0 e
-
 renamed_by : (o : Option (List ℕ)) (c : List ℕ → List ℕ) (p : PolicyParts) (i : List ℕ) → o ≡ p.link → i ≡ c (unwrap_or o p.template.id) →
     with_policy_id i (template_renamed_by o c p) ≡ renamed_policy c p
 renamed_by None c p i e q =
@@ -105,19 +95,12 @@ own_id (Some l) p e = λ j. record { template = p.template; link = e j; env = p.
 pub same_id_kept : (p : PolicyParts) → with_policy_id (policy_id p) p ≡ p
 same_id_kept p = own_id p.link p refl
 
-pub bodies_more : (ts : List (Rc BodyParts Global)) (k : ℕ) (t : Rc BodyParts Global) → k < length ts → t ≡ get_or ts k t → bodies_of (take (k + 1) ts) ≡ bodies_of (take k ts) ++ t.value ∷ []
-bodies_more ts k t l e =
-    ap bodies_of (take_more ts k t l ∙ ap (λ x. take k ts ++ x ∷ []) (sym e)) ∙ map-append (λ (t : Rc BodyParts Global). t.value) (take k ts) (t ∷ [])
-
 -- one more body joins, if it does
 pub joined_body_step : (h : Board) (c : List ℕ → List ℕ) (ts : List (Rc BodyParts Global)) (k : ℕ) (t : Rc BodyParts Global) (old now new : List BodyParts) → k < length ts → t ≡ get_or ts k t →
     now ≡ old ++ joined_bodies h c (bodies_of (take k ts)) → new ≡ now ++ joined_bodies h c (t.value ∷ []) → new ≡ old ++ joined_bodies h c (bodies_of (take (k + 1) ts))
 joined_body_step h c ts k t old now new l e n m =
     m ∙ ap (λ x. x ++ joined_bodies h c (t.value ∷ [])) n ∙ append_assoc old (joined_bodies h c (bodies_of (take k ts))) (joined_bodies h c (t.value ∷ []))
     ∙ ap (λ x. old ++ x) (sym (joined_body_more h c (bodies_of (take k ts)) t.value)) ∙ ap (λ x. old ++ joined_bodies h c x) (sym (bodies_more ts k t l e))
-
-pub policies_more : (ps : List PolicyParts) (k : ℕ) (p : PolicyParts) → k < length ps → p ≡ get_or ps k p → take (k + 1) ps ≡ take k ps ++ p ∷ []
-policies_more ps k p l e = take_more ps k p l ∙ ap (λ x. take k ps ++ x ∷ []) (sym e)
 
 pub joined_policy_step : (h : Board) (c : List ℕ → List ℕ) (ps : List PolicyParts) (k : ℕ) (p : PolicyParts) (old now new : List PolicyParts) → k < length ps → p ≡ get_or ps k p →
     now ≡ old ++ joined_policies h c (take k ps) → new ≡ now ++ joined_policies h c (p ∷ []) → new ≡ old ++ joined_policies h c (take (k + 1) ps)

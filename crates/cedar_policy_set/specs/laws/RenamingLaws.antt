@@ -12,13 +12,13 @@ use Rattle.cedar_ids.specs.laws.TextLaws.{same_text_equiv, same_text_decides}
 use Rattle.cedar_body.specs.Bodies.{BodyParts}
 use Rattle.cedar_binding.specs.laws.Fits.{same_answer}
 use Rattle.cedar_policy.specs.Policies.{policy_id}
-use Rattle.cedar_policy_set.specs.Boards.{Board, AreOnce, is_bound}
+use Rattle.cedar_policy_maps.specs.Boards.{Board, AreOnce, is_bound}
 use Rattle.cedar_policy_set.specs.Fresh.{numbered, is_bound_in_either, free_below, IsFree, AreFree}
 use Rattle.cedar_policy_set.specs.Merge.{has_body, has_policy, body_ids, policy_ids, is_same_at, conflicting, gathered, conflicts, new_id, IsRenaming, AreBelow, bound_ids, ids_of}
 use Rattle.cedar_policy_set.specs.laws.FreshLaws.{either_among_ids, free_within}
 use Rattle.cedar_policy_set.specs.laws.MergeLaws.{Renames}
 use Rattle.cedar_policy_set.specs.laws.Numerals.{numbered_is}
-use Rattle.cedar_policy_set.specs.laws.OnceLaws.{any-map}
+use Rattle.cedar_policy_maps.specs.laws.OnceLaws.{any-map}
 
 pub itself : (i : List ℕ) → same_text i i ≡ true
 itself i = same_text_equiv.refl i

@@ -10,7 +10,7 @@ use super::statics::unlinked;
 use super::templates::template;
 use cedar_ids::policy_id::PolicyID;
 use cedar_policy::{LinkingError, Policy, SlotEnv};
-use cedar_policy_set::{LinkedIds, PolicySet, PolicySetError};
+use cedar_policy_set::{AllTemplates, LinkedIds, Policies, PolicySet, PolicySetError};
 use cedar_refusals::{
     Answer, Calls, Row, Tried, ample_if, both, has_words, memory_if, owned, refuse, relent,
     tried_rows, unmade, with_word,
@@ -246,16 +246,25 @@ pub(super) fn set_of(alloc: Global, calls: &str) -> Option<PolicySet> {
 }
 
 // The ids of bodies and then of policies, in their orders.
-pub(super) fn ids_of(alloc: Global, set: &PolicySet) -> Option<String> {
+pub(super) fn ids_in(
+    alloc: Global,
+    templates: AllTemplates<'_>,
+    policies: Policies<'_>,
+) -> Option<String> {
     let mut text = Some(String::new(alloc));
-    for template in set.all_templates() {
+    for template in templates {
         text = with_word(text, template.id().as_ref());
     }
     text = with_word(text, "/");
-    for policy in set.policies() {
+    for policy in policies {
         text = with_word(text, policy.id().as_ref());
     }
     text
+}
+
+// The same of a set.
+pub(super) fn ids_of(alloc: Global, set: &PolicySet) -> Option<String> {
+    ids_in(alloc, set.all_templates(), set.policies())
 }
 
 // The ids of bodies and policies in their orders, and of the policies on each body in the order of bodies.

@@ -1,8 +1,8 @@
 use Rattle.std.proofs.Common.{arith}
 use Rattle.cedar_policy_set.specs.Merge.{new_id}
-use Rattle.cedar_policy_set.specs.Views.{bodies_of}
+use Rattle.cedar_policy_maps.specs.Views.{bodies_of}
 use Rattle.cedar_policy_set.specs.laws.MergeSteps.{joined_body_step}
-use Rattle.cedar_policy_set.specs.laws.TakenIn.{standing_body_step}
+use Rattle.cedar_policy_set.specs.laws.MergeTakesIn.{standing_body_step}
 use Rattle.cedar_policy_set.proofs.merge.part_bodies.Goals as goal
 
 pub loop-template-preserved : goal.loop-template-preserved

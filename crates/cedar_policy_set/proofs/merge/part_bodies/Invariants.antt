@@ -1,7 +1,7 @@
 use Rattle.std.proofs.Common.{◌≡◌, ◌++◌, take}
 use Rattle.cedar_policy_set.specs.Merge.{joined_bodies, new_id}
-use Rattle.cedar_policy_set.specs.Views.{bodies_of}
-use Rattle.cedar_policy_set.specs.laws.TakenIn.{standing_bodies}
+use Rattle.cedar_policy_maps.specs.Views.{bodies_of}
+use Rattle.cedar_policy_set.specs.laws.MergeTakesIn.{standing_bodies}
 use Rattle.cedar_policy_set.proofs.merge.part_bodies.Given as goal
 
 abbrev pub invariant-loop-template : goal.invariant-loop-template

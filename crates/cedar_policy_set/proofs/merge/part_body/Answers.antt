@@ -2,9 +2,9 @@ use Rattle.std.proofs.Common.{◌≡◌, ◌∙◌, not, ap}
 use Rattle.std.proofs.lemmas.Result.{on_ok_weaker}
 use Rattle.std.specs.Option.{unwrap_or, option_copied}
 use Rattle.cedar_body.specs.Bodies.{BodyParts, with_id}
-use Rattle.cedar_policy_set.specs.Boards.{is_bound}
+use Rattle.cedar_policy_maps.specs.Boards.{is_bound}
 use Rattle.cedar_policy_set.specs.Merge.{new_id, renamed_body}
-use Rattle.cedar_policy_set.proofs.Entries.{body_parted}
+use Rattle.cedar_policy_set.proofs.Parted.{body_parted}
 use Rattle.cedar_policy_set.proofs.merge.part_body.Goals as goal
 
 pub returns-clause-stand : goal.returns-clause-stand

@@ -1,11 +1,11 @@
 use Rattle.std.specs.Prelude.{◌≡◌, Some}
 use Rattle.std.specs.Option.{MatchOption}
 use Rattle.std.proofs.Common.{subst}
-use Rattle.cedar_policy_set.specs.Boards.{Template, bound_at}
+use Rattle.cedar_policy_maps.specs.Boards.{Template, bound_at}
 use Rattle.cedar_binding.specs.Views.{env_of}
-use Rattle.cedar_policy_set.specs.laws.BoardLaws.{stands}
+use Rattle.cedar_policy_set.specs.laws.StepLaws.{stands}
 use Rattle.cedar_policy_set.specs.laws.LinkLaws.{link_of_there}
-use Rattle.cedar_policy_set.specs.laws.Joins.{HasNoTemplate}
+use Rattle.cedar_policy_set.specs.laws.Standing.{HasNoTemplate}
 use Rattle.cedar_policy_set.proofs.policy_set.PolicySet.join_link.Goals as goal
 
 pub link_template-requires : goal.link_template-requires

@@ -1,29 +1,26 @@
 use Rattle.std.proofs.Common.{List, ℕ, sym, ◌∙◌, subst}
-use Rattle.cedar_policy_set.specs.Boards.{AreOnce}
+use Rattle.cedar_policy_maps.specs.Boards.{AreOnce, IsBoard}
 use Rattle.cedar_policy_set.specs.laws.MergeSteps.{once_conflicts}
 use Rattle.cedar_policy_set.specs.laws.ConflictLaws.{conflicts_differ}
 use Rattle.cedar_policy_set.proofs.policy_set.PolicySet.merge_policyset.Goals as goal
 
 pub fresh_ids-requires : goal.fresh_ids-requires
-fresh_ids-requires g c = subst (AreOnce (λ (i : List ℕ). i)) (sym c.in_ok-ids.ensures) (once_conflicts c.args.self.now c.args.other.now)
+fresh_ids-requires g c = subst (AreOnce (λ (i : List ℕ). i)) (sym c.in_ok-ids.ensures) (once_conflicts c.self.inside.maps c.other.inside.maps)
 
 pub put_merged-requires : goal.put_merged-requires
 put_merged-requires g c = (c.in_ok-renaming.ensures.keys ∙ c.in_ok-ids.ensures, c.in_ok-renaming.ensures.free)
 
-pub returns-in-Err-clause-conflicts : goal.returns-in-Err-clause-conflicts
-returns-in-Err-clause-conflicts g c = conflicts_differ c.args.self.now c.args.other.now c.is_empty.ensures.board c.is_empty-2.ensures.board
-
-pub returns-in-Ok-clause-conflicts : goal.returns-in-Ok-clause-conflicts
-returns-in-Ok-clause-conflicts g c = conflicts_differ c.args.self.now c.args.other.now c.is_empty.ensures.board c.is_empty-2.ensures.board
+pub returns-clause-conflicts : goal.returns-clause-conflicts
+returns-clause-conflicts g c = conflicts_differ c.args.self.now c.args.other.now (subst IsBoard c.self.view_is c.is_empty.ensures.board) (subst IsBoard c.other.view_is c.is_empty-2.ensures.board)
 
 pub returns-in-Some-clause-conflicts : goal.returns-in-Some-clause-conflicts
-returns-in-Some-clause-conflicts g c = conflicts_differ c.args.self.now c.args.other.now c.is_empty.ensures.board c.is_empty-2.ensures.board
+returns-in-Some-clause-conflicts g c = conflicts_differ c.args.self.now c.args.other.now (subst IsBoard c.self.view_is c.is_empty.ensures.board) (subst IsBoard c.other.view_is c.is_empty-2.ensures.board)
 
 pub returns-in_err-id-clause-conflicts : goal.returns-in_err-id-clause-conflicts
-returns-in_err-id-clause-conflicts g c = conflicts_differ c.args.self.now c.args.other.now c.is_empty.ensures.board c.is_empty-2.ensures.board
+returns-in_err-id-clause-conflicts g c = conflicts_differ c.args.self.now c.args.other.now (subst IsBoard c.self.view_is c.is_empty.ensures.board) (subst IsBoard c.other.view_is c.is_empty-2.ensures.board)
 
 pub returns-in_err-ids-clause-conflicts : goal.returns-in_err-ids-clause-conflicts
-returns-in_err-ids-clause-conflicts g c = conflicts_differ c.args.self.now c.args.other.now c.is_empty.ensures.board c.is_empty-2.ensures.board
+returns-in_err-ids-clause-conflicts g c = conflicts_differ c.args.self.now c.args.other.now (subst IsBoard c.self.view_is c.is_empty.ensures.board) (subst IsBoard c.other.view_is c.is_empty-2.ensures.board)
 
 pub returns-in_err-renaming-clause-conflicts : goal.returns-in_err-renaming-clause-conflicts
-returns-in_err-renaming-clause-conflicts g c = conflicts_differ c.args.self.now c.args.other.now c.is_empty.ensures.board c.is_empty-2.ensures.board
+returns-in_err-renaming-clause-conflicts g c = conflicts_differ c.args.self.now c.args.other.now (subst IsBoard c.self.view_is c.is_empty.ensures.board) (subst IsBoard c.other.view_is c.is_empty-2.ensures.board)

@@ -1,11 +1,11 @@
 use Rattle.std.specs.Prelude.{◌≡◌, Some}
 use Rattle.std.proofs.Common.{subst}
-use Rattle.cedar_policy_set.specs.Boards.{IsBoard, bound_at}
-use Rattle.cedar_policy_set.specs.laws.BoardLaws.{bound_policy_unlinked}
-use Rattle.cedar_policy_set.specs.laws.Founds.{found_binding}
+use Rattle.cedar_policy_maps.specs.Boards.{bound_at}
+use Rattle.cedar_policy_maps.specs.laws.BoardLaws.{bound_policy_unlinked}
+use Rattle.cedar_policy_maps.specs.Founds.{found_binding}
 use Rattle.cedar_policy_set.proofs.policy_set.PolicySet.remove_static.Goals as goal
 
 pub take-body-requires : goal.take-body-requires
 take-body-requires g c =
-    bound_policy_unlinked c.args.self.now c.args.id.now c.in-Some-Policy.policy.now (subst IsBoard c.self.view_is c.self.invariant.board)
-    (subst (λ x. Some (found_binding x) ≡ bound_at c.args.self.now c.args.id.now) c.in-Some-Policy.field-0-is c.in-Some-Policy.ensures)
+    bound_policy_unlinked c.self.inside.maps c.args.id.now c.in-Some-Policy.policy.now c.is_empty-board.ensures.board
+    (subst (λ x. Some (found_binding x) ≡ bound_at c.self.inside.maps c.args.id.now) c.in-Some-Policy.field-0-is c.in-Some-Policy.ensures)

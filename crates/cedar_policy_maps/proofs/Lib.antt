@@ -1,0 +1,3 @@
+mod Entered
+mod Entries
+mod Told

@@ -1,0 +1,27 @@
+use Rattle.std.specs.Prelude.{◌≡◌, ◌++◌, ◌∷◌, []}
+use Rattle.std.proofs.Common.{◌∙◌, sym, subst, refl}
+use Rattle.cedar_policy.specs.Policies.{policy_id}
+use Rattle.cedar_policy_maps.specs.Maps.{Maps, maps_of, board_in, lists_of}
+use Rattle.cedar_policy_maps.specs.laws.BoardLaws.{free_link}
+use Rattle.cedar_policy_maps.specs.Joins.{CanJoin}
+use Rattle.cedar_policy_maps.specs.laws.MapLaws.{policy_kept}
+use Rattle.cedar_policy_maps.proofs.Entries.{absent_policy}
+use Rattle.cedar_policy_maps.proofs.policy_maps.PolicyMaps.put_policy.Goals as goal
+
+pub put_last-requires-clause-absent : goal.put_last-requires-clause-absent
+put_last-requires-clause-absent g c =
+    let m : Maps = maps_of c.self.inside.templates.entries c.self.inside.links.entries c.self.inside.template_to_links_map.entries in
+    let p = c.args.policy in
+    let j : CanJoin (board_in m) p = subst (λ b. CanJoin b p) (sym c.self.view_is) c.requires in
+    let k : c.in-Ok.id ≡ policy_id p = c.in-Ok.ensures.id in
+    rw (k, c.list_policy.ensures.policies) (absent_policy m (policy_id p) c.self.invariant (free_link p.link (board_in m) p refl j))
+
+pub invariant_of-self : goal.invariant_of-self
+invariant_of-self g c =
+    let m : Maps = maps_of c.self.inside.templates.entries c.self.inside.links.entries c.self.inside.template_to_links_map.entries in
+    let p = c.args.policy in
+    let j : CanJoin (board_in m) p = subst (λ b. CanJoin b p) (sym c.self.view_is) c.requires in
+    let k : c.in-Ok.id ≡ policy_id p = c.in-Ok.ensures.id in
+    (policy_kept m p c.put_last.new.map.entries (lists_of c.list_policy.new.map.entries) c.self.invariant j
+    (c.put_last.ensures ∙ (λ i. c.list_policy.ensures.policies i ++ (k i, p) ∷ []))
+    c.in-Ok.ensures.ok).0

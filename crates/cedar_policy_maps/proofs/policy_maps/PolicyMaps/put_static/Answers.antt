@@ -1,0 +1,36 @@
+use Rattle.std.specs.Prelude.{◌≡◌, ◌++◌, ◌∷◌, []}
+use Rattle.std.proofs.Common.{◌∙◌, sym, subst, refl}
+use Rattle.cedar_policy.specs.Policies.{policy_id}
+use Rattle.cedar_policy_maps.specs.Maps.{Maps, maps_of, board_in}
+use Rattle.cedar_policy_maps.specs.laws.BoardLaws.{both_free}
+use Rattle.cedar_policy_maps.specs.Joins.{CanJoinBoth}
+use Rattle.cedar_policy_maps.specs.laws.MapLaws.{static_kept}
+use Rattle.cedar_policy_maps.proofs.Entries.{absent_body, absent_policy, read_last}
+use Rattle.cedar_policy_maps.proofs.policy_maps.PolicyMaps.put_static.Goals as goal
+
+pub put_last-requires-clause-absent : goal.put_last-requires-clause-absent
+put_last-requires-clause-absent g c =
+    let m : Maps = maps_of c.self.inside.templates.entries c.self.inside.links.entries c.self.inside.template_to_links_map.entries in
+    let p = c.args.policy in
+    let j : CanJoinBoth (board_in m) p = subst (λ b. CanJoinBoth b p) (sym c.self.view_is) c.requires.joins in
+    let k : c.in-Ok.body ≡ p.template.id = c.in-Ok.ensures.ids.0 in
+    rw (k, c.room_for_both.ensures.bodies) (absent_body m c.self.inside.templates.entries p.template.id c.self.invariant refl j.0)
+
+pub put_last-requires-in-Ok-clause-absent : goal.put_last-requires-in-Ok-clause-absent
+put_last-requires-in-Ok-clause-absent g c =
+    let m : Maps = maps_of c.self.inside.templates.entries c.self.inside.links.entries c.self.inside.template_to_links_map.entries in
+    let p = c.args.policy in
+    let j : CanJoinBoth (board_in m) p = subst (λ b. CanJoinBoth b p) (sym c.self.view_is) c.requires.joins in
+    let k : c.in-Ok.own ≡ policy_id p = c.in-Ok.ensures.ids.1 in
+    rw (k, c.room_for_both.ensures.policies) (absent_policy m (policy_id p) c.self.invariant (both_free p.link (board_in m) p refl j.0 j.1))
+
+pub invariant_of-self : goal.invariant_of-self
+invariant_of-self g c =
+    let m : Maps = maps_of c.self.inside.templates.entries c.self.inside.links.entries c.self.inside.template_to_links_map.entries in
+    let p = c.args.policy in
+    let j : CanJoinBoth (board_in m) p = subst (λ b. CanJoinBoth b p) (sym c.self.view_is) c.requires.joins in
+    let k : c.in-Ok.body ≡ p.template.id = c.in-Ok.ensures.ids.0 in
+    let n : c.in-Ok.own ≡ policy_id p = c.in-Ok.ensures.ids.1 in
+    (static_kept m p _ _ c.self.invariant j c.requires.no_link
+    (read_last (λ v. v.value) c.self.inside.templates.entries c.room_for_both.new.templates.entries c.put_last.new.map.entries _ p.template.id c.in-Ok.template p.template c.room_for_both.ensures.bodies c.put_last.ensures k c.in-Ok.ensures.share)
+    (c.put_last-in-Ok.ensures ∙ (λ i. c.room_for_both.ensures.policies i ++ (n i, p) ∷ []))).0

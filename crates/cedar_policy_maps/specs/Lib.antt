@@ -1,0 +1,9 @@
+pub mod Boards
+pub mod Codes
+pub mod Founds
+pub mod Joins
+pub mod Lists
+pub mod Maps
+pub mod TakenIn
+pub mod Views
+pub mod laws

@@ -1,0 +1,37 @@
+-- Bodies and policies that go last, beside some bodies that stand there as well.
+use Rattle.std.specs.Prelude.{◌≡◌, List, [], ◌∷◌, ◌++◌, false}
+use Rattle.std.specs.List.{list_any}
+use Rattle.cedar_body.specs.Bodies.{BodyParts}
+use Rattle.cedar_policy.specs.Policies.{PolicyParts}
+use Rattle.cedar_policy_maps.specs.Boards.{Board, AreOnce, is_body_at, is_policy_at, IsBoard}
+use Rattle.cedar_policy_maps.specs.Lists.{is_on}
+
+-- bodies and policies go last, each in its order
+abbrev pub taken_in : Board → List BodyParts → List PolicyParts → Board
+taken_in b ts ps = record { bodies = b.bodies ++ ts; policies = b.policies ++ ps }
+
+-- no policy has the id of one of these bodies
+abbrev pub AreFree : List BodyParts → List PolicyParts → Type 0
+AreFree [] ps = Unit {0}
+AreFree (t ∷ ts) ps = (list_any (is_policy_at t.id) ps ≡ false) × AreFree ts ps
+
+-- policies are on none of these bodies but those that stand among others
+abbrev pub AreOnly : List BodyParts → List BodyParts → List PolicyParts → Type 0
+AreOnly [] stand ps = Unit {0}
+AreOnly (t ∷ ts) stand ps = (list_any (is_body_at t.id) stand ≡ false → list_any (is_on t.id) ps ≡ false) × AreOnly ts stand ps
+
+-- policies are on none of these bodies
+abbrev pub AreBare : List BodyParts → List PolicyParts → Type 0
+AreBare [] ps = Unit {0}
+AreBare (t ∷ ts) ps = (list_any (is_on t.id) ps ≡ false) × AreBare ts ps
+
+-- bodies and policies can go last beside some bodies that stand there: the board is one then; no policy that joins has
+-- the id of a body that was there, and none that was there that of a body that joins; policies join none but these bodies
+-- and the new ones; and on new ones stood no policy
+pub record CanTakeIn (b : Board) (stand ts : List BodyParts) (ps : List PolicyParts) : Type 0 where
+  pub board : IsBoard (taken_in b ts ps)
+  pub beside : AreFree b.bodies ps
+  pub behind : AreFree ts b.policies
+  pub once : AreOnce (λ (t : BodyParts). t.id) stand
+  pub only : AreOnly b.bodies stand ps
+  pub bare : AreBare ts b.policies

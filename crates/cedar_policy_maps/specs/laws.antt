@@ -1,0 +1,9 @@
+pub mod BoardLaws
+pub mod GrowLaws
+pub mod ListedLaws
+pub mod MapLaws
+pub mod OnceLaws
+pub mod RawMaps
+pub mod TakenInLaws
+pub mod TemplateLaws
+pub mod Walks

@@ -1,0 +1,394 @@
+//! How maps take in bodies and policies beside what stands there: room first, and then steps that cannot fail.
+ghost use Rattle.std.specs.Prelude.{◌≡◌, ◌≤◌, ◌++◌, ◌∷◌, [], length, false, ℕ, List, OnOk, OnErr, IfOk, IsTrue};
+ghost use Rattle.std.specs.Map.{keys_of, values_of, lookup};
+ghost use Rattle.cedar_ids.specs.Texts.{same_text};
+ghost use Rattle.cedar_body.specs.Bodies.{BodyParts};
+ghost use Rattle.cedar_policy.specs.Policies.{policy_id};
+ghost use Rattle.cedar_policy_maps.specs.Boards.{AreOnce};
+ghost use Rattle.cedar_policy_maps.specs.Maps.{lists_of, shared_of, ids_by_body, templates_in};
+ghost use Rattle.cedar_policy_maps.specs.Views.{bodies_of};
+ghost use Rattle.cedar_policy_maps.specs.laws.GrowLaws.{HasRoom, HaveRoom, grown_by, HaveOwnKeys};
+ghost use Rattle.cedar_policy_maps.specs.laws.ListedLaws.{changed, IsKeyed};
+ghost use Rattle.cedar_policy_maps.specs.TakenIn.{taken_in, CanTakeIn};
+ghost use Rattle.indexmap.specs.IndexMap.{spare};
+ghost use Rattle.indexmap.specs.IndexSet.{insert_all};
+ghost use Rattle.indexmap.specs.IndexSet as sets;
+
+use crate::maps::{bodies_by_id, ids_by_template, policies_by_id};
+use crate::policy_maps::PolicyMaps;
+use cedar_ids::policy_id::PolicyID;
+use cedar_policy::{Policy, Template};
+use indexmap::{IndexMap, IndexSet};
+use std::alloc::{AllocError, Global};
+use std::hash::BuildHasher;
+use std::rc::Rc;
+
+/// What goes into maps: what stands there as well, and what joins.
+#[derive(Drop)]
+pub struct Parted<T> {
+    /// What stands there as well.
+    pub stand: Vec<T>,
+    /// What joins, in its order.
+    pub join: Vec<T>,
+}
+
+impl<T: Drop> Parted<T> {
+    /// Nothing yet. It takes no memory.
+    pub fn new(alloc: Global) -> Parted<T>
+        ensures stand { result.stand.items ≡ [] }
+        ensures join { result.join.items ≡ [] }
+    {
+        Parted {
+            stand: Vec::new(alloc),
+            join: Vec::new(alloc),
+        }
+    }
+}
+
+// What goes last in the three maps, and in lists under bodies that stand there.
+#[derive(Drop)]
+struct Entering<S: BuildHasher> {
+    templates: IndexMap<PolicyID, Rc<Template>, S>,
+    links: IndexMap<PolicyID, Policy, S>,
+    listed: IndexMap<PolicyID, IndexSet<PolicyID, S>, S>,
+    grown: IndexMap<PolicyID, IndexSet<PolicyID, S>, S>,
+}
+
+impl<S: BuildHasher + Copy> PolicyMaps<S> {
+    /// Puts bodies and policies last, each in its order, and those that stand there as well in the place of the equal
+    /// ones there.
+    ///
+    /// Takes memory for room in the maps and in the lists that grow, for copies of ids and for the lists of new
+    /// templates; refused, the maps state what they did. What stands there is neither walked nor copied.
+    pub fn take_in(
+        &mut self,
+        alloc: Global,
+        bodies: Parted<Rc<Template>>,
+        policies: Parted<Policy>,
+    ) -> Result<(), AllocError>
+        requires { CanTakeIn self.old (bodies_of bodies.stand.items) (bodies_of bodies.join.items) policies.join.items }
+        ensures ok { OnOk result (self.new ≡ taken_in self.old (bodies_of bodies.join.items) policies.join.items) }
+        ensures err { OnErr result (self.new ≡ self.old) }
+    {
+        let Parted { stand, join } = bodies;
+        let Parted {
+            stand: alike,
+            join: policies,
+        } = policies;
+        match what_enters(alloc, &self.links, &stand, join, policies) {
+            Ok(entering) => self.put_in(entering, stand, alike),
+            Err(error) => {
+                drop(stand);
+                drop(alike);
+                Err(error)
+            }
+        }
+    }
+
+    // Makes room for what enters, and puts it in.
+    fn put_in(
+        &mut self,
+        entering: Entering<S>,
+        bodies: Vec<Rc<Template>>,
+        policies: Vec<Policy>,
+    ) -> Result<(), AllocError>
+        requires can { CanTakeIn self.old (bodies_of bodies.items) (bodies_of (values_of entering.templates.entries)) (values_of entering.links.entries) }
+        requires bodies { IsKeyed (λ t. t.value.id) entering.templates.entries }
+        requires policies { IsKeyed policy_id entering.links.entries }
+        requires listed { lists_of entering.listed.entries ≡ ids_by_body (templates_in (values_of entering.links.entries) (bodies_of (values_of entering.templates.entries))) (values_of entering.links.entries) }
+        requires grown { lists_of entering.grown.entries ≡ ids_by_body (templates_in self.old.policies (bodies_of bodies.items)) (values_of entering.links.entries) }
+        ensures ok { OnOk result (self.new ≡ taken_in self.old (bodies_of (values_of entering.templates.entries)) (values_of entering.links.entries)) }
+        ensures err { OnErr result (self.new ≡ self.old) }
+    {
+        match make_room(
+            &mut self.templates,
+            &mut self.links,
+            &mut self.template_to_links_map,
+            &entering,
+        ) {
+            Ok(()) => {
+                let Entering {
+                    templates,
+                    links,
+                    listed,
+                    grown,
+                } = entering;
+                put_all_last(&mut self.templates, templates);
+                put_all_last(&mut self.links, links);
+                grow_lists(&mut self.template_to_links_map, grown);
+                put_all_last(&mut self.template_to_links_map, listed);
+                keep_bodies(&mut self.templates, bodies);
+                keep_policies(&mut self.links, policies);
+                Ok(())
+            }
+            Err(error) => {
+                drop(entering);
+                drop(bodies);
+                drop(policies);
+                Err(error)
+            }
+        }
+    }
+}
+
+// What enters a set with these policies where some bodies stand and others join, with policies on both.
+fn what_enters<S: BuildHasher + Copy>(
+    alloc: Global,
+    known: &IndexMap<PolicyID, Policy, S>,
+    stand: &[Rc<Template>],
+    bodies: Vec<Rc<Template>>,
+    policies: Vec<Policy>,
+) -> Result<Entering<S>, AllocError>
+    requires keyed { IsKeyed policy_id known.now.entries }
+    requires stand { AreOnce (λ (t : BodyParts). t.id) (bodies_of stand.now) }
+    requires bodies { AreOnce (λ (t : BodyParts). t.id) (bodies_of bodies.items) }
+    requires policies { AreOnce policy_id policies.items }
+    ensures bodies_keyed { IfOk result (λ e. IsKeyed (λ t. t.value.id) e.templates.entries) }
+    ensures bodies { IfOk result (λ e. values_of e.templates.entries ≡ bodies.items) }
+    ensures policies_keyed { IfOk result (λ e. IsKeyed policy_id e.links.entries) }
+    ensures policies { IfOk result (λ e. values_of e.links.entries ≡ policies.items) }
+    ensures listed { IfOk result (λ e. lists_of e.listed.entries ≡ ids_by_body (templates_in policies.items (bodies_of bodies.items)) policies.items) }
+    ensures grown { IfOk result (λ e. lists_of e.grown.entries ≡ ids_by_body (templates_in (values_of known.now.entries) (bodies_of stand.now)) policies.items) }
+{
+    let grown = match ids_by_template(alloc, stand, known, &policies) {
+        Ok(grown) => grown,
+        Err(error) => {
+            drop(bodies);
+            drop(policies);
+            return Err(error);
+        }
+    };
+    let links = match policies_by_id(alloc, *known.hasher(), policies) {
+        Ok(links) => links,
+        Err(error) => {
+            drop(bodies);
+            drop(grown);
+            return Err(error);
+        }
+    };
+    let listed = match ids_by_template(alloc, &bodies, &links, links.values().as_slice()) {
+        Ok(listed) => listed,
+        Err(error) => {
+            drop(bodies);
+            drop(grown);
+            drop(links);
+            return Err(error);
+        }
+    };
+    let templates = match bodies_by_id(alloc, *known.hasher(), bodies) {
+        Ok(templates) => templates,
+        Err(error) => {
+            drop(grown);
+            drop(links);
+            drop(listed);
+            return Err(error);
+        }
+    };
+    Ok(Entering {
+        templates,
+        links,
+        listed,
+        grown,
+    })
+}
+
+// Room in the three maps, and in lists that grow, for what enters.
+fn make_room<S: BuildHasher + Copy>(
+    templates: &mut IndexMap<PolicyID, Rc<Template>, S>,
+    links: &mut IndexMap<PolicyID, Policy, S>,
+    map: &mut IndexMap<PolicyID, IndexSet<PolicyID, S>, S>,
+    entering: &Entering<S>,
+) -> Result<(), AllocError>
+    ensures bodies { templates.new.entries ≡ templates.old.entries }
+    ensures policies { links.new.entries ≡ links.old.entries }
+    ensures lists { lists_of map.new.entries ≡ lists_of map.old.entries }
+    ensures room { OnOk result ((length entering.now.templates.entries ≤ spare templates.new) × (length entering.now.links.entries ≤ spare links.new) × (length entering.now.listed.entries ≤ spare map.new)) }
+    ensures grown { OnOk result (HaveRoom map.new.entries (lists_of entering.now.grown.entries)) }
+{
+    templates.reserve(entering.templates.len())?;
+    links.reserve(entering.links.len())?;
+    room_in_lists(map, &entering.grown)?;
+    map.reserve(entering.listed.len())?;
+    Ok(())
+}
+
+// Puts entries with new keys last, where there is room for them.
+pub(crate) fn put_all_last<V: Drop, S: BuildHasher + Copy>(
+    map: &mut IndexMap<PolicyID, V, S>,
+    entries: IndexMap<PolicyID, V, S>,
+)
+    requires room { length entries.entries ≤ spare map.old }
+    requires new { HaveOwnKeys (map.old.entries ++ entries.entries) }
+    ensures { map.new.entries ≡ map.old.entries ++ entries.entries }
+{
+    let mut entries = entries;
+    map.append(&mut entries).unwrap();
+}
+
+// Room in a list, if there is one.
+fn room_in_list<S: BuildHasher + Copy>(
+    map: &mut IndexMap<PolicyID, IndexSet<PolicyID, S>, S>,
+    body: &PolicyID,
+    count: usize,
+) -> Result<(), AllocError>
+    ensures lists { lists_of map.new.entries ≡ lists_of map.old.entries }
+    ensures room { OnOk result (HasRoom (lookup (same_text body.now) map.new.entries) count) }
+    ensures kept { (k : List ℕ) (n : ℕ) → HasRoom (lookup (same_text k) map.old.entries) n → HasRoom (lookup (same_text k) map.new.entries) n }
+{
+    match map.get_mut(body) {
+        None => Ok(()),
+        Some(ids) => room_in_set(ids, count),
+    }
+}
+
+// Room in a set.
+fn room_in_set<S: BuildHasher + Copy>(
+    ids: &mut IndexSet<PolicyID, S>,
+    count: usize,
+) -> Result<(), AllocError>
+    ensures keys { ids.new.keys ≡ ids.old.keys }
+    ensures room { OnOk result (count ≤ sets.spare ids.new) }
+    ensures kept { sets.spare ids.old ≤ sets.spare ids.new }
+{
+    ids.reserve(count)
+}
+
+// Room in lists for what goes last in each.
+pub(crate) fn room_in_lists<S: BuildHasher + Copy>(
+    map: &mut IndexMap<PolicyID, IndexSet<PolicyID, S>, S>,
+    grown: &IndexMap<PolicyID, IndexSet<PolicyID, S>, S>,
+) -> Result<(), AllocError>
+    ensures lists { lists_of map.new.entries ≡ lists_of map.old.entries }
+    ensures room { OnOk result (HaveRoom map.new.entries (lists_of grown.now.entries)) }
+{
+    for (body, ids) in grown {
+        room_in_list(map, body, ids.len())?;
+    }
+    Ok(())
+}
+
+// Puts ids last in a set, where there is room for them.
+fn put_ids<S: BuildHasher + Copy>(ids: &mut IndexSet<PolicyID, S>, more: IndexSet<PolicyID, S>)
+    requires { length more.keys ≤ sets.spare ids.old }
+    ensures { ids.new.keys ≡ insert_all same_text ids.old.keys more.keys }
+{
+    let mut more = more;
+    ids.append(&mut more).unwrap();
+}
+
+// Puts ids last in a list, if there is one, where there is room for them.
+fn grow_list<S: BuildHasher + Copy>(
+    map: &mut IndexMap<PolicyID, IndexSet<PolicyID, S>, S>,
+    body: &PolicyID,
+    more: IndexSet<PolicyID, S>,
+)
+    requires { HasRoom (lookup (same_text body.now) map.old.entries) (length more.keys) }
+    ensures lists { lists_of map.new.entries ≡ changed (same_text body.now) (λ ks. insert_all same_text ks more.keys) (lists_of map.old.entries) }
+    ensures others { (k : List ℕ) → same_text body.now k ≡ false → lookup (same_text k) map.new.entries ≡ lookup (same_text k) map.old.entries }
+    ensures room { spare map.old ≤ spare map.new }
+{
+    match map.get_mut(body) {
+        None => drop(more),
+        Some(ids) => put_ids(ids, more),
+    }
+}
+
+// Puts ids last in lists, where there is room for them.
+pub(crate) fn grow_lists<S: BuildHasher + Copy>(
+    map: &mut IndexMap<PolicyID, IndexSet<PolicyID, S>, S>,
+    grown: IndexMap<PolicyID, IndexSet<PolicyID, S>, S>,
+)
+    requires room { HaveRoom map.old.entries (lists_of grown.entries) }
+    requires once { HaveOwnKeys grown.entries }
+    ensures lists { lists_of map.new.entries ≡ grown_by (lists_of map.old.entries) (lists_of grown.entries) }
+    ensures room { spare map.old ≤ spare map.new }
+{
+    for (body, more) in grown {
+        grow_list(map, &body, more);
+    }
+}
+
+// Puts bodies in the place of those with their ids that they are equal to.
+fn keep_bodies<S: BuildHasher + Copy>(
+    templates: &mut IndexMap<PolicyID, Rc<Template>, S>,
+    bodies: Vec<Rc<Template>>,
+)
+    ensures { shared_of templates.new.entries ≡ shared_of templates.old.entries }
+{
+    for template in bodies {
+        keep_body(templates, template);
+    }
+}
+
+// Puts a body in the place of the one with its id, if it is equal to it.
+fn keep_body<S: BuildHasher + Copy>(
+    templates: &mut IndexMap<PolicyID, Rc<Template>, S>,
+    template: Rc<Template>,
+)
+    ensures { shared_of templates.new.entries ≡ shared_of templates.old.entries }
+{
+    match templates.get_mut(template.id()) {
+        None => drop(template),
+        Some(stands) => take_body(stands, template),
+    }
+}
+
+// Puts a body in the place of another, if it is equal to it.
+fn take_body(stands: &mut Rc<Template>, template: Rc<Template>)
+    ensures { stands.new.value ≡ stands.old.value }
+{
+    if is_body(&template, stands) {
+        *stands = template;
+    } else {
+        drop(template);
+    }
+}
+
+// Whether a template is another.
+#[tactic(auto, using(crate::specs::laws::Walks::same_body_is))]
+fn is_body(template: &Template, other: &Template) -> bool
+    ensures { IsTrue result → (template.now ≡ other.now) }
+{
+    template == other
+}
+
+// Puts policies in the place of those with their ids that they are equal to.
+fn keep_policies<S: BuildHasher + Copy>(
+    links: &mut IndexMap<PolicyID, Policy, S>,
+    policies: Vec<Policy>,
+)
+    ensures { links.new.entries ≡ links.old.entries }
+{
+    for policy in policies {
+        keep_policy(links, policy);
+    }
+}
+
+// Puts a policy in the place of the one with its id, if it is equal to it.
+fn keep_policy<S: BuildHasher + Copy>(links: &mut IndexMap<PolicyID, Policy, S>, policy: Policy)
+    ensures { links.new.entries ≡ links.old.entries }
+{
+    match links.get_mut(policy.id()) {
+        None => drop(policy),
+        Some(stands) => take_policy(stands, policy),
+    }
+}
+
+// Puts a policy in the place of another, if it is equal to it.
+fn take_policy(stands: &mut Policy, policy: Policy)
+    ensures { stands.new ≡ stands.old }
+{
+    if is_policy(&policy, stands) {
+        *stands = policy;
+    } else {
+        drop(policy);
+    }
+}
+
+// Whether a policy is another.
+#[tactic(auto, using(crate::specs::laws::Walks::same_policy_is))]
+fn is_policy(policy: &Policy, other: &Policy) -> bool
+    ensures { IsTrue result → (policy.now ≡ other.now) }
+{
+    policy == other
+}

@@ -1,0 +1,534 @@
+//! One map at a time: what goes last, what is listed under an id, and maps that are made from lists.
+ghost use Rattle.std.specs.Prelude.{◌≡◌, ◌<◌, ◌++◌, ◌∷◌, [], None, not, is_some, OnOk, OnErr, IfOk};
+ghost use Rattle.std.specs.List.{filter};
+ghost use Rattle.std.specs.Map.{values_of};
+ghost use Rattle.cedar_ids.specs.Texts.{same_text};
+ghost use Rattle.cedar_body.specs.Bodies.{BodyParts};
+ghost use Rattle.cedar_policy.specs.Policies.{policy_id};
+ghost use Rattle.cedar_policy_maps.specs.Boards.{AreOnce};
+ghost use Rattle.cedar_policy_maps.specs.Maps.{lists_of, shared_of, ids_by_body, templates_in};
+ghost use Rattle.cedar_policy_maps.specs.Views.{bodies_of};
+ghost use Rattle.cedar_policy_maps.specs.laws.ListedLaws.{with_listed, without_listed, IsKeyed};
+ghost use Rattle.cedar_policy_maps.specs.laws.MapLaws.{unlisted, all_listed};
+ghost use Rattle.indexmap.specs.IndexMap.{get, spare};
+ghost use Rattle.indexmap.specs.IndexSet.{insert_key, remove_key};
+
+use crate::lists::template_of;
+use cedar_ids::policy_id::PolicyID;
+use cedar_policy::{Policy, Template};
+use indexmap::{IndexMap, IndexSet};
+use std::alloc::{AllocError, Global};
+use std::hash::BuildHasher;
+use std::rc::Rc;
+
+// Puts a value under a new key last, where there is room for it.
+pub(crate) fn put_last<V: Drop, S: BuildHasher + Copy>(
+    map: &mut IndexMap<PolicyID, V, S>,
+    key: PolicyID,
+    value: V,
+)
+    requires room { 0 < spare map.old }
+    requires absent { get same_text map.old key ≡ None }
+    ensures { map.new.entries ≡ map.old.entries ++ (key, value) ∷ [] }
+{
+    map.insert(key, value).unwrap();
+}
+
+// Puts a value under a new key last.
+fn put_new<V: Drop, S: BuildHasher + Copy>(
+    map: &mut IndexMap<PolicyID, V, S>,
+    key: PolicyID,
+    value: V,
+) -> Result<(), AllocError>
+    requires { get same_text map.old key ≡ None }
+    ensures { OnOk result (map.new.entries ≡ map.old.entries ++ (key, value) ∷ []) }
+{
+    map.reserve(1)?;
+    put_last(map, key, value);
+    Ok(())
+}
+
+// A value with a copy of an id; the value goes where there is none.
+fn with_copy<A: Drop>(value: A, id: &PolicyID) -> Result<(A, PolicyID), AllocError>
+    ensures { IfOk result (λ r. (r.0 ≡ value) × (r.1 ≡ id.now)) }
+{
+    match id.clone() {
+        Ok(id) => Ok((value, id)),
+        Err(error) => {
+            drop(value);
+            Err(error)
+        }
+    }
+}
+
+// A value with the set of an id; the value goes where there is none.
+fn with_set<A: Drop, S: BuildHasher + Copy>(
+    value: A,
+    alloc: Global,
+    hasher: S,
+    id: &PolicyID,
+) -> Result<(A, IndexSet<PolicyID, S>), AllocError>
+    ensures { IfOk result (λ r. (r.0 ≡ value) × (r.1.keys ≡ id.now ∷ [])) }
+{
+    match set_of(alloc, hasher, id) {
+        Ok(ids) => Ok((value, ids)),
+        Err(error) => {
+            drop(value);
+            Err(error)
+        }
+    }
+}
+
+// A value with a further share of a policy's template; the value goes where there is none.
+fn with_share<A: Drop>(value: A, policy: &Policy) -> Result<(A, Rc<Template>), AllocError>
+    ensures { IfOk result (λ r. (r.0 ≡ value) × (r.1.value ≡ policy.now.template)) }
+{
+    match template_of(policy) {
+        Ok(template) => Ok((value, template)),
+        Err(error) => {
+            drop(value);
+            Err(error)
+        }
+    }
+}
+
+// Room for one more body and its list, and two copies of its id.
+pub(crate) fn room_for_body<S: BuildHasher + Copy>(
+    templates: &mut IndexMap<PolicyID, Rc<Template>, S>,
+    map: &mut IndexMap<PolicyID, IndexSet<PolicyID, S>, S>,
+    template: &Template,
+) -> Result<(PolicyID, PolicyID), AllocError>
+    ensures bodies { templates.new.entries ≡ templates.old.entries }
+    ensures lists { map.new.entries ≡ map.old.entries }
+    ensures room { OnOk result ((0 < spare templates.new) × (0 < spare map.new)) }
+    ensures ids { IfOk result (λ r. (r.0 ≡ template.now.id) × (r.1 ≡ template.now.id)) }
+{
+    templates.reserve(1)?;
+    map.reserve(1)?;
+    let id = template.id().clone()?;
+    with_copy(id, template.id())
+}
+
+// Room for one more policy, which is listed last under its body's id; and a copy of its own id.
+pub(crate) fn list_policy<S: BuildHasher + Copy>(
+    links: &mut IndexMap<PolicyID, Policy, S>,
+    map: &mut IndexMap<PolicyID, IndexSet<PolicyID, S>, S>,
+    policy: &Policy,
+) -> Result<PolicyID, AllocError>
+    ensures policies { links.new.entries ≡ links.old.entries }
+    ensures room { OnOk result (0 < spare links.new) }
+    ensures id { IfOk result (λ i. i ≡ policy_id policy.now) }
+    ensures ok { OnOk result (lists_of map.new.entries ≡ with_listed policy.now.template.id (policy_id policy.now) (lists_of map.old.entries)) }
+    ensures err { OnErr result (lists_of map.new.entries ≡ lists_of map.old.entries) }
+{
+    links.reserve(1)?;
+    let (id, listed) = with_copy(policy.id().clone()?, policy.id())?;
+    match list_id(map, policy.template().id(), listed) {
+        Ok(()) => Ok(id),
+        Err(error) => {
+            drop(id);
+            Err(error)
+        }
+    }
+}
+
+// Room for one more policy and its body, what they go under, and a further share of the body.
+pub(crate) fn room_for_both<S: BuildHasher + Copy>(
+    templates: &mut IndexMap<PolicyID, Rc<Template>, S>,
+    links: &mut IndexMap<PolicyID, Policy, S>,
+    policy: &Policy,
+) -> Result<(PolicyID, PolicyID, Rc<Template>), AllocError>
+    ensures bodies { templates.new.entries ≡ templates.old.entries }
+    ensures policies { links.new.entries ≡ links.old.entries }
+    ensures room { OnOk result ((0 < spare templates.new) × (0 < spare links.new)) }
+    ensures ids { IfOk result (λ r. (r.0 ≡ policy.now.template.id) × (r.1 ≡ policy_id policy.now)) }
+    ensures share { IfOk result (λ r. r.2.value ≡ policy.now.template) }
+{
+    templates.reserve(1)?;
+    links.reserve(1)?;
+    let body = policy.template().id().clone()?;
+    let (body, own) = with_copy(body, policy.id())?;
+    let ((body, own), template) = with_share((body, own), policy)?;
+    Ok((body, own, template))
+}
+
+// Room for one more link and its template, what they go under, a further share of the template, and the list under its id.
+pub(crate) fn room_for_link<S: BuildHasher + Copy>(
+    templates: &mut IndexMap<PolicyID, Rc<Template>, S>,
+    links: &mut IndexMap<PolicyID, Policy, S>,
+    map: &mut IndexMap<PolicyID, IndexSet<PolicyID, S>, S>,
+    policy: &Policy,
+) -> Result<
+    (
+        PolicyID,
+        PolicyID,
+        Rc<Template>,
+        PolicyID,
+        IndexSet<PolicyID, S>,
+    ),
+    AllocError,
+>
+    ensures bodies { templates.new.entries ≡ templates.old.entries }
+    ensures policies { links.new.entries ≡ links.old.entries }
+    ensures lists { map.new.entries ≡ map.old.entries }
+    ensures room { OnOk result ((0 < spare templates.new) × (0 < spare links.new) × (0 < spare map.new)) }
+    ensures ids { IfOk result (λ r. (r.0 ≡ policy.now.template.id) × (r.1 ≡ policy_id policy.now)) }
+    ensures share { IfOk result (λ r. r.2.value ≡ policy.now.template) }
+    ensures list { IfOk result (λ r. (r.3 ≡ policy.now.template.id) × (r.4.keys ≡ policy_id policy.now ∷ [])) }
+{
+    let (under, ids) = room_for_list(map, policy)?;
+    match room_for_both(templates, links, policy) {
+        Ok((body, own, template)) => Ok((body, own, template, under, ids)),
+        Err(error) => {
+            drop(under);
+            drop(ids);
+            Err(error)
+        }
+    }
+}
+
+// Room for one more list, a copy of the id of a link's template, and the list of the link's own id.
+fn room_for_list<S: BuildHasher + Copy>(
+    map: &mut IndexMap<PolicyID, IndexSet<PolicyID, S>, S>,
+    policy: &Policy,
+) -> Result<(PolicyID, IndexSet<PolicyID, S>), AllocError>
+    ensures lists { map.new.entries ≡ map.old.entries }
+    ensures room { OnOk result (0 < spare map.new) }
+    ensures list { IfOk result (λ r. (r.0 ≡ policy.now.template.id) × (r.1.keys ≡ policy_id policy.now ∷ [])) }
+{
+    map.reserve(1)?;
+    let alloc = *map.allocator();
+    let hasher = *map.hasher();
+    let under = policy.template().id().clone()?;
+    with_set(under, alloc, hasher, policy.id())
+}
+
+// The set of one id.
+fn set_of<S: BuildHasher + Copy>(
+    alloc: Global,
+    hasher: S,
+    id: &PolicyID,
+) -> Result<IndexSet<PolicyID, S>, AllocError>
+    ensures { IfOk result (λ s. s.keys ≡ id.now ∷ []) }
+{
+    let mut ids = IndexSet::with_hasher(alloc, hasher);
+    match put_copy(&mut ids, id) {
+        Ok(()) => Ok(ids),
+        Err(error) => {
+            drop(ids);
+            Err(error)
+        }
+    }
+}
+
+// Puts a copy of an id last, if it isn't there.
+fn put_copy<S: BuildHasher + Copy>(
+    ids: &mut IndexSet<PolicyID, S>,
+    id: &PolicyID,
+) -> Result<(), AllocError>
+    ensures { OnOk result (ids.new.keys ≡ insert_key same_text ids.old.keys id.now) }
+{
+    put_id(ids, id.clone()?)
+}
+
+// Puts an id last, if it isn't there.
+fn put_id<S: BuildHasher + Copy>(
+    ids: &mut IndexSet<PolicyID, S>,
+    id: PolicyID,
+) -> Result<(), AllocError>
+    ensures ok { OnOk result (ids.new.keys ≡ insert_key same_text ids.old.keys id) }
+    ensures err { OnErr result (ids.new.keys ≡ ids.old.keys) }
+{
+    ids.insert(id)?;
+    Ok(())
+}
+
+// Takes out an id, and closes the order up.
+fn drop_id<S: BuildHasher + Copy>(ids: &mut IndexSet<PolicyID, S>, id: &PolicyID)
+    ensures { ids.new.keys ≡ remove_key (same_text id.now) ids.old.keys }
+{
+    ids.shift_remove(id);
+}
+
+// Lists an id last under a template's.
+pub(crate) fn list_id<S: BuildHasher + Copy>(
+    map: &mut IndexMap<PolicyID, IndexSet<PolicyID, S>, S>,
+    body: &PolicyID,
+    id: PolicyID,
+) -> Result<(), AllocError>
+    ensures ok { OnOk result (lists_of map.new.entries ≡ with_listed body.now id (lists_of map.old.entries)) }
+    ensures err { OnErr result (lists_of map.new.entries ≡ lists_of map.old.entries) }
+{
+    match map.get_mut(body) {
+        None => Ok(()),
+        Some(ids) => put_id(ids, id),
+    }
+}
+
+// Lists a copy of an id last under a body's, where there is a list.
+fn list_copy<S: BuildHasher + Copy>(
+    map: &mut IndexMap<PolicyID, IndexSet<PolicyID, S>, S>,
+    body: &PolicyID,
+    id: &PolicyID,
+) -> Result<(), AllocError>
+    ensures { OnOk result (lists_of map.new.entries ≡ with_listed body.now id.now (lists_of map.old.entries)) }
+{
+    match map.get_mut(body) {
+        None => Ok(()),
+        Some(ids) => put_copy(ids, id),
+    }
+}
+
+// Takes an id out of what is listed under a body's.
+fn unlist_id<S: BuildHasher + Copy>(
+    map: &mut IndexMap<PolicyID, IndexSet<PolicyID, S>, S>,
+    body: &PolicyID,
+    id: &PolicyID,
+)
+    ensures { lists_of map.new.entries ≡ without_listed body.now id.now (lists_of map.old.entries) }
+{
+    match map.get_mut(body) {
+        None => (),
+        Some(ids) => drop_id(ids, id),
+    }
+}
+
+// Takes the id of a policy that was taken out, if there is one, out of what is listed under its template's.
+pub(crate) fn unlist<S: BuildHasher + Copy>(
+    map: &mut IndexMap<PolicyID, IndexSet<PolicyID, S>, S>,
+    policy: &Option<Policy>,
+    id: &PolicyID,
+)
+    ensures { lists_of map.new.entries ≡ unlisted policy.now id.now (lists_of map.old.entries) }
+{
+    match policy {
+        None => (),
+        Some(policy) => unlist_id(map, policy.template().id(), id),
+    }
+}
+
+// Bodies under their ids, in their order.
+pub(crate) fn bodies_by_id<S: BuildHasher + Copy>(
+    alloc: Global,
+    hasher: S,
+    bodies: Vec<Rc<Template>>,
+) -> Result<IndexMap<PolicyID, Rc<Template>, S>, AllocError>
+    requires { AreOnce (λ (t : BodyParts). t.id) (bodies_of bodies.items) }
+    ensures keyed { IfOk result (λ m. IsKeyed (λ t. t.value.id) m.entries) }
+    ensures values { IfOk result (λ m. values_of m.entries ≡ bodies.items) }
+{
+    match IndexMap::with_capacity_and_hasher(alloc, bodies.len(), hasher) {
+        Ok(mut templates) => match put_bodies(&mut templates, bodies) {
+            Ok(()) => Ok(templates),
+            Err(error) => {
+                drop(templates);
+                Err(error)
+            }
+        },
+        Err(error) => {
+            drop(bodies);
+            Err(error)
+        }
+    }
+}
+
+// Puts bodies into an empty map, under their ids.
+fn put_bodies<S: BuildHasher + Copy>(
+    templates: &mut IndexMap<PolicyID, Rc<Template>, S>,
+    bodies: Vec<Rc<Template>>,
+) -> Result<(), AllocError>
+    requires empty { templates.old.entries ≡ [] }
+    requires once { AreOnce (λ (t : BodyParts). t.id) (bodies_of bodies.items) }
+    ensures keyed { OnOk result (IsKeyed (λ t. t.value.id) templates.new.entries) }
+    ensures values { OnOk result (values_of templates.new.entries ≡ bodies.items) }
+{
+    for template in bodies {
+        put_body(templates, template)?;
+    }
+    Ok(())
+}
+
+// Puts a body with a new id last.
+fn put_body<S: BuildHasher + Copy>(
+    templates: &mut IndexMap<PolicyID, Rc<Template>, S>,
+    template: Rc<Template>,
+) -> Result<(), AllocError>
+    requires { get same_text templates.old template.value.id ≡ None }
+    ensures { OnOk result (templates.new.entries ≡ templates.old.entries ++ (template.value.id, template) ∷ []) }
+{
+    match template.id().clone() {
+        Ok(id) => put_new(templates, id, template),
+        Err(error) => {
+            drop(template);
+            Err(error)
+        }
+    }
+}
+
+// Policies under their ids, in their order.
+pub(crate) fn policies_by_id<S: BuildHasher + Copy>(
+    alloc: Global,
+    hasher: S,
+    policies: Vec<Policy>,
+) -> Result<IndexMap<PolicyID, Policy, S>, AllocError>
+    requires { AreOnce policy_id policies.items }
+    ensures keyed { IfOk result (λ m. IsKeyed policy_id m.entries) }
+    ensures values { IfOk result (λ m. values_of m.entries ≡ policies.items) }
+{
+    match IndexMap::with_capacity_and_hasher(alloc, policies.len(), hasher) {
+        Ok(mut links) => match put_policies(&mut links, policies) {
+            Ok(()) => Ok(links),
+            Err(error) => {
+                drop(links);
+                Err(error)
+            }
+        },
+        Err(error) => {
+            drop(policies);
+            Err(error)
+        }
+    }
+}
+
+// Puts policies into an empty map, under their ids.
+fn put_policies<S: BuildHasher + Copy>(
+    links: &mut IndexMap<PolicyID, Policy, S>,
+    policies: Vec<Policy>,
+) -> Result<(), AllocError>
+    requires empty { links.old.entries ≡ [] }
+    requires once { AreOnce policy_id policies.items }
+    ensures keyed { OnOk result (IsKeyed policy_id links.new.entries) }
+    ensures values { OnOk result (values_of links.new.entries ≡ policies.items) }
+{
+    for policy in policies {
+        put_policy(links, policy)?;
+    }
+    Ok(())
+}
+
+// Puts a policy with a new id last.
+fn put_policy<S: BuildHasher + Copy>(
+    links: &mut IndexMap<PolicyID, Policy, S>,
+    policy: Policy,
+) -> Result<(), AllocError>
+    requires { get same_text links.old (policy_id policy) ≡ None }
+    ensures { OnOk result (links.new.entries ≡ links.old.entries ++ (policy_id policy, policy) ∷ []) }
+{
+    match policy.id().clone() {
+        Ok(id) => put_new(links, id, policy),
+        Err(error) => {
+            drop(policy);
+            Err(error)
+        }
+    }
+}
+
+// The ids of the policies on each template, under its id, in the order of bodies. Of the bodies those are templates whose ids
+// the first policies do not have.
+pub(crate) fn ids_by_template<S: BuildHasher + Copy>(
+    alloc: Global,
+    bodies: &[Rc<Template>],
+    known: &IndexMap<PolicyID, Policy, S>,
+    policies: &[Policy],
+) -> Result<IndexMap<PolicyID, IndexSet<PolicyID, S>, S>, AllocError>
+    requires bodies { AreOnce (λ (t : BodyParts). t.id) (bodies_of bodies.now) }
+    requires keyed { IsKeyed policy_id known.now.entries }
+    requires policies { AreOnce policy_id policies.now }
+    ensures { IfOk result (λ m. lists_of m.entries ≡ ids_by_body (templates_in (values_of known.now.entries) (bodies_of bodies.now)) policies.now) }
+{
+    let mut map = no_ids(alloc, bodies, known)?;
+    match list_ids(&mut map, policies) {
+        Ok(()) => Ok(map),
+        Err(error) => {
+            drop(map);
+            Err(error)
+        }
+    }
+}
+
+// No id under each template's id.
+fn no_ids<S: BuildHasher + Copy>(
+    alloc: Global,
+    bodies: &[Rc<Template>],
+    known: &IndexMap<PolicyID, Policy, S>,
+) -> Result<IndexMap<PolicyID, IndexSet<PolicyID, S>, S>, AllocError>
+    requires bodies { AreOnce (λ (t : BodyParts). t.id) (bodies_of bodies.now) }
+    requires keyed { IsKeyed policy_id known.now.entries }
+    ensures { IfOk result (λ m. lists_of m.entries ≡ ids_by_body (templates_in (values_of known.now.entries) (bodies_of bodies.now)) []) }
+{
+    let mut map = IndexMap::with_hasher(alloc, *known.hasher());
+    for template in bodies {
+        put_no_ids(&mut map, template, known)?;
+    }
+    Ok(map)
+}
+
+// Puts no id under a template's id last, unless a policy has the id.
+fn put_no_ids<S: BuildHasher + Copy>(
+    map: &mut IndexMap<PolicyID, IndexSet<PolicyID, S>, S>,
+    template: &Rc<Template>,
+    known: &IndexMap<PolicyID, Policy, S>,
+) -> Result<(), AllocError>
+    requires absent { get same_text map.old template.now.value.id ≡ None }
+    requires keyed { IsKeyed policy_id known.now.entries }
+    ensures { OnOk result (lists_of map.new.entries ≡ lists_of map.old.entries ++ ids_by_body (templates_in (values_of known.now.entries) (template.now.value ∷ [])) []) }
+{
+    if known.contains_key(template.id()) {
+        return Ok(());
+    }
+    let ids = IndexSet::with_hasher(*map.allocator(), *map.hasher());
+    put_new(map, template.id().clone()?, ids)
+}
+
+// Lists policies, each last under its body's id.
+fn list_ids<S: BuildHasher + Copy>(
+    map: &mut IndexMap<PolicyID, IndexSet<PolicyID, S>, S>,
+    policies: &[Policy],
+) -> Result<(), AllocError>
+    ensures { OnOk result (lists_of map.new.entries ≡ all_listed (lists_of map.old.entries) policies.now) }
+{
+    for policy in policies {
+        list_copy(map, policy.template().id(), policy.id())?;
+    }
+    Ok(())
+}
+
+// Keeps the lists under ids that no policy has, in their order.
+pub(crate) fn keep_templates<S: BuildHasher + Copy>(
+    map: &mut IndexMap<PolicyID, IndexSet<PolicyID, S>, S>,
+    links: &IndexMap<PolicyID, Policy, S>,
+)
+    ensures { map.new.entries ≡ filter (λ e. not (is_some (get same_text links.now e.0))) map.old.entries }
+{
+    map.retain(|id, _| !links.contains_key(id));
+}
+
+// Further shares of bodies, under their ids.
+pub(crate) fn copy_of_bodies<S: BuildHasher + Copy>(
+    templates: &IndexMap<PolicyID, Rc<Template>, S>,
+) -> Result<IndexMap<PolicyID, Rc<Template>, S>, AllocError>
+    ensures { IfOk result (λ m. shared_of m.entries ≡ shared_of templates.now.entries) }
+{
+    let copies = templates.clone()?;
+    Ok(copies)
+}
+
+// A copy of policies, under their ids.
+pub(crate) fn copy_of_policies<S: BuildHasher + Copy>(
+    links: &IndexMap<PolicyID, Policy, S>,
+) -> Result<IndexMap<PolicyID, Policy, S>, AllocError>
+    ensures { IfOk result (λ m. m.entries ≡ links.now.entries) }
+{
+    let copies = links.clone()?;
+    Ok(copies)
+}
+
+// A copy of what is listed.
+pub(crate) fn copy_of_ids<S: BuildHasher + Copy>(
+    map: &IndexMap<PolicyID, IndexSet<PolicyID, S>, S>,
+) -> Result<IndexMap<PolicyID, IndexSet<PolicyID, S>, S>, AllocError>
+    ensures { IfOk result (λ m. lists_of m.entries ≡ lists_of map.now.entries) }
+{
+    let copies = map.clone()?;
+    Ok(copies)
+}

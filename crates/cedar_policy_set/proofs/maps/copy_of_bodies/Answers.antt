@@ -1,5 +1,0 @@
-use Rattle.cedar_policy_set.proofs.Entries.{shared_copied}
-use Rattle.cedar_policy_set.proofs.maps.copy_of_bodies.Goals as goal
-
-pub returns : goal.returns
-returns g c = shared_copied c.args.templates.now.entries c.in_ok-copies.copies.entries c.in_ok-copies.ensures.cases

@@ -1,5 +1,0 @@
-use Rattle.cedar_policy_set.proofs.Entries.{lists_copied}
-use Rattle.cedar_policy_set.proofs.maps.copy_of_ids.Goals as goal
-
-pub returns : goal.returns
-returns g c = lists_copied c.args.map.now.entries c.in_ok-copies.copies.entries c.in_ok-copies.ensures.cases

@@ -1,9 +1,0 @@
-use Rattle.std.proofs.Common.{◌∙◌, ap}
-use Rattle.cedar_policy_set.specs.Boards.{Board}
-use Rattle.cedar_policy_set.specs.Views.{bodies_of}
-use Rattle.cedar_policy_set.proofs.Entries.{shared_values}
-use Rattle.cedar_policy_set.proofs.policy_set.PolicySet.shared_bodies.Goals as goal
-
-pub returns : goal.returns
-returns g c =
-    ap bodies_of (c.as_slice.ensures ∙ c.values.ensures.rest) ∙ shared_values c.self.inside.templates.entries ∙ ap (λ (b : Board). b.bodies) c.self.view_is

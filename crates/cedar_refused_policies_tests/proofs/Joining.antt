@@ -1,0 +1,27 @@
+-- What may go into maps: a policy with its template, as a merge takes it in.
+use Rattle.std.specs.Prelude.{◌≡◌, List, [], ◌∷◌, refl}
+use Rattle.std.proofs.Common.{subst, sym}
+use Rattle.std.specs.declared.rc.Rc.{Rc}
+use Rattle.std.specs.declared.alloc.Global.{Global}
+use Rattle.cedar_body.specs.Bodies.{BodyParts}
+use Rattle.cedar_policy.specs.Policies.{PolicyParts}
+use Rattle.cedar_policy_maps.specs.Boards.{empty_board}
+use Rattle.cedar_policy_maps.specs.Joins.{CanJoinBoth}
+use Rattle.cedar_policy_maps.specs.TakenIn.{CanTakeIn}
+use Rattle.cedar_policy_maps.specs.Views.{bodies_of}
+use Rattle.cedar_policy_maps.specs.laws.BoardLaws.{both_join}
+
+one_taken : (p : PolicyParts) → CanJoinBoth empty_board p → CanTakeIn empty_board [] (p.template ∷ []) (p ∷ [])
+one_taken p c = record {
+  board = both_join empty_board p (record { bodies_once = tt; policies_once = tt; held = tt }) c;
+  beside = tt;
+  behind = (refl, tt);
+  once = tt;
+  only = tt;
+  bare = (refl, tt);
+}
+
+-- what may go first with its template may be taken in with it
+pub both_taken : (ss ts : List (Rc BodyParts Global)) (ps : List PolicyParts) (t : Rc BodyParts Global) (p : PolicyParts) → CanJoinBoth empty_board p → ss ≡ [] → ts ≡ t ∷ [] → t.value ≡ p.template → ps ≡ p ∷ [] →
+    CanTakeIn empty_board (bodies_of ss) (bodies_of ts) ps
+both_taken ss ts ps t p c a b d e = rw (a, b, e) (subst (λ u. CanTakeIn empty_board [] (u ∷ []) (p ∷ [])) (sym d) (one_taken p c))

@@ -1,0 +1,245 @@
+// The maps that a set is kept in: what goes last in them, alone and with others, and copies. A policy is written as in `sets`;
+// what stands then is the ids of bodies and of policies, in their orders.
+ghost use Rattle.std.specs.Prelude.{◌≡◌, ◌∷◌, [], IfOk, IsTrue};
+ghost use Rattle.cedar_body.specs.BodyEquality.{same_body};
+ghost use Rattle.cedar_policy_maps.specs.Boards.{empty_board};
+ghost use Rattle.cedar_policy_maps.specs.Joins.{CanJoin, CanJoinBoth};
+ghost use Rattle.cedar_policy_maps.specs.TakenIn.{CanTakeIn};
+ghost use Rattle.cedar_policy_maps.specs.Views.{bodies_of};
+
+use super::sets::{ids_in, policy};
+use super::templates::shared;
+use cedar_policy::{Policy, Template};
+use cedar_policy_maps::{Found, Parted, PolicyMaps};
+use cedar_refusals::{Calls, Row, Tried, has_words, judged, on, refuse, tried_rows, unmade};
+use std::alloc::{AllocError, Global};
+use std::hash::{BuildHasherDefault, FoldHasher};
+use std::rc::Rc;
+
+type Maps = PolicyMaps<BuildHasherDefault<FoldHasher>>;
+
+fn empty(alloc: Global) -> Maps
+    ensures { result ≡ empty_board }
+{
+    PolicyMaps::with_hasher(alloc, BuildHasherDefault::new())
+}
+
+// Whether a policy may go into empty maps together with its template: it has another id, if it is a link.
+#[tactic(auto, using(cedar_policy_maps::specs::laws::BoardLaws::alone))]
+fn may_go_first(policy: &Policy) -> bool
+    ensures { IsTrue result → CanJoinBoth empty_board policy.now }
+{
+    let _total = policy.env();
+    if !policy.is_static() && policy.id() == policy.template().id() {
+        return false;
+    }
+    true
+}
+
+// Whether a policy is a link with a free id, of a template that stands there.
+fn may_join(maps: &Maps, policy: &Policy) -> bool
+    ensures { IsTrue result → CanJoin maps.now policy.now }
+{
+    let _total = policy.env();
+    if policy.is_static() || maps.is_bound(policy.id()) {
+        return false;
+    }
+    match maps.found(policy.template().id()) {
+        Some(Found::Template(template)) => is_same(template, policy.template()),
+        _ => false,
+    }
+}
+
+fn is_same(template: &Template, other: &Template) -> bool
+    ensures { result ≡ same_body template.now other.now }
+{
+    template == other
+}
+
+// The maps, unless memory was refused.
+fn left(maps: Maps, answer: Result<(), AllocError>) -> Result<Maps, AllocError> {
+    match answer {
+        Ok(()) => Ok(maps),
+        Err(error) => {
+            drop(maps);
+            Err(error)
+        }
+    }
+}
+
+fn has_ids(alloc: Global, maps: &Maps, want: &str) -> bool {
+    match ids_in(alloc, maps.all_templates(), maps.policies()) {
+        Some(text) => {
+            let told = has_words(text.as_str(), want);
+            drop(text);
+            told
+        }
+        None => false,
+    }
+}
+
+fn judged_maps(alloc: Global, maps: Maps, answer: Result<(), AllocError>, want: &str) -> Tried {
+    judged(
+        alloc,
+        left(maps, answer),
+        want,
+        |maps| has_ids(alloc, maps, want),
+    )
+}
+
+fn put_template(alloc: Global, number: usize, template: Rc<Template>, want: &str) -> Tried {
+    let mut maps = empty(alloc);
+    refuse(alloc, number);
+    let answer = maps.put_template(template);
+    judged_maps(alloc, maps, answer, want)
+}
+
+fn put_both(alloc: Global, number: usize, policy: Policy, want: &str) -> Tried {
+    if !may_go_first(&policy) {
+        drop(policy);
+        return unmade();
+    }
+    let mut maps = empty(alloc);
+    refuse(alloc, number);
+    let answer = maps.put_both(policy);
+    judged_maps(alloc, maps, answer, want)
+}
+
+// The maps of a policy's template alone.
+fn of_template(alloc: Global, policy: &Policy) -> Option<Maps> {
+    let template: Result<Rc<Template>, AllocError> = policy.template_arc().clone();
+    match template {
+        Ok(template) => {
+            let mut maps = empty(alloc);
+            let answer = maps.put_template(template);
+            left(maps, answer).ok()
+        }
+        Err(_) => None,
+    }
+}
+
+fn put_policy(alloc: Global, number: usize, policy: Policy, want: &str) -> Tried {
+    match of_template(alloc, &policy) {
+        Some(maps) => {
+            let mut maps = maps;
+            if !may_join(&maps, &policy) {
+                drop(maps);
+                drop(policy);
+                return unmade();
+            }
+            refuse(alloc, number);
+            let answer = maps.put_policy(policy);
+            judged_maps(alloc, maps, answer, want)
+        }
+        None => {
+            drop(policy);
+            unmade()
+        }
+    }
+}
+
+// A thing that joins, and none that stands there.
+fn joining<T: Drop>(alloc: Global, thing: T) -> Result<Parted<T>, AllocError>
+    ensures stand { IfOk result (λ p. p.stand.items ≡ []) }
+    ensures join { IfOk result (λ p. p.join.items ≡ thing ∷ []) }
+{
+    let mut parted = Parted::new(alloc);
+    match parted.join.push(thing) {
+        Ok(()) => Ok(parted),
+        Err(error) => {
+            drop(error);
+            drop(parted);
+            Err(AllocError)
+        }
+    }
+}
+
+// A policy and its template, which join empty maps.
+fn both_joining(
+    alloc: Global,
+    policy: Policy,
+) -> Result<(Parted<Rc<Template>>, Parted<Policy>), AllocError>
+    requires { CanJoinBoth empty_board policy }
+    ensures { IfOk result (λ r. CanTakeIn empty_board (bodies_of r.0.stand.items) (bodies_of r.0.join.items) r.1.join.items) }
+{
+    let template: Rc<Template> = policy.template_arc().clone()?;
+    let bodies = joining(alloc, template)?;
+    let policies = joining(alloc, policy)?;
+    Ok((bodies, policies))
+}
+
+fn take_in(alloc: Global, number: usize, policy: Policy, want: &str) -> Tried {
+    if !may_go_first(&policy) {
+        drop(policy);
+        return unmade();
+    }
+    match both_joining(alloc, policy) {
+        Ok((bodies, policies)) => {
+            let mut maps = empty(alloc);
+            refuse(alloc, number);
+            let answer = maps.take_in(alloc, bodies, policies);
+            judged_maps(alloc, maps, answer, want)
+        }
+        Err(_) => unmade(),
+    }
+}
+
+// The maps of a policy and its template.
+fn of_both(alloc: Global, policy: Policy) -> Option<Maps> {
+    if !may_go_first(&policy) {
+        drop(policy);
+        return None;
+    }
+    let mut maps = empty(alloc);
+    let answer = maps.put_both(policy);
+    left(maps, answer).ok()
+}
+
+fn copied(alloc: Global, number: usize, policy: Policy, want: &str) -> Tried {
+    on(alloc, number, of_both(alloc, policy), |maps| {
+        let copy: Result<Maps, AllocError> = maps.clone();
+        judged(alloc, copy, want, |maps| has_ids(alloc, maps, want))
+    })
+}
+
+struct OnMaps;
+
+const MAPS: &str = "
+    PolicyMaps::put_template | t principal | t /
+    PolicyMaps::put_both | a noted | a / a
+    PolicyMaps::put_both | l = t principal, principal=x | t / l
+    PolicyMaps::put_policy | l = t principal, principal=x | t / l
+    PolicyMaps::take_in | a noted | a / a
+    PolicyMaps::take_in | l = t principal, principal=x | t / l
+    PolicyMaps::clone | a noted | a / a
+    PolicyMaps::clone | l = t principal, principal=x | t / l
+";
+
+impl Calls for OnMaps {
+    fn tried(&self, alloc: Global, number: usize, row: Row<'_>) -> Tried {
+        if row.call == "PolicyMaps::put_template" {
+            return match shared(alloc, row.given) {
+                Some(template) => put_template(alloc, number, template, row.want),
+                None => unmade(),
+            };
+        }
+        match policy(alloc, row.given) {
+            Some(policy) => match row.call {
+                "PolicyMaps::put_both" => put_both(alloc, number, policy, row.want),
+                "PolicyMaps::put_policy" => put_policy(alloc, number, policy, row.want),
+                "PolicyMaps::take_in" => take_in(alloc, number, policy, row.want),
+                "PolicyMaps::clone" => copied(alloc, number, policy, row.want),
+                _ => {
+                    drop(policy);
+                    unmade()
+                }
+            },
+            None => unmade(),
+        }
+    }
+}
+
+#[test]
+fn each_call_on_the_maps_of_a_set(rt: HostRuntime) {
+    assert!(rt; tried_rows(rt, &OnMaps, MAPS));
+}
