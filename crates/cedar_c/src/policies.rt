@@ -160,7 +160,8 @@ pub extern "C" fn cedar_policies_link(
     text: &[u8],
     values: &[Span],
 ) -> u32
-    ensures { Changes (Links template.now id.now text.now values.now) handle.old.held.value result handle.new.held.value }
+    ensures { Changes (Links template.now id.now text.now values.now)
+        handle.old.held.value result handle.new.held.value }
 {
     let Some(mut inner) = take(alloc, handle) else {
         return CLOSED;

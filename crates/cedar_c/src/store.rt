@@ -124,7 +124,8 @@ pub extern "C" fn cedar_store_build(
     edges: &[Edge],
     mode: u32,
 ) -> u32
-    ensures { Changes (BuildsListed text.now uids.now count edges.now mode) handle.old.held.value result handle.new.held.value }
+    ensures { Changes (BuildsListed text.now uids.now count edges.now mode)
+        handle.old.held.value result handle.new.held.value }
 {
     let Some(mut inner) = take(alloc, handle) else {
         return CLOSED;
@@ -145,7 +146,8 @@ pub extern "C" fn cedar_store_add(
     edges: &[Edge],
     mode: u32,
 ) -> u32
-    ensures { Changes (AddsListed text.now uids.now count edges.now mode) handle.old.held.value result handle.new.held.value }
+    ensures { Changes (AddsListed text.now uids.now count edges.now mode)
+        handle.old.held.value result handle.new.held.value }
 {
     let Some(mut inner) = take(alloc, handle) else {
         return CLOSED;
@@ -166,7 +168,8 @@ pub extern "C" fn cedar_store_upsert(
     edges: &[Edge],
     mode: u32,
 ) -> u32
-    ensures { Changes (UpsertsListed text.now uids.now count edges.now mode) handle.old.held.value result handle.new.held.value }
+    ensures { Changes (UpsertsListed text.now uids.now count edges.now mode)
+        handle.old.held.value result handle.new.held.value }
 {
     let Some(mut inner) = take(alloc, handle) else {
         return CLOSED;

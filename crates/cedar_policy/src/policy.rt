@@ -73,9 +73,17 @@ impl Model for Policy {
 
     ghost coded = { policy_code };
 
-    ghost view = { λ p. record { template = p.parts.value.template.value; link = p.parts.value.link; env = env_of p.parts.value.values } };
+    ghost view = { λ p. record {
+      template = p.parts.value.template.value;
+      link = p.parts.value.link;
+      env = env_of p.parts.value.values;
+    } };
 
-    ghost invariant = { λ p. IsPolicy (record { template = p.parts.value.template.value; link = p.parts.value.link; env = env_of p.parts.value.values }) };
+    ghost invariant = { λ p. IsPolicy (record {
+      template = p.parts.value.template.value;
+      link = p.parts.value.link;
+      env = env_of p.parts.value.values;
+    }) };
 }
 
 impl Policy {

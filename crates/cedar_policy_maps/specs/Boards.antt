@@ -1,5 +1,6 @@
 -- A policy set as callers see it: two orders, that of its bodies and that of its policies.
-use Rattle.std.specs.Prelude.{◌≡◌, ℕ, ◌-◌, length, slice_get, List, [], ◌∷◌, ◌++◌, Bool, false, not, ◌||◌, ◌&&◌, Option, Some, None, is_some}
+use Rattle.std.specs.Prelude.{◌≡◌, ℕ, ◌-◌, length, slice_get, List, [], ◌∷◌, ◌++◌, Bool, false, not, ◌||◌, ◌&&◌, Option}
+use Rattle.std.specs.Prelude.{Some, None, is_some}
 use Rattle.std.specs.List.{find, filter, list_any}
 use Rattle.cedar_ids.specs.Texts.{same_text}
 use Rattle.cedar_body.specs.Bodies.{BodyParts, body_slots}
@@ -70,7 +71,11 @@ with_both b t p = record { bodies = b.bodies ++ t ∷ []; policies = b.policies 
 
 -- what an id was bound to is taken out, and the orders close up
 abbrev pub without_id : Board → List ℕ → Board
-without_id b i = record { bodies = filter (λ t. not (is_body_at i t)) b.bodies; policies = filter (λ p. not (is_policy_at i p)) b.policies }
+without_id b i = record {
+  bodies = filter (λ t. not (is_body_at i t)) b.bodies;
+  policies =
+      filter (λ p. not (is_policy_at i p)) b.policies;
+}
 
 -- the policy that went last, if there is one
 abbrev pub last_policy : Board → Option PolicyParts
@@ -87,7 +92,8 @@ AreOnce id (x ∷ xs) = (list_any (λ y. same_text (id x) (id y)) xs ≡ false) 
 -- the bodies, is no static policy's, and has exactly the slots that are bound, the action's to an action
 abbrev pub IsHeldBy : Option (List ℕ) → Board → PolicyParts → Type 0
 IsHeldBy None b p =
-    (p ≡ static_policy p.template) × (body_slots p.template ≡ []) × (find (is_body_at p.template.id) b.bodies ≡ Some p.template)
+    (p ≡ static_policy p.template) × (body_slots p.template ≡ [])
+    × (find (is_body_at p.template.id) b.bodies ≡ Some p.template)
 IsHeldBy (Some l) b p =
     (list_any (is_body_at l) b.bodies ≡ false)
     × (find (is_body_at p.template.id) b.bodies ≡ Some p.template)

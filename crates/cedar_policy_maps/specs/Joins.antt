@@ -10,7 +10,8 @@ use Rattle.cedar_policy_maps.specs.Boards.{Board, Template, bound_at, is_bound}
 abbrev pub CanJoinBy : Option (List ℕ) → Board → PolicyParts → Type 0
 CanJoinBy None b p = ⊥
 CanJoinBy (Some l) b p =
-    (is_bound b l ≡ false) × (bound_at b p.template.id ≡ Some (Template p.template)) × FitsSlots (body_slots p.template) p.env
+    (is_bound b l ≡ false) × (bound_at b p.template.id ≡ Some (Template p.template))
+    × FitsSlots (body_slots p.template) p.env
 
 abbrev pub CanJoin : Board → PolicyParts → Type 0
 CanJoin b p = CanJoinBy p.link b p
@@ -19,7 +20,8 @@ CanJoin b p = CanJoinBy p.link b p
 -- slots; a link's id is free and another, and it binds exactly the body's slots
 abbrev pub CanJoinBothBy : Option (List ℕ) → Board → PolicyParts → Type 0
 CanJoinBothBy None b p = (p ≡ static_policy p.template) × (body_slots p.template ≡ [])
-CanJoinBothBy (Some l) b p = (is_bound b l ≡ false) × (same_text l p.template.id ≡ false) × FitsSlots (body_slots p.template) p.env
+CanJoinBothBy (Some l) b p = (is_bound b l ≡ false) × (same_text l p.template.id ≡ false)
+    × FitsSlots (body_slots p.template) p.env
 
 abbrev pub CanJoinBoth : Board → PolicyParts → Type 0
 CanJoinBoth b p = (is_bound b p.template.id ≡ false) × CanJoinBothBy p.link b p

@@ -23,7 +23,8 @@ shared_of es = map (λ e. (e.0, e.1.value)) es
 abbrev pub lists_of : {S : Type 0} → List (List ℕ × IndexSet (List ℕ) S) → List (List ℕ × List (List ℕ))
 lists_of es = map (λ e. (e.0, e.1.keys)) es
 
-abbrev pub maps_of : {S : Type 0} → List (List ℕ × Rc BodyParts Global) → List (List ℕ × PolicyParts) → List (List ℕ × IndexSet (List ℕ) S) → Maps
+abbrev pub maps_of : {S : Type 0} → List (List ℕ × Rc BodyParts Global) → List (List ℕ × PolicyParts)
+    → List (List ℕ × IndexSet (List ℕ) S) → Maps
 maps_of ts ps ls = record { bodies = shared_of ts; policies = ps; listed = lists_of ls }
 
 -- the board that they state: what stands in the first two, in their orders
@@ -38,17 +39,20 @@ ids_by_body ts ps = map (λ t. (t.id, ids_in t.id ps)) ts
 abbrev pub templates_in : List PolicyParts → List BodyParts → List BodyParts
 templates_in ps ts = filter (λ t. not (list_any (is_policy_at t.id) ps)) ts
 
--- they state a board, bodies and policies stand under their own ids, and in the third map stand the ids of all templates,
+-- they state a board, bodies and policies stand under their own ids, and in the third map stand the ids of all
+-- templates,
 -- in the order of bodies, with the ids of the links of each, in that of policies
 pub record DoAgree (m : Maps) : Type 0 where
   pub board : IsBoard (board_in m)
   pub bodies_by_id : keys_of m.bodies ≡ map (λ t. t.id) (values_of m.bodies)
   pub policies_by_id : keys_of m.policies ≡ map policy_id (values_of m.policies)
-  pub all_listed : m.listed ≡ ids_by_body (templates_in (values_of m.policies) (values_of m.bodies)) (values_of m.policies)
+  pub all_listed : m.listed ≡ ids_by_body (templates_in (values_of m.policies) (values_of m.bodies))
+      (values_of m.policies)
 
 -- ---- maps that a caller hands over
 
--- a policy's template stands among the bodies; a link has an id that no body has, and its template is no static policy's
+-- a policy's template stands among the bodies; a link has an id that no body has, and its template is no static
+-- policy's
 abbrev pub IsPlacedBy : Option (List ℕ) → Board → PolicyParts → Type 0
 IsPlacedBy None b p = find (is_body_at p.template.id) b.bodies ≡ Some p.template
 IsPlacedBy (Some l) b p =
@@ -61,7 +65,8 @@ abbrev pub ArePlaced : Board → List PolicyParts → Type 0
 ArePlaced b [] = Unit {0}
 ArePlaced b (p ∷ ps) = IsPlacedBy p.link b p × ArePlaced b ps
 
--- what is asked of them: policies have their templates and ids of their own, bodies and policies stand under their own ids,
+-- what is asked of them: policies have their templates and ids of their own, bodies and policies stand under their own
+-- ids,
 -- and in the third map stand the ids of all bodies, in their order, with the ids of the policies on each, in theirs
 pub record CanMakeSet (m : Maps) : Type 0 where
   pub placed : ArePlaced (board_in m) (values_of m.policies)

@@ -18,7 +18,8 @@ AreFree (t ∷ ts) ps = (list_any (is_policy_at t.id) ps ≡ false) × AreFree t
 -- policies are on none of these bodies but those that stand among others
 abbrev pub AreOnly : List BodyParts → List BodyParts → List PolicyParts → Type 0
 AreOnly [] stand ps = Unit {0}
-AreOnly (t ∷ ts) stand ps = (list_any (is_body_at t.id) stand ≡ false → list_any (is_on t.id) ps ≡ false) × AreOnly ts stand ps
+AreOnly (t ∷ ts) stand ps = (list_any (is_body_at t.id) stand ≡ false → list_any (is_on t.id) ps ≡ false)
+    × AreOnly ts stand ps
 
 -- policies are on none of these bodies
 abbrev pub AreBare : List BodyParts → List PolicyParts → Type 0
@@ -26,7 +27,8 @@ AreBare [] ps = Unit {0}
 AreBare (t ∷ ts) ps = (list_any (is_on t.id) ps ≡ false) × AreBare ts ps
 
 -- bodies and policies can go last beside some bodies that stand there: the board is one then; no policy that joins has
--- the id of a body that was there, and none that was there that of a body that joins; policies join none but these bodies
+-- the id of a body that was there, and none that was there that of a body that joins; policies join none but these
+-- bodies
 -- and the new ones; and on new ones stood no policy
 pub record CanTakeIn (b : Board) (stand ts : List BodyParts) (ps : List PolicyParts) : Type 0 where
   pub board : IsBoard (taken_in b ts ps)

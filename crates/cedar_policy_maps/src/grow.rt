@@ -92,12 +92,17 @@ impl<S: BuildHasher + Copy> PolicyMaps<S> {
         bodies: Vec<Rc<Template>>,
         policies: Vec<Policy>,
     ) -> Result<(), AllocError>
-        requires can { CanTakeIn self.old (bodies_of bodies.items) (bodies_of (values_of entering.templates.entries)) (values_of entering.links.entries) }
+        requires can { CanTakeIn self.old (bodies_of bodies.items) (bodies_of (values_of entering.templates.entries))
+            (values_of entering.links.entries) }
         requires bodies { IsKeyed (λ t. t.value.id) entering.templates.entries }
         requires policies { IsKeyed policy_id entering.links.entries }
-        requires listed { lists_of entering.listed.entries ≡ ids_by_body (templates_in (values_of entering.links.entries) (bodies_of (values_of entering.templates.entries))) (values_of entering.links.entries) }
-        requires grown { lists_of entering.grown.entries ≡ ids_by_body (templates_in self.old.policies (bodies_of bodies.items)) (values_of entering.links.entries) }
-        ensures ok { OnOk result (self.new ≡ taken_in self.old (bodies_of (values_of entering.templates.entries)) (values_of entering.links.entries)) }
+        requires listed { lists_of entering.listed.entries
+            ≡ ids_by_body (templates_in (values_of entering.links.entries)
+            (bodies_of (values_of entering.templates.entries))) (values_of entering.links.entries) }
+        requires grown { lists_of entering.grown.entries
+            ≡ ids_by_body (templates_in self.old.policies (bodies_of bodies.items)) (values_of entering.links.entries) }
+        ensures ok { OnOk result (self.new ≡ taken_in self.old (bodies_of (values_of entering.templates.entries))
+            (values_of entering.links.entries)) }
         ensures err { OnErr result (self.new ≡ self.old) }
     {
         match make_room(
@@ -147,8 +152,10 @@ fn what_enters<S: BuildHasher + Copy>(
     ensures bodies { IfOk result (λ e. values_of e.templates.entries ≡ bodies.items) }
     ensures policies_keyed { IfOk result (λ e. IsKeyed policy_id e.links.entries) }
     ensures policies { IfOk result (λ e. values_of e.links.entries ≡ policies.items) }
-    ensures listed { IfOk result (λ e. lists_of e.listed.entries ≡ ids_by_body (templates_in policies.items (bodies_of bodies.items)) policies.items) }
-    ensures grown { IfOk result (λ e. lists_of e.grown.entries ≡ ids_by_body (templates_in (values_of known.now.entries) (bodies_of stand.now)) policies.items) }
+    ensures listed { IfOk result (λ e. lists_of e.listed.entries
+        ≡ ids_by_body (templates_in policies.items (bodies_of bodies.items)) policies.items) }
+    ensures grown { IfOk result (λ e. lists_of e.grown.entries
+        ≡ ids_by_body (templates_in (values_of known.now.entries) (bodies_of stand.now)) policies.items) }
 {
     let grown = match ids_by_template(alloc, stand, known, &policies) {
         Ok(grown) => grown,
@@ -202,7 +209,9 @@ fn make_room<S: BuildHasher + Copy>(
     ensures bodies { templates.new.entries ≡ templates.old.entries }
     ensures policies { links.new.entries ≡ links.old.entries }
     ensures lists { lists_of map.new.entries ≡ lists_of map.old.entries }
-    ensures room { OnOk result ((length entering.now.templates.entries ≤ spare templates.new) × (length entering.now.links.entries ≤ spare links.new) × (length entering.now.listed.entries ≤ spare map.new)) }
+    ensures room { OnOk result ((length entering.now.templates.entries ≤ spare templates.new)
+        × (length entering.now.links.entries ≤ spare links.new)
+        × (length entering.now.listed.entries ≤ spare map.new)) }
     ensures grown { OnOk result (HaveRoom map.new.entries (lists_of entering.now.grown.entries)) }
 {
     templates.reserve(entering.templates.len())?;
@@ -233,7 +242,8 @@ fn room_in_list<S: BuildHasher + Copy>(
 ) -> Result<(), AllocError>
     ensures lists { lists_of map.new.entries ≡ lists_of map.old.entries }
     ensures room { OnOk result (HasRoom (lookup (same_text body.now) map.new.entries) count) }
-    ensures kept { (k : List ℕ) (n : ℕ) → HasRoom (lookup (same_text k) map.old.entries) n → HasRoom (lookup (same_text k) map.new.entries) n }
+    ensures kept { (k : List ℕ) (n : ℕ) → HasRoom (lookup (same_text k) map.old.entries) n
+        → HasRoom (lookup (same_text k) map.new.entries) n }
 {
     match map.get_mut(body) {
         None => Ok(()),
@@ -283,8 +293,10 @@ fn grow_list<S: BuildHasher + Copy>(
     more: IndexSet<PolicyID, S>,
 )
     requires { HasRoom (lookup (same_text body.now) map.old.entries) (length more.keys) }
-    ensures lists { lists_of map.new.entries ≡ changed (same_text body.now) (λ ks. insert_all same_text ks more.keys) (lists_of map.old.entries) }
-    ensures others { (k : List ℕ) → same_text body.now k ≡ false → lookup (same_text k) map.new.entries ≡ lookup (same_text k) map.old.entries }
+    ensures lists { lists_of map.new.entries ≡ changed (same_text body.now) (λ ks. insert_all same_text ks more.keys)
+        (lists_of map.old.entries) }
+    ensures others { (k : List ℕ) → same_text body.now k ≡ false
+        → lookup (same_text k) map.new.entries ≡ lookup (same_text k) map.old.entries }
     ensures room { spare map.old ≤ spare map.new }
 {
     match map.get_mut(body) {

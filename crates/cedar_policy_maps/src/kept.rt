@@ -2,7 +2,8 @@
 ghost use Rattle.std.specs.Prelude.{◌≡◌, OnOk, OnErr, None, Some, false, length, ◌<◌};
 ghost use Rattle.std.specs.List.{find, list_any};
 ghost use Rattle.std.specs.Option.{option_copied, option_map};
-ghost use Rattle.cedar_policy_maps.specs.Boards.{bound_at, is_bound, is_body_at, is_policy_at, has_links, with_template, with_policy, with_both, without_id, last_policy};
+ghost use Rattle.cedar_policy_maps.specs.Boards.{bound_at, is_bound, is_body_at, is_policy_at, has_links};
+ghost use Rattle.cedar_policy_maps.specs.Boards.{with_template, with_policy, with_both, without_id, last_policy};
 ghost use Rattle.cedar_policy_maps.specs.Lists.{ids_in};
 ghost use Rattle.cedar_policy_maps.specs.Maps.{templates_in};
 ghost use Rattle.cedar_policy_maps.specs.Views.{bodies_of};
@@ -78,14 +79,16 @@ impl<S: BuildHasher + Copy> PolicyMaps<S> {
 
     // The ids of the links of the template with this id, if there is one.
     fn links_of(&self, id: &PolicyID) -> Option<&IndexSet<PolicyID, S>>
-        ensures { option_map (λ s. s.now.keys) result ≡ option_map (λ t. ids_in t.id self.now.policies) (find (is_body_at id.now) (templates_in self.now.policies self.now.bodies)) }
+        ensures { option_map (λ s. s.now.keys) result ≡ option_map (λ t. ids_in t.id self.now.policies)
+            (find (is_body_at id.now) (templates_in self.now.policies self.now.bodies)) }
     {
         self.template_to_links_map.get(id)
     }
 
     // The ids of the policies on the body with this id, if there is one: of a static policy its own.
     fn ids_on(&self, id: &PolicyID) -> Option<&[PolicyID]>
-        ensures { option_copied result ≡ option_map (λ t. ids_in t.id self.now.policies) (find (is_body_at id.now) self.now.bodies) }
+        ensures { option_copied result ≡ option_map (λ t. ids_in t.id self.now.policies)
+            (find (is_body_at id.now) self.now.bodies) }
     {
         // No effect at run time: this borrow says that the set is a board.
         let _ = &self.templates;
@@ -191,8 +194,8 @@ impl<S: BuildHasher + Copy> PolicyMaps<S> {
         }
     }
 
-    /// Puts a policy and its template last, each in its order. Takes memory for their places, copies of their ids and, of
-    /// a link, its list; refused, the maps state what they did.
+    /// Puts a policy and its template last, each in its order. Takes memory for their places, copies of their ids and,
+    /// of a link, its list; refused, the maps state what they did.
     pub fn put_both(&mut self, policy: Policy) -> Result<(), AllocError>
         requires { CanJoinBoth self.old policy }
         ensures ok { OnOk result (self.new ≡ with_both self.old policy.template policy) }

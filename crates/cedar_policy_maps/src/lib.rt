@@ -2,8 +2,9 @@
 //! template's id the ids of its links.
 //!
 //! Contracts see them as the two orders of a set (`specs/Boards.antt`), which are the values of the first two. How the
-//! three agree is the invariant of [`PolicyMaps`] (`specs/Maps.antt`). What joins has to keep that: its caller shows that
-//! it can (`specs/Joins.antt`, `specs/TakenIn.antt`). Why a call on a set is refused is said above, in `cedar_policy_set`.
+//! three agree is the invariant of [`PolicyMaps`] (`specs/Maps.antt`). What joins has to keep that: its caller shows
+//! that it can (`specs/Joins.antt`, `specs/TakenIn.antt`). Why a call on a set is refused is said above, in
+//! `cedar_policy_set`.
 #![tactic(auto)]
 
 mod found;

@@ -118,7 +118,8 @@ pub(crate) fn list_policy<S: BuildHasher + Copy>(
     ensures policies { links.new.entries ≡ links.old.entries }
     ensures room { OnOk result (0 < spare links.new) }
     ensures id { IfOk result (λ i. i ≡ policy_id policy.now) }
-    ensures ok { OnOk result (lists_of map.new.entries ≡ with_listed policy.now.template.id (policy_id policy.now) (lists_of map.old.entries)) }
+    ensures ok { OnOk result (lists_of map.new.entries
+        ≡ with_listed policy.now.template.id (policy_id policy.now) (lists_of map.old.entries)) }
     ensures err { OnErr result (lists_of map.new.entries ≡ lists_of map.old.entries) }
 {
     links.reserve(1)?;
@@ -152,7 +153,8 @@ pub(crate) fn room_for_both<S: BuildHasher + Copy>(
     Ok((body, own, template))
 }
 
-// Room for one more link and its template, what they go under, a further share of the template, and the list under its id.
+// Room for one more link and its template, what they go under, a further share of the template, and the list under its
+// id.
 pub(crate) fn room_for_link<S: BuildHasher + Copy>(
     templates: &mut IndexMap<PolicyID, Rc<Template>, S>,
     links: &mut IndexMap<PolicyID, Policy, S>,
@@ -423,8 +425,8 @@ fn put_policy<S: BuildHasher + Copy>(
     }
 }
 
-// The ids of the policies on each template, under its id, in the order of bodies. Of the bodies those are templates whose ids
-// the first policies do not have.
+// The ids of the policies on each template, under its id, in the order of bodies. Of the bodies those are templates
+// whose ids the first policies do not have.
 pub(crate) fn ids_by_template<S: BuildHasher + Copy>(
     alloc: Global,
     bodies: &[Rc<Template>],
@@ -434,7 +436,8 @@ pub(crate) fn ids_by_template<S: BuildHasher + Copy>(
     requires bodies { AreOnce (λ (t : BodyParts). t.id) (bodies_of bodies.now) }
     requires keyed { IsKeyed policy_id known.now.entries }
     requires policies { AreOnce policy_id policies.now }
-    ensures { IfOk result (λ m. lists_of m.entries ≡ ids_by_body (templates_in (values_of known.now.entries) (bodies_of bodies.now)) policies.now) }
+    ensures { IfOk result (λ m. lists_of m.entries ≡ ids_by_body
+        (templates_in (values_of known.now.entries) (bodies_of bodies.now)) policies.now) }
 {
     let mut map = no_ids(alloc, bodies, known)?;
     match list_ids(&mut map, policies) {
@@ -454,7 +457,8 @@ fn no_ids<S: BuildHasher + Copy>(
 ) -> Result<IndexMap<PolicyID, IndexSet<PolicyID, S>, S>, AllocError>
     requires bodies { AreOnce (λ (t : BodyParts). t.id) (bodies_of bodies.now) }
     requires keyed { IsKeyed policy_id known.now.entries }
-    ensures { IfOk result (λ m. lists_of m.entries ≡ ids_by_body (templates_in (values_of known.now.entries) (bodies_of bodies.now)) []) }
+    ensures { IfOk result (λ m. lists_of m.entries ≡ ids_by_body
+        (templates_in (values_of known.now.entries) (bodies_of bodies.now)) []) }
 {
     let mut map = IndexMap::with_hasher(alloc, *known.hasher());
     for template in bodies {
@@ -471,7 +475,8 @@ fn put_no_ids<S: BuildHasher + Copy>(
 ) -> Result<(), AllocError>
     requires absent { get same_text map.old template.now.value.id ≡ None }
     requires keyed { IsKeyed policy_id known.now.entries }
-    ensures { OnOk result (lists_of map.new.entries ≡ lists_of map.old.entries ++ ids_by_body (templates_in (values_of known.now.entries) (template.now.value ∷ [])) []) }
+    ensures { OnOk result (lists_of map.new.entries ≡ lists_of map.old.entries
+        ++ ids_by_body (templates_in (values_of known.now.entries) (template.now.value ∷ [])) []) }
 {
     if known.contains_key(template.id()) {
         return Ok(());

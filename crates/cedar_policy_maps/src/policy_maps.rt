@@ -16,8 +16,8 @@ use std::hash::BuildHasher;
 use std::marker::Model;
 use std::rc::Rc;
 
-/// The maps of a policy set: bodies, static policies' too, and policies, each under their ids, and under each template's
-/// id the ids of its links. They hash ids by the hashers that `S` builds.
+/// The maps of a policy set: bodies, static policies' too, and policies, each under their ids, and under each
+/// template's id the ids of its links. They hash ids by the hashers that `S` builds.
 ///
 /// Contracts see two orders: that of bodies, and that of policies, each as it joined. `clone` takes memory for the
 /// three maps and for what policies copy. Look-ups go by keys and walk nothing; a removal closes up.
@@ -60,9 +60,9 @@ impl<S: BuildHasher + Copy> PolicyMaps<S> {
         self.templates.hasher()
     }
 
-    /// These three maps: bodies, static policies' too, policies, and under each body's id the ids of the policies on it.
-    /// It takes no memory. It passes over the policies once, for its proof alone, and over the third map, of which it
-    /// keeps what stands under templates' ids: on a static policy's body stands that policy alone.
+    /// These three maps: bodies, static policies' too, policies, and under each body's id the ids of the policies on
+    /// it. It takes no memory. It passes over the policies once, for its proof alone, and over the third map, of which
+    /// it keeps what stands under templates' ids: on a static policy's body stands that policy alone.
     ///
     /// The maps have to agree: bodies and policies stand under their own ids; each policy's template stands among the
     /// bodies; a link has an id that no body has, and its template is no static policy's; and the third map has the ids

@@ -49,4 +49,5 @@ orders_text ts ps = titled_text ts ps
 -- what is known of the text of any set: all of it, where the texts of its bodies and policies are known
 abbrev pub board_output : Board → Option (List ℕ)
 board_output b =
-    if list_all is_known_body b.bodies && list_all is_known_policy b.policies then Some (orders_text b.bodies b.policies) else None
+    if list_all is_known_body b.bodies && list_all is_known_policy b.policies then Some
+    (orders_text b.bodies b.policies) else None

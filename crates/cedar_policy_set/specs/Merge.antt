@@ -1,5 +1,6 @@
 -- Merging another board into this one: the ids that conflict, what they are renamed to, and the board afterwards.
-use Rattle.std.specs.Prelude.{◌≡◌, ℕ, ◌<◌, List, [], ◌∷◌, ◌++◌, Bool, false, not, ◌&&◌, if◌then◌else◌, map, Option, Some, Result, Ok, Err}
+use Rattle.std.specs.Prelude.{◌≡◌, ℕ, ◌<◌, List, [], ◌∷◌, ◌++◌, Bool, false, not, ◌&&◌, if◌then◌else◌, map, Option}
+use Rattle.std.specs.Prelude.{Some, Result, Ok, Err}
 use Rattle.std.specs.List.{find, filter, list_any}
 use Rattle.std.specs.Map.{lookup, keys_of, values_of}
 use Rattle.std.specs.Option.{option_eq, option_map, unwrap_or}
@@ -107,10 +108,14 @@ abbrev pub AreBelow : ℕ → List (List ℕ) → Type 0
 AreBelow m [] = Unit {0}
 AreBelow m (i ∷ is) = ((n : ℕ) × (i ≡ numbered n) × (n < m)) × AreBelow m is
 
--- what merging answers. The renaming, and the board is the merged one; where ids keep theirs there is no conflict. Or the
+-- what merging answers. The renaming, and the board is the merged one; where ids keep theirs there is no conflict. Or
+-- the
 -- first id that conflicts, where ids keep theirs, and the board is as it was; as it is where memory was refused
-abbrev pub Merges : {A : Type 0} → (A → List (List ℕ × List ℕ)) → Result A PolicySetError → Board → Board → Bool → Board → Type 0
+abbrev pub Merges : {A : Type 0} → (A → List (List ℕ × List ℕ)) → Result A PolicySetError → Board → Board → Bool → Board
+    → Type 0
 Merges entries (Ok r) old other rename new =
-    IsRenaming old other (entries r) × (new ≡ merged old other (new_id (entries r))) × (rename ≡ false → conflicts old other ≡ [])
-Merges entries (Err (Occupied i)) old other rename new = (new ≡ old) × (rename ≡ false) × (rest : List (List ℕ)) × (conflicts old other ≡ i ∷ rest)
+    IsRenaming old other (entries r) × (new ≡ merged old other (new_id (entries r)))
+    × (rename ≡ false → conflicts old other ≡ [])
+Merges entries (Err (Occupied i)) old other rename new = (new ≡ old) × (rename ≡ false) × (rest : List (List ℕ))
+    × (conflicts old other ≡ i ∷ rest)
 Merges entries (Err Memory) old other rename new = new ≡ old

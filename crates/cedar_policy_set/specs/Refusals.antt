@@ -14,7 +14,9 @@ use Rattle.cedar_policy_set.specs.declared.err.PolicySetTemplateRemovalError.The
 use Rattle.cedar_policy_set.specs.declared.err.PolicySetUnlinkError.{PolicySetUnlinkError}
 use Rattle.cedar_policy_set.specs.declared.err.PolicySetUnlinkError.TheVariants as unlinks
 use Rattle.cedar_policy_maps.specs.Boards.{Board, Binding, without_id}
-use Rattle.cedar_policy_set.specs.Steps.{Refusal, occupied, no_body, no_such_template, arity, not_an_action, id_conflict, no_link, not_a_link, no_template, with_links, not_a_template, no_static, not_static}
+use Rattle.cedar_policy_set.specs.Steps.{Refusal, occupied, no_body, no_such_template, arity, not_an_action}
+use Rattle.cedar_policy_set.specs.Steps.{id_conflict, no_link, not_a_link, no_template, with_links, not_a_template}
+use Rattle.cedar_policy_set.specs.Steps.{no_static, not_static}
 
 -- what an error tells; want of memory tells nothing
 abbrev pub told_by_set : PolicySetError → Option Refusal
@@ -60,7 +62,8 @@ Steps told (Err e) old new step = (new ≡ old) × IsRefusal (told e) step
 
 -- what was taken out is that of the step, and the board is without its id; or the step is refused, and the board is as
 -- it was
-abbrev pub TakesFromBoard : {A E : Type 0} → (E → Option Refusal) → (A → Binding) → Result A E → Board → Board → List ℕ → Result Binding Refusal → Type 0
+abbrev pub TakesFromBoard : {A E : Type 0} → (E → Option Refusal) → (A → Binding) → Result A E → Board → Board → List ℕ
+    → Result Binding Refusal → Type 0
 TakesFromBoard told binding (Ok a) old new i step = (step ≡ Ok (binding a)) × (new ≡ without_id old i)
 TakesFromBoard told binding (Err e) old new i step = (new ≡ old) × IsRefusal (told e) step
 

@@ -2,7 +2,8 @@
 use Rattle.std.specs.Prelude.{ℕ, List}
 use Rattle.cedar_policy.specs.Faults.{Fault, fault_of}
 use Rattle.cedar_policy_set.specs.declared.err.PolicySetValidationError.{PolicySetValidationError}
-use Rattle.cedar_policy_set.specs.declared.err.PolicySetValidationError.TheVariants.{InvalidTemplate, LinkToSlotlessTemplate, Memory}
+use Rattle.cedar_policy_set.specs.declared.err.PolicySetValidationError.TheVariants.{InvalidTemplate}
+use Rattle.cedar_policy_set.specs.declared.err.PolicySetValidationError.TheVariants.{LinkToSlotlessTemplate, Memory}
 
 -- the body with an id and its fault, a link with its id of a template without slots, and want of memory
 pub data SetFault : Type 0 where

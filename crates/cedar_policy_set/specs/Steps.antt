@@ -9,10 +9,12 @@ use Rattle.cedar_body.specs.BodyEquality.{same_body}
 use Rattle.cedar_binding.specs.Bindings.{EnvParts, unbound, extra, wrong_action}
 use Rattle.cedar_policy.specs.Policies.{PolicyParts, static_policy}
 use Rattle.cedar_policy_maps.specs.Lists.{ids_in}
-use Rattle.cedar_policy_maps.specs.Boards.{Board, Binding, Static, Template, Link, bound_at, is_bound, is_body_at, has_links, with_template, with_policy, with_both, without_id}
+use Rattle.cedar_policy_maps.specs.Boards.{Board, Binding, Static, Template, Link, bound_at, is_bound, is_body_at}
+use Rattle.cedar_policy_maps.specs.Boards.{has_links, with_template, with_policy, with_both, without_id}
 
 -- why a call is refused: an id is taken; there is no body of an id; there is no template of an id to link; the
--- bindings don't fit its slots; the action's slot is bound to no action; the id of a link is taken; there is no link of an id; there is something else than
+-- bindings don't fit its slots; the action's slot is bound to no action; the id of a link is taken; there is no link of
+-- an id; there is something else than
 -- a link; there is no template of an id to take out; it has links; there is something else than a template; there is
 -- no static policy of an id; there is a link
 pub data Refusal : Type 0 where
@@ -40,9 +42,11 @@ add_template_step b t = if is_bound b t.id then Err (occupied t.id) else Ok (wit
 -- a link joins: by what its template's id is bound to. Where that is free, so has to be the link's own id, and it has
 -- to be another; the template goes first. Where it is an equal template the link's own id has to be free
 abbrev pub add_link_at : Option Binding → Board → List ℕ → PolicyParts → Result Board Refusal
-add_link_at None b l p = if same_text l p.template.id || is_bound b l then Err (occupied l) else Ok (with_both b p.template p)
+add_link_at None b l p = if same_text l p.template.id || is_bound b l then Err (occupied l) else Ok
+    (with_both b p.template p)
 add_link_at (Some (Template u)) b l p =
-    if same_body u p.template then (if is_bound b l then Err (occupied l) else Ok (with_policy b p)) else Err (occupied p.template.id)
+    if same_body u p.template then (if is_bound b l then Err (occupied l) else Ok (with_policy b p)) else Err
+    (occupied p.template.id)
 add_link_at (Some x) b l p = Err (occupied p.template.id)
 
 abbrev pub add_by : Option (List ℕ) → Board → PolicyParts → Result Board Refusal

@@ -7,7 +7,8 @@ use Rattle.cedar_policy.specs.Validation.{HasActions, IsTemplateFault, clause_fa
 use Rattle.cedar_policy.specs.declared.err.TemplateValidationError.{TemplateValidationError}
 use Rattle.cedar_policy.specs.declared.err.TemplateValidationError.TheVariants as templates
 use Rattle.cedar_policy_set.specs.declared.err.PolicySetValidationError.{PolicySetValidationError}
-use Rattle.cedar_policy_set.specs.declared.err.PolicySetValidationError.TheVariants.{InvalidTemplate, LinkToSlotlessTemplate, Memory}
+use Rattle.cedar_policy_set.specs.declared.err.PolicySetValidationError.TheVariants.{InvalidTemplate}
+use Rattle.cedar_policy_set.specs.declared.err.PolicySetValidationError.TheVariants.{LinkToSlotlessTemplate, Memory}
 use Rattle.cedar_policy_maps.specs.Boards.{Board}
 use Rattle.cedar_policy_maps.specs.Lists.{is_slotless}
 

@@ -18,9 +18,9 @@ impl PolicySet {
         PolicySet::with_hasher(alloc, BuildHasherDefault::new())
     }
 
-    /// The set with this policy alone, and with its template: what adding it to the set without a binding leaves. A link
-    /// has to have another id than its template; the original asks nothing. Takes memory for the two places, and is refused only
-    /// where that is.
+    /// The set with this policy alone, and with its template: what adding it to the set without a binding leaves. A
+    /// link has to have another id than its template; the original asks nothing. Takes memory for the two places, and
+    /// is refused only where that is.
     #[tactic(auto, using(cedar_policy_maps::specs::laws::BoardLaws::alone))]
     pub fn singleton(alloc: Global, policy: Policy) -> Result<PolicySet, AllocError>
         requires { HasOwnId policy }
@@ -39,8 +39,8 @@ impl PolicySet {
         }
     }
 
-    /// The set that adding these policies leaves, one after another; the first refusal is the answer, and there is no set
-    /// then. Takes memory as `add` does.
+    /// The set that adding these policies leaves, one after another; the first refusal is the answer, and there is no
+    /// set then. Takes memory as `add` does.
     pub fn try_from_iter(alloc: Global, policies: Vec<Policy>) -> Result<PolicySet, PolicySetError>
         ensures { Makes told_by_set result (add_then (Ok empty_board) policies.items) }
     {

@@ -177,8 +177,8 @@ impl<T: Drop> From<AllocFailed<T>> for PolicySetPolicyRemovalError {
     }
 }
 
-/// Why a set is not valid. `clone` takes memory for the ids and for what the error of a template holds. The original has
-/// no refusal for memory.
+/// Why a set is not valid. `clone` takes memory for the ids and for what the error of a template holds. The original
+/// has no refusal for memory.
 #[derive(Debug, Drop, Error)]
 pub enum PolicySetValidationError {
     /// A body is not valid: the first one in the order of bodies.

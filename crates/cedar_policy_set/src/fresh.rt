@@ -41,7 +41,8 @@ fn next_free<S: BuildHasher + Copy>(
 ) -> Result<(PolicyID, u128), AllocError>
     requires { free_below (is_bound_in_either here.now other.now) start + count here.now other.now < 2 ^ 100 }
     ensures named { IfOk result (λ r. r.0 ≡ numbered r.1) }
-    ensures free { IfOk result (λ r. IsFree (is_bound_in_either here.now other.now) (free_below (is_bound_in_either here.now other.now) start) r.1) }
+    ensures free { IfOk result (λ r. IsFree (is_bound_in_either here.now other.now)
+        (free_below (is_bound_in_either here.now other.now) start) r.1) }
     ensures small { IfOk result (λ r. r.1 < 2 ^ 100) }
 {
     let mut number = start;

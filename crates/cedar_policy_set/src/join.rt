@@ -5,7 +5,8 @@ ghost use Rattle.cedar_body.specs.Bodies.{body_slots};
 ghost use Rattle.cedar_binding.specs.Views.{env_of};
 ghost use Rattle.cedar_policy_maps.specs.Boards.{empty_board, bound_at, Template as template_binding};
 ghost use Rattle.cedar_policy_set.specs.Refusals.{IsRefusal, Steps, Makes, told_by_set, told_by_linking};
-ghost use Rattle.cedar_policy_set.specs.Steps.{add_static_step, add_template_step, add_step, link_onto, link_step, add_then, UnlinksTo};
+ghost use Rattle.cedar_policy_set.specs.Steps.{add_static_step, add_template_step, add_step, link_onto, link_step};
+ghost use Rattle.cedar_policy_set.specs.Steps.{add_then, UnlinksTo};
 ghost use Rattle.cedar_policy_set.specs.laws.Standing.{HasNoTemplate, Stands, StandsThere};
 
 use crate::err::PolicySetError;
@@ -18,8 +19,8 @@ use std::hash::BuildHasher;
 use std::rc::Rc;
 
 impl<S: BuildHasher + Copy> PolicySet<S> {
-    /// The set that adding these policies leaves, one after another, which hashes ids by what `hasher` builds; the first
-    /// refusal is the answer, and there is no set then. Takes memory as `add` does.
+    /// The set that adding these policies leaves, one after another, which hashes ids by what `hasher` builds; the
+    /// first refusal is the answer, and there is no set then. Takes memory as `add` does.
     pub fn try_from_iter_with_hasher(
         alloc: Global,
         hasher: S,
@@ -68,8 +69,8 @@ impl<S: BuildHasher + Copy> PolicySet<S> {
 
     /// Takes in a template, last in the order of bodies.
     ///
-    /// `Occupied` comes where its id is bound. Takes memory to share the template and for its place; a refused call, for
-    /// memory too, leaves both orders as they were.
+    /// `Occupied` comes where its id is bound. Takes memory to share the template and for its place; a refused call,
+    /// for memory too, leaves both orders as they were.
     pub fn add_template(&mut self, alloc: Global, template: Template) -> Result<(), PolicySetError>
         ensures { Steps told_by_set result self.old self.new (add_template_step self.old template) }
     {
@@ -185,7 +186,8 @@ impl<S: BuildHasher + Copy> PolicySet<S> {
         new_id: PolicyID,
         values: SlotEnv,
     ) -> Result<(), LinkingError>
-        ensures steps { Steps told_by_linking result self.old self.new (link_step self.old template_id new_id (env_of values)) }
+        ensures steps { Steps told_by_linking result self.old self.new
+            (link_step self.old template_id new_id (env_of values)) }
         ensures undone { OnOk result (UnlinksTo self.old template_id new_id (env_of values) self.new) }
         ensures there { OnOk result (0 < length self.new.policies) }
     {
@@ -230,7 +232,8 @@ impl<S: BuildHasher + Copy> PolicySet<S> {
         values: SlotEnv,
     ) -> Result<(), LinkingError>
         requires { Stands self.old template.value }
-        ensures { Steps told_by_linking result self.old self.new (link_onto template.value self.old new_id (env_of values)) }
+        ensures { Steps told_by_linking result self.old self.new
+            (link_onto template.value self.old new_id (env_of values)) }
     {
         let occupied = self.maps.is_bound(&new_id);
         let policy = Template::link(alloc, template, new_id, values)?;

@@ -16,8 +16,8 @@ use std::ops::Deref;
 
 /// The link that a set just took in. It lends the set for as long as it is held, and is read as the policy itself.
 ///
-/// The original answers a plain reference to the policy. Beside an error that owns an id no caller could prove from that
-/// what the set became, so this stands in its place.
+/// The original answers a plain reference to the policy. Beside an error that owns an id no caller could prove from
+/// that what the set became, so this stands in its place.
 #[derive(Debug)]
 pub struct Linked<'a, S: BuildHasher = BuildHasherDefault<FoldHasher>> {
     set: &'a mut PolicySet<S>,
@@ -28,9 +28,9 @@ impl<S: BuildHasher + Copy> PolicySet<S> {
     /// Links the template with this id to these bindings under a new id: the link goes last in the order of policies.
     ///
     /// Refused in this order: `NoSuchTemplate` where the first id is no template's, also where it is a static policy's;
-    /// `ArityError` and then `NotAnAction` as `Template::check_binding` says; `PolicyIdConflict` where the new id is bound. Takes memory for the
-    /// link, its place and the lists of a refusal; a refused call, for memory too, leaves both orders as they were. To
-    /// unlink the new link gives it back and leaves the former set, orders included.
+    /// `ArityError` and then `NotAnAction` as `Template::check_binding` says; `PolicyIdConflict` where the new id is
+    /// bound. Takes memory for the link, its place and the lists of a refusal; a refused call, for memory too, leaves
+    /// both orders as they were. To unlink the new link gives it back and leaves the former set, orders included.
     pub fn link(
         &mut self,
         alloc: Global,
@@ -38,9 +38,11 @@ impl<S: BuildHasher + Copy> PolicySet<S> {
         new_id: PolicyID,
         values: SlotEnv,
     ) -> Result<Linked<'_, S>, LinkingError>
-        ensures* refused { sem 𝓛 (RestsIfErr (the_row S.row S.Hasher.row S.BuildHasher S.Hasher.Hasher) self.entry (λ l. l.set.ghost_name) result (λ n. n ≡ self.old)) }
+        ensures* refused { sem 𝓛 (RestsIfErr (the_row S.row S.Hasher.row S.BuildHasher S.Hasher.Hasher) self.entry
+            (λ l. l.set.ghost_name) result (λ n. n ≡ self.old)) }
         ensures same_set { IfOk result (λ l. l.set.ghost_name ≡ self.entry.ghost_name) }
-        ensures steps { Answers told_by_linking (λ l. l.set.now) result (link_step self.old template_id new_id (env_of values)) }
+        ensures steps { Answers told_by_linking (λ l. l.set.now) result
+            (link_step self.old template_id new_id (env_of values)) }
         ensures undone { IfOk result (λ l. UnlinksTo self.old template_id new_id (env_of values) l.set.now) }
     {
         self.join_link(alloc, template_id, new_id, values)?;

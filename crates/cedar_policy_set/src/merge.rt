@@ -1,5 +1,6 @@
 //! Merging another policy set into this one.
-ghost use Rattle.std.specs.Prelude.{◌≡◌, ◌↔◌, ◌&&◌, ◌++◌, ◌+◌, ◌∷◌, [], true, false, not, length, if◌then◌else◌, IfOk, OnErr, OnOk, IsTrue, List, ℕ};
+ghost use Rattle.std.specs.Prelude.{◌≡◌, ◌↔◌, ◌&&◌, ◌++◌, ◌+◌, ◌∷◌, [], true, false, not, length, if◌then◌else◌, IfOk};
+ghost use Rattle.std.specs.Prelude.{OnErr, OnOk, IsTrue, List, ℕ};
 ghost use Rattle.std.specs.List.{list_any};
 ghost use Rattle.std.specs.Map.{values_of};
 ghost use Rattle.std.specs.Option.{option_copied, unwrap_or};
@@ -8,7 +9,10 @@ ghost use Rattle.cedar_policy.specs.Policies.{policy_id, with_policy_id};
 ghost use Rattle.cedar_ids.specs.Texts.{same_text};
 ghost use Rattle.cedar_policy_maps.specs.Boards.{AreOnce, bound_at};
 ghost use Rattle.cedar_policy_set.specs.Fresh.{is_bound_in_either};
-ghost use Rattle.cedar_policy_set.specs.Merge.{has_body, body_ids, policy_ids, is_same_at, conflicting, gathered, conflicts, Differ, renamed_body, renamed_policy, joined_bodies, joined_policies, merged, new_id, IsRenaming, Merges, AreBelow, bound_ids};
+ghost use Rattle.cedar_policy_set.specs.Merge.{has_body, body_ids, policy_ids, is_same_at, conflicting, gathered};
+ghost use Rattle.cedar_policy_set.specs.Merge.{conflicts, Differ, renamed_body, renamed_policy, joined_bodies};
+ghost use Rattle.cedar_policy_set.specs.Merge.{joined_policies, merged, new_id, IsRenaming, Merges, AreBelow};
+ghost use Rattle.cedar_policy_set.specs.Merge.{bound_ids};
 ghost use Rattle.cedar_policy_set.specs.laws.GatherLaws.{in_groups, looked_at};
 ghost use Rattle.cedar_policy_set.specs.laws.MergeTakesIn.{standing_bodies};
 ghost use Rattle.cedar_policy_set.specs.laws.MergeSteps.{Refuses, with_template_renamed};
@@ -26,21 +30,23 @@ use std::hash::BuildHasher;
 use std::rc::Rc;
 
 impl<S: BuildHasher + Copy> PolicySet<S> {
-    /// Takes in what another set binds, which stays as it is, and answers the ids that were renamed with their new ones.
+    /// Takes in what another set binds, which stays as it is, and answers the ids that were renamed with their new
+    /// ones.
     ///
-    /// An id conflicts where both sets bind it to something else: another kind of thing, or bodies, templates or bindings
-    /// that are not equal. Without `rename_duplicates` the first such id is refused as `Occupied`. With it each gets the next of
-    /// the ids `policy0`, `policy1` and so on that neither set binds, first the bodies there that conflict with bodies here,
-    /// then policies with policies, templates there with links here, and links there with templates here. What the other
-    /// set binds goes last, in its orders, each link with its template renamed. Ids of this set keep their places; the
-    /// original moves those that both bind to the back, and takes a template without slots for an equal static policy. What
-    /// both bind alike takes the other's value, which differs in locations alone.
+    /// An id conflicts where both sets bind it to something else: another kind of thing, or bodies, templates or
+    /// bindings that are not equal. Without `rename_duplicates` the first such id is refused as `Occupied`. With it
+    /// each gets the next of the ids `policy0`, `policy1` and so on that neither set binds, first the bodies there that
+    /// conflict with bodies here, then policies with policies, templates there with links here, and links there with
+    /// templates here. What the other set binds goes last, in its orders, each link with its template renamed. Ids of
+    /// this set keep their places; the original moves those that both bind to the back, and takes a template without
+    /// slots for an equal static policy. What both bind alike takes the other's value, which differs in locations
+    /// alone.
     ///
-    /// Takes memory for a copy of what the other set binds, for room in the maps and in the lists of links that grow, for what is
-    /// renamed and for the answer. A refused call, for memory too, leaves both orders as they were: all that can be refused
-    /// is done first. It costs what the other set costs: look-ups for each of its ids, in both sets, the copies, and a look at
-    /// each of the ids `policyN` that are bound. What this set binds is neither walked nor copied; a map that is full moves to
-    /// one of twice its places.
+    /// Takes memory for a copy of what the other set binds, for room in the maps and in the lists of links that grow,
+    /// for what is renamed and for the answer. A refused call, for memory too, leaves both orders as they were: all
+    /// that can be refused is done first. It costs what the other set costs: look-ups for each of its ids, in both
+    /// sets, the copies, and a look at each of the ids `policyN` that are bound. What this set binds is neither walked
+    /// nor copied; a map that is full moves to one of twice its places.
     #[tactic(auto, using(crate::specs::laws::RenamingLaws::once_free, crate::specs::laws::RenamingLaws::none_bound_of, crate::specs::laws::RenamingLaws::numbers_below))]
     pub fn merge_policyset(
         &mut self,
@@ -49,10 +55,13 @@ impl<S: BuildHasher + Copy> PolicySet<S> {
         rename_duplicates: bool,
     ) -> Result<IndexMap<PolicyID, PolicyID, S>, PolicySetError>
         ensures merges { Merges (λ r. r.entries) result self.old other.now rename_duplicates self.new }
-        ensures conflicts { (i : List ℕ) → (list_any (same_text i) (conflicts self.old other.now) ≡ true) ↔ Differ (bound_at self.old i) (bound_at other.now i) }
+        ensures conflicts { (i : List ℕ) → (list_any (same_text i) (conflicts self.old other.now) ≡ true)
+            ↔ Differ (bound_at self.old i) (bound_at other.now i) }
         ensures apart { IfOk result (λ r. AreOnce (λ (i : List ℕ). i) (values_of r.entries)) }
-        ensures unbound { IfOk result (λ r. list_any (is_bound_in_either self.old other.now) (values_of r.entries) ≡ false) }
-        ensures below { IfOk result (λ r. AreBelow (length (bound_ids self.old other.now) + length r.entries) (values_of r.entries)) }
+        ensures unbound { IfOk result (λ r. list_any (is_bound_in_either self.old other.now) (values_of r.entries)
+            ≡ false) }
+        ensures below { IfOk result (λ r. AreBelow (length (bound_ids self.old other.now) + length r.entries)
+            (values_of r.entries)) }
     {
         // No effect at run time: these calls say that both sets are boards.
         let _boards = (self.maps.is_empty(), other.maps.is_empty());
@@ -109,8 +118,8 @@ fn refused<'a, S: BuildHasher + Copy>(
     ids.iter().next()
 }
 
-// Which ids of the other set are looked at: those of one of its orders that stand in an order here. What an earlier group
-// looked at is left out.
+// Which ids of the other set are looked at: those of one of its orders that stand in an order here. What an earlier
+// group looked at is left out.
 #[derive(Clone, Copy, Debug)]
 pub(crate) enum Group {
     // Of bodies there: bodies here.
@@ -163,7 +172,8 @@ fn gather_bodies<S: BuildHasher + Copy>(
     other: &PolicyMaps<S>,
     group: Group,
 ) -> Result<(), AllocError>
-    ensures { OnOk result (ids.new.keys ≡ gathered ids.old.keys (conflicting here.now other.now (looked_at group here.now other.now) (body_ids other.now))) }
+    ensures { OnOk result (ids.new.keys ≡ gathered ids.old.keys
+        (conflicting here.now other.now (looked_at group here.now other.now) (body_ids other.now))) }
 {
     for template in other.all_templates() {
         gather_one(ids, here, other, template.id(), group)?;
@@ -178,7 +188,8 @@ fn gather_policies<S: BuildHasher + Copy>(
     other: &PolicyMaps<S>,
     group: Group,
 ) -> Result<(), AllocError>
-    ensures { OnOk result (ids.new.keys ≡ gathered ids.old.keys (conflicting here.now other.now (looked_at group here.now other.now) (policy_ids other.now))) }
+    ensures { OnOk result (ids.new.keys ≡ gathered ids.old.keys
+        (conflicting here.now other.now (looked_at group here.now other.now) (policy_ids other.now))) }
 {
     for policy in other.policies() {
         gather_one(ids, here, other, policy.id(), group)?;
@@ -194,7 +205,8 @@ fn gather_one<S: BuildHasher + Copy>(
     id: &PolicyID,
     group: Group,
 ) -> Result<(), AllocError>
-    ensures { OnOk result (ids.new.keys ≡ gathered ids.old.keys (conflicting here.now other.now (looked_at group here.now other.now) (id.now ∷ []))) }
+    ensures { OnOk result (ids.new.keys ≡ gathered ids.old.keys
+        (conflicting here.now other.now (looked_at group here.now other.now) (id.now ∷ []))) }
 {
     if is_conflicting(here, other, id, group) {
         ids.insert(id.clone()?)?;
@@ -265,8 +277,10 @@ fn new_or<'a>(new: Option<&'a PolicyID>, id: &'a PolicyID) -> &'a PolicyID
 
 // Puts something last among what stands there or what joins.
 fn part<T: Drop>(parted: &mut Parted<T>, stands: bool, thing: T) -> Result<(), AllocError>
-    ensures stand { OnOk result (parted.new.stand.items ≡ parted.old.stand.items ++ (if stands then thing ∷ [] else [])) }
-    ensures join { OnOk result (parted.new.join.items ≡ parted.old.join.items ++ (if not stands then thing ∷ [] else [])) }
+    ensures stand { OnOk result (parted.new.stand.items
+        ≡ parted.old.stand.items ++ (if stands then thing ∷ [] else [])) }
+    ensures join { OnOk result (parted.new.join.items ≡ parted.old.join.items
+        ++ (if not stands then thing ∷ [] else [])) }
 {
     if stands {
         parted.stand.push(thing)?;
@@ -283,8 +297,10 @@ fn parted_bodies<S: BuildHasher + Copy>(
     other: &PolicyMaps<S>,
     renaming: &IndexMap<PolicyID, PolicyID, S>,
 ) -> Result<Parted<Rc<Template>>, AllocError>
-    ensures stand { IfOk result (λ p. bodies_of p.stand.items ≡ standing_bodies here.now (new_id renaming.now.entries) other.now.bodies) }
-    ensures join { IfOk result (λ p. bodies_of p.join.items ≡ joined_bodies here.now (new_id renaming.now.entries) other.now.bodies) }
+    ensures stand { IfOk result (λ p. bodies_of p.stand.items
+        ≡ standing_bodies here.now (new_id renaming.now.entries) other.now.bodies) }
+    ensures join { IfOk result (λ p. bodies_of p.join.items
+        ≡ joined_bodies here.now (new_id renaming.now.entries) other.now.bodies) }
 {
     let mut parted = Parted::new(alloc);
     match part_bodies(alloc, &mut parted, here, other.shared_bodies(), renaming) {
@@ -304,8 +320,12 @@ fn part_bodies<S: BuildHasher + Copy>(
     theirs: &[Rc<Template>],
     renaming: &IndexMap<PolicyID, PolicyID, S>,
 ) -> Result<(), AllocError>
-    ensures stand { OnOk result (bodies_of parted.new.stand.items ≡ bodies_of parted.old.stand.items ++ standing_bodies here.now (new_id renaming.now.entries) (bodies_of theirs.now)) }
-    ensures join { OnOk result (bodies_of parted.new.join.items ≡ bodies_of parted.old.join.items ++ joined_bodies here.now (new_id renaming.now.entries) (bodies_of theirs.now)) }
+    ensures stand { OnOk result (bodies_of parted.new.stand.items
+        ≡ bodies_of parted.old.stand.items ++ standing_bodies here.now (new_id renaming.now.entries)
+        (bodies_of theirs.now)) }
+    ensures join { OnOk result (bodies_of parted.new.join.items
+        ≡ bodies_of parted.old.join.items ++ joined_bodies here.now (new_id renaming.now.entries)
+        (bodies_of theirs.now)) }
 {
     for template in theirs {
         part_body(alloc, parted, here, template, renaming)?;
@@ -321,8 +341,12 @@ fn part_body<S: BuildHasher + Copy>(
     template: &Rc<Template>,
     renaming: &IndexMap<PolicyID, PolicyID, S>,
 ) -> Result<(), AllocError>
-    ensures stand { OnOk result (bodies_of parted.new.stand.items ≡ bodies_of parted.old.stand.items ++ standing_bodies here.now (new_id renaming.now.entries) (template.now.value ∷ [])) }
-    ensures join { OnOk result (bodies_of parted.new.join.items ≡ bodies_of parted.old.join.items ++ joined_bodies here.now (new_id renaming.now.entries) (template.now.value ∷ [])) }
+    ensures stand { OnOk result (bodies_of parted.new.stand.items
+        ≡ bodies_of parted.old.stand.items ++ standing_bodies here.now (new_id renaming.now.entries)
+        (template.now.value ∷ [])) }
+    ensures join { OnOk result (bodies_of parted.new.join.items
+        ≡ bodies_of parted.old.join.items ++ joined_bodies here.now (new_id renaming.now.entries)
+        (template.now.value ∷ [])) }
 {
     let new = renaming.get(template.id());
     let stands = here.is_bound(new_or(new, template.id()));
@@ -335,7 +359,8 @@ fn renamed_body(
     template: &Rc<Template>,
     new: Option<&PolicyID>,
 ) -> Result<Rc<Template>, AllocError>
-    ensures { IfOk result (λ t. t.value ≡ with_id (unwrap_or (option_copied new.entry) template.now.value.id) template.now.value) }
+    ensures { IfOk result (λ t. t.value ≡ with_id (unwrap_or
+        (option_copied new.entry) template.now.value.id) template.now.value) }
 {
     match new {
         None => template.clone(),
@@ -350,7 +375,8 @@ fn parted_policies<S: BuildHasher + Copy>(
     other: &PolicyMaps<S>,
     renaming: &IndexMap<PolicyID, PolicyID, S>,
 ) -> Result<Parted<Policy>, AllocError>
-    ensures { IfOk result (λ p. p.join.items ≡ joined_policies here.now (new_id renaming.now.entries) other.now.policies) }
+    ensures { IfOk result (λ p. p.join.items ≡ joined_policies here.now
+        (new_id renaming.now.entries) other.now.policies) }
 {
     let mut parted = Parted::new(alloc);
     match part_policies(alloc, &mut parted, here, other.all_policies(), renaming) {
@@ -370,7 +396,8 @@ fn part_policies<S: BuildHasher + Copy>(
     theirs: &[Policy],
     renaming: &IndexMap<PolicyID, PolicyID, S>,
 ) -> Result<(), AllocError>
-    ensures { OnOk result (parted.new.join.items ≡ parted.old.join.items ++ joined_policies here.now (new_id renaming.now.entries) theirs.now) }
+    ensures { OnOk result (parted.new.join.items ≡ parted.old.join.items
+        ++ joined_policies here.now (new_id renaming.now.entries) theirs.now) }
 {
     for policy in theirs {
         part_policy(alloc, parted, here, policy, renaming)?;
@@ -386,7 +413,8 @@ fn part_policy<S: BuildHasher + Copy>(
     policy: &Policy,
     renaming: &IndexMap<PolicyID, PolicyID, S>,
 ) -> Result<(), AllocError>
-    ensures { OnOk result (parted.new.join.items ≡ parted.old.join.items ++ joined_policies here.now (new_id renaming.now.entries) (policy.now ∷ [])) }
+    ensures { OnOk result (parted.new.join.items ≡ parted.old.join.items
+        ++ joined_policies here.now (new_id renaming.now.entries) (policy.now ∷ [])) }
 {
     let new = renaming.get(policy.id());
     let stands = here.is_bound(new_or(new, policy.id()));
@@ -405,7 +433,8 @@ fn renamed_policy<S: BuildHasher + Copy>(
     new: Option<&PolicyID>,
     renaming: &IndexMap<PolicyID, PolicyID, S>,
 ) -> Result<Policy, AllocError>
-    requires { unwrap_or (option_copied new) (policy_id policy.now) ≡ new_id renaming.now.entries (policy_id policy.now) }
+    requires { unwrap_or (option_copied new) (policy_id policy.now)
+        ≡ new_id renaming.now.entries (policy_id policy.now) }
     ensures { IfOk result (λ p. p ≡ renamed_policy (new_id renaming.now.entries) policy.now) }
 {
     match on_renamed_template(alloc, policy, renaming)? {
@@ -425,7 +454,8 @@ fn under_new_id(
     policy: &Policy,
     new: Option<&PolicyID>,
 ) -> Result<Policy, AllocError>
-    ensures { IfOk result (λ p. p ≡ with_policy_id (unwrap_or (option_copied new.entry) (policy_id policy.now)) policy.now) }
+    ensures { IfOk result (λ p. p ≡ with_policy_id (unwrap_or (option_copied new.entry)
+        (policy_id policy.now)) policy.now) }
 {
     match new {
         None => policy.clone(),
@@ -439,7 +469,8 @@ fn on_renamed_template<S: BuildHasher + Copy>(
     policy: &Policy,
     renaming: &IndexMap<PolicyID, PolicyID, S>,
 ) -> Result<Option<Policy>, AllocError>
-    ensures { IfOk result (λ o. unwrap_or o policy.now ≡ with_template_renamed (new_id renaming.now.entries) policy.now) }
+    ensures { IfOk result (λ o. unwrap_or o policy.now
+        ≡ with_template_renamed (new_id renaming.now.entries) policy.now) }
 {
     if !is_link(policy) {
         return Ok(None);

@@ -29,8 +29,8 @@ use std::rc::Rc;
 /// none. Look-ups go by keys and walk nothing.
 ///
 /// Its maps hash ids by the hashers that `S` builds, and so do those that its calls make. By default they have a fixed
-/// seed, so that whoever picks the ids can make them collide, and each call slow: a set of ids that strangers pick is made by
-/// [`PolicySet::with_hasher`] with a builder that has a random key. No contract sees the builder.
+/// seed, so that whoever picks the ids can make them collide, and each call slow: a set of ids that strangers pick is
+/// made by [`PolicySet::with_hasher`] with a builder that has a random key. No contract sees the builder.
 #[derive(Drop)]
 pub struct PolicySet<S: BuildHasher = BuildHasherDefault<FoldHasher>> {
     pub(crate) maps: PolicyMaps<S>,
@@ -71,14 +71,16 @@ impl<S: BuildHasher + Copy> PolicySet<S> {
         self.maps.hasher()
     }
 
-    /// The set that is kept in these three maps: bodies, static policies' too, policies, and under each body's id the ids of
-    /// the policies on it. It takes no memory. It passes over the policies once, for its proof alone, and over the third map,
-    /// of which the set keeps what stands under templates' ids: on a static policy's body stands that policy alone.
+    /// The set that is kept in these three maps: bodies, static policies' too, policies, and under each body's id the
+    /// ids of the policies on it. It takes no memory. It passes over the policies once, for its proof alone, and over
+    /// the third map, of which the set keeps what stands under templates' ids: on a static policy's body stands that
+    /// policy alone.
     ///
-    /// The maps have to agree: bodies and policies stand under their own ids; each policy's template stands among the bodies;
-    /// a link has an id that no body has, and its template is no static policy's; and the third map has the ids of all
-    /// bodies, in their order, each with the ids of the policies on it, in theirs. The original leaves to its caller that
-    /// they do, and open in which order the third is. New maps that the set makes are hashed as the first of these is.
+    /// The maps have to agree: bodies and policies stand under their own ids; each policy's template stands among the
+    /// bodies; a link has an id that no body has, and its template is no static policy's; and the third map has the ids
+    /// of all bodies, in their order, each with the ids of the policies on it, in theirs. The original leaves to its
+    /// caller that they do, and open in which order the third is. New maps that the set makes are hashed as the first
+    /// of these is.
     pub fn from_raw_components(
         templates: IndexMap<PolicyID, Rc<Template>, S>,
         links: IndexMap<PolicyID, Policy, S>,
@@ -158,8 +160,8 @@ impl<S: BuildHasher + Copy> PolicySet<S> {
         self.maps.static_policies()
     }
 
-    /// The ids of the policies on the body with this id, in the order in which they joined: of a template its links, of a
-    /// static policy itself. `MissingTemplate` comes where no body has the id. It takes memory only for the id that a
+    /// The ids of the policies on the body with this id, in the order in which they joined: of a template its links, of
+    /// a static policy itself. `MissingTemplate` comes where no body has the id. It takes memory only for the id that a
     /// refusal names, and costs two look-ups at most.
     #[tactic(auto, using(crate::specs::laws::StepLaws::listed))]
     pub fn get_linked_policies(

@@ -2,7 +2,9 @@
 ghost use Rattle.std.specs.Prelude.{◌≡◌, ◌↔◌, ◌&&◌, ◌++◌, [], true, IsTrue};
 ghost use Rattle.std.specs.Fmt.{WritesOnOk};
 ghost use Rattle.std.specs.List.{list_all, flat_map};
-ghost use Rattle.cedar_policy_set.specs.BoardTexts.{board_output, bodies_text, body_line, known_body, is_known_body, is_known_policy, orders_text, policies_text, policy_line, titled_text};
+ghost use Rattle.cedar_policy_set.specs.BoardTexts.{board_output, bodies_text, body_line, known_body, is_known_body};
+ghost use Rattle.cedar_policy_set.specs.BoardTexts.{is_known_policy, orders_text, policies_text, policy_line};
+ghost use Rattle.cedar_policy_set.specs.BoardTexts.{titled_text};
 ghost use Rattle.cedar_policy_maps.specs.Views.{bodies_of};
 
 use crate::policy_set::PolicySet;
@@ -14,8 +16,8 @@ use std::rc::Rc;
 impl<S: BuildHasher + Copy> fmt::Display for PolicySet<S> {
     ghost output = { board_output };
 
-    /// Writes all bodies and then all policies, each on lines of its own; of a set without a binding it says that. It takes
-    /// no memory.
+    /// Writes all bodies and then all policies, each on lines of its own; of a set without a binding it says that. It
+    /// takes no memory.
     fn fmt<W: fmt::Write>(&self, f: &mut fmt::Formatter<W>) -> fmt::Result {
         write_orders(self.maps.shared_bodies(), self.maps.all_policies(), f)
     }
@@ -78,7 +80,8 @@ fn write_parted<W: fmt::Write>(
     f: &mut fmt::Formatter<W>,
 ) -> fmt::Result
     ensures { (is_known_body first.now && list_all is_known_body (bodies_of rest.now)) ≡ true
-        → WritesOnOk W.write_str_gives f.old result (known_body first.now ++ flat_map body_line (bodies_of rest.now)) f.new }
+        → WritesOnOk W.write_str_gives f.old result (known_body first.now
+        ++ flat_map body_line (bodies_of rest.now)) f.new }
 {
     write_body(first, f)?;
     write_body_lines(rest, f)

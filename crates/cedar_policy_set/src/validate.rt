@@ -2,7 +2,8 @@
 ghost use Rattle.std.specs.Prelude.{◌≡◌, OnOk, IfErr, All};
 ghost use Rattle.std.specs.List.{find};
 ghost use Rattle.std.specs.Option.{option_copied};
-ghost use Rattle.cedar_policy_set.specs.Validity.{is_slotless_link, HasSlottedLinks, IsSetFault, IsValidBody, ValidatesSet};
+ghost use Rattle.cedar_policy_set.specs.Validity.{is_slotless_link, HasSlottedLinks, IsSetFault, IsValidBody};
+ghost use Rattle.cedar_policy_set.specs.Validity.{ValidatesSet};
 ghost use Rattle.cedar_policy_maps.specs.Views.{bodies_of};
 ghost use Rattle.cedar_policy_set.specs.laws.BodyFaults.{IsBodyFault, IsFirstFault};
 
@@ -18,9 +19,9 @@ impl<S: BuildHasher + Copy> PolicySet<S> {
     /// The set itself, if its links and its bodies are valid; else the first fault.
     ///
     /// `LinkToSlotlessTemplate` names the first link, in the order of policies, of a template without slots; else
-    /// `InvalidTemplate` has the first body, in the order of bodies, that `Template::try_validate` refuses, with its error.
-    /// Takes memory for a copy of each body and as that call does; `Memory` comes only where that was refused. A refusal
-    /// drops the set.
+    /// `InvalidTemplate` has the first body, in the order of bodies, that `Template::try_validate` refuses, with its
+    /// error. Takes memory for a copy of each body and as that call does; `Memory` comes only where that was refused. A
+    /// refusal drops the set.
     pub fn try_validate(self, alloc: Global) -> Result<PolicySet<S>, PolicySetValidationError>
         ensures { ValidatesSet result self }
     {

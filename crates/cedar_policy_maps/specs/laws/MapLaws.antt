@@ -1,5 +1,6 @@
 -- How the three maps of a set change: what joins, what is taken out, and maps that are made from lists.
-use Rattle.std.specs.Prelude.{◌≡◌, ℕ, List, [], ◌∷◌, ◌++◌, Bool, true, false, not, ◌||◌, ◌&&◌, Option, Some, None, refl, map, is_some, fold}
+use Rattle.std.specs.Prelude.{◌≡◌, ℕ, List, [], ◌∷◌, ◌++◌, Bool, true, false, not, ◌||◌, ◌&&◌, Option, Some, None, refl}
+use Rattle.std.specs.Prelude.{map, is_some, fold}
 use Rattle.std.proofs.Common.{cond, sym, ap, ◌∙◌, subst}
 use Rattle.std.specs.List.{filter, find, list_any}
 use Rattle.std.specs.Map.{values_of, lookup, remove_entry}
@@ -11,14 +12,21 @@ use Rattle.cedar_ids.specs.Texts.{same_text}
 use Rattle.cedar_ids.specs.laws.TextLaws.{same_text_equiv, same_text_decides}
 use Rattle.cedar_body.specs.Bodies.{BodyParts}
 use Rattle.cedar_policy.specs.Policies.{PolicyParts, policy_id}
-use Rattle.cedar_policy_maps.specs.Boards.{Board, AreOnce, is_bound, is_body_at, is_policy_at, links_to, has_links, with_template, with_policy, with_both, without_id, IsHeldBy, IsHeld, AreHeld, IsBoard}
+use Rattle.cedar_policy_maps.specs.Boards.{Board, AreOnce, is_bound, is_body_at, is_policy_at, links_to, has_links}
+use Rattle.cedar_policy_maps.specs.Boards.{with_template, with_policy, with_both, without_id, IsHeldBy, IsHeld, AreHeld}
+use Rattle.cedar_policy_maps.specs.Boards.{IsBoard}
 use Rattle.cedar_policy_maps.specs.Lists.{is_on, ids_in}
 use Rattle.cedar_policy_maps.specs.Maps.{Maps, board_in, ids_by_body, templates_in, DoAgree}
-use Rattle.cedar_policy_maps.specs.laws.BoardLaws.{no_body_at, no_policy_at, ids_apart, template_joins, link_joins, free_link, both_free, both_join, taken_out, policy_has_no_links}
+use Rattle.cedar_policy_maps.specs.laws.BoardLaws.{no_body_at, no_policy_at, ids_apart, template_joins, link_joins}
+use Rattle.cedar_policy_maps.specs.laws.BoardLaws.{free_link, both_free, both_join, taken_out, policy_has_no_links}
 use Rattle.cedar_policy_maps.specs.Joins.{CanJoin, CanJoinBothBy, CanJoinBoth}
-use Rattle.cedar_policy_maps.specs.laws.ListedLaws.{with_listed, without_listed, keyed_last, keyed_removed, values_removed, not_joined, join_listed, body_listed, both_listed, leave_listed, body_unlisted}
-use Rattle.cedar_policy_maps.specs.laws.OnceLaws.{no_other, find-unless, filter_none, any-filter_none, none_is, found_passes, once-filter}
-use Rattle.cedar_policy_maps.specs.laws.TemplateLaws.{template_last, static_last, templates_stay, templates_removed, template_found}
+use Rattle.cedar_policy_maps.specs.laws.ListedLaws.{with_listed, without_listed, keyed_last, keyed_removed}
+use Rattle.cedar_policy_maps.specs.laws.ListedLaws.{values_removed, not_joined, join_listed, body_listed, both_listed}
+use Rattle.cedar_policy_maps.specs.laws.ListedLaws.{leave_listed, body_unlisted}
+use Rattle.cedar_policy_maps.specs.laws.OnceLaws.{no_other, find-unless, filter_none, any-filter_none, none_is}
+use Rattle.cedar_policy_maps.specs.laws.OnceLaws.{found_passes, once-filter}
+use Rattle.cedar_policy_maps.specs.laws.TemplateLaws.{template_last, static_last, templates_stay, templates_removed}
+use Rattle.cedar_policy_maps.specs.laws.TemplateLaws.{template_found}
 
 abbrev body_id : BodyParts → List ℕ
 body_id t = t.id
@@ -26,7 +34,8 @@ body_id t = t.id
 abbrev own_body : PolicyParts → List ℕ
 own_body p = p.template.id
 
-pub templates_once : (ts : List BodyParts) (ps : List PolicyParts) → AreOnce body_id ts → AreOnce body_id (templates_in ps ts)
+pub templates_once : (ts : List BodyParts) (ps : List PolicyParts) → AreOnce body_id ts
+    → AreOnce body_id (templates_in ps ts)
 templates_once ts ps h = once-filter body_id (λ t. not (list_any (is_policy_at t.id) ps)) ts h
 
 -- what is listed once a policy is taken out, if one was
@@ -36,7 +45,8 @@ unlisted (Some p) i ls = without_listed p.template.id i ls
 
 -- policies are listed one after another
 abbrev pub all_listed : List (List ℕ × List (List ℕ)) → List PolicyParts → List (List ℕ × List (List ℕ))
-all_listed ls ps = fold (λ (done : List (List ℕ × List (List ℕ))) (p : PolicyParts). with_listed p.template.id (policy_id p) done) ls ps
+all_listed ls ps = fold (λ (done : List (List ℕ × List (List ℕ))) (p : PolicyParts). with_listed p.template.id
+    (policy_id p) done) ls ps
 
 -- whether there are ids
 abbrev pub has_ids : Option (List (List ℕ)) → Bool
@@ -46,19 +56,24 @@ has_ids (Some (k ∷ ks)) = true
 
 -- ---- what is read
 
-pub listed_at : (i : List ℕ) (ts : List BodyParts) (ps : List PolicyParts) → lookup (same_text i) (ids_by_body ts ps) ≡ option_map (λ t. ids_in t.id ps) (find (is_body_at i) ts)
+pub listed_at : (i : List ℕ) (ts : List BodyParts) (ps : List PolicyParts)
+    → lookup (same_text i) (ids_by_body ts ps) ≡ option_map (λ t. ids_in t.id ps) (find (is_body_at i) ts)
 listed_at i [] ps = refl
 listed_at i (t ∷ ts) ps = at_one (is_body_at i t) (listed_at i ts ps)
   where
-    at_one : (v : Bool) → lookup (same_text i) (ids_by_body ts ps) ≡ option_map (λ t. ids_in t.id ps) (find (is_body_at i) ts)
-        → cond v (Some (ids_in t.id ps)) (lookup (same_text i) (ids_by_body ts ps)) ≡ option_map (λ t. ids_in t.id ps) (cond v (Some t) (find (is_body_at i) ts))
+    at_one : (v : Bool) → lookup (same_text i) (ids_by_body ts ps)
+        ≡ option_map (λ t. ids_in t.id ps) (find (is_body_at i) ts)
+        → cond v (Some (ids_in t.id ps)) (lookup (same_text i) (ids_by_body ts ps))
+        ≡ option_map (λ t. ids_in t.id ps) (cond v (Some t) (find (is_body_at i) ts))
     at_one true h = refl
     at_one false h = h
 
-on_none : (i j : List ℕ) (ts : List BodyParts) (t : BodyParts) → list_any (is_body_at i) ts ≡ false → find (is_body_at j) ts ≡ Some t → same_text i j ≡ false
+on_none : (i j : List ℕ) (ts : List BodyParts) (t : BodyParts) → list_any (is_body_at i) ts ≡ false
+    → find (is_body_at j) ts ≡ Some t → same_text i j ≡ false
 on_none i j ts t n f = same_text_equiv.symm i j ∙ ids_apart ts j i t f n
 
-held_apart : (o : Option (List ℕ)) (b : Board) (i : List ℕ) (p : PolicyParts) → list_any (is_body_at i) b.bodies ≡ false → IsHeldBy o b p → is_on i p ≡ false
+held_apart : (o : Option (List ℕ)) (b : Board) (i : List ℕ) (p : PolicyParts) → list_any (is_body_at i) b.bodies ≡ false
+    → IsHeldBy o b p → is_on i p ≡ false
 held_apart None b i p n h = on_none i p.template.id b.bodies p.template n h.2
 held_apart (Some l) b i p n h = on_none i p.template.id b.bodies p.template n h.1
 
@@ -71,32 +86,39 @@ or_true false c h = h
 
 none_passes : {X : Type 0} (t : X → Bool) (xs : List X) → list_any t xs ≡ false → filter t xs ≡ []
 none_passes t [] h = refl
-none_passes t (x ∷ xs) h = ap (λ v. cond v (x ∷ filter t xs) (filter t xs)) (or_parts _ _ h).0 ∙ none_passes t xs (or_parts _ _ h).1
+none_passes t (x ∷ xs) h = ap (λ v. cond v (x ∷ filter t xs) (filter t xs)) (or_parts _ _ h).0
+    ∙ none_passes t xs (or_parts _ _ h).1
 
 found_any : {X : Type 0} (t : X → Bool) (xs : List X) (x : X) → find t xs ≡ Some x → list_any t xs ≡ true
 found_any t [] x h = absurd (cc)
 found_any t (y ∷ ys) x h = any_at (t y) h (found_any t ys x)
   where
-    any_at : (v : Bool) → cond v (Some y) (find t ys) ≡ Some x → (find t ys ≡ Some x → list_any t ys ≡ true) → (v || list_any t ys) ≡ true
+    any_at : (v : Bool) → cond v (Some y) (find t ys) ≡ Some x → (find t ys ≡ Some x → list_any t ys ≡ true)
+        → (v || list_any t ys) ≡ true
     any_at true f ih = refl
     any_at false f ih = ih f
 
 -- no policy is on what is no body
-pub none_on_it : (b : Board) (i : List ℕ) (ps : List PolicyParts) → list_any (is_body_at i) b.bodies ≡ false → AreHeld b ps → list_any (is_on i) ps ≡ false
+pub none_on_it : (b : Board) (i : List ℕ) (ps : List PolicyParts) → list_any (is_body_at i) b.bodies ≡ false
+    → AreHeld b ps → list_any (is_on i) ps ≡ false
 none_on_it b i [] n h = refl
 none_on_it b i (p ∷ ps) n h = neither _ _ (held_apart p.link b i p n h.0) (none_on_it b i ps n h.1)
 
-link_on : (o : Option (List ℕ)) (i k : List ℕ) → same_text i (unwrap_or o k) ≡ false → (is_some o && same_text i k) ≡ same_text i k
+link_on : (o : Option (List ℕ)) (i k : List ℕ) → same_text i (unwrap_or o k) ≡ false
+    → (is_some o && same_text i k) ≡ same_text i k
 link_on None i k n = sym n
 link_on (Some l) i k n = refl
 
 -- what is on an id that no policy has is a link
-links_on : (i : List ℕ) (ps : List PolicyParts) → list_any (is_policy_at i) ps ≡ false → list_any (links_to i) ps ≡ list_any (is_on i) ps
+links_on : (i : List ℕ) (ps : List PolicyParts) → list_any (is_policy_at i) ps ≡ false
+    → list_any (links_to i) ps ≡ list_any (is_on i) ps
 links_on i [] n = refl
 links_on i (p ∷ ps) n = λ j. link_on p.link i p.template.id (or_parts _ _ n).0 j || links_on i ps (or_parts _ _ n).1 j
 
-any_on_at : (v : Bool) (p : PolicyParts) (i : List ℕ) (ps : List PolicyParts) → has_ids (Some (ids_in i ps)) ≡ list_any (is_on i) ps →
-    has_ids (Some (map policy_id (cond v (p ∷ filter (is_on i) ps) (filter (is_on i) ps)))) ≡ (v || list_any (is_on i) ps)
+any_on_at : (v : Bool) (p : PolicyParts) (i : List ℕ) (ps : List PolicyParts)
+    → has_ids (Some (ids_in i ps)) ≡ list_any (is_on i) ps →
+    has_ids (Some (map policy_id (cond v (p ∷ filter (is_on i) ps) (filter (is_on i) ps))))
+    ≡ (v || list_any (is_on i) ps)
 any_on_at true p i ps h = refl
 any_on_at false p i ps h = h
 
@@ -104,11 +126,13 @@ any_on : (i : List ℕ) (ps : List PolicyParts) → has_ids (Some (ids_in i ps))
 any_on i [] = refl
 any_on i (p ∷ ps) = any_on_at (is_on i p) p i ps (any_on i ps)
 
-policy_unlinked : (b : Board) (i : List ℕ) (o : Option PolicyParts) → IsBoard b → find (is_policy_at i) b.policies ≡ o → list_any (is_policy_at i) b.policies ≡ true → has_links b i ≡ false
+policy_unlinked : (b : Board) (i : List ℕ) (o : Option PolicyParts) → IsBoard b → find (is_policy_at i) b.policies ≡ o
+    → list_any (is_policy_at i) b.policies ≡ true → has_links b i ≡ false
 policy_unlinked b i (Some q) h f a = policy_has_no_links b i q h f
 policy_unlinked b i None h f a = absurd (false≢true (sym (none_is (is_policy_at i) b.policies f) ∙ a))
 
-linked_body : (b : Board) (i : List ℕ) (o : Option BodyParts) → IsBoard b → find (is_body_at i) b.bodies ≡ o → list_any (is_policy_at i) b.policies ≡ false →
+linked_body : (b : Board) (i : List ℕ) (o : Option BodyParts) → IsBoard b → find (is_body_at i) b.bodies ≡ o
+    → list_any (is_policy_at i) b.policies ≡ false →
     has_ids (option_map (λ t. ids_in t.id b.policies) o) ≡ has_links b i
 linked_body b i None h f n =
     sym (links_on i b.policies n ∙ none_on_it b i b.policies (none_is (is_body_at i) b.bodies f) h.held)
@@ -122,83 +146,109 @@ linked_at true b i h e = sym (policy_unlinked b i (find (is_policy_at i) b.polic
 linked_at false b i h e = linked_body b i (find (is_body_at i) b.bodies) h refl e
 
 -- a template has links where ids stand under its own
-pub linked_is : (b : Board) (i : List ℕ) → IsBoard b → has_ids (option_map (λ t. ids_in t.id b.policies) (find (is_body_at i) (templates_in b.policies b.bodies))) ≡ has_links b i
+pub linked_is : (b : Board) (i : List ℕ) → IsBoard b → has_ids
+    (option_map (λ t. ids_in t.id b.policies) (find (is_body_at i) (templates_in b.policies b.bodies))) ≡ has_links b i
 linked_is b i h =
-    ap (λ o. has_ids (option_map (λ t. ids_in t.id b.policies) o)) (template_found i b.bodies b.policies) ∙ linked_at (list_any (is_policy_at i) b.policies) b i h refl
+    ap (λ o. has_ids (option_map (λ t. ids_in t.id b.policies) o)) (template_found i b.bodies b.policies)
+    ∙ linked_at (list_any (is_policy_at i) b.policies) b i h refl
 
 -- ---- the ids on a body, of a static policy its own
 
-is_own : (l : Option (List ℕ)) (b : Board) (i : List ℕ) (q : PolicyParts) → l ≡ q.link → IsHeldBy l b q → list_any (is_policy_at i) b.policies ≡ true → list_any (is_body_at i) b.bodies ≡ true →
+is_own : (l : Option (List ℕ)) (b : Board) (i : List ℕ) (q : PolicyParts) → l ≡ q.link → IsHeldBy l b q
+    → list_any (is_policy_at i) b.policies ≡ true → list_any (is_body_at i) b.bodies ≡ true →
     is_on i q ≡ is_policy_at i q
 is_own None b i q e h a t = ap (λ o. same_text i (unwrap_or o q.template.id)) e
 is_own (Some l) b i q e h a t =
     own_link (same_text i q.template.id) (same_text i l) refl refl ∙ ap (λ o. same_text i (unwrap_or o q.template.id)) e
   where
-    own_link : (v w : Bool) → same_text i q.template.id ≡ v → same_text i l ≡ w → same_text i q.template.id ≡ same_text i l
-    own_link true w f g = absurd (false≢true (sym h.2 ∙ ap (λ k. list_any (is_policy_at k) b.policies) (sym ((same_text_decides i q.template.id).0 f)) ∙ a))
-    own_link false true f g = absurd (false≢true (sym h.0 ∙ ap (λ k. list_any (is_body_at k) b.bodies) (sym ((same_text_decides i l).0 g)) ∙ t))
+    own_link : (v w : Bool) → same_text i q.template.id ≡ v → same_text i l ≡ w
+        → same_text i q.template.id ≡ same_text i l
+    own_link true w f g = absurd (false≢true (sym h.2 ∙ ap (λ k. list_any (is_policy_at k) b.policies)
+        (sym ((same_text_decides i q.template.id).0 f)) ∙ a))
+    own_link false true f g = absurd (false≢true (sym h.0
+        ∙ ap (λ k. list_any (is_body_at k) b.bodies) (sym ((same_text_decides i l).0 g)) ∙ t))
     own_link false false f g = f ∙ sym g
 
-all_own : (b : Board) (i : List ℕ) (ps : List PolicyParts) → AreHeld b ps → list_any (is_policy_at i) b.policies ≡ true → list_any (is_body_at i) b.bodies ≡ true → ids_in i ps ≡ map policy_id (filter (is_policy_at i) ps)
+all_own : (b : Board) (i : List ℕ) (ps : List PolicyParts) → AreHeld b ps → list_any (is_policy_at i) b.policies ≡ true
+    → list_any (is_body_at i) b.bodies ≡ true → ids_in i ps ≡ map policy_id (filter (is_policy_at i) ps)
 all_own b i [] h a t = refl
 all_own b i (p ∷ ps) h a t =
     own_at (is_on i p) (is_policy_at i p) (is_own p.link b i p refl h.0 a t) (all_own b i ps h.1 a t)
   where
     own_at : (v w : Bool) → v ≡ w → ids_in i ps ≡ map policy_id (filter (is_policy_at i) ps) →
-        map policy_id (cond v (p ∷ filter (is_on i) ps) (filter (is_on i) ps)) ≡ map policy_id (cond w (p ∷ filter (is_policy_at i) ps) (filter (is_policy_at i) ps))
-    own_at v true e ih = ap (λ v. map policy_id (cond v (p ∷ filter (is_on i) ps) (filter (is_on i) ps))) e ∙ ap (λ ks. policy_id p ∷ ks) ih
+        map policy_id (cond v (p ∷ filter (is_on i) ps) (filter (is_on i) ps))
+        ≡ map policy_id (cond w (p ∷ filter (is_policy_at i) ps) (filter (is_policy_at i) ps))
+    own_at v true e ih = ap (λ v. map policy_id (cond v (p ∷ filter (is_on i) ps) (filter (is_on i) ps))) e
+        ∙ ap (λ ks. policy_id p ∷ ks) ih
     own_at v false e ih = ap (λ v. map policy_id (cond v (p ∷ filter (is_on i) ps) (filter (is_on i) ps))) e ∙ ih
 
-one_at : (v : Bool) (i : List ℕ) (p q : PolicyParts) (ps : List PolicyParts) → is_policy_at i q ≡ v → cond v (Some q) (find (is_policy_at i) ps) ≡ Some p → (v ≡ true → list_any (is_policy_at i) ps ≡ false)
-    → (find (is_policy_at i) ps ≡ Some p → filter (is_policy_at i) ps ≡ p ∷ []) → cond v (q ∷ filter (is_policy_at i) ps) (filter (is_policy_at i) ps) ≡ p ∷ []
+one_at : (v : Bool) (i : List ℕ) (p q : PolicyParts) (ps : List PolicyParts) → is_policy_at i q ≡ v
+    → cond v (Some q) (find (is_policy_at i) ps) ≡ Some p → (v ≡ true → list_any (is_policy_at i) ps ≡ false)
+    → (find (is_policy_at i) ps ≡ Some p → filter (is_policy_at i) ps ≡ p ∷ [])
+    → cond v (q ∷ filter (is_policy_at i) ps) (filter (is_policy_at i) ps) ≡ p ∷ []
 one_at true i p q ps e f n ih =
     let same : q ≡ p = cc in
     ap (λ xs. q ∷ xs) (none_passes (is_policy_at i) ps (n refl)) ∙ ap (λ x. x ∷ []) same
 one_at false i p q ps e f n ih = ih f
 
-found_alone : (i : List ℕ) (p : PolicyParts) (ps : List PolicyParts) → AreOnce policy_id ps → find (is_policy_at i) ps ≡ Some p → filter (is_policy_at i) ps ≡ p ∷ []
+found_alone : (i : List ℕ) (p : PolicyParts) (ps : List PolicyParts) → AreOnce policy_id ps
+    → find (is_policy_at i) ps ≡ Some p → filter (is_policy_at i) ps ≡ p ∷ []
 found_alone i p [] h f = absurd (cc)
-found_alone i p (q ∷ ps) h f = one_at (is_policy_at i q) i p q ps refl f (no_other policy_id i q ps h) (found_alone i p ps h.1)
+found_alone i p (q ∷ ps) h f = one_at (is_policy_at i q) i p q ps refl f (no_other policy_id i q ps h)
+    (found_alone i p ps h.1)
 
-own_of : (b : Board) (i : List ℕ) (p : PolicyParts) → IsBoard b → find (is_policy_at i) b.policies ≡ Some p → list_any (is_body_at i) b.bodies ≡ true → ids_in i b.policies ≡ policy_id p ∷ []
+own_of : (b : Board) (i : List ℕ) (p : PolicyParts) → IsBoard b → find (is_policy_at i) b.policies ≡ Some p
+    → list_any (is_body_at i) b.bodies ≡ true → ids_in i b.policies ≡ policy_id p ∷ []
 own_of b i p h f t =
-    all_own b i b.policies h.held (found_any (is_policy_at i) b.policies p f) t ∙ ap (map policy_id) (found_alone i p b.policies h.policies_once f)
+    all_own b i b.policies h.held (found_any (is_policy_at i) b.policies p f) t
+    ∙ ap (map policy_id) (found_alone i p b.policies h.policies_once f)
 
-held_at : (v : Bool) (b : Board) (q p : PolicyParts) (rest : Option PolicyParts) → cond v (Some q) rest ≡ Some p → IsHeld b q → (rest ≡ Some p → IsHeld b p) → IsHeld b p
+held_at : (v : Bool) (b : Board) (q p : PolicyParts) (rest : Option PolicyParts) → cond v (Some q) rest ≡ Some p
+    → IsHeld b q → (rest ≡ Some p → IsHeld b p) → IsHeld b p
 held_at true b q p rest e h ih =
     let same : q ≡ p = cc in
     subst (IsHeld b) same h
 held_at false b q p rest e h ih = ih e
 
-held_found : (b : Board) (i : List ℕ) (p : PolicyParts) (ps : List PolicyParts) → AreHeld b ps → find (is_policy_at i) ps ≡ Some p → IsHeld b p
+held_found : (b : Board) (i : List ℕ) (p : PolicyParts) (ps : List PolicyParts) → AreHeld b ps
+    → find (is_policy_at i) ps ≡ Some p → IsHeld b p
 held_found b i p [] h f = absurd (cc)
-held_found b i p (q ∷ ps) h f = held_at (is_policy_at i q) b q p (find (is_policy_at i) ps) f h.0 (held_found b i p ps h.1)
+held_found b i p (q ∷ ps) h f = held_at (is_policy_at i q) b q p (find (is_policy_at i) ps) f h.0
+    (held_found b i p ps h.1)
 
 -- where no policy is found the templates' lists are those of all bodies
-pub on_template : (b : Board) (i : List ℕ) → find (is_policy_at i) b.policies ≡ None → find (is_body_at i) (templates_in b.policies b.bodies) ≡ find (is_body_at i) b.bodies
-on_template b i n = template_found i b.bodies b.policies ∙ ap (λ v. cond v None (find (is_body_at i) b.bodies)) (none_is (is_policy_at i) b.policies n)
+pub on_template : (b : Board) (i : List ℕ) → find (is_policy_at i) b.policies ≡ None
+    → find (is_body_at i) (templates_in b.policies b.bodies) ≡ find (is_body_at i) b.bodies
+on_template b i n = template_found i b.bodies b.policies
+    ∙ ap (λ v. cond v None (find (is_body_at i) b.bodies)) (none_is (is_policy_at i) b.policies n)
 
 own_id : (i : List ℕ) (p : PolicyParts) (ps : List PolicyParts) → find (is_policy_at i) ps ≡ Some p → i ≡ policy_id p
 own_id i p ps f = (same_text_decides i (policy_id p)).0 (found_passes (is_policy_at i) ps p f)
 
-link_ids_by : (o : Option (List ℕ)) (b : Board) (i : List ℕ) (p : PolicyParts) → o ≡ p.link → is_some o ≡ true → i ≡ policy_id p → IsHeldBy o b p → find (is_body_at i) b.bodies ≡ None
+link_ids_by : (o : Option (List ℕ)) (b : Board) (i : List ℕ) (p : PolicyParts) → o ≡ p.link → is_some o ≡ true
+    → i ≡ policy_id p → IsHeldBy o b p → find (is_body_at i) b.bodies ≡ None
 link_ids_by None b i p e s q h = absurd (cc)
 link_ids_by (Some l) b i p e s q h =
-    find-unless (is_body_at i) b.bodies (ap (λ k. list_any (is_body_at k) b.bodies) (q ∙ ap (λ o. unwrap_or o p.template.id) (sym e)) ∙ h.0)
+    find-unless (is_body_at i) b.bodies (ap (λ k. list_any (is_body_at k) b.bodies) (q
+    ∙ ap (λ o. unwrap_or o p.template.id) (sym e)) ∙ h.0)
 
 -- no body has the id of a link
-pub link_ids : (b : Board) (i : List ℕ) (p : PolicyParts) → IsBoard b → find (is_policy_at i) b.policies ≡ Some p → is_some p.link ≡ true → None ≡ option_map (λ t. ids_in t.id b.policies) (find (is_body_at i) b.bodies)
+pub link_ids : (b : Board) (i : List ℕ) (p : PolicyParts) → IsBoard b → find (is_policy_at i) b.policies ≡ Some p
+    → is_some p.link ≡ true → None ≡ option_map (λ t. ids_in t.id b.policies) (find (is_body_at i) b.bodies)
 link_ids b i p h f s =
-    sym (ap (option_map (λ t. ids_in t.id b.policies)) (link_ids_by p.link b i p refl s (own_id i p b.policies f) (held_found b i p b.policies h.held f)))
+    sym (ap (option_map (λ t. ids_in t.id b.policies))
+    (link_ids_by p.link b i p refl s (own_id i p b.policies f) (held_found b i p b.policies h.held f)))
 
-static_body_by : (o : Option (List ℕ)) (b : Board) (i : List ℕ) (p : PolicyParts) → o ≡ p.link → is_some o ≡ false → i ≡ policy_id p → IsHeldBy o b p → (find (is_body_at i) b.bodies ≡ Some p.template) × (i ≡ p.template.id)
+static_body_by : (o : Option (List ℕ)) (b : Board) (i : List ℕ) (p : PolicyParts) → o ≡ p.link → is_some o ≡ false
+    → i ≡ policy_id p → IsHeldBy o b p → (find (is_body_at i) b.bodies ≡ Some p.template) × (i ≡ p.template.id)
 static_body_by None b i p e s q h =
     let own : i ≡ p.template.id = q ∙ ap (λ o. unwrap_or o p.template.id) (sym e) in
     (ap (λ k. find (is_body_at k) b.bodies) own ∙ h.2, own)
 static_body_by (Some l) b i p e s q h = absurd (cc)
 
 -- on the body of a static policy stands that policy alone
-pub static_ids : (b : Board) (i : List ℕ) (p : PolicyParts) → IsBoard b → find (is_policy_at i) b.policies ≡ Some p → is_some p.link ≡ false →
+pub static_ids : (b : Board) (i : List ℕ) (p : PolicyParts) → IsBoard b → find (is_policy_at i) b.policies ≡ Some p
+    → is_some p.link ≡ false →
     Some (policy_id p ∷ []) ≡ option_map (λ t. ids_in t.id b.policies) (find (is_body_at i) b.bodies)
 static_ids b i p h f s =
     let k = static_body_by p.link b i p refl s (own_id i p b.policies f) (held_found b i p b.policies h.held f) in
@@ -212,12 +262,18 @@ static_ids b i p h f s =
 abbrev Becomes : Maps → Board → Type 0
 Becomes m b = DoAgree m × (board_in m ≡ b)
 
-last_value : {V : Type 0} (es : List (List ℕ × V)) (k : List ℕ) (v : V) → values_of (es ++ (k, v) ∷ []) ≡ values_of es ++ v ∷ []
+last_value : {V : Type 0} (es : List (List ℕ × V)) (k : List ℕ) (v : V)
+    → values_of (es ++ (k, v) ∷ []) ≡ values_of es ++ v ∷ []
 last_value es k v = map-append (λ e. e.1) es ((k, v) ∷ [])
 
 -- a template with a free id
 template_agrees : (m : Maps) (t : BodyParts) → DoAgree m → is_bound (board_in m) t.id ≡ false →
-    Becomes (record { bodies = m.bodies ++ (t.id, t) ∷ []; policies = m.policies; listed = m.listed ++ (t.id, []) ∷ [] }) (with_template (board_in m) t)
+    Becomes (record {
+      bodies = m.bodies ++ (t.id, t) ∷ [];
+      policies = m.policies;
+      listed =
+          m.listed ++ (t.id, []) ∷ [];
+    }) (with_template (board_in m) t)
 template_agrees m t h n =
     let b = board_in m in
     let ts = last_value m.bodies t.id t in
@@ -228,20 +284,28 @@ template_agrees m t h n =
         policies_by_id = h.policies_by_id;
         all_listed =
             ap (λ ls. ls ++ (t.id, []) ∷ []) h.all_listed
-            ∙ sym (body_listed body_id policy_id own_body (templates_in b.policies b.bodies) b.policies t (none_on_it b t.id b.policies (no_body_at b t.id n) h.board.held))
+            ∙ sym (body_listed body_id policy_id own_body (templates_in b.policies b.bodies) b.policies t
+            (none_on_it b t.id b.policies (no_body_at b t.id n) h.board.held))
             ∙ ap (λ us. ids_by_body us b.policies) (sym (template_last b.bodies b.policies t (no_policy_at b t.id n)))
             ∙ ap (λ us. ids_by_body (templates_in b.policies us) b.policies) (sym ts);
       },
       now,
     )
 
-pub template_kept : (m : Maps) (t : BodyParts) (bs : List (List ℕ × BodyParts)) (ls : List (List ℕ × List (List ℕ))) → DoAgree m → is_bound (board_in m) t.id ≡ false →
-    bs ≡ m.bodies ++ (t.id, t) ∷ [] → ls ≡ m.listed ++ (t.id, []) ∷ [] → Becomes (record { bodies = bs; policies = m.policies; listed = ls }) (with_template (board_in m) t)
+pub template_kept : (m : Maps) (t : BodyParts) (bs : List (List ℕ × BodyParts)) (ls : List (List ℕ × List (List ℕ)))
+    → DoAgree m → is_bound (board_in m) t.id ≡ false →
+    bs ≡ m.bodies ++ (t.id, t) ∷ [] → ls ≡ m.listed ++ (t.id, []) ∷ []
+    → Becomes (record { bodies = bs; policies = m.policies; listed = ls }) (with_template (board_in m) t)
 template_kept m t bs ls h n p q = rw (p, q) (template_agrees m t h n)
 
 -- a link of a template that stands there
 policy_agrees : (m : Maps) (p : PolicyParts) → DoAgree m → CanJoin (board_in m) p →
-    Becomes (record { bodies = m.bodies; policies = m.policies ++ (policy_id p, p) ∷ []; listed = with_listed p.template.id (policy_id p) m.listed }) (with_policy (board_in m) p)
+    Becomes (record {
+      bodies = m.bodies;
+      policies = m.policies ++ (policy_id p, p) ∷ [];
+      listed =
+          with_listed p.template.id (policy_id p) m.listed;
+    }) (with_policy (board_in m) p)
 policy_agrees m p h c =
     let b = board_in m in
     let ps = last_value m.policies (policy_id p) p in
@@ -253,20 +317,29 @@ policy_agrees m p h c =
         policies_by_id = keyed_last policy_id m.policies (policy_id p) p h.policies_by_id refl;
         all_listed =
             ap (with_listed p.template.id (policy_id p)) h.all_listed
-            ∙ join_listed body_id policy_id own_body (templates_in b.policies b.bodies) b.policies p (templates_once b.bodies b.policies h.board.bodies_once) (no_policy_at b (policy_id p) free)
-            ∙ ap (λ us. ids_by_body us (b.policies ++ p ∷ [])) (sym (templates_stay b.bodies b.policies p (no_body_at b (policy_id p) free)))
+            ∙ join_listed body_id policy_id own_body (templates_in b.policies b.bodies) b.policies p
+            (templates_once b.bodies b.policies h.board.bodies_once) (no_policy_at b (policy_id p) free)
+            ∙ ap (λ us. ids_by_body us (b.policies ++ p ∷ []))
+            (sym (templates_stay b.bodies b.policies p (no_body_at b (policy_id p) free)))
             ∙ ap (λ qs. ids_by_body (templates_in qs b.bodies) qs) (sym ps);
       },
       now,
     )
 
-pub policy_kept : (m : Maps) (p : PolicyParts) (qs : List (List ℕ × PolicyParts)) (ls : List (List ℕ × List (List ℕ))) → DoAgree m → CanJoin (board_in m) p →
-    qs ≡ m.policies ++ (policy_id p, p) ∷ [] → ls ≡ with_listed p.template.id (policy_id p) m.listed → Becomes (record { bodies = m.bodies; policies = qs; listed = ls }) (with_policy (board_in m) p)
+pub policy_kept : (m : Maps) (p : PolicyParts) (qs : List (List ℕ × PolicyParts)) (ls : List (List ℕ × List (List ℕ)))
+    → DoAgree m → CanJoin (board_in m) p →
+    qs ≡ m.policies ++ (policy_id p, p) ∷ [] → ls ≡ with_listed p.template.id (policy_id p) m.listed
+    → Becomes (record { bodies = m.bodies; policies = qs; listed = ls }) (with_policy (board_in m) p)
 policy_kept m p qs ls h c f g = rw (f, g) (policy_agrees m p h c)
 
 -- a static policy and its body, which are not listed
 static_agrees : (m : Maps) (p : PolicyParts) → DoAgree m → CanJoinBoth (board_in m) p → p.link ≡ None →
-    Becomes (record { bodies = m.bodies ++ (p.template.id, p.template) ∷ []; policies = m.policies ++ (policy_id p, p) ∷ []; listed = m.listed }) (with_both (board_in m) p.template p)
+    Becomes (record {
+      bodies = m.bodies ++ (p.template.id, p.template) ∷ [];
+      policies =
+          m.policies ++ (policy_id p, p) ∷ [];
+      listed = m.listed;
+    }) (with_both (board_in m) p.template p)
 static_agrees m p h c e =
     let b = board_in m in
     let t = p.template in
@@ -283,25 +356,37 @@ static_agrees m p h c e =
         policies_by_id = keyed_last policy_id m.policies (policy_id p) p h.policies_by_id refl;
         all_listed =
             h.all_listed
-            ∙ sym (not_joined body_id policy_id own_body (templates_in b.policies b.bodies) b.policies p (any-filter_none (λ (t : BodyParts). not (list_any (is_policy_at t.id) b.policies)) (is_body_at t.id) b.bodies (no_body_at b t.id c.0)))
-            ∙ ap (λ us. ids_by_body us (b.policies ++ p ∷ [])) (sym (static_last b.bodies (b.policies ++ p ∷ []) t there ∙ templates_stay b.bodies b.policies p none))
+            ∙ sym (not_joined body_id policy_id own_body (templates_in b.policies b.bodies) b.policies p
+            (any-filter_none (λ (t : BodyParts). not (list_any (is_policy_at t.id) b.policies))
+            (is_body_at t.id) b.bodies (no_body_at b t.id c.0)))
+            ∙ ap (λ us. ids_by_body us (b.policies ++ p ∷ [])) (sym (static_last b.bodies (b.policies ++ p ∷ []) t there
+            ∙ templates_stay b.bodies b.policies p none))
             ∙ (λ j. ids_by_body (templates_in (sym ps j) (sym ts j)) (sym ps j));
       },
       now,
     )
 
-pub static_kept : (m : Maps) (p : PolicyParts) (bs : List (List ℕ × BodyParts)) (qs : List (List ℕ × PolicyParts)) → DoAgree m → CanJoinBoth (board_in m) p → p.link ≡ None →
+pub static_kept : (m : Maps) (p : PolicyParts) (bs : List (List ℕ × BodyParts)) (qs : List (List ℕ × PolicyParts))
+    → DoAgree m → CanJoinBoth (board_in m) p → p.link ≡ None →
     bs ≡ m.bodies ++ (p.template.id, p.template) ∷ [] → qs ≡ m.policies ++ (policy_id p, p) ∷ [] →
     Becomes (record { bodies = bs; policies = qs; listed = m.listed }) (with_both (board_in m) p.template p)
 static_kept m p bs qs h c e f g = rw (f, g) (static_agrees m p h c e)
 
 -- a link and its template
-link_apart : (o : Option (List ℕ)) (b : Board) (p : PolicyParts) → o ≡ p.link → (o ≡ None → ⊥) → CanJoinBothBy o b p → same_text p.template.id (policy_id p) ≡ false
+link_apart : (o : Option (List ℕ)) (b : Board) (p : PolicyParts) → o ≡ p.link → (o ≡ None → ⊥) → CanJoinBothBy o b p
+    → same_text p.template.id (policy_id p) ≡ false
 link_apart None b p e n c = absurd (n refl)
-link_apart (Some l) b p e n c = ap (λ o. same_text p.template.id (unwrap_or o p.template.id)) (sym e) ∙ same_text_equiv.symm p.template.id l ∙ c.1
+link_apart (Some l) b p e n c = ap (λ o. same_text p.template.id (unwrap_or o p.template.id)) (sym e)
+    ∙ same_text_equiv.symm p.template.id l ∙ c.1
 
 link_agrees : (m : Maps) (p : PolicyParts) → DoAgree m → CanJoinBoth (board_in m) p → (p.link ≡ None → ⊥) →
-    Becomes (record { bodies = m.bodies ++ (p.template.id, p.template) ∷ []; policies = m.policies ++ (policy_id p, p) ∷ []; listed = m.listed ++ (p.template.id, policy_id p ∷ []) ∷ [] }) (with_both (board_in m) p.template p)
+    Becomes (record {
+      bodies = m.bodies ++ (p.template.id, p.template) ∷ [];
+      policies =
+          m.policies ++ (policy_id p, p) ∷ [];
+      listed = m.listed
+          ++ (p.template.id, policy_id p ∷ []) ∷ [];
+    }) (with_both (board_in m) p.template p)
 link_agrees m p h c l =
     let b = board_in m in
     let t = p.template in
@@ -320,27 +405,42 @@ link_agrees m p h c l =
         all_listed =
             ap (λ ls. ls ++ (t.id, policy_id p ∷ []) ∷ []) h.all_listed
             ∙ sym (both_listed body_id policy_id own_body (templates_in b.policies b.bodies) b.policies t p refl
-            (any-filter_none (λ (t : BodyParts). not (list_any (is_policy_at t.id) b.policies)) (is_body_at t.id) b.bodies free) (none_on_it b t.id b.policies free h.board.held))
-            ∙ ap (λ us. ids_by_body us (b.policies ++ p ∷ [])) (sym (template_last b.bodies (b.policies ++ p ∷ []) t unused ∙ ap (λ us. us ++ t ∷ []) (templates_stay b.bodies b.policies p none)))
+            (any-filter_none (λ (t : BodyParts). not (list_any (is_policy_at t.id) b.policies))
+            (is_body_at t.id) b.bodies free) (none_on_it b t.id b.policies free h.board.held))
+            ∙ ap (λ us. ids_by_body us (b.policies ++ p ∷ []))
+            (sym (template_last b.bodies (b.policies ++ p ∷ []) t unused
+            ∙ ap (λ us. us ++ t ∷ []) (templates_stay b.bodies b.policies p none)))
             ∙ (λ j. ids_by_body (templates_in (sym ps j) (sym ts j)) (sym ps j));
       },
       now,
     )
 
-pub link_kept : (m : Maps) (p : PolicyParts) (bs : List (List ℕ × BodyParts)) (qs : List (List ℕ × PolicyParts)) (ls : List (List ℕ × List (List ℕ))) → DoAgree m → CanJoinBoth (board_in m) p → (p.link ≡ None → ⊥) →
-    bs ≡ m.bodies ++ (p.template.id, p.template) ∷ [] → qs ≡ m.policies ++ (policy_id p, p) ∷ [] → ls ≡ m.listed ++ (p.template.id, policy_id p ∷ []) ∷ [] →
+pub link_kept : (m : Maps) (p : PolicyParts) (bs : List (List ℕ × BodyParts)) (qs : List (List ℕ
+    × PolicyParts)) (ls : List (List ℕ × List (List ℕ))) → DoAgree m → CanJoinBoth (board_in m) p
+    → (p.link ≡ None → ⊥) →
+    bs ≡ m.bodies ++ (p.template.id, p.template) ∷ [] → qs ≡ m.policies ++ (policy_id p, p) ∷ []
+    → ls ≡ m.listed ++ (p.template.id, policy_id p ∷ []) ∷ [] →
     Becomes (record { bodies = bs; policies = qs; listed = ls }) (with_both (board_in m) p.template p)
 link_kept m p bs qs ls h c l f g k = rw (f, g, k) (link_agrees m p h c l)
 
 -- ---- what is taken out
 
-left_listed : (o : Option PolicyParts) (i : List ℕ) (ts : List BodyParts) (ps : List PolicyParts) → AreOnce body_id ts → AreOnce policy_id ps → o ≡ find (is_policy_at i) ps →
+left_listed : (o : Option PolicyParts) (i : List ℕ) (ts : List BodyParts) (ps : List PolicyParts) → AreOnce body_id ts
+    → AreOnce policy_id ps → o ≡ find (is_policy_at i) ps →
     unlisted o i (ids_by_body ts ps) ≡ ids_by_body ts (filter (λ p. not (is_policy_at i p)) ps)
-left_listed None i ts ps h g e = ap (ids_by_body ts) (sym (filter_none (is_policy_at i) ps (none_is (is_policy_at i) ps (sym e))))
+left_listed None i ts ps h g e = ap (ids_by_body ts) (sym
+    (filter_none (is_policy_at i) ps (none_is (is_policy_at i) ps (sym e))))
 left_listed (Some p) i ts ps h g e = leave_listed body_id policy_id own_body ts i p ps h g (sym e)
 
-taken_agrees : (m : Maps) (i : List ℕ) (o : Option PolicyParts) → DoAgree m → has_links (board_in m) i ≡ false → o ≡ find (is_policy_at i) (board_in m).policies →
-    Becomes (record { bodies = remove_entry (same_text i) m.bodies; policies = remove_entry (same_text i) m.policies; listed = unlisted o i (remove_entry (same_text i) m.listed) }) (without_id (board_in m) i)
+taken_agrees : (m : Maps) (i : List ℕ) (o : Option PolicyParts) → DoAgree m → has_links (board_in m) i ≡ false
+    → o ≡ find (is_policy_at i) (board_in m).policies →
+    Becomes (record {
+      bodies = remove_entry (same_text i) m.bodies;
+      policies =
+          remove_entry (same_text i) m.policies;
+      listed =
+          unlisted o i (remove_entry (same_text i) m.listed);
+    }) (without_id (board_in m) i)
 taken_agrees m i o h n e =
     let b = board_in m in
     let ts = values_removed body_id i m.bodies h.bodies_by_id h.board.bodies_once in
@@ -356,15 +456,19 @@ taken_agrees m i o h n e =
         all_listed =
             ap (λ ls. unlisted o i (remove_entry (same_text i) ls)) h.all_listed
             ∙ ap (unlisted o i) (body_unlisted body_id policy_id own_body i templates b.policies once)
-            ∙ left_listed o i (filter (λ t. not (is_body_at i t)) templates) b.policies (once-filter body_id (λ t. not (is_body_at i t)) templates once) h.board.policies_once e
-            ∙ ap (λ us. ids_by_body us (filter (λ p. not (is_policy_at i p)) b.policies)) (sym (templates_removed i b.bodies b.policies))
+            ∙ left_listed o i (filter (λ t. not (is_body_at i t)) templates) b.policies
+            (once-filter body_id (λ t. not (is_body_at i t)) templates once) h.board.policies_once e
+            ∙ ap (λ us. ids_by_body us (filter (λ p. not (is_policy_at i p)) b.policies))
+            (sym (templates_removed i b.bodies b.policies))
             ∙ (λ j. ids_by_body (templates_in (sym ps j) (sym ts j)) (sym ps j));
       },
       now,
     )
 
-pub taken_kept : (m : Maps) (i : List ℕ) (o : Option PolicyParts) (bs : List (List ℕ × BodyParts)) (qs : List (List ℕ × PolicyParts)) (ls : List (List ℕ × List (List ℕ))) →
+pub taken_kept : (m : Maps) (i : List ℕ) (o : Option PolicyParts) (bs : List (List ℕ × BodyParts)) (qs : List (List ℕ
+    × PolicyParts)) (ls : List (List ℕ × List (List ℕ))) →
     DoAgree m → has_links (board_in m) i ≡ false → o ≡ find (is_policy_at i) (board_in m).policies →
-    bs ≡ remove_entry (same_text i) m.bodies → qs ≡ remove_entry (same_text i) m.policies → ls ≡ unlisted o i (remove_entry (same_text i) m.listed) →
+    bs ≡ remove_entry (same_text i) m.bodies → qs ≡ remove_entry (same_text i) m.policies
+    → ls ≡ unlisted o i (remove_entry (same_text i) m.listed) →
     Becomes (record { bodies = bs; policies = qs; listed = ls }) (without_id (board_in m) i)
 taken_kept m i o bs qs ls h n e f g k = rw (f, g, k) (taken_agrees m i o h n e)

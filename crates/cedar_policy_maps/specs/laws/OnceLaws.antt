@@ -1,5 +1,6 @@
 -- Orders in which an id stands once: what goes last, and what is taken out.
-use Rattle.std.specs.Prelude.{◌≡◌, ℕ, ◌+◌, ◌<◌, List, [], ◌∷◌, ◌++◌, length, Bool, true, false, not, ◌||◌, Some, None, refl, map, suc}
+use Rattle.std.specs.Prelude.{◌≡◌, ℕ, ◌+◌, ◌<◌, List, [], ◌∷◌, ◌++◌, length, Bool, true, false, not, ◌||◌, Some, None}
+use Rattle.std.specs.Prelude.{refl, map, suc}
 use Rattle.std.proofs.Common.{cond, sym, ap, ◌∙◌, arith, take, drop, nat_lt, ◌≤◌, get_or}
 use Rattle.std.specs.List.{filter, find, list_any, remove, position, position_or_len}
 use Rattle.std.specs.Option.{option_map}
@@ -22,14 +23,17 @@ any_alike s t [] h = refl
 any_alike s t (x ∷ xs) h = grind (arith, common_steps, h x, any_alike s t xs h)
 
 -- after the first of an id comes no other
-pub no_other : {A : Type 0} (id : A → List ℕ) (i : List ℕ) (x : A) (xs : List A) → AreOnce id (x ∷ xs) → is_at id i x ≡ true → list_any (is_at id i) xs ≡ false
-no_other id i x xs h e = sym (any_alike (is_at id (id x)) (is_at id i) xs (λ y. ap (λ j. is_at id j y) (sym ((same_text_decides i (id x)).0 e)))) ∙ h.0
+pub no_other : {A : Type 0} (id : A → List ℕ) (i : List ℕ) (x : A) (xs : List A) → AreOnce id (x ∷ xs)
+    → is_at id i x ≡ true → list_any (is_at id i) xs ≡ false
+no_other id i x xs h e = sym (any_alike (is_at id (id x)) (is_at id i) xs
+    (λ y. ap (λ j. is_at id j y) (sym ((same_text_decides i (id x)).0 e)))) ∙ h.0
 
 pub once_more : (a b c : Bool) → a ≡ false → b ≡ false → (a || (b || false)) ≡ false
 once_more a b c p q = cc
 
 -- what has a free id goes last
-pub once-push : {A : Type 0} (id : A → List ℕ) (xs : List A) (x : A) → AreOnce id xs → list_any (is_at id (id x)) xs ≡ false → AreOnce id (xs ++ x ∷ [])
+pub once-push : {A : Type 0} (id : A → List ℕ) (xs : List A) (x : A) → AreOnce id xs
+    → list_any (is_at id (id x)) xs ≡ false → AreOnce id (xs ++ x ∷ [])
 once-push id [] x h n = (refl, tt)
 once-push id (y ∷ ys) x h n = (
   list_any-append (is_at id (id y)) ys (x ∷ [])
@@ -41,18 +45,21 @@ pub filter_none : {X : Type 0} (t : X → Bool) (xs : List X) → list_any t xs 
 filter_none t [] h = refl
 filter_none t (x ∷ xs) h = grind (arith, common_steps, filter_none t xs)
 
-pub any-filter_none : {X : Type 0} (p t : X → Bool) (xs : List X) → list_any t xs ≡ false → list_any t (filter p xs) ≡ false
+pub any-filter_none : {X : Type 0} (p t : X → Bool) (xs : List X) → list_any t xs ≡ false
+    → list_any t (filter p xs) ≡ false
 any-filter_none p t [] h = refl
 any-filter_none p t (x ∷ xs) h = grind (arith, common_steps, any-filter_none p t xs)
 
-once_kept : {A : Type 0} (id : A → List ℕ) (v : Bool) (x : A) (xs : List A) → list_any (is_at id (id x)) xs ≡ false → AreOnce id xs → AreOnce id (cond v (x ∷ xs) xs)
+once_kept : {A : Type 0} (id : A → List ℕ) (v : Bool) (x : A) (xs : List A) → list_any (is_at id (id x)) xs ≡ false
+    → AreOnce id xs → AreOnce id (cond v (x ∷ xs) xs)
 once_kept id true x xs n h = (n, h)
 once_kept id false x xs n h = h
 
 -- what a filter leaves
 pub once-filter : {A : Type 0} (id : A → List ℕ) (p : A → Bool) (xs : List A) → AreOnce id xs → AreOnce id (filter p xs)
 once-filter id p [] h = tt
-once-filter id p (x ∷ xs) h = once_kept id (p x) x (filter p xs) (any-filter_none p (is_at id (id x)) xs h.0) (once-filter id p xs h.1)
+once-filter id p (x ∷ xs) h = once_kept id (p x) x (filter p xs) (any-filter_none p (is_at id (id x)) xs h.0)
+    (once-filter id p xs h.1)
 
 one_more : (k : ℕ) → 1 + k ≡ suc k
 one_more k = omega arith
@@ -63,7 +70,8 @@ removed-at true x xs fs k n e = sym (n refl)
 removed-at false x xs fs k n e = ap (λ n. remove (x ∷ xs) n) (one_more k) ∙ ap (λ ys. x ∷ ys) e
 
 -- the first of an id is the only one
-removed : {A : Type 0} (id : A → List ℕ) (i : List ℕ) (xs : List A) → AreOnce id xs → remove xs (position_or_len (is_at id i) xs) ≡ filter (λ x. not (is_at id i x)) xs
+removed : {A : Type 0} (id : A → List ℕ) (i : List ℕ) (xs : List A) → AreOnce id xs
+    → remove xs (position_or_len (is_at id i) xs) ≡ filter (λ x. not (is_at id i x)) xs
 removed id i [] h = refl
 removed id i (x ∷ xs) h =
     removed-at (is_at id i x) x xs (filter (λ y. not (is_at id i y)) xs) (position_or_len (is_at id i) xs)
@@ -74,7 +82,8 @@ place_at true p k n l e = (cc, grind (arith, nat_tests))
 place_at false p k n l e = cc
 
 -- the place of the first that passes, and what stands there
-pub place_is : {X : Type 0} (t : X → Bool) (xs : List X) (k : ℕ) → position t xs ≡ Some k → (position_or_len t xs ≡ k) × (position_or_len t xs < length xs)
+pub place_is : {X : Type 0} (t : X → Bool) (xs : List X) (k : ℕ) → position t xs ≡ Some k → (position_or_len t xs ≡ k)
+    × (position_or_len t xs < length xs)
 place_is t xs k e = place_at (nat_lt (position_or_len t xs) (length xs)) _ _ _ refl e
 
 no_place_at : (v : Bool) (p n : ℕ) → nat_lt p n ≡ v → cond v (Some p) None ≡ None → n ≤ p
@@ -82,17 +91,21 @@ no_place_at true p n l e = cc
 no_place_at false p n l e = grind (arith, nat_tests)
 
 pub find-none : {X : Type 0} (t : X → Bool) (xs : List X) → position t xs ≡ None → find t xs ≡ None
-find-none t xs e = find_at t xs ∙ slice_get_past xs _ (no_place_at (nat_lt (position_or_len t xs) (length xs)) _ _ refl e)
+find-none t xs e = find_at t xs ∙ slice_get_past xs _ (no_place_at
+    (nat_lt (position_or_len t xs) (length xs)) _ _ refl e)
 
 -- what is taken out at the place of an id is what has the id
-pub removed_at : {A : Type 0} (id : A → List ℕ) (i : List ℕ) (xs : List A) (k : ℕ) → AreOnce id xs → position (is_at id i) xs ≡ Some k → remove xs k ≡ filter (λ x. not (is_at id i x)) xs
+pub removed_at : {A : Type 0} (id : A → List ℕ) (i : List ℕ) (xs : List A) (k : ℕ) → AreOnce id xs
+    → position (is_at id i) xs ≡ Some k → remove xs k ≡ filter (λ x. not (is_at id i x)) xs
 removed_at id i xs k h e = ap (remove xs) (sym (place_is (is_at id i) xs k e).0) ∙ removed id i xs h
 
 -- and stood there
-pub taken_is : {A : Type 0} (t : A → Bool) (xs : List A) (k : ℕ) (x : A) → position t xs ≡ Some k → x ≡ get_or xs k x → find t xs ≡ Some x
+pub taken_is : {A : Type 0} (t : A → Bool) (xs : List A) (k : ℕ) (x : A) → position t xs ≡ Some k → x ≡ get_or xs k x
+    → find t xs ≡ Some x
 taken_is t xs k x e g =
     let p = place_is t xs k e in
-    find_at t xs ∙ slice_get-get_or xs (position_or_len t xs) x p.1 ∙ ap (λ n. Some (get_or xs n x)) p.0 ∙ ap Some (sym g)
+    find_at t xs ∙ slice_get-get_or xs (position_or_len t xs) x p.1 ∙ ap (λ n. Some (get_or xs n x)) p.0
+    ∙ ap Some (sym g)
 
 pub none_is : {X : Type 0} (t : X → Bool) (xs : List X) → find t xs ≡ None → list_any t xs ≡ false
 none_is t [] h = refl
@@ -103,12 +116,14 @@ find-unless t [] h = refl
 find-unless t (x ∷ xs) h = grind (arith, common_steps, find-unless t xs)
 
 -- what was found is found still where something goes last
-pub find-push : {X : Type 0} (t : X → Bool) (xs : List X) (y x : X) → find t xs ≡ Some x → find t (xs ++ y ∷ []) ≡ Some x
+pub find-push : {X : Type 0} (t : X → Bool) (xs : List X) (y x : X) → find t xs ≡ Some x
+    → find t (xs ++ y ∷ []) ≡ Some x
 find-push t [] y x h = cc
 find-push t (z ∷ zs) y x h = grind (arith, common_steps, find-push t zs y x)
 
 -- and where what fails the test is taken out
-pub find-filter : {X : Type 0} (p t : X → Bool) (xs : List X) → ((x : X) → t x ≡ true → p x ≡ true) → find t (filter p xs) ≡ find t xs
+pub find-filter : {X : Type 0} (p t : X → Bool) (xs : List X) → ((x : X) → t x ≡ true → p x ≡ true)
+    → find t (filter p xs) ≡ find t xs
 find-filter p t [] h = refl
 find-filter p t (x ∷ xs) h = grind (arith, common_steps, h x, find-filter p t xs h)
 
@@ -118,20 +133,25 @@ found_passes t [] x h = cc
 found_passes t (y ∷ ys) x h = grind (arith, common_steps, found_passes t ys x)
 
 -- a look-up through a map
-pub find-map : {X Y : Type 0} (f : X → Y) (t : Y → Bool) (xs : List X) → find t (map f xs) ≡ option_map f (find (λ x. t (f x)) xs)
+pub find-map : {X Y : Type 0} (f : X → Y) (t : Y → Bool) (xs : List X)
+    → find t (map f xs) ≡ option_map f (find (λ x. t (f x)) xs)
 find-map f t [] = refl
 find-map f t (x ∷ xs) = grind (arith, common_steps, find-map f t xs)
 
-pub any-map : {X Y : Type 0} (f : X → Y) (t : Y → Bool) (xs : List X) → list_any t (map f xs) ≡ list_any (λ x. t (f x)) xs
+pub any-map : {X Y : Type 0} (f : X → Y) (t : Y → Bool) (xs : List X)
+    → list_any t (map f xs) ≡ list_any (λ x. t (f x)) xs
 any-map f t [] = refl
 any-map f t (x ∷ xs) = ap (λ v. t (f x) || v) (any-map f t xs)
 
 pub map-remove : {X Y : Type 0} (f : X → Y) (xs : List X) (k : ℕ) → map f (remove xs k) ≡ remove (map f xs) k
 map-remove f xs k = map-append f (take k xs) (drop (suc k) xs) ∙ cc (take-map f k xs, drop-map f (suc k) xs)
 
-place_or_len-map : {X Y : Type 0} (f : X → Y) (t : Y → Bool) (xs : List X) → position_or_len t (map f xs) ≡ position_or_len (λ x. t (f x)) xs
+place_or_len-map : {X Y : Type 0} (f : X → Y) (t : Y → Bool) (xs : List X)
+    → position_or_len t (map f xs) ≡ position_or_len (λ x. t (f x)) xs
 place_or_len-map f t [] = refl
 place_or_len-map f t (x ∷ xs) = ap (λ k. cond (not (t (f x))) (1 + k) 0) (place_or_len-map f t xs)
 
-pub place-map : {X Y : Type 0} (f : X → Y) (t : Y → Bool) (xs : List X) → position t (map f xs) ≡ position (λ x. t (f x)) xs
-place-map f t xs = λ i. cond (nat_lt (place_or_len-map f t xs i) (length-map xs f i)) (Some (place_or_len-map f t xs i)) None
+pub place-map : {X Y : Type 0} (f : X → Y) (t : Y → Bool) (xs : List X)
+    → position t (map f xs) ≡ position (λ x. t (f x)) xs
+place-map f t xs = λ i. cond (nat_lt (place_or_len-map f t xs i) (length-map xs f i))
+    (Some (place_or_len-map f t xs i)) None

@@ -15,13 +15,15 @@ use Rattle.cedar_policy_maps.specs.Maps.{Maps, board_in, shared_of, ArePlaced, I
 use Rattle.cedar_policy_maps.specs.laws.OnceLaws.{any-map}
 use Rattle.cedar_policy_maps.specs.laws.TemplateLaws.{templates_listed}
 
--- what the readers of a policy say of it: what is no link is its body, which has no slots, and what is bound fits the slots
+-- what the readers of a policy say of it: what is no link is its body, which has no slots, and what is bound fits the
+-- slots
 pub record IsWhole (p : PolicyParts) : Type 0 where
   pub whole : p.link ≡ None → p ≡ static_policy p.template
   pub slotless : p.link ≡ None → body_slots p.template ≡ []
   pub fits : FitsSlots (body_slots p.template) p.env
 
-placed_held : (o : Option (List ℕ)) (b : Board) (p : PolicyParts) → o ≡ p.link → IsWhole p → IsPlacedBy o b p → IsHeldBy o b p
+placed_held : (o : Option (List ℕ)) (b : Board) (p : PolicyParts) → o ≡ p.link → IsWhole p → IsPlacedBy o b p
+    → IsHeldBy o b p
 placed_held None b p e w k = (w.whole (sym e), w.slotless (sym e), k)
 placed_held (Some l) b p e w k = (k.0, k.1, k.2, w.fits)
 
@@ -32,7 +34,8 @@ all_held b (p ∷ ps) w k = (placed_held p.link b p refl w.0 k.0, all_held b ps 
 neither : (a c : Bool) → a ≡ false → c ≡ false → (a || c) ≡ false
 neither a c p q = cc
 
-none_alike : (i : List ℕ) (ks : List (List ℕ)) → AllByRecursion (λ k. same_text i k ≡ false) ks → list_any (same_text i) ks ≡ false
+none_alike : (i : List ℕ) (ks : List (List ℕ)) → AllByRecursion (λ k. same_text i k ≡ false) ks
+    → list_any (same_text i) ks ≡ false
 none_alike i [] h = refl
 none_alike i (k ∷ ks) h = neither (same_text i k) (list_any (same_text i) ks) h.0 (none_alike i ks h.1)
 
@@ -40,19 +43,27 @@ none_alike i (k ∷ ks) h = neither (same_text i k) (list_any (same_text i) ks) 
 distinct_once : {A : Type 0} (id : A → List ℕ) (xs : List A) → IsDistinct same_text (map id xs) → AreOnce id xs
 unfolding IsDistinct
 distinct_once id [] h = tt
-distinct_once id (x ∷ xs) h = (sym (any-map id (same_text (id x)) xs) ∙ none_alike (id x) (map id xs) h.0, distinct_once id xs h.1)
+distinct_once id (x ∷ xs) h = (
+  sym (any-map id (same_text (id x)) xs)
+      ∙ none_alike (id x) (map id xs) h.0,
+  distinct_once id xs h.1,
+)
 
 -- what is shared stands under the same keys
 pub shared_keys : (es : List (List ℕ × Rc BodyParts Global)) → keys_of es ≡ keys_of (shared_of es)
 shared_keys [] = refl
 shared_keys (e ∷ es) = ap (λ ks. e.0 ∷ ks) (shared_keys es)
 
--- maps without equal keys, of policies of which their readers say what holds, the third without the lists under policies' ids
-pub raw_agree : (m : Maps) (ls : List (List ℕ × List (List ℕ))) → IsDistinct same_text (keys_of m.bodies) → IsDistinct same_text (keys_of m.policies) → All IsWhole (values_of m.policies) → CanMakeSet m →
-    ls ≡ filter (λ e. not (list_any (is_policy_at e.0) (values_of m.policies))) m.listed → DoAgree (record { bodies = m.bodies; policies = m.policies; listed = ls })
+-- maps without equal keys, of policies of which their readers say what holds, the third without the lists under
+-- policies' ids
+pub raw_agree : (m : Maps) (ls : List (List ℕ × List (List ℕ))) → IsDistinct same_text (keys_of m.bodies)
+    → IsDistinct same_text (keys_of m.policies) → All IsWhole (values_of m.policies) → CanMakeSet m →
+    ls ≡ filter (λ e. not (list_any (is_policy_at e.0) (values_of m.policies))) m.listed
+    → DoAgree (record { bodies = m.bodies; policies = m.policies; listed = ls })
 raw_agree m ls d e w h q = record {
   board = record {
-    bodies_once = distinct_once (λ (t : BodyParts). t.id) (values_of m.bodies) (subst (IsDistinct same_text) h.bodies_by_id d);
+    bodies_once = distinct_once (λ (t : BodyParts). t.id) (values_of m.bodies)
+        (subst (IsDistinct same_text) h.bodies_by_id d);
     policies_once = distinct_once policy_id (values_of m.policies) (subst (IsDistinct same_text) h.policies_by_id e);
     held = all_held (board_in m) (values_of m.policies) (recursion_from_All IsWhole (values_of m.policies) w) h.placed;
   };

@@ -28,25 +28,29 @@ or_second true c h = absurd (cc)
 or_second false c h = refl
 
 -- what passes a filter is looked for in vain where it passes none
-pub any-filter : {X : Type 0} (p t : X → Bool) (xs : List X) → ((x : X) → t x ≡ true → p x ≡ true) → list_any t (filter p xs) ≡ list_any t xs
+pub any-filter : {X : Type 0} (p t : X → Bool) (xs : List X) → ((x : X) → t x ≡ true → p x ≡ true)
+    → list_any t (filter p xs) ≡ list_any t xs
 any-filter p t [] h = refl
 any-filter p t (x ∷ xs) h = grind (arith, common_steps, h x, any-filter p t xs h)
 
-pub none-filter : {X : Type 0} (p t : X → Bool) (xs : List X) → ((x : X) → t x ≡ true → p x ≡ false) → list_any t (filter p xs) ≡ false
+pub none-filter : {X : Type 0} (p t : X → Bool) (xs : List X) → ((x : X) → t x ≡ true → p x ≡ false)
+    → list_any t (filter p xs) ≡ false
 none-filter p t [] h = refl
 none-filter p t (x ∷ xs) h = grind (arith, common_steps, h x, none-filter p t xs h)
 
 -- ---- what joins
 
 -- policies that have no id of these bodies
-pub templates_beside : (ts : List BodyParts) (ps qs : List PolicyParts) → AreFree ts qs → templates_in (ps ++ qs) ts ≡ templates_in ps ts
+pub templates_beside : (ts : List BodyParts) (ps qs : List PolicyParts) → AreFree ts qs
+    → templates_in (ps ++ qs) ts ≡ templates_in ps ts
 templates_beside [] ps qs h = refl
 templates_beside (t ∷ ts) ps qs h =
     let e : list_any (is_policy_at t.id) (ps ++ qs) ≡ list_any (is_policy_at t.id) ps = list_any-append (is_policy_at t.id) ps qs ∙ or_first _ _ h.0 in
     λ j. cond (not (e j)) (t ∷ templates_beside ts ps qs h.1 j) (templates_beside ts ps qs h.1 j)
 
 -- bodies of which no policy before has the id
-pub templates_behind : (ts : List BodyParts) (ps qs : List PolicyParts) → AreFree ts ps → templates_in (ps ++ qs) ts ≡ templates_in qs ts
+pub templates_behind : (ts : List BodyParts) (ps qs : List PolicyParts) → AreFree ts ps
+    → templates_in (ps ++ qs) ts ≡ templates_in qs ts
 templates_behind [] ps qs h = refl
 templates_behind (t ∷ ts) ps qs h =
     let e : list_any (is_policy_at t.id) (ps ++ qs) ≡ list_any (is_policy_at t.id) qs = list_any-append (is_policy_at t.id) ps qs ∙ or_second _ _ h.0 in
@@ -60,52 +64,68 @@ templates_joined ts us ps qs h g =
     ∙ (λ j. templates_beside ts ps qs h j ++ templates_behind us ps qs g j)
 
 -- one policy, whose id no body has
-pub free_of_one : (ts : List BodyParts) (p : PolicyParts) → list_any (is_body_at (policy_id p)) ts ≡ false → AreFree ts (p ∷ [])
+pub free_of_one : (ts : List BodyParts) (p : PolicyParts) → list_any (is_body_at (policy_id p)) ts ≡ false
+    → AreFree ts (p ∷ [])
 free_of_one [] p h = tt
 free_of_one (t ∷ ts) p h =
     let n = or_parts _ _ h in
     (neither _ _ (same_text_equiv.symm t.id (policy_id p) ∙ n.0) refl, free_of_one ts p n.1)
 
-pub templates_stay : (ts : List BodyParts) (ps : List PolicyParts) (p : PolicyParts) → list_any (is_body_at (policy_id p)) ts ≡ false → templates_in (ps ++ p ∷ []) ts ≡ templates_in ps ts
+pub templates_stay : (ts : List BodyParts) (ps : List PolicyParts) (p : PolicyParts)
+    → list_any (is_body_at (policy_id p)) ts ≡ false → templates_in (ps ++ p ∷ []) ts ≡ templates_in ps ts
 templates_stay ts ps p h = templates_beside ts ps (p ∷ []) (free_of_one ts p h)
 
 -- a template, of which no policy has the id
-pub template_last : (ts : List BodyParts) (ps : List PolicyParts) (t : BodyParts) → list_any (is_policy_at t.id) ps ≡ false → templates_in ps (ts ++ t ∷ []) ≡ templates_in ps ts ++ t ∷ []
+pub template_last : (ts : List BodyParts) (ps : List PolicyParts) (t : BodyParts)
+    → list_any (is_policy_at t.id) ps ≡ false → templates_in ps (ts ++ t ∷ []) ≡ templates_in ps ts ++ t ∷ []
 template_last ts ps t n =
     filter-append (λ (t : BodyParts). not (list_any (is_policy_at t.id) ps)) ts (t ∷ [])
     ∙ (λ j. templates_in ps ts ++ cond (not (n j)) (t ∷ []) [])
 
 -- the body of a policy with its id is none
-pub static_last : (ts : List BodyParts) (ps : List PolicyParts) (t : BodyParts) → list_any (is_policy_at t.id) ps ≡ true → templates_in ps (ts ++ t ∷ []) ≡ templates_in ps ts
+pub static_last : (ts : List BodyParts) (ps : List PolicyParts) (t : BodyParts) → list_any (is_policy_at t.id) ps ≡ true
+    → templates_in ps (ts ++ t ∷ []) ≡ templates_in ps ts
 static_last ts ps t n =
     filter-append (λ (t : BodyParts). not (list_any (is_policy_at t.id) ps)) ts (t ∷ [])
     ∙ (λ j. templates_in ps ts ++ cond (not (n j)) (t ∷ []) []) ∙ append-nil (templates_in ps ts)
 
 -- ---- what is taken out
 
-apart_from : (i k : List ℕ) (p : PolicyParts) → same_text i k ≡ false → is_policy_at k p ≡ true → not (is_policy_at i p) ≡ true
+apart_from : (i k : List ℕ) (p : PolicyParts) → same_text i k ≡ false → is_policy_at k p ≡ true
+    → not (is_policy_at i p) ≡ true
 apart_from i k p n e = ap not (ap (same_text i) (sym ((same_text_decides k (policy_id p)).0 e)) ∙ n)
 
-removed_at : (v w : Bool) (i : List ℕ) (t : BodyParts) (ts us : List BodyParts) (ps qs : List PolicyParts) → is_body_at i t ≡ v → list_any (is_policy_at t.id) ps ≡ w
-    → (v ≡ false → list_any (is_policy_at t.id) qs ≡ w) → templates_in qs us ≡ filter (λ t. not (is_body_at i t)) (templates_in ps ts)
-    → templates_in qs (cond (not v) (t ∷ us) us) ≡ filter (λ t. not (is_body_at i t)) (cond (not w) (t ∷ templates_in ps ts) (templates_in ps ts))
+removed_at : (v w : Bool) (i : List ℕ) (t : BodyParts) (ts us : List BodyParts) (ps qs : List PolicyParts)
+    → is_body_at i t ≡ v → list_any (is_policy_at t.id) ps ≡ w
+    → (v ≡ false → list_any (is_policy_at t.id) qs ≡ w)
+    → templates_in qs us ≡ filter (λ t. not (is_body_at i t)) (templates_in ps ts)
+    → templates_in qs (cond (not v) (t ∷ us) us) ≡ filter (λ t. not (is_body_at i t))
+    (cond (not w) (t ∷ templates_in ps ts) (templates_in ps ts))
 removed_at true true i t ts us ps qs e f g h = h
-removed_at true false i t ts us ps qs e f g h = h ∙ ap (λ v. cond (not v) (t ∷ filter (λ t. not (is_body_at i t)) (templates_in ps ts)) (filter (λ t. not (is_body_at i t)) (templates_in ps ts))) (sym e)
-removed_at false true i t ts us ps qs e f g h = ap (λ v. cond (not v) (t ∷ templates_in qs us) (templates_in qs us)) (g refl) ∙ h
+removed_at true false i t ts us ps qs e f g h = h ∙ ap
+    (λ v. cond (not v) (t ∷ filter (λ t. not (is_body_at i t)) (templates_in ps ts))
+    (filter (λ t. not (is_body_at i t)) (templates_in ps ts))) (sym e)
+removed_at false true i t ts us ps qs e f g h = ap (λ v. cond (not v) (t ∷ templates_in qs us) (templates_in qs us))
+    (g refl) ∙ h
 removed_at false false i t ts us ps qs e f g h =
     ap (λ v. cond (not v) (t ∷ templates_in qs us) (templates_in qs us)) (g refl) ∙ ap (λ us. t ∷ us) h
-    ∙ ap (λ v. cond (not v) (t ∷ filter (λ t. not (is_body_at i t)) (templates_in ps ts)) (filter (λ t. not (is_body_at i t)) (templates_in ps ts))) (sym e)
+    ∙ ap (λ v. cond (not v) (t ∷ filter (λ t. not (is_body_at i t)) (templates_in ps ts))
+    (filter (λ t. not (is_body_at i t)) (templates_in ps ts))) (sym e)
 
 pub templates_removed : (i : List ℕ) (ts : List BodyParts) (ps : List PolicyParts) →
-    templates_in (filter (λ p. not (is_policy_at i p)) ps) (filter (λ t. not (is_body_at i t)) ts) ≡ filter (λ t. not (is_body_at i t)) (templates_in ps ts)
+    templates_in (filter (λ p. not (is_policy_at i p)) ps) (filter (λ t. not (is_body_at i t)) ts)
+    ≡ filter (λ t. not (is_body_at i t)) (templates_in ps ts)
 templates_removed i [] ps = refl
 templates_removed i (t ∷ ts) ps =
-    removed_at (is_body_at i t) (list_any (is_policy_at t.id) ps) i t ts (filter (λ t. not (is_body_at i t)) ts) ps (filter (λ p. not (is_policy_at i p)) ps) refl refl
-    (λ n. any-filter (λ p. not (is_policy_at i p)) (is_policy_at t.id) ps (λ p e. apart_from i t.id p n e)) (templates_removed i ts ps)
+    removed_at (is_body_at i t) (list_any (is_policy_at t.id) ps) i t ts (filter (λ t. not (is_body_at i t)) ts) ps
+    (filter (λ p. not (is_policy_at i p)) ps) refl refl
+    (λ n. any-filter (λ p. not (is_policy_at i p)) (is_policy_at t.id) ps (λ p e. apart_from i t.id p n e))
+    (templates_removed i ts ps)
 
 -- ---- what is read
 
-found_at : (v : Bool) (i : List ℕ) (ts : List BodyParts) (ps : List PolicyParts) → list_any (is_policy_at i) ps ≡ v → find (is_body_at i) (templates_in ps ts) ≡ cond v None (find (is_body_at i) ts)
+found_at : (v : Bool) (i : List ℕ) (ts : List BodyParts) (ps : List PolicyParts) → list_any (is_policy_at i) ps ≡ v
+    → find (is_body_at i) (templates_in ps ts) ≡ cond v None (find (is_body_at i) ts)
 found_at true i ts ps e =
     find-unless (is_body_at i) (templates_in ps ts)
     (none-filter (λ (t : BodyParts). not (list_any (is_policy_at t.id) ps)) (is_body_at i) ts
@@ -115,18 +135,27 @@ found_at false i ts ps e =
     (λ t f. ap (λ k. not (list_any (is_policy_at k) ps)) (sym ((same_text_decides i t.id).0 f)) ∙ ap not e)
 
 -- a template is found under an id where a body is and no policy
-pub template_found : (i : List ℕ) (ts : List BodyParts) (ps : List PolicyParts) → find (is_body_at i) (templates_in ps ts) ≡ cond (list_any (is_policy_at i) ps) None (find (is_body_at i) ts)
+pub template_found : (i : List ℕ) (ts : List BodyParts) (ps : List PolicyParts)
+    → find (is_body_at i) (templates_in ps ts) ≡ cond (list_any (is_policy_at i) ps) None (find (is_body_at i) ts)
 template_found i ts ps = found_at (list_any (is_policy_at i) ps) i ts ps refl
 
 -- ---- lists of ids
 
-listed_at : (v : Bool) (t : BodyParts) (ts : List BodyParts) (ps qs : List PolicyParts) (ls : List (List ℕ × List (List ℕ))) → ls ≡ ids_by_body (templates_in ps ts) qs
-    → cond (not v) ((t.id, map policy_id (filter (λ p. same_text t.id p.template.id) qs)) ∷ ls) ls ≡ ids_by_body (cond (not v) (t ∷ templates_in ps ts) (templates_in ps ts)) qs
+listed_at : (v : Bool) (t : BodyParts) (ts : List BodyParts) (ps qs : List PolicyParts) (ls : List (List ℕ
+    × List (List ℕ))) → ls ≡ ids_by_body (templates_in ps ts) qs
+    → cond (not v) ((t.id, map policy_id (filter (λ p. same_text t.id p.template.id) qs)) ∷ ls) ls
+    ≡ ids_by_body (cond (not v) (t ∷ templates_in ps ts) (templates_in ps ts)) qs
 listed_at true t ts ps qs ls h = h
-listed_at false t ts ps qs ls h = ap (λ ls. (t.id, map policy_id (filter (λ p. same_text t.id p.template.id) qs)) ∷ ls) h
+listed_at false t ts ps qs ls h = ap (λ ls. (
+  t.id,
+  map policy_id
+      (filter (λ p. same_text t.id p.template.id) qs),
+) ∷ ls) h
 
 -- of the lists of all bodies those under no policy's id are the templates'
-pub templates_listed : (ts : List BodyParts) (ps qs : List PolicyParts) → filter (λ e. not (list_any (is_policy_at e.0) ps)) (ids_by_body ts qs) ≡ ids_by_body (templates_in ps ts) qs
+pub templates_listed : (ts : List BodyParts) (ps qs : List PolicyParts)
+    → filter (λ e. not (list_any (is_policy_at e.0) ps)) (ids_by_body ts qs) ≡ ids_by_body (templates_in ps ts) qs
 templates_listed [] ps qs = refl
 templates_listed (t ∷ ts) ps qs =
-    listed_at (list_any (is_policy_at t.id) ps) t ts ps qs (filter (λ e. not (list_any (is_policy_at e.0) ps)) (ids_by_body ts qs)) (templates_listed ts ps qs)
+    listed_at (list_any (is_policy_at t.id) ps) t ts ps qs
+    (filter (λ e. not (list_any (is_policy_at e.0) ps)) (ids_by_body ts qs)) (templates_listed ts ps qs)

@@ -12,11 +12,14 @@ use Rattle.cedar_policy.specs.PolicyEquality.{same_policy}
 use Rattle.cedar_policy.specs.laws.PolicyLaws.{same_policy_decides}
 use Rattle.cedar_policy_maps.specs.Views.{bodies_of}
 
-pub bodies_more : (ts : List (Rc BodyParts Global)) (k : ℕ) (t : Rc BodyParts Global) → k < length ts → t ≡ get_or ts k t → bodies_of (take (k + 1) ts) ≡ bodies_of (take k ts) ++ t.value ∷ []
+pub bodies_more : (ts : List (Rc BodyParts Global)) (k : ℕ) (t : Rc BodyParts Global) → k < length ts
+    → t ≡ get_or ts k t → bodies_of (take (k + 1) ts) ≡ bodies_of (take k ts) ++ t.value ∷ []
 bodies_more ts k t l e =
-    ap bodies_of (take_more ts k t l ∙ ap (λ x. take k ts ++ x ∷ []) (sym e)) ∙ map-append (λ (t : Rc BodyParts Global). t.value) (take k ts) (t ∷ [])
+    ap bodies_of (take_more ts k t l ∙ ap (λ x. take k ts ++ x ∷ []) (sym e))
+    ∙ map-append (λ (t : Rc BodyParts Global). t.value) (take k ts) (t ∷ [])
 
-pub policies_more : (ps : List PolicyParts) (k : ℕ) (p : PolicyParts) → k < length ps → p ≡ get_or ps k p → take (k + 1) ps ≡ take k ps ++ p ∷ []
+pub policies_more : (ps : List PolicyParts) (k : ℕ) (p : PolicyParts) → k < length ps → p ≡ get_or ps k p
+    → take (k + 1) ps ≡ take k ps ++ p ∷ []
 policies_more ps k p l e = take_more ps k p l ∙ ap (λ x. take k ps ++ x ∷ []) (sym e)
 
 pub parted : (ts : List (Rc BodyParts Global)) (k : ℕ) (t : Rc BodyParts Global) → k < length ts → t ≡ get_or ts k t →

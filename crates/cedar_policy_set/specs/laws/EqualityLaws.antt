@@ -8,4 +8,5 @@ use Rattle.cedar_policy_set.specs.BoardEquality.{same_board}
 
 -- it is an equivalence
 pub same_board_equiv : IsEquivalence same_board
-same_board_equiv = and_equiv (on_equiv (λ (b : Board). b.bodies) (lists_equiv same_body_equiv)) (on_equiv (λ (b : Board). b.policies) (lists_equiv same_policy_equiv))
+same_board_equiv = and_equiv (on_equiv (λ (b : Board). b.bodies) (lists_equiv same_body_equiv))
+    (on_equiv (λ (b : Board). b.policies) (lists_equiv same_policy_equiv))

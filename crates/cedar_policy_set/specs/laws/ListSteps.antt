@@ -8,7 +8,8 @@ use Rattle.std.specs.declared.alloc.Global.{Global}
 use Rattle.cedar_body.specs.Bodies.{BodyParts}
 use Rattle.cedar_policy.specs.Policies.{PolicyParts}
 use Rattle.cedar_policy_set.specs.declared.err.PolicySetValidationError.{PolicySetValidationError}
-use Rattle.cedar_policy_set.specs.declared.err.PolicySetValidationError.TheVariants.{InvalidTemplate, LinkToSlotlessTemplate, Memory}
+use Rattle.cedar_policy_set.specs.declared.err.PolicySetValidationError.TheVariants.{InvalidTemplate}
+use Rattle.cedar_policy_set.specs.declared.err.PolicySetValidationError.TheVariants.{LinkToSlotlessTemplate, Memory}
 use Rattle.cedar_policy_maps.specs.Boards.{Board}
 use Rattle.cedar_policy_set.specs.Refusals.{IsRefusal}
 use Rattle.cedar_policy_set.specs.Steps.{Refusal, add_step, add_then}
@@ -21,30 +22,45 @@ refused_at : (r : Refusal) (s : Result Board Refusal) (ps : List PolicyParts) �
 refused_at r s ps e = ap (λ t. add_then t ps) e
 
 -- what refuses one policy refuses it and those after it
-pub refused_then : (o : Option Refusal) (b : Board) (p : PolicyParts) (ps : List PolicyParts) → IsRefusal o (add_step b p) → IsRefusal o (add_then (Ok b) (p ∷ ps))
+pub refused_then : (o : Option Refusal) (b : Board) (p : PolicyParts) (ps : List PolicyParts)
+    → IsRefusal o (add_step b p) → IsRefusal o (add_then (Ok b) (p ∷ ps))
 refused_then None b p ps h = tt
 refused_then (Some r) b p ps h = refused_at r (add_step b p) ps h
 
 -- the first body that is not valid, where those before it are
-pub first_fault : (e : PolicySetValidationError) (ts : List (Rc BodyParts Global)) (k : ℕ) (t : Rc BodyParts Global) → k < length ts → t ≡ get_or ts k t →
+pub first_fault : (e : PolicySetValidationError) (ts : List (Rc BodyParts Global)) (k : ℕ) (t : Rc BodyParts Global)
+    → k < length ts → t ≡ get_or ts k t →
     All IsValidBody (bodies_of (take k ts)) → IsBodyFault e t.value → IsFirstFault e (bodies_of ts)
 first_fault (LinkToSlotlessTemplate l i) ts k t n g a f = absurd f
-first_fault (InvalidTemplate i d) ts k t n g a f = (bodies_of (take k ts), t.value, bodies_of (drop (suc k) ts), parted ts k t n g, a, f.0, f.1)
+first_fault (InvalidTemplate i d) ts k t n g a f = (
+  bodies_of (take k ts),
+  t.value,
+  bodies_of
+      (drop (suc k) ts),
+  parted ts k t n g,
+  a,
+  f.0,
+  f.1,
+)
 first_fault Memory ts k t n g a f = tt
 
 -- what holds of shared bodies holds of the bodies
-pub all_bodies : (P : BodyParts → Type 0) (ts : List (Rc BodyParts Global)) → All (λ t. P t.value) ts → All P (bodies_of ts)
+pub all_bodies : (P : BodyParts → Type 0) (ts : List (Rc BodyParts Global)) → All (λ t. P t.value) ts
+    → All P (bodies_of ts)
 all_bodies P ts a = All-map P (λ (t : Rc BodyParts Global). t.value) ts a
 
 abbrev pub IsSharedValid : Rc BodyParts Global → Type 0
 IsSharedValid t = IsValidBody t.value
 
 -- one more valid body
-pub valid_more : (ts : List (Rc BodyParts Global)) (k : ℕ) (t : Rc BodyParts Global) → k < length ts → t ≡ get_or ts k t → All IsSharedValid (take k ts) → IsValidBody t.value →
+pub valid_more : (ts : List (Rc BodyParts Global)) (k : ℕ) (t : Rc BodyParts Global) → k < length ts → t ≡ get_or ts k t
+    → All IsSharedValid (take k ts) → IsValidBody t.value →
     All IsSharedValid (take (k + 1) ts)
 valid_more ts k t l e a v =
-    subst (All IsSharedValid) (sym (take_more ts k t l)) (All-push IsSharedValid (take k ts) (get_or ts k t) a (subst IsSharedValid e v))
+    subst (All IsSharedValid) (sym (take_more ts k t l))
+    (All-push IsSharedValid (take k ts) (get_or ts k t) a (subst IsSharedValid e v))
 
 -- all of them
-pub valid_all : (ts : List (Rc BodyParts Global)) (k : ℕ) → length ts ≤ k → All IsSharedValid (take k ts) → All IsValidBody (bodies_of ts)
+pub valid_all : (ts : List (Rc BodyParts Global)) (k : ℕ) → length ts ≤ k → All IsSharedValid (take k ts)
+    → All IsValidBody (bodies_of ts)
 valid_all ts k l a = all_bodies IsValidBody ts (subst (All IsSharedValid) (take_all k ts l) a)

@@ -1,5 +1,5 @@
-// The maps that a set is kept in: what goes last in them, alone and with others, and copies. A policy is written as in `sets`;
-// what stands then is the ids of bodies and of policies, in their orders.
+// The maps that a set is kept in: what goes last in them, alone and with others, and copies. A policy is written as in
+// `sets`; what stands then is the ids of bodies and of policies, in their orders.
 ghost use Rattle.std.specs.Prelude.{◌≡◌, ◌∷◌, [], IfOk, IsTrue};
 ghost use Rattle.cedar_body.specs.BodyEquality.{same_body};
 ghost use Rattle.cedar_policy_maps.specs.Boards.{empty_board};
@@ -160,7 +160,8 @@ fn both_joining(
     policy: Policy,
 ) -> Result<(Parted<Rc<Template>>, Parted<Policy>), AllocError>
     requires { CanJoinBoth empty_board policy }
-    ensures { IfOk result (λ r. CanTakeIn empty_board (bodies_of r.0.stand.items) (bodies_of r.0.join.items) r.1.join.items) }
+    ensures { IfOk result (λ r. CanTakeIn empty_board (bodies_of r.0.stand.items)
+        (bodies_of r.0.join.items) r.1.join.items) }
 {
     let template: Rc<Template> = policy.template_arc().clone()?;
     let bodies = joining(alloc, template)?;
