@@ -61,7 +61,13 @@ lost_where_refused (Err f) b e = e
 pub line_taken : {A : Type 0} (kind : A → Command) (line : List ℕ) (fs : List (List ℕ)) (s : State) (v : SessionView) (old new : List ℕ) → list_all is_line_byte line ≡ true → fs ≡ slice_split (λ b. b == 9) line
     → TakesKind kind true fs s v old new → Takes true line s v old new
 line_taken kind line fs s v old new readable same h =
-    (kind h.0, h.2, h.3, (readable, subst (λ x. IsCommand (kind h.0) x) same h.1), h.4, h.5, h.6)
+    let g = h.2 in
+    (kind h.0, g.0, g.1, (readable, subst (λ x. IsCommand (kind h.0) x) same h.1), g.2, g.3, g.4)
+
+-- and fields that are those of no command of some kind leave none for the line
+pub none_of_line : {A : Type 0} (kind : A → Command) (line : List ℕ) (fs : List (List ℕ)) → fs ≡ slice_split (λ b. b == 9) line
+    → ((a : A) → IsCommand (kind a) fs → ⊥) → (a : A) → IsCommand (kind a) (slice_split (λ b. b == 9) line) → ⊥
+none_of_line kind line fs same none a k = none a (subst (λ x. IsCommand (kind a) x) (sym same) k)
 
 -- fields that are not those of an empty line, of a command on the store or of one on policy sets are those of none
 pub none_found : (fs : List (List ℕ)) → (fs ≡ [] ∷ [] → ⊥) → ((c : EntityCommand) → IsEntityCommand c fs → ⊥) → ((c : PolicyCommand) → IsPolicyCommand c fs → ⊥) → (c : Command) → IsCommand c fs → ⊥
@@ -71,8 +77,9 @@ none_found fs nothing entity policy (Policy c) h = policy c h
 
 -- a line whose fields are those of neither kind of command is taken where it is empty, and changes nothing
 pub line_left : (b : Bool) (line : List ℕ) (fs : List (List ℕ)) (s : State) (v : SessionView) (old new : List ℕ) → list_all is_line_byte line ≡ true → fs ≡ slice_split (λ b. b == 9) line
-    → IsTrue b ↔ (fs ≡ [] ∷ []) → ((c : EntityCommand) → IsEntityCommand c fs → ⊥) → ((c : PolicyCommand) → IsPolicyCommand c fs → ⊥) → StandsAt v s → new ≡ old → Takes b line s v old new
+    → IsTrue b ↔ (fs ≡ [] ∷ []) → ((c : EntityCommand) → IsEntityCommand c (slice_split (λ b. b == 9) line) → ⊥) → ((c : PolicyCommand) → IsPolicyCommand c (slice_split (λ b. b == 9) line) → ⊥)
+    → StandsAt v s → new ≡ old → Takes b line s v old new
 line_left true line fs s v old new readable same empty entity policy h kept =
     (Nothing, s, [], (readable, sym same ∙ empty.0 refl), (refl, refl), h, kept ∙ sym (append-nil old))
 line_left false line fs s v old new readable same empty entity policy h kept =
-    (λ c k. none_found fs (λ e. false≢true (empty.1 e)) entity policy c (subst (λ x. IsCommand c x) (sym same) k.1), h, kept)
+    (λ c k. none_found (slice_split (λ b. b == 9) line) (λ e. false≢true (empty.1 (same ∙ e))) entity policy c k.1, h, kept)

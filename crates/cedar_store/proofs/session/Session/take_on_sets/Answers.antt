@@ -14,5 +14,5 @@ returns-in_ok-take-in-Some g c s h =
       command,
       rw c.in-Some.is at c.in_ok-read_policy_command.ensures,
       policy_takes old new s command c.args.out.now.items c.take.new.out.items is refl refl
-          c.in_ok-take.ensures,
+          c.in_ok-take-in-Some.ensures,
     )

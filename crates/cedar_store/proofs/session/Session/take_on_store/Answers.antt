@@ -16,5 +16,5 @@ returns-in_ok-take-in-Some g c s h =
       command,
       known,
       entity_takes old new s command c.args.out.now.items c.take.new.out.items is refl refl
-          (c.in_ok-take.ensures s.entities is.entities (command_ascii command _ known)),
+          (c.in_ok-take-in-Some.ensures s.entities is.entities (command_ascii command _ known)),
     )
