@@ -105,10 +105,16 @@ fn put_both(alloc: Global, number: usize, policy: Policy, want: &str) -> Tried {
     judged_maps(alloc, maps, answer, want)
 }
 
+// A further share of a policy's template.
+fn template_of(policy: &Policy) -> Result<Rc<Template>, AllocError>
+    ensures { IfOk result (λ t. t.value ≡ policy.now.template) }
+{
+    policy.template_arc().clone()
+}
+
 // The maps of a policy's template alone.
 fn of_template(alloc: Global, policy: &Policy) -> Option<Maps> {
-    let template: Result<Rc<Template>, AllocError> = policy.template_arc().clone();
-    match template {
+    match template_of(policy) {
         Ok(template) => {
             let mut maps = empty(alloc);
             let answer = maps.put_template(template);
@@ -163,7 +169,7 @@ fn both_joining(
     ensures { IfOk result (λ r. CanTakeIn empty_board (bodies_of r.0.stand.items)
         (bodies_of r.0.join.items) r.1.join.items) }
 {
-    let template: Rc<Template> = policy.template_arc().clone()?;
+    let template = template_of(&policy)?;
     let bodies = joining(alloc, template)?;
     let policies = joining(alloc, policy)?;
     Ok((bodies, policies))
