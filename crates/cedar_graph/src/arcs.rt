@@ -126,11 +126,13 @@ fn add_arc<K: Clone + Eq + Hash, S: BuildHasher>(
     Ok(b)
 }
 
-// The arcs of a node, whose key has the number `a`.
-fn read_node<K: Clone + Eq + Hash, V: TCNode<K>, S: BuildHasher>(
+// The arcs of a node, whose key has the number `a`. What the list is before says nothing: it is set to the edges of the
+// node.
+fn read_node<'a, K: Clone + Eq + Hash, V: TCNode<K>, S: BuildHasher>(
     alloc: Global,
-    node: &V,
+    node: &'a V,
     s: &mut Reading<K, S>,
+    list: &mut Vec<&'a K>,
     a: usize,
 ) -> Result<(), AllocError>
     requires copies { ClonesAreEqual K.eq K.is_clone }
@@ -139,18 +141,20 @@ fn read_node<K: Clone + Eq + Hash, V: TCNode<K>, S: BuildHasher>(
     ensures { OnOk result (ReadsNode K.eq (V.edges node.now) a s.old s.new) }
 {
     s.reads = s.reads.saturating_add(1);
-    let edges = node.out_edges(alloc)?;
-    for edge in &edges {
+    node.list_edges(alloc, list)?;
+    let edges: &Vec<&K> = list;
+    for edge in edges {
         add_arc(s, a, *edge)?;
     }
     Ok(())
 }
 
 // The arcs of the node at the key of a number, if there is one.
-fn read_row<K: Clone + Eq + Hash, V: TCNode<K>, S: BuildHasher>(
+fn read_row<'a, K: Clone + Eq + Hash, V: TCNode<K>, S: BuildHasher>(
     alloc: Global,
-    nodes: &HashMap<K, V, S>,
+    nodes: &'a HashMap<K, V, S>,
     s: &mut Reading<K, S>,
+    list: &mut Vec<&'a K>,
     a: usize,
 ) -> Result<(), AllocError>
     requires copies { ClonesAreEqual K.eq K.is_clone }
@@ -160,7 +164,7 @@ fn read_row<K: Clone + Eq + Hash, V: TCNode<K>, S: BuildHasher>(
     ensures on { OnOk result (ReadsOn 1 s.old s.new) }
 {
     match nodes.get(&s.keys[a]) {
-        Some(node) => read_node(alloc, node, s, a),
+        Some(node) => read_node(alloc, node, s, list, a),
         None => Ok(()),
     }
 }
@@ -180,8 +184,9 @@ fn read_rows<K: Clone + Eq + Hash, V: TCNode<K>, S: BuildHasher>(
     ensures read { OnOk result (IsReadBelow K.eq (graph_of K.eq V.edges nodes.now) end s.new) }
     ensures on { OnOk result (ReadsOn (end - start) s.old s.new) }
 {
+    let mut list = Vec::new(alloc);
     for a in start..end {
-        read_row(alloc, nodes, s, a)?;
+        read_row(alloc, nodes, s, &mut list, a)?;
     }
     Ok(())
 }
@@ -222,8 +227,9 @@ fn read_nodes<K: Clone + Eq + Hash, V: TCNode<K>, S: BuildHasher>(
     requires within { length nodes.now ≤ length s.old.keys.keys }
     ensures { OnOk result (ReadsNodes K.eq V.edges nodes.now s.old s.new) }
 {
+    let mut list = Vec::new(alloc);
     for a in 0..nodes.len() {
-        read_node(alloc, nodes[a], s, a)?;
+        read_node(alloc, nodes[a], s, &mut list, a)?;
     }
     Ok(())
 }

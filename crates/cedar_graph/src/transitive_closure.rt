@@ -76,6 +76,25 @@ pub trait TCNode<K: Eq + Drop> {
         ensures { IfOk result (λ v. (q : K) →
             is_member K.eq (map (λ x. x.now) v.items) q ≡ edges self.now q) };
 
+    /// Puts the keys that the node has an edge to in the place of what a list has: those that
+    /// [`TCNode::out_edges`] lists, in whatever order. The default makes that list; a node type that
+    /// has its keys at hand writes a body of its own, which takes memory only where the list has no
+    /// room for as many. May take memory and be refused it; then nothing is said of the list. A
+    /// closure lists edges so, in one list for all nodes.
+    ///
+    /// The original has no such call.
+    fn list_edges<'a>(
+        &'a self,
+        alloc: Global,
+        list: &mut Vec<&'a K>,
+    ) -> std::result::Result<(), AllocError>
+        ensures { OnOk result ((q : K) →
+            is_member K.eq (map (λ x. x.now) list.new.items) q ≡ edges self.now q) }
+    {
+        *list = self.out_edges(alloc)?;
+        Ok(())
+    }
+
     /// Whether the node has an edge to `k`. Takes no memory.
     fn has_edge_to(&self, k: &K) -> bool
         ensures { result ≡ edges self.now k.now };
@@ -194,7 +213,7 @@ pub trait TCNode<K: Eq + Drop> {
 /// How much a closure call did.
 #[derive(Clone, Copy, Debug, PartialEq, Eq)]
 pub struct Work {
-    /// How often the edges of a node were listed, by [`TCNode::out_edges`].
+    /// How often the edges of a node were listed, by [`TCNode::list_edges`].
     pub reads: usize,
     /// How often a node of the map that was to be fixed was visited.
     pub closings: usize,

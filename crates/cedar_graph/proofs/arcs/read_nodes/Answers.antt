@@ -1,5 +1,6 @@
-use Rattle.std.proofs.Common.{◌≡◌, ◌<◌, false, arith, sym, ap, ◌∙◌, length, slice_get, Some}
+use Rattle.std.proofs.Common.{◌≡◌, ◌<◌, false, arith, sym, ap, ◌∙◌, length, slice_get, subst, Some}
 use Rattle.std.proofs.lemmas.Option.{slice_get-get_or}
+use Rattle.cedar_graph.specs.laws.Readings.{IsReadBelow, ReadsOn}
 use Rattle.cedar_graph.proofs.Keyed.{prefix_back, prefix_refl, prefix_trans}
 use Rattle.cedar_graph.proofs.arcs.read_nodes.Goals as goal
 
@@ -33,4 +34,14 @@ loop-a-preserved g c =
       };
       read = λ G has. e.read G (i.read G has)
           (λ x q h. has a x q node (prefix_back keys0 keys i.on.keys a x within h) at_a);
+    }
+
+pub returns : goal.returns
+returns g c =
+    let eq = g.K.PartialEq.eq in
+    let i = c.loop-a.invariant in
+    let all : c.loop-a.a ≡ length c.args.nodes.now = omega arith in
+    record {
+      on = subst (λ n. ReadsOn n c.args.s.now c.loop-a.s) all i.on;
+      read = λ G has. subst (λ n. IsReadBelow eq G n c.loop-a.s) all (i.read G has);
     }
