@@ -28,6 +28,14 @@ fn listed_pointers<'a>(
     uids.collect(alloc)
 }
 
+// Puts what an iterator has left in the place of what a list has.
+fn relist<'a>(list: &mut Vec<&'a SharedUid>, uids: SharedUids<'a>) -> Result<(), AllocError>
+    ensures { OnOk result (map (λ x. x.now) list.new.items ≡ uids.entry) }
+{
+    list.clear();
+    list.extend(uids)
+}
+
 // The places of the keys in the order of uids.
 fn order(alloc: Global, keys: &[SharedUid]) -> Result<Vec<usize>, AllocError>
     ensures { IfOk result (λ v. IsPermutation (range_with_len 0 (length keys.now)) v.items) }
@@ -91,6 +99,16 @@ impl TCNode<SharedUid> for Entity {
     /// The ancestors. It takes memory for the list, and is refused only where that is.
     fn out_edges(&self, alloc: Global) -> Result<Vec<&SharedUid>, AllocError> {
         listed_pointers(alloc, self.shared_ancestors())
+    }
+
+    /// The ancestors, in the place of what the list has. It takes memory where the list has no room for as many, and is
+    /// refused only where that is.
+    fn list_edges<'a>(
+        &'a self,
+        _alloc: Global,
+        list: &mut Vec<&'a SharedUid>,
+    ) -> Result<(), AllocError> {
+        relist(list, self.shared_ancestors())
     }
 
     /// As [`Entity::is_descendant_of_shared`].
@@ -178,6 +196,15 @@ impl TCNode<SharedUid> for SharedEntity {
     /// The ancestors. It takes memory for the list, and is refused only where that is.
     fn out_edges(&self, alloc: Global) -> Result<Vec<&SharedUid>, AllocError> {
         self.0.out_edges(alloc)
+    }
+
+    /// As that of the entity.
+    fn list_edges<'a>(
+        &'a self,
+        alloc: Global,
+        list: &mut Vec<&'a SharedUid>,
+    ) -> Result<(), AllocError> {
+        self.0.list_edges(alloc, list)
     }
 
     /// As that of the entity. It takes no memory.
