@@ -13,7 +13,7 @@ use crate::copying::copy_out;
 use crate::keys::hasher_of;
 use crate::store_handle::{Held, Inner};
 use cedar_c_lists::{Edge, Reason, Span, status_of, tell};
-use cedar_c_stores::KeptStore;
+use cedar_c_stores::{EntityLists, KeptStore};
 use cedar_keyed_hash::KeyedState;
 use std::alloc::Global;
 use std::boxed::Box;
@@ -130,7 +130,13 @@ pub extern "C" fn cedar_store_build(
     let Some(mut inner) = take(alloc, handle) else {
         return CLOSED;
     };
-    let answer = inner.kept.build(alloc, text, uids, count, edges, mode);
+    let lists = EntityLists {
+        text,
+        uids,
+        count,
+        edges,
+    };
+    let answer = inner.kept.build(alloc, lists, mode);
     *handle = opened(inner);
     status_of(answer)
 }
@@ -152,7 +158,13 @@ pub extern "C" fn cedar_store_add(
     let Some(mut inner) = take(alloc, handle) else {
         return CLOSED;
     };
-    let answer = inner.kept.add(alloc, text, uids, count, edges, mode);
+    let lists = EntityLists {
+        text,
+        uids,
+        count,
+        edges,
+    };
+    let answer = inner.kept.add(alloc, lists, mode);
     *handle = opened(inner);
     status_of(answer)
 }
@@ -174,7 +186,13 @@ pub extern "C" fn cedar_store_upsert(
     let Some(mut inner) = take(alloc, handle) else {
         return CLOSED;
     };
-    let answer = inner.kept.upsert(alloc, text, uids, count, edges, mode);
+    let lists = EntityLists {
+        text,
+        uids,
+        count,
+        edges,
+    };
+    let answer = inner.kept.upsert(alloc, lists, mode);
     *handle = opened(inner);
     status_of(answer)
 }

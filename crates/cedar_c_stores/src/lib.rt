@@ -8,3 +8,4 @@ mod refusal;
 mod store_calls;
 
 pub use kept_store::KeptStore;
+pub use store_calls::EntityLists;

@@ -8,6 +8,20 @@ use cedar_c_lists::{Edge, Reason, Span, uids_of};
 use std::alloc::Global;
 use std::hash::BuildHasher;
 
+/// The lists by which a caller says entities: uids, which are parts of a text, of which the first `count` are those of
+/// the entities, and edges from these to their parents, by the places of both among the uids.
+#[derive(Clone, Copy)]
+pub struct EntityLists<'a> {
+    /// The text that the uids are parts of.
+    pub text: &'a [u8],
+    /// The uids of the entities, and behind them those of further parents.
+    pub uids: &'a [Span],
+    /// How many entities there are.
+    pub count: usize,
+    /// The edges from entities to parents.
+    pub edges: &'a [Edge],
+}
+
 impl<S: BuildHasher + Copy> KeptStore<S> {
     /// The entities that lists say become the store, in the mode of a number: it is what adding them to the store
     /// without entities gives.
@@ -15,55 +29,34 @@ impl<S: BuildHasher + Copy> KeptStore<S> {
     /// What is read wrong, as by `entities_of` and `mode_of`, leaves all as it was; so does want of memory while that
     /// is read. A refusal of the call on the store, for memory too, leaves the store without entities; want of memory
     /// leaves the text of the last refusal, as it does in each call here. Takes memory.
-    pub fn build(
-        &mut self,
-        alloc: Global,
-        text: &[u8],
-        uids: &[Span],
-        count: usize,
-        edges: &[Edge],
-        mode: u32,
-    ) -> Result<(), Reason>
-        ensures { BuildsListed text.now uids.now count edges.now mode result self.old self.new }
+    pub fn build(&mut self, alloc: Global, lists: EntityLists<'_>, mode: u32) -> Result<(), Reason>
+        ensures { BuildsListed lists.text.now lists.uids.now lists.count lists.edges.now mode result
+            self.old self.new }
     {
         let mode = mode_of(mode)?;
-        let list = entities_of(alloc, text, uids, count, edges)?;
+        let list = entities_of(alloc, lists.text, lists.uids, lists.count, lists.edges)?;
         self.build_list(alloc, list, mode)
     }
 
     /// The entities that lists say are added, as `Entities::add_entities` does, in the mode of a number. Refused as
     /// `build` is.
-    pub fn add(
-        &mut self,
-        alloc: Global,
-        text: &[u8],
-        uids: &[Span],
-        count: usize,
-        edges: &[Edge],
-        mode: u32,
-    ) -> Result<(), Reason>
-        ensures { AddsListed text.now uids.now count edges.now mode result self.old self.new }
+    pub fn add(&mut self, alloc: Global, lists: EntityLists<'_>, mode: u32) -> Result<(), Reason>
+        ensures { AddsListed lists.text.now lists.uids.now lists.count lists.edges.now mode result
+            self.old self.new }
     {
         let mode = mode_of(mode)?;
-        let list = entities_of(alloc, text, uids, count, edges)?;
+        let list = entities_of(alloc, lists.text, lists.uids, lists.count, lists.edges)?;
         self.add_list(alloc, list, mode)
     }
 
     /// The entities that lists say are put over what the store holds, as `Entities::upsert_entities` does, in the mode
     /// of a number. Refused as `build` is.
-    pub fn upsert(
-        &mut self,
-        alloc: Global,
-        text: &[u8],
-        uids: &[Span],
-        count: usize,
-        edges: &[Edge],
-        mode: u32,
-    ) -> Result<(), Reason>
-        ensures { UpsertsListed text.now uids.now count edges.now mode result self.old self.new }
+    pub fn upsert(&mut self, alloc: Global, lists: EntityLists<'_>, mode: u32) -> Result<(), Reason>
+        ensures { UpsertsListed lists.text.now lists.uids.now lists.count lists.edges.now mode result
+            self.old self.new }
     {
         let mode = mode_of(mode)?;
-        let list = entities_of(alloc, text, uids, count, edges)?;
+        let list = entities_of(alloc, lists.text, lists.uids, lists.count, lists.edges)?;
         self.upsert_list(alloc, list, mode)
     }
 
