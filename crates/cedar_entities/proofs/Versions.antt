@@ -66,7 +66,7 @@ put m n k v x key value absent step q =
     ∙ ap (λ u. cond (same_uid u q) (Some x) (held m q)) key
     ∙ grows_held (held m) x (ap (held m) (sym key) ∙ ap (option_map shared) absent) q
 
-put_key : {S : Type 0} (m : HashMap EntityUID SharedEntity S) (k : EntityUID) (v : SharedEntity) (q : EntityUID) (b : Bool) → same_uid k q ≡ b → k ≡ (shared v).uid → UidsMatch m
+pub put_key : {S : Type 0} (m : HashMap EntityUID SharedEntity S) (k : EntityUID) (v : SharedEntity) (q : EntityUID) (b : Bool) → same_uid k q ≡ b → k ≡ (shared v).uid → UidsMatch m
     → IfSome (cond b (Some v) (get same_uid m q)) (λ w. same_uid q (shared w).uid ≡ true)
 put_key m k v q true s key h = (same_uid_decides q (shared v).uid).1 (sym ((same_uid_decides k q).0 s) ∙ key)
 put_key m k v q false s key h = h q

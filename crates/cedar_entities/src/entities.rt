@@ -38,6 +38,7 @@ use cedar_entity::node::SharedEntity;
 use cedar_ids::entity::EntityUID;
 use cedar_uid_sets::{SharedUid, UidSet};
 use std::alloc::{AllocError, Global};
+use std::collections::hash_map::Entry;
 use std::collections::{HashMap, HashSet};
 use std::hash::{BuildHasher, BuildHasherDefault, FoldHasher};
 use std::marker::Model;
@@ -108,14 +109,19 @@ fn put_new<S: BuildHasher>(
         (λ _. ⊥)) }
 {
     let Incoming { uid, entity } = coming;
-    if let Some(present) = entities.get(&uid) {
-        if !present.0.deep_eq(&entity) {
-            return Err(EntitiesError::Duplicate(uid.uid().clone()?));
+    match entities.entry(uid)? {
+        Entry::Occupied(place) => {
+            let present = place.get();
+            if !present.0.deep_eq(&entity) {
+                return Err(EntitiesError::Duplicate(entity.uid().clone()?));
+            }
+            Ok(())
         }
-        return Ok(());
+        Entry::Vacant(place) => {
+            place.insert(SharedEntity(entity));
+            Ok(())
+        }
     }
-    entities.insert(uid, SharedEntity(entity))?;
-    Ok(())
 }
 
 // Puts in the entities in turn.

@@ -56,7 +56,7 @@ fn with_uid(alloc: Global, entity: Rc<Entity>) -> Result<Incoming, AllocError>
 pub(crate) fn with_uids(alloc: Global, list: Vec<Rc<Entity>>) -> Result<Vec<Incoming>, AllocError>
     ensures { IfOk result (λ v. v.items ≡ entities_in list.items) }
 {
-    let mut coming = Vec::new(alloc);
+    let mut coming = Vec::with_capacity(alloc, list.len())?;
     for entity in list {
         coming.push(with_uid(alloc, entity)?)?;
     }
