@@ -59,10 +59,22 @@ impl KnownUids {
 // So many parents are known at the most, each at a place of its own.
 const PLACES: usize = 256;
 
+// The place of a text that ends so, by all but the quote: those of numbers that follow one another have places of their
+// own.
+fn place_of_end(end: &[u8; 8]) -> usize {
+    let digits = u32::from(end[6]) + u32::from(end[5]) * 10 + u32::from(end[4]) * 100;
+    let others = u32::from(end[3]) * 31 + u32::from(end[2]) * 7 + u32::from(end[1]) * 13;
+    (digits + others + u32::from(end[0])) as usize % PLACES
+}
+
 // The place of a text, by its last bytes. Texts of one place take it from each other.
 fn place_of(text: &str) -> usize {
+    let bytes = text.as_bytes();
+    if let Some(end) = bytes.last_chunk::<8>() {
+        return place_of_end(end);
+    }
     let mut sum = 0u32;
-    for b in text.as_bytes().iter().rev().take(8) {
+    for b in bytes {
         sum = sum.wrapping_mul(31).wrapping_add(u32::from(*b));
     }
     sum as usize % PLACES

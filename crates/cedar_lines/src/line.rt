@@ -45,9 +45,8 @@ pub fn read_fields<'a>(fields: &mut Vec<&'a str>, line: &'a [u8]) -> Result<bool
     if !has_line_bytes_alone(line) {
         return Ok(false);
     }
-    let Ok(text) = str::from_utf8(line) else {
-        return Ok(false);
-    };
+    // SAFETY: such bytes are ASCII and so a text, which the check proves.
+    let text = unsafe { str::from_utf8_unchecked(line) };
     set_fields(fields, text)?;
     Ok(true)
 }
