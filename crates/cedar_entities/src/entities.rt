@@ -111,11 +111,10 @@ fn put_new<S: BuildHasher>(
     let Incoming { uid, entity } = coming;
     match entities.entry(uid)? {
         Entry::Occupied(place) => {
-            let present = place.get();
-            if !present.0.deep_eq(&entity) {
-                return Err(EntitiesError::Duplicate(entity.uid().clone()?));
+            if place.get().0.deep_eq(&entity) {
+                return Ok(());
             }
-            Ok(())
+            Err(EntitiesError::Duplicate(entity.uid().clone()?))
         }
         Entry::Vacant(place) => {
             place.insert(SharedEntity(entity));

@@ -8,18 +8,18 @@ use Rattle.cedar_entities.specs.laws.Held.{held, shared}
 use Rattle.cedar_entity.specs.View.{EntityView, IsDeepEqual}
 use Rattle.cedar_entities.proofs.entities.put_new.Goals as goal
 
-pub returns-then-not-deep_eq-clause-err : goal.returns-then-not-deep_eq-clause-err
-returns-then-not-deep_eq-clause-err g c =
+pub returns-in_ok-clone-in-Occupied-clause-err : goal.returns-in_ok-clone-in-Occupied-clause-err
+returns-in_ok-clone-in-Occupied-clause-err g c =
     let uid_is : c.coming.inside.uid ≡ c.args.coming.uid = c.coming.invariant
     ∙ ap (λ (e : EntityView). e.uid) c.coming.view_is in
-    let present = c.get-present.result.now in
+    let present = c.get.result.now in
     let copy : c.in_ok-clone-in-Occupied.field-0 ≡ c.uid.result.now = search rules in
     let entity : c.deref-in-Occupied.result.now ≡ c.args.coming = c.deref-in-Occupied.ensures ∙ c.coming.view_is in (
-      copy ∙ c.uid.ensures ∙ ap (λ (e : EntityView). e.uid) (c.deref-then-not-deep_eq.ensures ∙ c.coming.view_is),
+      copy ∙ c.uid.ensures ∙ ap (λ (e : EntityView). e.uid) (c.deref-in-Occupied-2.ensures ∙ c.coming.view_is),
       shared present,
       ap (held c.args.entities.now) (sym uid_is)
-      ∙ ap (option_map shared) (sym c.in_ok-place.ensures.value ∙ ap entry_value c.in-Occupied.is ∙ c.get-present.ensures),
-      λ d. false≢true (sym c.if-not-deep_eq.true ∙ c.deep_eq.ensures.equal.1
+          ∙ ap (option_map shared) (sym c.in_ok-place.ensures.value ∙ ap entry_value c.in-Occupied.is ∙ c.get.ensures),
+      λ d. false≢true (sym c.if-deep_eq.false ∙ c.deep_eq.ensures.equal.1
           (subst (λ (v : EntityView). IsDeepEqual v c.deref-in-Occupied.result.now) (sym c.deref.ensures) (subst (IsDeepEqual (shared present)) (sym entity) d))),
     )
 
