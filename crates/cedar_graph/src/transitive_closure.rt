@@ -76,25 +76,6 @@ pub trait TCNode<K: Eq + Drop> {
         ensures { IfOk result (λ v. (q : K) →
             is_member K.eq (map (λ x. x.now) v.items) q ≡ edges self.now q) };
 
-    /// Puts the keys that the node has an edge to in the place of what a list has: those that
-    /// [`TCNode::out_edges`] lists, in whatever order. The default makes that list; a node type that
-    /// has its keys at hand writes a body of its own, which takes memory only where the list has no
-    /// room for as many. May take memory and be refused it; then nothing is said of the list. A
-    /// closure lists edges so, in one list for all nodes.
-    ///
-    /// The original has no such call.
-    fn list_edges<'a>(
-        &'a self,
-        alloc: Global,
-        list: &mut Vec<&'a K>,
-    ) -> std::result::Result<(), AllocError>
-        ensures { OnOk result ((q : K) →
-            is_member K.eq (map (λ x. x.now) list.new.items) q ≡ edges self.now q) }
-    {
-        *list = self.out_edges(alloc)?;
-        Ok(())
-    }
-
     /// Whether the node has an edge to `k`. Takes no memory.
     fn has_edge_to(&self, k: &K) -> bool
         ensures { result ≡ edges self.now k.now };
@@ -129,6 +110,25 @@ pub trait TCNode<K: Eq + Drop> {
             is_member K.eq (map (λ x. x.now) v.items) q ≡ true → edges self.now q ≡ true) }
     {
         self.out_edges(alloc)
+    }
+
+    /// Puts the keys that the node has an edge to in the place of what a list has: those that
+    /// [`TCNode::out_edges`] lists, in whatever order. The default makes that list; a node type that
+    /// has its keys at hand writes a body of its own, which takes memory only where the list has no
+    /// room for as many. May take memory and be refused it; then nothing is said of the list. A
+    /// closure lists edges so, in one list for all nodes.
+    ///
+    /// The original has no such call.
+    fn list_edges<'a>(
+        &'a self,
+        alloc: Global,
+        list: &mut Vec<&'a K>,
+    ) -> std::result::Result<(), AllocError>
+        ensures { OnOk result ((q : K) →
+            is_member K.eq (map (λ x. x.now) list.new.items) q ≡ edges self.now q) }
+    {
+        *list = self.out_edges(alloc)?;
+        Ok(())
     }
 
     /// Makes room for so many further edges, where the node type has a use for that; the default

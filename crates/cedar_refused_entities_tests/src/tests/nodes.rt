@@ -170,6 +170,16 @@ fn led<K: Eq + Drop, N: TCNode<K> + Told + Drop>(
     }
 }
 
+// The edges that a node puts into a list that has none.
+fn edges_of<'a, K: Eq + Drop, N: TCNode<K>>(
+    alloc: Global,
+    node: &'a N,
+) -> Result<Vec<&'a K>, AllocError> {
+    let mut list = Vec::new(alloc);
+    node.list_edges(alloc, &mut list)?;
+    Ok(list)
+}
+
 // What comes of the call that lists some edges.
 fn listed<K: Eq + Display + Drop, N: TCNode<K> + Told + Drop>(
     alloc: Global,
@@ -181,6 +191,13 @@ fn listed<K: Eq + Display + Drop, N: TCNode<K> + Told + Drop>(
     if verb == "out_edges" {
         return on(alloc, number, Some(node), |node: &N| {
             judged(alloc, node.out_edges(alloc), want, |keys| {
+                are_written(alloc, keys, want)
+            })
+        });
+    }
+    if verb == "list_edges" {
+        return on(alloc, number, Some(node), |node: &N| {
+            judged(alloc, edges_of(alloc, node), want, |keys| {
                 are_written(alloc, keys, want)
             })
         });
@@ -320,6 +337,7 @@ const ENTITIES: &str = "
     - TCNode<EntityUID> for Entity::reset_edges | a b / c d | a b / / /
     TCNode<EntityUID> for Entity::direct_edges | a b / c d | A::\"b\"
     TCNode::direct_edges | 7 | 7
+    TCNode::list_edges | 7 | 7
     TCNode::order | a, c b | 2
     TCNode::add_edges_to | a b / c e, f d b | a b / c d e f / /
     - TCNode::reserve_edges | a b / c, d | a b / c / /
@@ -327,6 +345,7 @@ const ENTITIES: &str = "
     TCNode<SharedUid> for Entity::add_edge_to | a b / c / k=1, d | a b / c d / k=1 /
     - TCNode<SharedUid> for Entity::add_edge_to | a b / c, b | a b / c / /
     TCNode<SharedUid> for Entity::out_edges | a b / c d | A::\"b\" A::\"c\" A::\"d\"
+    TCNode<SharedUid> for Entity::list_edges | a b / c d | A::\"b\" A::\"c\" A::\"d\"
     - TCNode<SharedUid> for Entity::reset_edges | a b / c d | a b / / /
     TCNode<SharedUid> for Entity::direct_edges | a b / c d | A::\"b\"
     TCNode<SharedUid> for Entity::order | a, c b | 2
@@ -336,9 +355,9 @@ const ENTITIES: &str = "
 
 impl Calls for OnEntities {
     fn tried(&self, alloc: Global, number: usize, row: Row<'_>) -> Tried {
-        if row.call == "TCNode::direct_edges" {
+        if row.given == "7" {
             return match node_to(alloc, 7) {
-                Some(node) => listed::<u64, Plain>(alloc, number, "direct_edges", node, row.want),
+                Some(node) => listed::<u64, Plain>(alloc, number, verb_of(row), node, row.want),
                 None => unmade(),
             };
         }
@@ -366,6 +385,7 @@ const COUNTED: &str = "
     TCNode<SharedUid> for SharedEntity::get_key | a b / c | A::\"a\"
     TCNode<SharedUid> for SharedEntity::add_edge_to | a b / c / k=1, d | a b / c d / k=1 /
     TCNode<SharedUid> for SharedEntity::out_edges | a b / c d | A::\"b\" A::\"c\" A::\"d\"
+    TCNode<SharedUid> for SharedEntity::list_edges | a b / c d | A::\"b\" A::\"c\" A::\"d\"
     TCNode<SharedUid> for SharedEntity::reset_edges | a b / c d | a b / / /
     TCNode<SharedUid> for SharedEntity::direct_edges | a b / c d | A::\"b\"
     TCNode<SharedUid> for SharedEntity::order | a, c b | 2
