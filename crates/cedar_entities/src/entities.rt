@@ -93,32 +93,31 @@ impl<S: BuildHasher> Model for Entities<S> {
     ghost invariant = { λ s. UidsMatch s.entities × IsIndexOf s.index (held_map s.entities) };
 }
 
-// Puts in an entity whose uid is absent; one that is present has to be deeply equal.
+// Puts in an entity whose uid is absent; one that is present has to be deeply equal. One that is not comes back.
 fn put_new<S: BuildHasher>(
     entities: &mut HashMap<SharedUid, SharedEntity, S>,
     coming: Incoming,
-) -> Result<(), EntitiesError>
+) -> Result<Option<Rc<Entity>>, AllocError>
     requires { UidsMatch entities.old }
     ensures keys { UidsMatch entities.new }
-    ensures agrees { OnOk result
-        (IfSome (held entities.old coming.uid) (λ h. IsDeepEqual h coming)) }
-    ensures ok { OnOk result ((q : EntityUID) → held entities.new q ≡ option_or
+    ensures agrees { IfOk result (λ o. o ≡ None →
+        IfSome (held entities.old coming.uid) (λ h. IsDeepEqual h coming)) }
+    ensures ok { IfOk result (λ o. o ≡ None → (q : EntityUID) → held entities.new q ≡ option_or
         (held entities.old q) (cond (same_uid coming.uid q) (Some coming) None)) }
-    ensures err { IfErr result (λ e. MatchRefusal e (λ u. (u ≡ coming.uid) × (h : EntityView)
-        × (held entities.old coming.uid ≡ Some h) × (IsDeepEqual h coming → ⊥))
-        (λ _. ⊥)) }
+    ensures differs { IfOk result (λ o. IfSome o (λ e. (e.value ≡ coming) × (h : EntityView)
+        × (held entities.old coming.uid ≡ Some h) × (IsDeepEqual h coming → ⊥))) }
 {
     let Incoming { uid, entity } = coming;
     match entities.entry(uid)? {
         Entry::Occupied(place) => {
             if place.get().0.deep_eq(&entity) {
-                return Ok(());
+                return Ok(None);
             }
-            Err(EntitiesError::Duplicate(entity.uid().clone()?))
+            Ok(Some(entity))
         }
         Entry::Vacant(place) => {
             place.insert(SharedEntity(entity));
-            Ok(())
+            Ok(None)
         }
     }
 }
@@ -137,7 +136,9 @@ fn put_all<S: BuildHasher>(
         (FirstMismatch (held entities.old) list.items) (λ _. ⊥)) }
 {
     for entity in list {
-        put_new(entities, entity)?;
+        if let Some(other) = put_new(entities, entity)? {
+            return Err(EntitiesError::Duplicate(other.uid().clone()?));
+        }
     }
     Ok(())
 }

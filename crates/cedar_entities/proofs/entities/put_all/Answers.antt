@@ -1,4 +1,6 @@
-use Rattle.std.proofs.Common.{ap, sym, subst, ◌∙◌, ◌++◌}
+use Rattle.std.proofs.Common.{ap, rules, sym, subst, ◌≡◌, ◌∙◌, ◌++◌}
+use Rattle.cedar_entity.specs.View.{EntityView}
+use Rattle.cedar_entity.specs.declared.err.EntitiesError.TheVariants.{Duplicate}
 use Rattle.std.specs.List.{AllByRecursion}
 use Rattle.std.specs.Option.{option_or}
 use Rattle.std.proofs.lemmas.Result.{err_from_is_err_and}
@@ -32,20 +34,22 @@ loop-entity-preserved g c =
     record {
       keys = c.put_new.ensures.keys;
       agree = all_push (MatchesPresent f c.args.list.items) done r i.agree
-          (agrees_now f now done r _ c.args.list.items place i.holds c.in_ok-put_new.ensures.agrees);
-      holds = held_push f now (held c.put_new.new.entities) done r i.holds c.in_ok-put_new.ensures.ok;
+          (agrees_now f now done r _ c.args.list.items place i.holds (c.in_ok-other.ensures.agrees c.in_default.is));
+      holds = held_push f now (held c.put_new.new.entities) done r i.holds (c.in_ok-other.ensures.ok c.in_default.is);
       place = place ∙ append_one done r _;
     }
 
-pub returns-in_err-put_new-clause-err : goal.returns-in_err-put_new-clause-err
-returns-in_err-put_new-clause-err g c =
+pub returns-in-Some-2-clause-err : goal.returns-in-Some-2-clause-err
+returns-in-Some-2-clause-err g c =
     let i = c.loop-entity.invariant in
     let done = c.loop-entity.yielded in
     let r = c.in-Some.entity in
     let place = i.place ∙ ap (λ l. done ++ l) c.in-Some.ensures.steps.0 in
-    let p = err_from_is_err_and c.from_residual.result c.from_residual.ensures.1 in
-    rw (p.1, p.2) (weaker_refusal (held c.args.entities.now) (held c.loop-entity.entities) done r _ c.args.list.items
-    place i.holds i.agree c.in_err-put_new.field-0.0 c.in_err-put_new.ensures.err)
+    let d = rw c.in-Some-2.is at c.in_ok-other.ensures.differs in
+    let copy : c.in_ok-clone.field-0 ≡ c.uid.result.now = search rules in
+    weaker_refusal (held c.args.entities.now) (held c.loop-entity.entities) done r _ c.args.list.items
+    place i.holds i.agree (Duplicate c.in_ok-clone.field-0)
+    (copy ∙ c.uid.ensures ∙ ap (λ (e : EntityView). e.uid) (c.deref.ensures ∙ d.0), d.1, d.2, d.3)
 
 pub returns-clause-keys : goal.returns-clause-keys
 returns-clause-keys g c = c.loop-entity.invariant.keys

@@ -8,14 +8,13 @@ use Rattle.cedar_entities.specs.laws.Held.{held, shared}
 use Rattle.cedar_entity.specs.View.{EntityView, IsDeepEqual}
 use Rattle.cedar_entities.proofs.entities.put_new.Goals as goal
 
-pub returns-in_ok-clone-in-Occupied-clause-err : goal.returns-in_ok-clone-in-Occupied-clause-err
-returns-in_ok-clone-in-Occupied-clause-err g c =
+pub returns-else-deep_eq-clause-differs : goal.returns-else-deep_eq-clause-differs
+returns-else-deep_eq-clause-differs g c =
     let uid_is : c.coming.inside.uid ≡ c.args.coming.uid = c.coming.invariant
     ∙ ap (λ (e : EntityView). e.uid) c.coming.view_is in
     let present = c.get.result.now in
-    let copy : c.in_ok-clone-in-Occupied.field-0 ≡ c.uid.result.now = search rules in
     let entity : c.deref-in-Occupied.result.now ≡ c.args.coming = c.deref-in-Occupied.ensures ∙ c.coming.view_is in (
-      copy ∙ c.uid.ensures ∙ ap (λ (e : EntityView). e.uid) (c.deref-in-Occupied-2.ensures ∙ c.coming.view_is),
+      c.coming.view_is,
       shared present,
       ap (held c.args.entities.now) (sym uid_is)
           ∙ ap (option_map shared) (sym c.in_ok-place.ensures.value ∙ ap entry_value c.in-Occupied.is ∙ c.get.ensures),
