@@ -131,7 +131,8 @@ module _ {K : Type 0} {eq : K → K → Bool} (laws : IsEquivalence eq) (G : K �
   arc_added = record {
     same_len = omega (arith, s.same_len, len, length-append to (b ∷ []));
     ascending = λ j k lt h. elim (cases_eq k (length from)) [
-      | inl e ↦ let j_in : j < length from = omega arith in rw (e, from_new, from_old j j_in) (omega (arith, s.from_in j j_in))
+      | inl e ↦ let j_in : j < length from = omega arith in
+          rw (e, from_new, from_old j j_in) (omega (arith, s.from_in j j_in))
       | inr ne ↦ let k_in : k < length from = omega (arith, len) in
           let j_in : j < length from = omega arith in
           rw (from_old k k_in, from_old j j_in) (s.ascending j k lt k_in)

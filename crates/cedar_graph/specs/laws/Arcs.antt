@@ -12,8 +12,8 @@ abbrev pub HasArcTo : {K : Type 0} → (K → K → Bool) → List K → List �
 HasArcTo {K} eq keys from to a q = (k : ℕ) × (y : K) × (k < length from) × (slice_index from k ≡ a)
     × (slice_get keys (slice_index to k) ≡ Some y) × (eq q y ≡ true)
 
--- the arcs of the numbers below `done` are the edges of their keys, and the others are edges; they stand in the order of
--- the numbers that they come from
+-- the arcs of the numbers below `done` are the edges of their keys, and the others are edges; they stand in the order
+-- of the numbers that they come from
 pub record AreArcsOf {K : Type 0} (eq : K → K → Bool) (G : K → K → Bool) (done : ℕ) (keys : List K)
     (from to : List ℕ) : Type 0 where
   pub same_len : length to ≡ length from

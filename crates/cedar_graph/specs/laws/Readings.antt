@@ -8,7 +8,8 @@ use Rattle.std.specs.HashSet.{HashSet, contains, hash_set_len}
 use Rattle.indexmap.specs.IndexSet.{IndexSet, IsUnique}
 use Rattle.cedar_components.specs.Reach.{HasArc, AreArcs}
 use Rattle.cedar_graph.specs.Graph.{graph_of}
-use Rattle.cedar_graph.specs.laws.Arcs.{AreArcsOf, AreEdges, AreSameEdges, Ascends, HasNumber, HasNumberBelow, IsPrefix, near_graph}
+use Rattle.cedar_graph.specs.laws.Arcs.{AreArcsOf, AreEdges, AreSameEdges, Ascends, HasNumber, HasNumberBelow}
+use Rattle.cedar_graph.specs.laws.Arcs.{IsPrefix, near_graph}
 use Rattle.cedar_graph.specs.declared.arcs.Reading.{Reading}
 use Rattle.cedar_graph.specs.declared.arcs.FixReading.{FixReading}
 

@@ -1,6 +1,6 @@
 -- What is written into a map of nodes: edges to the keys of the numbers that a number reaches.
-use Rattle.std.specs.Prelude.{◌≡◌, ℕ, ◌<◌, ◌≤◌, ◌⊎◌, Bool, true, false, List, length, slice_get, slice_index, Some, is_some}
-use Rattle.std.specs.Prelude.{Result, OnOk}
+use Rattle.std.specs.Prelude.{◌≡◌, ℕ, ◌<◌, ◌≤◌, ◌⊎◌, Bool, true, false, List, length, slice_get, slice_index, Some}
+use Rattle.std.specs.Prelude.{is_some, Result, OnOk}
 use Rattle.std.specs.Set.{is_member}
 use Rattle.std.specs.HashMap.{HashMap, get}
 use Rattle.cedar_components.specs.Reach.{HasArc, IsReach}

@@ -29,7 +29,8 @@ loop-y-preserved g c =
         | inr s ↦ let same : y ≡ p.0 = number_same laws keys c.requires.unique y p.0 key p.1 got p.2
             (laws.congr key q p.1 (laws.symm key q ∙ s.0) ∙ p.4) in
             let unmarked = s.1 in
-            let marked : get_or known.marks.items y 0 ≡ known.mark = ap (λ j. get_or known.marks.items j 0) same ∙ p.3 in
+            let marked : get_or known.marks.items y 0 ≡ known.mark =
+            ap (λ j. get_or known.marks.items j 0) same ∙ p.3 in
             grind (arith, common_steps)
       ];
       all = λ q p. elim (cases_eq p.0 n) [
