@@ -1,5 +1,5 @@
 -- Laws of entities as callers see them: deep equality, and ancestors.
-use Rattle.std.specs.Prelude.{◌≡◌, Bool, true, false, ◌||◌, List}
+use Rattle.std.specs.Prelude.{◌≡◌, true, false, ◌||◌, List}
 use Rattle.std.proofs.Common.{refl, ap, sym, ◌∙◌}
 use Rattle.std.specs.FinSet as set
 use Rattle.std.specs.Set.{is_member}
