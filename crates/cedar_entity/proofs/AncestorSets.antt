@@ -10,6 +10,7 @@ use Rattle.cedar_ids.specs.declared.entity.EntityUID.{EntityUID}
 use Rattle.cedar_uid_sets.specs.laws.Sets.{contains_listed, same_tests, one_equal}
 use Rattle.cedar_graph.specs.Graph.{Grows}
 use Rattle.cedar_entity.specs.View.{EntityView, has_ancestor, overlap}
+use Rattle.cedar_entity.specs.laws.Views.{AreNewTo}
 
 -- an entity with one ancestor more, unless it is a parent
 abbrev pub with_ancestor : EntityView → EntityUID → EntityView
@@ -92,6 +93,20 @@ none_common false i k = refl
 -- an entity with a row of ancestors more, but for parents
 abbrev pub with_row : EntityView → List EntityUID → EntityView
 with_row e ks = record e { indirect = set.union e.indirect (set.difference (set.from_list ks) e.parents) }
+
+none_left : (k p i : Bool) → (k ≡ true → (p || i) ≡ false) → (k && not p) ≡ k
+none_left false p i f = refl
+none_left true true i f = sym (f refl)
+none_left true false i f = refl
+
+-- a row of uids that are no ancestors has no parent to leave out
+pub no_parent_in_row : (e : EntityView) (ks : List EntityUID) → AreNewTo e ks
+    → set.from_list ks ≡ set.difference (set.from_list ks) e.parents
+no_parent_in_row e ks new = set.same_set uid_order_total one_equal _ _ (λ q.
+    contains_listed ks q
+    ∙ sym (none_left (is_member same_uid ks q) (set.contains e.parents q) (set.contains e.indirect q) (new q))
+    ∙ ap (λ b. b && not (set.contains e.parents q)) (sym (contains_listed ks q))
+    ∙ sym (set.contains-difference uid_order_total (set.from_list ks) e.parents q))
 
 in_row : (e : EntityView) (ks : List EntityUID) (q : EntityUID) → set.contains (set.union e.indirect (set.difference (set.from_list ks) e.parents)) q ≡ (set.contains e.indirect q || (is_member same_uid ks q && not (set.contains e.parents q)))
 in_row e ks q =

@@ -13,6 +13,7 @@ ghost use Rattle.cedar_entity.specs.Listing.{Lists, ListsAncestors};
 ghost use Rattle.cedar_entity.specs.Validity.{HasOnlyActionAncestors, IsLeastNonAction, IsValid, IsFault, is_in_both};
 ghost use Rattle.cedar_entity.specs.Validity.{is_action, reserved_key};
 ghost use Rattle.cedar_entity.specs.laws.Faults.{IsFound};
+ghost use Rattle.cedar_entity.specs.laws.Views.{AreNewTo};
 ghost use Rattle.cedar_entity.specs.View.{EntityView, has_ancestor, with_indirect_ancestor, IsDeepEqual};
 ghost use Rattle.cedar_entity.specs.View.{IsEquivalenceRelation};
 
@@ -630,6 +631,19 @@ impl Entity {
         added.difference(&self.parents);
         self.indirect_ancestors
             .extend_ascending(added.into_pointers())
+    }
+
+    // As above, of uids none of which is an ancestor: no parent is looked for among them.
+    pub(crate) fn add_new_ancestors(&mut self, shared: Vec<SharedUid>) -> Result<(), AllocError>
+        requires { AreNewTo self.old shared.items }
+        ensures ok { OnOk result (self.new ≡ record self.old {
+          indirect = set.union self.old.indirect
+              (set.difference (set.from_list shared.items) self.old.parents);
+        }) }
+        ensures err { OnErr result (self.new ≡ self.old) }
+    {
+        let added = UidSet::from_pointers(shared)?.into_pointers();
+        self.indirect_ancestors.extend_ascending(added)
     }
 
     /// Takes in an indirect ancestor; a uid that is a parent or one already changes nothing.

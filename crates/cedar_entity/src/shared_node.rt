@@ -8,6 +8,7 @@ ghost use Rattle.cedar_ids.specs.UidOf.{same_uid};
 ghost use Rattle.cedar_ids.specs.declared.entity.EntityUID.{EntityUID};
 ghost use Rattle.cedar_graph.specs.Graph.{Grows};
 ghost use Rattle.cedar_entity.specs.View.{has_ancestor, rest, kept};
+ghost use Rattle.cedar_entity.specs.laws.Views.{AreNewTo};
 
 use crate::entity::Entity;
 use crate::iters::SharedUids;
@@ -64,6 +65,25 @@ fn add_row(alloc: Global, entity: &mut Entity, keys: &mut Vec<SharedUid>) -> Res
 {
     let keys = taken(alloc, keys);
     entity.add_shared_ancestors(keys)
+}
+
+// Takes in the keys of a vector, none of which is an ancestor, as indirect ancestors.
+fn add_new_row(
+    alloc: Global,
+    entity: &mut Entity,
+    keys: &mut Vec<SharedUid>,
+) -> Result<(), AllocError>
+    requires { AreNewTo entity.old keys.old.items }
+    ensures ok { OnOk result ((q : EntityUID) → has_ancestor entity.new q
+        ≡ (has_ancestor entity.old q || is_member same_uid keys.old.items q)) }
+    ensures grows { Grows (has_ancestor entity.old) (has_ancestor entity.new)
+        (is_member same_uid keys.old.items) }
+    ensures key { entity.new.uid ≡ entity.old.uid }
+    ensures rest { rest entity.new ≡ rest entity.old }
+    ensures kept { kept entity.new ≡ kept entity.old }
+{
+    let keys = taken(alloc, keys);
+    entity.add_new_ancestors(keys)
 }
 
 impl TCNode<SharedUid> for Entity {
@@ -153,6 +173,16 @@ impl TCNode<SharedUid> for Entity {
     /// Takes in the uids, but for parents, as indirect ancestors: at once where they ascend.
     fn add_edges_to(&mut self, alloc: Global, keys: &mut Vec<SharedUid>) -> Result<(), AllocError> {
         add_row(alloc, self, keys)
+    }
+
+    /// Takes in the uids, none of which is an ancestor yet, as indirect ancestors: at once where they ascend. It looks
+    /// for no parent among them.
+    fn add_new_edges_to(
+        &mut self,
+        alloc: Global,
+        keys: &mut Vec<SharedUid>,
+    ) -> Result<(), AllocError> {
+        add_new_row(alloc, self, keys)
     }
 
     ghost respects_eq = { ancestors_respect };
@@ -251,6 +281,15 @@ impl TCNode<SharedUid> for SharedEntity {
     /// As that of the entity, where it is shared on a copy of its own.
     fn add_edges_to(&mut self, alloc: Global, keys: &mut Vec<SharedUid>) -> Result<(), AllocError> {
         add_row(alloc, Rc::make_mut(&mut self.0)?, keys)
+    }
+
+    /// As that of the entity, where it is shared on a copy of its own.
+    fn add_new_edges_to(
+        &mut self,
+        alloc: Global,
+        keys: &mut Vec<SharedUid>,
+    ) -> Result<(), AllocError> {
+        add_new_row(alloc, Rc::make_mut(&mut self.0)?, keys)
     }
 
     ghost respects_eq = { λ n. ancestors_respect n.0.value };

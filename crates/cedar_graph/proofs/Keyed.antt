@@ -81,6 +81,7 @@ module _ {K : Type 0} (eq : K → K → Bool) (G : K → K → Bool) (a : ℕ) (
   pub row_start : (P : K → Bool) → ((q : K) → P q ≡ false) → AreArcsOf eq G a keys from to → AreArcsIn eq G a keys from to P
   row_start P none s = record {
     same_len = s.same_len;
+    ascending = s.ascending;
     from_in = λ k h. omega (arith, s.from_in k h);
     to_in = s.to_in;
     sound = s.sound;
@@ -92,6 +93,7 @@ module _ {K : Type 0} (eq : K → K → Bool) (G : K → K → Bool) (a : ℕ) (
   pub row_end : (P : K → Bool) → AreArcsIn eq G a keys from to P → ((x q : K) → slice_get keys a ≡ Some x → G x q ≡ true → P q ≡ true) → AreArcsOf eq G (a + 1) keys from to
   row_end P s all = record {
     same_len = s.same_len;
+    ascending = s.ascending;
     from_in = s.from_in;
     to_in = s.to_in;
     sound = s.sound;
@@ -128,6 +130,13 @@ module _ {K : Type 0} {eq : K → K → Bool} (laws : IsEquivalence eq) (G : K �
   pub arc_added : AreArcsIn eq G a more (from ++ a ∷ []) (to ++ b ∷ []) Q
   arc_added = record {
     same_len = omega (arith, s.same_len, len, length-append to (b ∷ []));
+    ascending = λ j k lt h. elim (cases_eq k (length from)) [
+      | inl e ↦ let j_in : j < length from = omega arith in
+          rw (e, from_new, from_old j j_in) (omega (arith, s.from_in j j_in))
+      | inr ne ↦ let k_in : k < length from = omega (arith, len) in
+          let j_in : j < length from = omega arith in
+          rw (from_old k k_in, from_old j j_in) (s.ascending j k lt k_in)
+    ];
     from_in = λ k h. elim (cases_eq k (length from)) [
       | inl e ↦ rw (e, from_new) (omega arith)
       | inr ne ↦ rw (from_old k (omega (arith, len))) (s.from_in k (omega (arith, len)))

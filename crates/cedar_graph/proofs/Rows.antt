@@ -63,7 +63,7 @@ module _ {K : Type 0} (eq : K → K → Bool) (keys : List K) (E : ℕ → ℕ �
   pub number_written : {V S T F : Type 0} (laws : IsEquivalence eq) (edges : V → K → Bool)
       (alike : (n : V) (x y : K) → eq x y ≡ true → edges n x ≡ edges n y)
       (old new : HashMap K V S) (r : Result T F) (key : K) (row : List K) (known : Known)
-      → slice_get keys x ≡ Some key → KnowsEdges (graph_of eq edges old) keys x known
+      → slice_get keys x ≡ Some key → KnowsEdges eq (graph_of eq edges old) keys x known
       → IsRowOf eq keys (slice_range lists i j) known row
       → Writes eq edges (IsAt eq key) (IsEdgeTo eq key row) old new r
       → Writes eq edges (IsKeyAt eq keys x) (IsRowEdge eq keys E x) old new r

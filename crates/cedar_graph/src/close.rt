@@ -11,18 +11,21 @@ ghost use Rattle.std.specs.Prelude.{
   IfOk,
   OnOk,
 };
+ghost use Rattle.std.specs.List.{IsDistinct};
 ghost use Rattle.std.specs.Set.{is_member, ClonesAreEqual};
 ghost use Rattle.std.specs.HashMap.{get, hash_map_len};
 ghost use Rattle.std.specs.HashSet.{contains, hash_set_len};
+ghost use Rattle.indexmap.specs.IndexSet.{IsUnique};
 ghost use Rattle.cedar_components.specs.Reach.{AreArcs};
 ghost use Rattle.cedar_graph.specs.Graph.{graph_of, Grows, IsTrusted};
 ghost use Rattle.cedar_graph.specs.Calls.{HasAll, KeepsAll, OnlyAdds};
 ghost use Rattle.cedar_graph.specs.laws.Reaches.{HasReached};
-ghost use Rattle.cedar_graph.specs.laws.Arcs.{IsKeyAt, IsRowEdge};
+ghost use Rattle.cedar_graph.specs.laws.Arcs.{Ascends, IsKeyAt, IsRowEdge};
 ghost use Rattle.cedar_graph.specs.laws.Readings.{AreRead, IsArc};
 ghost use Rattle.cedar_graph.specs.laws.Writings.{
   AllBelow,
   AreAtMost,
+  AreNewTo,
   CountsFound,
   CountsWork,
   HasNodes,
@@ -34,6 +37,7 @@ ghost use Rattle.cedar_graph.specs.laws.Writings.{
   IsToFix,
   KnowsEdges,
   KnowsTargets,
+  StartsAt,
   TakesKey,
   Writes,
 };
@@ -77,6 +81,7 @@ fn pick_row<K: Clone + Eq + Hash>(
     requires copies { ClonesAreEqual K.eq K.is_clone }
     requires numbers { AllBelow (length keys.now) numbers.now }
     requires marks { length known.now.marks.items ≡ length keys.now }
+    requires unique { IsDistinct K.eq keys.now }
     ensures { IfOk result (λ v. IsRowOf K.eq keys.now numbers.now known.now v.items) }
 {
     let room = numbers.len().saturating_sub(known.count);
@@ -87,12 +92,14 @@ fn pick_row<K: Clone + Eq + Hash>(
     Ok(row)
 }
 
-// Adds to a node an edge to each key of a row, and asks nothing of it for a row without keys.
+// Adds to a node an edge to each key of a row, which has none that it has an edge to, and asks nothing of it for a row
+// without keys.
 fn fill_node<K: Clone + Eq + Hash, V: TCNode<K>>(
     alloc: Global,
     node: &mut V,
     row: &mut Vec<K>,
 ) -> Result<(), AllocError>
+    requires { AreNewTo K.eq (V.edges node.old) row.old.items }
     ensures grows { Grows (V.edges node.old) (V.edges node.new) (is_member K.eq row.old.items) }
     ensures ok { OnOk result ((q : K) → is_member K.eq row.old.items q ≡ true → V.edges node.new q ≡ true) }
     ensures key { V.key node.new ≡ V.key node.old }
@@ -102,16 +109,18 @@ fn fill_node<K: Clone + Eq + Hash, V: TCNode<K>>(
     if row.is_empty() {
         return Ok(());
     }
-    node.add_edges_to(alloc, row)
+    node.add_new_edges_to(alloc, row)
 }
 
-// Adds to the node at a key an edge to each key of a row, and says how many nodes it found.
+// Adds to the node at a key an edge to each key of a row, which has none that it has an edge to, and says how many
+// nodes it found.
 fn add_row<K: Clone + Eq + Hash, V: TCNode<K>, S: BuildHasher>(
     alloc: Global,
     nodes: &mut HashMap<K, V, S>,
     at: &K,
     row: &mut Vec<K>,
 ) -> Result<usize, AllocError>
+    requires { AreNewTo K.eq (graph_of K.eq V.edges nodes.old at.now) row.old.items }
     ensures keeps { KeepsAll K.eq V.key V.rest V.kept nodes.old nodes.new }
     ensures writes { Writes K.eq V.edges (IsAt K.eq at.now) (IsEdgeTo K.eq at.now row.old.items)
         nodes.old nodes.new result }
@@ -126,7 +135,7 @@ fn add_row<K: Clone + Eq + Hash, V: TCNode<K>, S: BuildHasher>(
 }
 
 // Adds to the node of number x an edge to the key of each number that it reaches, and says how
-// many nodes it found. It has those to known numbers already.
+// many nodes it found. It has those to known numbers already, and no others.
 fn write_number<K: Clone + Eq + Hash, V: TCNode<K>, S: BuildHasher>(
     alloc: Global,
     nodes: &mut HashMap<K, V, S>,
@@ -138,7 +147,8 @@ fn write_number<K: Clone + Eq + Hash, V: TCNode<K>, S: BuildHasher>(
     requires copies { ClonesAreEqual K.eq K.is_clone }
     requires reach { IsReachOf read.now reached.now }
     requires within { x < length read.now.keys.keys }
-    requires known { KnowsEdges (graph_of K.eq V.edges nodes.old) read.now.keys.keys x known.now }
+    requires unique { IsUnique K.eq read.now.keys }
+    requires known { KnowsEdges K.eq (graph_of K.eq V.edges nodes.old) read.now.keys.keys x known.now }
     ensures keeps { KeepsAll K.eq V.key V.rest V.kept nodes.old nodes.new }
     ensures writes { Writes K.eq V.edges (IsKeyAt K.eq read.now.keys.keys x)
         (IsRowEdge K.eq read.now.keys.keys (IsArc read.now) x) nodes.old nodes.new result }
@@ -155,12 +165,15 @@ fn write_number<K: Clone + Eq + Hash, V: TCNode<K>, S: BuildHasher>(
 // Makes known the targets of number x, whose arcs begin at place e, and gives the place after them.
 fn mark_targets(from: &[usize], to: &[usize], known: &mut Known, x: usize, e: usize) -> usize
     requires arcs { AreArcs from.now to.now (length known.old.marks.items) }
+    requires ascending { Ascends from.now }
+    requires starts { StartsAt from.now x e }
     requires before { AreAtMost x known.old.marks.items }
     requires place { e ≤ length from.now }
     requires fits { x < length known.old.marks.items }
     ensures len { length known.new.marks.items ≡ length known.old.marks.items }
     ensures below { AreAtMost (x + 1) known.new.marks.items }
     ensures known { KnowsTargets from.now to.now x known.new }
+    ensures starts { StartsAt from.now (x + 1) result }
     ensures place { result ≤ length from.now }
 {
     let mut k = e;
@@ -182,7 +195,7 @@ fn write_rows<K: Clone + Eq + Hash, V: TCNode<K>, S: BuildHasher>(
     reached: &Reached,
 ) -> Result<Work, AllocError>
     requires copies { ClonesAreEqual K.eq K.is_clone }
-    requires read { AreRead (graph_of K.eq V.edges nodes.old) read.now }
+    requires read { AreRead K.eq (graph_of K.eq V.edges nodes.old) read.now }
     requires reach { IsReachOf read.now.reading reached.now }
     ensures keeps { KeepsAll K.eq V.key V.rest V.kept nodes.old nodes.new }
     ensures writes { Writes K.eq V.edges (IsToFix K.eq read.now) (IsFixEdge K.eq read.now)
@@ -214,7 +227,7 @@ fn close_read<K: Clone + Eq + Hash, V: TCNode<K>, S: BuildHasher>(
     read: &FixReading<K, S>,
 ) -> Result<Work, AllocError>
     requires copies { ClonesAreEqual K.eq K.is_clone }
-    requires read { AreRead (graph_of K.eq V.edges nodes.old) read.now }
+    requires read { AreRead K.eq (graph_of K.eq V.edges nodes.old) read.now }
     ensures keeps { KeepsAll K.eq V.key V.rest V.kept nodes.old nodes.new }
     ensures writes { Writes K.eq V.edges (IsToFix K.eq read.now) (IsFixEdge K.eq read.now)
         nodes.old nodes.new result }

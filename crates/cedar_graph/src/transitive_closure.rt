@@ -180,7 +180,7 @@ pub trait TCNode<K: Eq + Drop> {
     /// said. The default takes all of them, makes room, adds one after another as they come, and
     /// gives back the room that is left. Key, rest and what adding keeps stay, whatever the answer.
     /// May take memory; where it is refused, the former edges stay, and each further edge leads to
-    /// one of the keys. A closure calls it once for each node that lacks edges.
+    /// one of the keys.
     ///
     /// The original has no such call.
     fn add_edges_to(
@@ -202,6 +202,28 @@ pub trait TCNode<K: Eq + Drop> {
         }
         self.shrink_edges();
         Ok(())
+    }
+
+    /// As [`TCNode::add_edges_to`], of keys that the node has no edge to yet: so a node type may
+    /// write a body that does not look for those that it has. The keys may be equal to one another.
+    /// The default calls [`TCNode::add_edges_to`]. A closure calls it once for each node that lacks
+    /// edges.
+    ///
+    /// The original has no such call.
+    fn add_new_edges_to(
+        &mut self,
+        alloc: Global,
+        keys: &mut Vec<K>,
+    ) -> std::result::Result<(), AllocError>
+        requires { (q : K) → is_member K.eq keys.old.items q ≡ true → edges self.old q ≡ false }
+        ensures ok { OnOk result ((q : K) →
+            edges self.new q ≡ (edges self.old q || is_member K.eq keys.old.items q)) }
+        ensures grows { Grows (edges self.old) (edges self.new) (is_member K.eq keys.old.items) }
+        ensures key { key self.new ≡ key self.old }
+        ensures rest { rest self.new ≡ rest self.old }
+        ensures kept { kept self.new ≡ kept self.old }
+    {
+        self.add_edges_to(alloc, keys)
     }
 
     // a node has an edge to both of two equal keys, or to none
@@ -235,7 +257,7 @@ pub struct Work {
 /// some once, asks [`TCNode::may_have_edges`] twice of each node, and then costs what the keys with
 /// edges, the edges read and the edges added cost, and nothing for a pair of keys without an edge.
 /// Asks [`TCNode::order`] once, and hands each node what it lacks in one call of
-/// [`TCNode::add_edges_to`]. It does not recurse, whatever the graph is, but where lists are sorted,
+/// [`TCNode::add_new_edges_to`]. It does not recurse, whatever the graph is, but where lists are sorted,
 /// as a node type's [`TCNode::order`] may do with all keys: in the logarithm of a list's length.
 ///
 /// The keys that have edges or to which edges lead are numbered in a set that hashes as the map does, by a copy of its

@@ -1,5 +1,5 @@
 -- Laws of entities as callers see them: deep equality, and ancestors.
-use Rattle.std.specs.Prelude.{◌≡◌, Bool, true, ◌||◌, List}
+use Rattle.std.specs.Prelude.{◌≡◌, true, false, ◌||◌, List}
 use Rattle.std.proofs.Common.{refl, ap, sym, ◌∙◌}
 use Rattle.std.specs.FinSet as set
 use Rattle.std.specs.Set.{is_member}
@@ -9,6 +9,10 @@ use Rattle.cedar_ids.specs.declared.entity.EntityUID.{EntityUID}
 use Rattle.cedar_uid_sets.specs.laws.Sets.{is_member-append}
 use Rattle.cedar_entity.specs.Listing.{ListsAncestors}
 use Rattle.cedar_entity.specs.View.{EntityView, IsDeepEqual, IsEquivalenceRelation, has_ancestor}
+
+-- none of these uids is an ancestor
+abbrev pub AreNewTo : EntityView → List EntityUID → Type 0
+AreNewTo e uids = (q : EntityUID) → is_member same_uid uids q ≡ true → has_ancestor e q ≡ false
 
 -- deep equality is an equivalence
 pub deep_equality : IsEquivalenceRelation IsDeepEqual

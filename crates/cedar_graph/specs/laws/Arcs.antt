@@ -1,17 +1,23 @@
 -- Numbers for keys, and arcs between them.
-use Rattle.std.specs.Prelude.{◌≡◌, ℕ, ◌<◌, ◌+◌, slice_get, slice_index, Bool, true, ◌&&◌, List, ◌++◌, Some, length}
+use Rattle.std.specs.Prelude.{◌≡◌, ℕ, ◌<◌, ◌≤◌, ◌+◌, slice_get, slice_index, Bool, true, ◌&&◌, List, ◌++◌, Some, length}
 use Rattle.std.specs.Set.{is_member}
 use Rattle.cedar_components.specs.Reach.{Goes}
+
+-- no number of the list is above a later one
+abbrev pub Ascends : List ℕ → Type 0
+Ascends xs = (j k : ℕ) → j < k → k < length xs → slice_index xs j ≤ slice_index xs k
 
 -- there is an arc from number a to the number of q
 abbrev pub HasArcTo : {K : Type 0} → (K → K → Bool) → List K → List ℕ → List ℕ → ℕ → K → Type 0
 HasArcTo {K} eq keys from to a q = (k : ℕ) × (y : K) × (k < length from) × (slice_index from k ≡ a)
     × (slice_get keys (slice_index to k) ≡ Some y) × (eq q y ≡ true)
 
--- the arcs of the numbers below `done` are the edges of their keys, and the others are edges
+-- the arcs of the numbers below `done` are the edges of their keys, and the others are edges; they stand in the order
+-- of the numbers that they come from
 pub record AreArcsOf {K : Type 0} (eq : K → K → Bool) (G : K → K → Bool) (done : ℕ) (keys : List K)
     (from to : List ℕ) : Type 0 where
   pub same_len : length to ≡ length from
+  pub ascending : Ascends from
   pub from_in : (k : ℕ) → k < length from → slice_index from k < done
   pub to_in : (k : ℕ) → k < length from → slice_index to k < length keys
   pub sound : (k : ℕ) (x y : K) → k < length from → slice_get keys (slice_index from k) ≡ Some x
@@ -24,10 +30,11 @@ abbrev pub IsPrefix : {K : Type 0} → List K → List K → Type 0
 IsPrefix {K} keys more = (xs : List K) × (more ≡ keys ++ xs)
 
 -- the arcs of the numbers below a are the edges of their keys, those of a so far are edges, and lead to the keys
--- that pass
+-- that pass; they stand in the order of the numbers that they come from
 pub record AreArcsIn {K : Type 0} (eq : K → K → Bool) (G : K → K → Bool) (a : ℕ) (keys : List K) (from to : List ℕ)
     (P : K → Bool) : Type 0 where
   pub same_len : length to ≡ length from
+  pub ascending : Ascends from
   pub from_in : (k : ℕ) → k < length from → slice_index from k < a + 1
   pub to_in : (k : ℕ) → k < length from → slice_index to k < length keys
   pub sound : (k : ℕ) (x y : K) → k < length from → slice_get keys (slice_index from k) ≡ Some x

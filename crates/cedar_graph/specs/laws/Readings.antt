@@ -8,7 +8,8 @@ use Rattle.std.specs.HashSet.{HashSet, contains, hash_set_len}
 use Rattle.indexmap.specs.IndexSet.{IndexSet, IsUnique}
 use Rattle.cedar_components.specs.Reach.{HasArc, AreArcs}
 use Rattle.cedar_graph.specs.Graph.{graph_of}
-use Rattle.cedar_graph.specs.laws.Arcs.{AreArcsOf, AreEdges, AreSameEdges, HasNumber, HasNumberBelow, IsPrefix, near_graph}
+use Rattle.cedar_graph.specs.laws.Arcs.{AreArcsOf, AreEdges, AreSameEdges, Ascends, HasNumber, HasNumberBelow}
+use Rattle.cedar_graph.specs.laws.Arcs.{IsPrefix, near_graph}
 use Rattle.cedar_graph.specs.declared.arcs.Reading.{Reading}
 use Rattle.cedar_graph.specs.declared.arcs.FixReading.{FixReading}
 
@@ -75,16 +76,23 @@ pub record ReadsNodes {K V S H : Type 0} (eq : K → K → Bool) (edges : V → 
   pub read : (G : K → K → Bool) → ((i : ℕ) (x q : K) (r : Bor V) → slice_get old.keys.keys i ≡ Some x
       → slice_get rows i ≡ Some r → edges r.now q ≡ G x q) → IsReadBelow eq G (length rows) new
 
--- the arcs are edges of the graph, between numbers of keys, of which the first are to be fixed
-pub record AreRead {K S H : Type 0} (G : K → K → Bool) (read : FixReading K S H) : Type 0 where
+-- the arcs are edges of the graph, between numbers of keys, of which the first are to be fixed: of these they are all
+-- edges. They stand in the order of the numbers that they come from, and no two keys are equal
+pub record AreRead {K S H : Type 0} (eq : K → K → Bool) (G : K → K → Bool) (read : FixReading K S H) : Type 0 where
+  pub unique : IsUnique eq read.reading.keys
   pub arcs : AreArcs read.reading.from.items read.reading.to.items (length read.reading.keys.keys)
+  pub ascending : Ascends read.reading.from.items
   pub fixed : read.fixed ≤ length read.reading.keys.keys
   pub edges : AreEdges G read.reading.keys.keys (IsArc read.reading)
+  pub complete : (a : ℕ) (x q : K) → a < read.fixed → slice_get read.reading.keys.keys a ≡ Some x → G x q ≡ true
+      → (b : ℕ) × (y : K) × IsArc read.reading a b × (slice_get read.reading.keys.keys b ≡ Some y) × (eq q y ≡ true)
 
 -- the arcs are all edges of a map, and its keys with edges are to be fixed, each of which was read once at most
 pub record ReadsAll {K V S H : Type 0} (eq : K → K → Bool) (edges : V → K → Bool) (nodes : HashMap K V S)
     (read : FixReading K S H) : Type 0 where
+  pub unique : IsUnique eq read.reading.keys
   pub arcs : AreArcs read.reading.from.items read.reading.to.items (length read.reading.keys.keys)
+  pub ascending : Ascends read.reading.from.items
   pub fixed : read.fixed ≤ length read.reading.keys.keys
   pub same : AreSameEdges eq (graph_of eq edges nodes) read.reading.keys.keys (IsArc read.reading)
   pub all : (q b : K) → graph_of eq edges nodes q b ≡ true → HasNumberBelow eq read.fixed read.reading.keys.keys q
@@ -94,7 +102,9 @@ pub record ReadsAll {K V S H : Type 0} (eq : K → K → Bool) (edges : V → K 
 -- the arcs are the edges of the keys to fix, which come first, and of those that these have an edge to
 pub record ReadsFix {K V S F H : Type 0} (eq : K → K → Bool) (edges : V → K → Bool) (fix : HashSet K F)
     (nodes : HashMap K V S) (read : FixReading K S H) : Type 0 where
+  pub unique : IsUnique eq read.reading.keys
   pub arcs : AreArcs read.reading.from.items read.reading.to.items (length read.reading.keys.keys)
+  pub ascending : Ascends read.reading.from.items
   pub fixed : read.fixed ≤ length read.reading.keys.keys
   pub same : AreSameEdges eq (near_graph eq (graph_of eq edges nodes) (take read.near read.reading.keys.keys))
       read.reading.keys.keys (IsArc read.reading)

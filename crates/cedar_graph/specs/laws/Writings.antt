@@ -1,6 +1,6 @@
 -- What is written into a map of nodes: edges to the keys of the numbers that a number reaches.
-use Rattle.std.specs.Prelude.{◌≡◌, ℕ, ◌<◌, ◌≤◌, ◌⊎◌, Bool, true, List, length, slice_get, slice_index, Some, is_some}
-use Rattle.std.specs.Prelude.{Result, OnOk}
+use Rattle.std.specs.Prelude.{◌≡◌, ℕ, ◌<◌, ◌≤◌, ◌⊎◌, Bool, true, false, List, length, slice_get, slice_index, Some}
+use Rattle.std.specs.Prelude.{is_some, Result, OnOk}
 use Rattle.std.specs.Set.{is_member}
 use Rattle.std.specs.HashMap.{HashMap, get}
 use Rattle.cedar_components.specs.Reach.{HasArc, IsReach}
@@ -21,16 +21,15 @@ AreAtMost n xs = (y : ℕ) → y < length xs → slice_index xs y ≤ n
 abbrev pub AllBelow : ℕ → List ℕ → Type 0
 AllBelow n xs = (j : ℕ) → j < length xs → slice_index xs j < n
 
--- the numbers that are known are targets of number x
-abbrev pub KnowsTargets : List ℕ → List ℕ → ℕ → Known → Type 0
-KnowsTargets from to x known = (y : ℕ) → y < length known.marks.items → slice_index known.marks.items y ≡ known.mark
-    → HasArc from to x y
+-- the arcs before place e come from numbers below x, and the others from x or numbers above it
+pub record StartsAt (from : List ℕ) (x e : ℕ) : Type 0 where
+  pub before : (k : ℕ) → k < e → slice_index from k < x
+  pub after : (k : ℕ) → e ≤ k → k < length from → x ≤ slice_index from k
 
--- each number has a mark, and the key of number x has an edge to the keys of those that are known
-pub record KnowsEdges {K : Type 0} (G : K → K → Bool) (keys : List K) (x : ℕ) (known : Known) : Type 0 where
-  pub len : length known.marks.items ≡ length keys
-  pub edges : (y : ℕ) (k l : K) → slice_get keys x ≡ Some k → slice_get keys y ≡ Some l
-      → slice_index known.marks.items y ≡ known.mark → G k l ≡ true
+-- the numbers that are known are the targets of number x
+pub record KnowsTargets (from to : List ℕ) (x : ℕ) (known : Known) : Type 0 where
+  pub only : (y : ℕ) → y < length known.marks.items → slice_index known.marks.items y ≡ known.mark → HasArc from to x y
+  pub all : (y : ℕ) → HasArc from to x y → slice_index known.marks.items y ≡ known.mark
 
 -- q is the key of one of the first n of these numbers
 abbrev pub IsKeyBelow : {K : Type 0} → (K → K → Bool) → List K → List ℕ → ℕ → K → Type 0
@@ -42,20 +41,30 @@ abbrev pub IsKnown : {K : Type 0} → (K → K → Bool) → List K → Known �
 IsKnown {K} eq keys known q = (y : ℕ) × (k : K) × (slice_get keys y ≡ Some k)
     × (slice_index known.marks.items y ≡ known.mark) × (eq q k ≡ true)
 
--- the row has keys of the first n of these numbers alone, and all of them but known ones
+-- each number has a mark, and the key of number x has an edge to the keys of those that are known and to no other
+pub record KnowsEdges {K : Type 0} (eq : K → K → Bool) (G : K → K → Bool) (keys : List K) (x : ℕ) (known : Known)
+    : Type 0 where
+  pub len : length known.marks.items ≡ length keys
+  pub edges : (y : ℕ) (k l : K) → slice_get keys x ≡ Some k → slice_get keys y ≡ Some l
+      → slice_index known.marks.items y ≡ known.mark → G k l ≡ true
+  pub all : (k q : K) → slice_get keys x ≡ Some k → G k q ≡ true → IsKnown eq keys known q
+
+-- the row has keys of the first n of these numbers alone, no known one, and all the others of them
 pub record IsRowTo {K : Type 0} (eq : K → K → Bool) (keys : List K) (numbers : List ℕ) (n : ℕ) (known : Known)
     (row : List K) : Type 0 where
   pub only : (q : K) → is_member eq row q ≡ true → IsKeyBelow eq keys numbers n q
   pub all : (q : K) → IsKeyBelow eq keys numbers n q → (is_member eq row q ≡ true) ⊎ IsKnown eq keys known q
+  pub new : (q : K) → is_member eq row q ≡ true → IsKnown eq keys known q → ⊥
 
--- the row has keys of these numbers alone, and all of them but known ones
+-- the row has keys of these numbers alone, no known one, and all the others of them
 abbrev pub IsRowOf : {K : Type 0} → (K → K → Bool) → List K → List ℕ → Known → List K → Type 0
 IsRowOf eq keys numbers = IsRowTo eq keys numbers (length numbers)
 
 -- a key was put into a row, unless it was known
 pub record TakesKey {K : Type 0} (eq : K → K → Bool) (key : K) (known : Bool) (old new : List K) : Type 0 where
   pub stays : (q : K) → is_member eq old q ≡ true → is_member eq new q ≡ true
-  pub only : (q : K) → is_member eq new q ≡ true → (is_member eq old q ≡ true) ⊎ (eq q key ≡ true)
+  pub only : (q : K) → is_member eq new q ≡ true
+      → (is_member eq old q ≡ true) ⊎ ((eq q key ≡ true) × (known ≡ false))
   pub has : (q : K) → eq q key ≡ true → (is_member eq new q ≡ true) ⊎ (known ≡ true)
 
 -- q is this key
@@ -65,6 +74,10 @@ IsAt eq at q = eq at q ≡ true
 -- a is this key, and b one of the row
 abbrev pub IsEdgeTo : {K : Type 0} → (K → K → Bool) → K → List K → K → K → Type 0
 IsEdgeTo eq at row a b = (eq at a ≡ true) × (is_member eq row b ≡ true)
+
+-- no key of the row is one that this one has an edge to
+abbrev pub AreNewTo : {K : Type 0} → (K → K → Bool) → (K → Bool) → List K → Type 0
+AreNewTo {K} eq edges row = (q : K) → is_member eq row q ≡ true → edges q ≡ false
 
 -- q is the key of a number to fix
 abbrev pub IsToFix : {K S H : Type 0} → (K → K → Bool) → FixReading K S H → K → Type 0

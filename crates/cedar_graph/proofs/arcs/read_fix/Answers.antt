@@ -31,6 +31,8 @@ returns g c =
     let first_in : length keys0 ≤ length keys1 = prefix_length keys0 keys1 first in
     let whole = prefix_trans keys0 keys1 keys first two.on.keys in
     record {
+      unique = two.read.unique;
+      ascending = arcs.ascending;
       arcs = record {
         same_len = arcs.same_len;
         from_in = λ k h. omega (arith, arcs.from_in k h);

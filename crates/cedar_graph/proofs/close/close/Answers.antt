@@ -7,7 +7,14 @@ use Rattle.cedar_graph.proofs.close.close.Goals as goal
 pub close_read-requires-clause-read : goal.close_read-requires-clause-read
 close_read-requires-clause-read g c =
     let read = c.in_ok-read.ensures in
-    record { arcs = read.arcs; fixed = read.fixed; edges = read.same.sound }
+    record {
+      unique = read.unique;
+      arcs = read.arcs;
+      ascending = read.ascending;
+      fixed = read.fixed;
+      edges = read.same.sound;
+      complete = λ a x q _ h e. read.same.complete a x q h e;
+    }
 
 pub returns-clause-adds : goal.returns-clause-adds
 returns-clause-adds g c =

@@ -21,5 +21,5 @@ returns-clause-ok g c =
     let eq = g.K.PartialEq.eq in
     let old = g.V.TCNode.edges c.args.node.now in
     let row = c.args.row.now.items in
-    on_ok_weaker c.add_edges_to.result (λ ok q m. ok q ∙ or_right (old q) (is_member eq row q) m)
-    c.add_edges_to.ensures.ok
+    on_ok_weaker c.add_new_edges_to.result (λ ok q m. ok q ∙ or_right (old q) (is_member eq row q) m)
+    c.add_new_edges_to.ensures.ok

@@ -6,7 +6,7 @@ use Rattle.std.proofs.lemmas.Bool.{false≢true}
 use Rattle.cedar_graph.specs.Graph.{graph_of}
 use Rattle.cedar_graph.specs.laws.Readings.{IsArc}
 use Rattle.cedar_graph.proofs.Closing.{repaired_only, repaired_has}
-use Rattle.cedar_graph.proofs.Reaches.{and_parts}
+use Rattle.cedar_graph.proofs.Reaches.{and_parts, and_from}
 use Rattle.cedar_graph.proofs.Keyed.{member_alike}
 use Rattle.cedar_graph.proofs.close.repair.Goals as goal
 
@@ -17,10 +17,14 @@ close_read-requires-clause-read g c =
     let f = c.in_ok-read.ensures in
     let ks = take s.near s.reading.keys.keys in
     record {
+      unique = f.unique;
       arcs = f.arcs;
+      ascending = f.ascending;
       fixed = f.fixed;
       edges = λ a b x y e p t. (and_parts (is_member eq ks x) (graph_of eq g.V.TCNode.edges c.args.nodes.now x y)
           (f.same.sound a b x y e p t)).1;
+      complete = λ a x q lt h e. f.same.complete a x q h (and_from (is_member eq ks x)
+          (graph_of eq g.V.TCNode.edges c.args.nodes.now x q) (f.near_fixed x (f.only a x lt h)) e);
     }
 
 pub returns-clause-alone : goal.returns-clause-alone

@@ -1,10 +1,12 @@
-use Rattle.std.proofs.Common.{◌+◌, ◌<◌, ◌≤◌, arith, rules, inl, inr, refl, sym, subst, ◌∙◌, length}
+use Rattle.std.proofs.Common.{◌≡◌, ◌+◌, ◌<◌, ◌≤◌, arith, rules, inl, inr, refl, sym, subst, ◌∙◌, length}
 use Rattle.std.proofs.lemmas.Grind.{common_steps}
 use Rattle.std.proofs.lemmas.Option.{slice_get_within}
 use Rattle.cedar_components.specs.Reach.{HasArc}
 use Rattle.cedar_graph.specs.laws.Readings.{IsArc}
-use Rattle.cedar_graph.specs.laws.Writings.{IsToFix}
+use Rattle.cedar_graph.specs.laws.Arcs.{Ascends}
+use Rattle.cedar_graph.specs.laws.Writings.{IsToFix, StartsAt}
 use Rattle.cedar_graph.proofs.Reaches.{same_found, KeepsAll-refl, KeepsAll-trans}
+use Rattle.cedar_graph.proofs.Keyed.{number_same}
 use Rattle.cedar_graph.proofs.Rows.{none_written, rows_next, rows_written, rows_wider}
 use Rattle.cedar_graph.proofs.close.write_rows.Goals as goal
 
@@ -18,6 +20,7 @@ loop-x-init g c =
       marks_len = search rules;
       marks_below = λ y h. grind (arith, common_steps);
       place = omega arith;
+      starts = record { before = λ k h. omega arith; after = λ k h lt. omega arith };
       keeps = KeepsAll-refl eq node.key node.rest node.kept m;
       writes = none_written eq node.edges read.reading.keys.keys (IsArc read.reading) (IsToFix eq read) m;
       counts = record { most = omega arith; all = λ _. refl };
@@ -30,6 +33,14 @@ pub mark_targets-place-requires-clause-place : goal.mark_targets-place-requires-
 mark_targets-place-requires-clause-place g c = subst (λ v. c.loop-x.place ≤ length v)
     (sym c.deref.ensures.value) c.loop-x.invariant.place
 
+pub mark_targets-place-requires-clause-ascending : goal.mark_targets-place-requires-clause-ascending
+mark_targets-place-requires-clause-ascending g c =
+    subst Ascends (sym c.deref.ensures.value) c.requires.read.ascending
+
+pub mark_targets-place-requires-clause-starts : goal.mark_targets-place-requires-clause-starts
+mark_targets-place-requires-clause-starts g c =
+    subst (λ v. StartsAt v c.loop-x.x c.loop-x.place) (sym c.deref.ensures.value) c.loop-x.invariant.starts
+
 pub write_number-requires-clause-known : goal.write_number-requires-clause-known
 write_number-requires-clause-known g c =
     let read = c.args.read.now in
@@ -41,11 +52,24 @@ write_number-requires-clause-known g c =
       len = len;
       edges = λ y k l at_k at_l mark.
           let y_in = slice_get_within read.reading.keys.keys y l at_l in
-          let arc = marked.known y (subst (λ n. y < n) (sym len) y_in) mark in
+          let arc = marked.known.only y (subst (λ n. y < n) (sym len) y_in) mark in
           let arc_in : HasArc read.reading.from.items read.reading.to.items x y =
           subst (λ v. HasArc v read.reading.to.items x y) c.deref.ensures.value
           (subst (λ v. HasArc c.deref.result.now v x y) c.deref-in-loop-x.ensures.value arc) in
           i.writes.stays k l (c.requires.read.edges x y k l arc_in at_k at_l);
+      all = λ k q at_k e. elim (i.writes.only k q e) [
+        | inl old ↦
+            let arc = c.requires.read.complete x k q (omega arith) at_k old in
+            let arc_to : HasArc read.reading.from.items c.deref-in-loop-x.result.now x arc.0 =
+            subst (λ v. HasArc read.reading.from.items v x arc.0) (sym c.deref-in-loop-x.ensures.value) arc.2 in
+            let arc_in : HasArc c.deref.result.now c.deref-in-loop-x.result.now x arc.0 =
+            subst (λ v. HasArc v c.deref-in-loop-x.result.now x arc.0) (sym c.deref.ensures.value) arc_to in
+            (arc.0, arc.1, arc.3, marked.known.all arc.0 arc_in, arc.4)
+        | inr row ↦
+            let same : x ≡ row.0 = number_same g.met.K.Eq.laws read.reading.keys.keys c.requires.read.unique x row.0 k
+            row.2.0 at_k row.2.1 (g.met.K.Eq.laws.symm k row.2.0 ∙ row.2.2) in
+            absurd (omega (arith, row.1))
+      ];
     }
 
 pub returns-in_err-closings-clause-keeps : goal.returns-in_err-closings-clause-keeps
@@ -91,6 +115,7 @@ loop-x-preserved g c =
       marks_len = marked.len ∙ i.marks_len;
       marks_below = marked.below;
       place = subst (λ v. c.mark_targets-place.result ≤ length v) c.deref.ensures.value marked.place;
+      starts = subst (λ v. StartsAt v (x + 1) c.mark_targets-place.result) c.deref.ensures.value marked.starts;
       keeps = KeepsAll-trans eq node.key node.rest node.kept m n o i.keeps e.keeps;
       writes = rows_next eq node.edges keys (IsArc read.reading) (IsToFix eq read) m n o c.write_number.result x
           (λ q at. (x, omega arith, at)) same i.writes c.write_number.ensures.writes e.writes.ok;

@@ -2,7 +2,7 @@ use Rattle.std.proofs.Common.{◌≡◌, ◌≤◌, length}
 use Rattle.cedar_graph.specs.Calls.{KeepsAll}
 use Rattle.cedar_graph.specs.laws.Arcs.{IsRowEdgeBelow}
 use Rattle.cedar_graph.specs.laws.Readings.{IsArc}
-use Rattle.cedar_graph.specs.laws.Writings.{AreAtMost, CountsFound, HasNodes, IsToFix, Writes}
+use Rattle.cedar_graph.specs.laws.Writings.{AreAtMost, CountsFound, HasNodes, IsToFix, StartsAt, Writes}
 use Rattle.cedar_graph.proofs.Rows.{done}
 use Rattle.cedar_graph.proofs.close.write_rows.Given as goal
 
@@ -14,6 +14,7 @@ invariant-loop-x g l =
       marks_len : length l.known.marks.items ≡ length l.arcs.keys.keys;
       marks_below : AreAtMost l.x l.known.marks.items;
       place : l.place ≤ length l.arcs.from.items;
+      starts : StartsAt l.arcs.from.items l.x l.place;
       keeps : KeepsAll eq node.key node.rest node.kept l.fn.nodes l.nodes;
       writes : Writes eq node.edges (IsToFix eq l.read)
           (IsRowEdgeBelow eq l.x l.read.reading.keys.keys (IsArc l.read.reading)) l.fn.nodes l.nodes done;
