@@ -199,6 +199,18 @@ fn take_out<S: BuildHasher>(
     }
 }
 
+// Makes room for so many entities more.
+fn make_room<S: BuildHasher>(
+    entities: &mut HashMap<SharedUid, SharedEntity, S>,
+    count: usize,
+) -> Result<(), AllocError>
+    requires { UidsMatch entities.old }
+    ensures keys { UidsMatch entities.new }
+    ensures held { (q : EntityUID) → held entities.new q ≡ held entities.old q }
+{
+    entities.reserve(count)
+}
+
 // Adds entities to an empty map, in which all that is put is touched.
 fn fill<S: BuildHasher + Clone>(
     alloc: Global,
@@ -212,6 +224,7 @@ fn fill<S: BuildHasher + Clone>(
     ensures adds { AddsEntities tc_computation (held_map entities.old) list.items result
         (λ _. held_map entities.new) }
 {
+    make_room(entities, list.len())?;
     put_all(entities, list)?;
     settle_whole(alloc, entities, tc_computation)
 }
