@@ -1,6 +1,6 @@
 //! How maps take in bodies and policies beside what stands there: room first, and then steps that cannot fail.
-ghost use Rattle.std.specs.Prelude.{◌≡◌, ◌≤◌, ◌++◌, ◌∷◌, [], length, false, ℕ, List, OnOk, OnErr, IfOk, IsTrue};
-ghost use Rattle.std.specs.Map.{keys_of, values_of, lookup};
+ghost use Rattle.std.specs.Prelude.{◌≡◌, ◌≤◌, ◌++◌, [], length, false, ℕ, List, OnOk, OnErr, IfOk, IsTrue};
+ghost use Rattle.std.specs.Map.{values_of, lookup};
 ghost use Rattle.cedar_ids.specs.Texts.{same_text};
 ghost use Rattle.cedar_body.specs.Bodies.{BodyParts};
 ghost use Rattle.cedar_policy.specs.Policies.{policy_id};
