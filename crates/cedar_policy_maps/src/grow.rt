@@ -1,6 +1,6 @@
 //! How maps take in bodies and policies beside what stands there: room first, and then steps that cannot fail.
-ghost use Rattle.std.specs.Prelude.{◌≡◌, ◌≤◌, ◌++◌, ◌∷◌, [], length, false, ℕ, List, OnOk, OnErr, IfOk, IsTrue};
-ghost use Rattle.std.specs.Map.{keys_of, values_of, lookup};
+ghost use Rattle.std.specs.Prelude.{◌≡◌, ◌≤◌, ◌++◌, [], length, false, ℕ, List, OnOk, OnErr, IfOk, IsTrue};
+ghost use Rattle.std.specs.Map.{values_of, lookup};
 ghost use Rattle.cedar_ids.specs.Texts.{same_text};
 ghost use Rattle.cedar_body.specs.Bodies.{BodyParts};
 ghost use Rattle.cedar_policy.specs.Policies.{policy_id};
@@ -75,14 +75,8 @@ impl<S: BuildHasher + Copy> PolicyMaps<S> {
             stand: alike,
             join: policies,
         } = policies;
-        match what_enters(alloc, &self.links, &stand, join, policies) {
-            Ok(entering) => self.put_in(entering, stand, alike),
-            Err(error) => {
-                drop(stand);
-                drop(alike);
-                Err(error)
-            }
-        }
+        let entering = what_enters(alloc, &self.links, &stand, join, policies)?;
+        self.put_in(entering, stand, alike)
     }
 
     // Makes room for what enters, and puts it in.
@@ -105,34 +99,25 @@ impl<S: BuildHasher + Copy> PolicyMaps<S> {
             (values_of entering.links.entries)) }
         ensures err { OnErr result (self.new ≡ self.old) }
     {
-        match make_room(
+        make_room(
             &mut self.templates,
             &mut self.links,
             &mut self.template_to_links_map,
             &entering,
-        ) {
-            Ok(()) => {
-                let Entering {
-                    templates,
-                    links,
-                    listed,
-                    grown,
-                } = entering;
-                put_all_last(&mut self.templates, templates);
-                put_all_last(&mut self.links, links);
-                grow_lists(&mut self.template_to_links_map, grown);
-                put_all_last(&mut self.template_to_links_map, listed);
-                keep_bodies(&mut self.templates, bodies);
-                keep_policies(&mut self.links, policies);
-                Ok(())
-            }
-            Err(error) => {
-                drop(entering);
-                drop(bodies);
-                drop(policies);
-                Err(error)
-            }
-        }
+        )?;
+        let Entering {
+            templates,
+            links,
+            listed,
+            grown,
+        } = entering;
+        put_all_last(&mut self.templates, templates);
+        put_all_last(&mut self.links, links);
+        grow_lists(&mut self.template_to_links_map, grown);
+        put_all_last(&mut self.template_to_links_map, listed);
+        keep_bodies(&mut self.templates, bodies);
+        keep_policies(&mut self.links, policies);
+        Ok(())
     }
 }
 
@@ -157,40 +142,10 @@ fn what_enters<S: BuildHasher + Copy>(
     ensures grown { IfOk result (λ e. lists_of e.grown.entries
         ≡ ids_by_body (templates_in (values_of known.now.entries) (bodies_of stand.now)) policies.items) }
 {
-    let grown = match ids_by_template(alloc, stand, known, &policies) {
-        Ok(grown) => grown,
-        Err(error) => {
-            drop(bodies);
-            drop(policies);
-            return Err(error);
-        }
-    };
-    let links = match policies_by_id(alloc, *known.hasher(), policies) {
-        Ok(links) => links,
-        Err(error) => {
-            drop(bodies);
-            drop(grown);
-            return Err(error);
-        }
-    };
-    let listed = match ids_by_template(alloc, &bodies, &links, links.values().as_slice()) {
-        Ok(listed) => listed,
-        Err(error) => {
-            drop(bodies);
-            drop(grown);
-            drop(links);
-            return Err(error);
-        }
-    };
-    let templates = match bodies_by_id(alloc, *known.hasher(), bodies) {
-        Ok(templates) => templates,
-        Err(error) => {
-            drop(grown);
-            drop(links);
-            drop(listed);
-            return Err(error);
-        }
-    };
+    let grown = ids_by_template(alloc, stand, known, &policies)?;
+    let links = policies_by_id(alloc, *known.hasher(), policies)?;
+    let listed = ids_by_template(alloc, &bodies, &links, links.values().as_slice())?;
+    let templates = bodies_by_id(alloc, *known.hasher(), bodies)?;
     Ok(Entering {
         templates,
         links,

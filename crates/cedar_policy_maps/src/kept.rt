@@ -14,7 +14,7 @@ ghost use Rattle.cedar_policy_maps.specs.laws.MapLaws.{has_ids};
 use crate::found::Found;
 use crate::iters::LinkedIds;
 use crate::lists::is_link;
-use crate::maps::{list_policy, put_last, room_for_body, room_for_both, room_for_link, unlist};
+use crate::maps::{list_policy, put_last, room_for_body, room_for_both, room_for_list, unlist};
 use crate::policy_maps::PolicyMaps;
 use cedar_ids::policy_id::PolicyID;
 use cedar_policy::{Policy, Template};
@@ -154,25 +154,15 @@ impl<S: BuildHasher + Copy> PolicyMaps<S> {
         ensures ok { OnOk result (self.new ≡ with_template self.old template.value) }
         ensures err { OnErr result (self.new ≡ self.old) }
     {
-        match room_for_body(
+        let (id, listed) = room_for_body(
             &mut self.templates,
             &mut self.template_to_links_map,
             &template,
-        ) {
-            Ok((id, listed)) => {
-                let ids = IndexSet::with_hasher(
-                    *self.templates.allocator(),
-                    *self.templates.hasher(),
-                );
-                put_last(&mut self.templates, id, template);
-                put_last(&mut self.template_to_links_map, listed, ids);
-                Ok(())
-            }
-            Err(error) => {
-                drop(template);
-                Err(error)
-            }
-        }
+        )?;
+        let ids = IndexSet::with_hasher(*self.templates.allocator(), *self.templates.hasher());
+        put_last(&mut self.templates, id, template);
+        put_last(&mut self.template_to_links_map, listed, ids);
+        Ok(())
     }
 
     /// Puts a link of a template that stands there last. Takes memory for its place, two copies of its id and the list
@@ -182,16 +172,9 @@ impl<S: BuildHasher + Copy> PolicyMaps<S> {
         ensures ok { OnOk result (self.new ≡ with_policy self.old policy) }
         ensures err { OnErr result (self.new ≡ self.old) }
     {
-        match list_policy(&mut self.links, &mut self.template_to_links_map, &policy) {
-            Ok(id) => {
-                put_last(&mut self.links, id, policy);
-                Ok(())
-            }
-            Err(error) => {
-                drop(policy);
-                Err(error)
-            }
-        }
+        let id = list_policy(&mut self.links, &mut self.template_to_links_map, &policy)?;
+        put_last(&mut self.links, id, policy);
+        Ok(())
     }
 
     /// Puts a policy and its template last, each in its order. Takes memory for their places, copies of their ids and,
@@ -215,17 +198,10 @@ impl<S: BuildHasher + Copy> PolicyMaps<S> {
         ensures ok { OnOk result (self.new ≡ with_both self.old policy.template policy) }
         ensures err { OnErr result (self.new ≡ self.old) }
     {
-        match room_for_both(&mut self.templates, &mut self.links, &policy) {
-            Ok((body, own, template)) => {
-                put_last(&mut self.templates, body, template);
-                put_last(&mut self.links, own, policy);
-                Ok(())
-            }
-            Err(error) => {
-                drop(policy);
-                Err(error)
-            }
-        }
+        let joining = room_for_both(&mut self.templates, &mut self.links, &policy)?;
+        put_last(&mut self.templates, joining.body_id, joining.body);
+        put_last(&mut self.links, joining.policy_id, policy);
+        Ok(())
     }
 
     // Puts a link and its template last, each in its order.
@@ -235,23 +211,12 @@ impl<S: BuildHasher + Copy> PolicyMaps<S> {
         ensures ok { OnOk result (self.new ≡ with_both self.old policy.template policy) }
         ensures err { OnErr result (self.new ≡ self.old) }
     {
-        match room_for_link(
-            &mut self.templates,
-            &mut self.links,
-            &mut self.template_to_links_map,
-            &policy,
-        ) {
-            Ok((on, link, template, under, ids)) => {
-                put_last(&mut self.templates, on, template);
-                put_last(&mut self.links, link, policy);
-                put_last(&mut self.template_to_links_map, under, ids);
-                Ok(())
-            }
-            Err(error) => {
-                drop(policy);
-                Err(error)
-            }
-        }
+        let (under, ids) = room_for_list(&mut self.template_to_links_map, &policy)?;
+        let both = room_for_both(&mut self.templates, &mut self.links, &policy)?;
+        put_last(&mut self.templates, both.body_id, both.body);
+        put_last(&mut self.links, both.policy_id, policy);
+        put_last(&mut self.template_to_links_map, under, ids);
+        Ok(())
     }
 
     /// Takes out what an id is bound to, which has no links, and closes the orders up. It takes no memory.

@@ -48,48 +48,15 @@ fn put_new<V: Drop, S: BuildHasher + Copy>(
     Ok(())
 }
 
-// A value with a copy of an id; the value goes where there is none.
-fn with_copy<A: Drop>(value: A, id: &PolicyID) -> Result<(A, PolicyID), AllocError>
-    ensures { IfOk result (λ r. (r.0 ≡ value) × (r.1 ≡ id.now)) }
-{
-    match id.clone() {
-        Ok(id) => Ok((value, id)),
-        Err(error) => {
-            drop(value);
-            Err(error)
-        }
-    }
-}
-
-// A value with the set of an id; the value goes where there is none.
-fn with_set<A: Drop, S: BuildHasher + Copy>(
-    value: A,
-    alloc: Global,
-    hasher: S,
-    id: &PolicyID,
-) -> Result<(A, IndexSet<PolicyID, S>), AllocError>
-    ensures { IfOk result (λ r. (r.0 ≡ value) × (r.1.keys ≡ id.now ∷ [])) }
-{
-    match set_of(alloc, hasher, id) {
-        Ok(ids) => Ok((value, ids)),
-        Err(error) => {
-            drop(value);
-            Err(error)
-        }
-    }
-}
-
-// A value with a further share of a policy's template; the value goes where there is none.
-fn with_share<A: Drop>(value: A, policy: &Policy) -> Result<(A, Rc<Template>), AllocError>
-    ensures { IfOk result (λ r. (r.0 ≡ value) × (r.1.value ≡ policy.now.template)) }
-{
-    match template_of(policy) {
-        Ok(template) => Ok((value, template)),
-        Err(error) => {
-            drop(value);
-            Err(error)
-        }
-    }
+// What one more policy and its body go last with.
+#[derive(Drop)]
+pub(crate) struct Joining {
+    // What the body goes under.
+    pub(crate) body_id: PolicyID,
+    // What the policy goes under.
+    pub(crate) policy_id: PolicyID,
+    // A further share of the body.
+    pub(crate) body: Rc<Template>,
 }
 
 // Room for one more body and its list, and two copies of its id.
@@ -106,7 +73,8 @@ pub(crate) fn room_for_body<S: BuildHasher + Copy>(
     templates.reserve(1)?;
     map.reserve(1)?;
     let id = template.id().clone()?;
-    with_copy(id, template.id())
+    let listed = template.id().clone()?;
+    Ok((id, listed))
 }
 
 // Room for one more policy, which is listed last under its body's id; and a copy of its own id.
@@ -123,74 +91,39 @@ pub(crate) fn list_policy<S: BuildHasher + Copy>(
     ensures err { OnErr result (lists_of map.new.entries ≡ lists_of map.old.entries) }
 {
     links.reserve(1)?;
-    let (id, listed) = with_copy(policy.id().clone()?, policy.id())?;
-    match list_id(map, policy.template().id(), listed) {
-        Ok(()) => Ok(id),
-        Err(error) => {
-            drop(id);
-            Err(error)
-        }
-    }
+    let id = policy.id().clone()?;
+    let listed = policy.id().clone()?;
+    list_id(map, policy.template().id(), listed)?;
+    Ok(id)
 }
 
-// Room for one more policy and its body, what they go under, and a further share of the body.
+// Room for one more policy and its body, and what they go last with.
 pub(crate) fn room_for_both<S: BuildHasher + Copy>(
     templates: &mut IndexMap<PolicyID, Rc<Template>, S>,
     links: &mut IndexMap<PolicyID, Policy, S>,
     policy: &Policy,
-) -> Result<(PolicyID, PolicyID, Rc<Template>), AllocError>
+) -> Result<Joining, AllocError>
     ensures bodies { templates.new.entries ≡ templates.old.entries }
     ensures policies { links.new.entries ≡ links.old.entries }
     ensures room { OnOk result ((0 < spare templates.new) × (0 < spare links.new)) }
-    ensures ids { IfOk result (λ r. (r.0 ≡ policy.now.template.id) × (r.1 ≡ policy_id policy.now)) }
-    ensures share { IfOk result (λ r. r.2.value ≡ policy.now.template) }
+    ensures body_id { IfOk result (λ j. j.body_id ≡ policy.now.template.id) }
+    ensures policy_id { IfOk result (λ j. j.policy_id ≡ policy_id policy.now) }
+    ensures body { IfOk result (λ j. j.body.value ≡ policy.now.template) }
 {
     templates.reserve(1)?;
     links.reserve(1)?;
-    let body = policy.template().id().clone()?;
-    let (body, own) = with_copy(body, policy.id())?;
-    let ((body, own), template) = with_share((body, own), policy)?;
-    Ok((body, own, template))
-}
-
-// Room for one more link and its template, what they go under, a further share of the template, and the list under its
-// id.
-pub(crate) fn room_for_link<S: BuildHasher + Copy>(
-    templates: &mut IndexMap<PolicyID, Rc<Template>, S>,
-    links: &mut IndexMap<PolicyID, Policy, S>,
-    map: &mut IndexMap<PolicyID, IndexSet<PolicyID, S>, S>,
-    policy: &Policy,
-) -> Result<
-    (
-        PolicyID,
-        PolicyID,
-        Rc<Template>,
-        PolicyID,
-        IndexSet<PolicyID, S>,
-    ),
-    AllocError,
->
-    ensures bodies { templates.new.entries ≡ templates.old.entries }
-    ensures policies { links.new.entries ≡ links.old.entries }
-    ensures lists { map.new.entries ≡ map.old.entries }
-    ensures room { OnOk result ((0 < spare templates.new) × (0 < spare links.new) × (0 < spare map.new)) }
-    ensures ids { IfOk result (λ r. (r.0 ≡ policy.now.template.id) × (r.1 ≡ policy_id policy.now)) }
-    ensures share { IfOk result (λ r. r.2.value ≡ policy.now.template) }
-    ensures list { IfOk result (λ r. (r.3 ≡ policy.now.template.id) × (r.4.keys ≡ policy_id policy.now ∷ [])) }
-{
-    let (under, ids) = room_for_list(map, policy)?;
-    match room_for_both(templates, links, policy) {
-        Ok((body, own, template)) => Ok((body, own, template, under, ids)),
-        Err(error) => {
-            drop(under);
-            drop(ids);
-            Err(error)
-        }
-    }
+    let body_id = policy.template().id().clone()?;
+    let policy_id = policy.id().clone()?;
+    let body = template_of(policy)?;
+    Ok(Joining {
+        body_id,
+        policy_id,
+        body,
+    })
 }
 
 // Room for one more list, a copy of the id of a link's template, and the list of the link's own id.
-fn room_for_list<S: BuildHasher + Copy>(
+pub(crate) fn room_for_list<S: BuildHasher + Copy>(
     map: &mut IndexMap<PolicyID, IndexSet<PolicyID, S>, S>,
     policy: &Policy,
 ) -> Result<(PolicyID, IndexSet<PolicyID, S>), AllocError>
@@ -199,10 +132,9 @@ fn room_for_list<S: BuildHasher + Copy>(
     ensures list { IfOk result (λ r. (r.0 ≡ policy.now.template.id) × (r.1.keys ≡ policy_id policy.now ∷ [])) }
 {
     map.reserve(1)?;
-    let alloc = *map.allocator();
-    let hasher = *map.hasher();
     let under = policy.template().id().clone()?;
-    with_set(under, alloc, hasher, policy.id())
+    let ids = set_of(*map.allocator(), *map.hasher(), policy.id())?;
+    Ok((under, ids))
 }
 
 // The set of one id.
@@ -214,13 +146,8 @@ fn set_of<S: BuildHasher + Copy>(
     ensures { IfOk result (λ s. s.keys ≡ id.now ∷ []) }
 {
     let mut ids = IndexSet::with_hasher(alloc, hasher);
-    match put_copy(&mut ids, id) {
-        Ok(()) => Ok(ids),
-        Err(error) => {
-            drop(ids);
-            Err(error)
-        }
-    }
+    put_copy(&mut ids, id)?;
+    Ok(ids)
 }
 
 // Puts a copy of an id last, if it isn't there.
@@ -319,19 +246,9 @@ pub(crate) fn bodies_by_id<S: BuildHasher + Copy>(
     ensures keyed { IfOk result (λ m. IsKeyed (λ t. t.value.id) m.entries) }
     ensures values { IfOk result (λ m. values_of m.entries ≡ bodies.items) }
 {
-    match IndexMap::with_capacity_and_hasher(alloc, bodies.len(), hasher) {
-        Ok(mut templates) => match put_bodies(&mut templates, bodies) {
-            Ok(()) => Ok(templates),
-            Err(error) => {
-                drop(templates);
-                Err(error)
-            }
-        },
-        Err(error) => {
-            drop(bodies);
-            Err(error)
-        }
-    }
+    let mut templates = IndexMap::with_capacity_and_hasher(alloc, bodies.len(), hasher)?;
+    put_bodies(&mut templates, bodies)?;
+    Ok(templates)
 }
 
 // Puts bodies into an empty map, under their ids.
@@ -358,13 +275,8 @@ fn put_body<S: BuildHasher + Copy>(
     requires { get same_text templates.old template.value.id ≡ None }
     ensures { OnOk result (templates.new.entries ≡ templates.old.entries ++ (template.value.id, template) ∷ []) }
 {
-    match template.id().clone() {
-        Ok(id) => put_new(templates, id, template),
-        Err(error) => {
-            drop(template);
-            Err(error)
-        }
-    }
+    let id = template.id().clone()?;
+    put_new(templates, id, template)
 }
 
 // Policies under their ids, in their order.
@@ -377,19 +289,9 @@ pub(crate) fn policies_by_id<S: BuildHasher + Copy>(
     ensures keyed { IfOk result (λ m. IsKeyed policy_id m.entries) }
     ensures values { IfOk result (λ m. values_of m.entries ≡ policies.items) }
 {
-    match IndexMap::with_capacity_and_hasher(alloc, policies.len(), hasher) {
-        Ok(mut links) => match put_policies(&mut links, policies) {
-            Ok(()) => Ok(links),
-            Err(error) => {
-                drop(links);
-                Err(error)
-            }
-        },
-        Err(error) => {
-            drop(policies);
-            Err(error)
-        }
-    }
+    let mut links = IndexMap::with_capacity_and_hasher(alloc, policies.len(), hasher)?;
+    put_policies(&mut links, policies)?;
+    Ok(links)
 }
 
 // Puts policies into an empty map, under their ids.
@@ -416,13 +318,8 @@ fn put_policy<S: BuildHasher + Copy>(
     requires { get same_text links.old (policy_id policy) ≡ None }
     ensures { OnOk result (links.new.entries ≡ links.old.entries ++ (policy_id policy, policy) ∷ []) }
 {
-    match policy.id().clone() {
-        Ok(id) => put_new(links, id, policy),
-        Err(error) => {
-            drop(policy);
-            Err(error)
-        }
-    }
+    let id = policy.id().clone()?;
+    put_new(links, id, policy)
 }
 
 // The ids of the policies on each template, under its id, in the order of bodies. Of the bodies those are templates
@@ -440,13 +337,8 @@ pub(crate) fn ids_by_template<S: BuildHasher + Copy>(
         (templates_in (values_of known.now.entries) (bodies_of bodies.now)) policies.now) }
 {
     let mut map = no_ids(alloc, bodies, known)?;
-    match list_ids(&mut map, policies) {
-        Ok(()) => Ok(map),
-        Err(error) => {
-            drop(map);
-            Err(error)
-        }
-    }
+    list_ids(&mut map, policies)?;
+    Ok(map)
 }
 
 // No id under each template's id.

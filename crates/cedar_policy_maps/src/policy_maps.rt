@@ -154,25 +154,13 @@ impl<S: BuildHasher + Copy> Clone for PolicyMaps<S> {
 
     fn clone(&self) -> Result<PolicyMaps<S>, AllocError> {
         let templates = copy_of_bodies(&self.templates)?;
-        let links = match copy_of_policies(&self.links) {
-            Ok(links) => links,
-            Err(error) => {
-                drop(templates);
-                return Err(error);
-            }
-        };
-        match copy_of_ids(&self.template_to_links_map) {
-            Ok(template_to_links_map) => Ok(PolicyMaps {
-                templates,
-                links,
-                template_to_links_map,
-            }),
-            Err(error) => {
-                drop(templates);
-                drop(links);
-                Err(error)
-            }
-        }
+        let links = copy_of_policies(&self.links)?;
+        let template_to_links_map = copy_of_ids(&self.template_to_links_map)?;
+        Ok(PolicyMaps {
+            templates,
+            links,
+            template_to_links_map,
+        })
     }
 }
 

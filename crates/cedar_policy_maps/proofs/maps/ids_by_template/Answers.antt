@@ -6,8 +6,8 @@ use Rattle.cedar_policy_maps.specs.laws.MapLaws.{all_listed, templates_once}
 use Rattle.cedar_policy_maps.proofs.Entries.{listed_all}
 use Rattle.cedar_policy_maps.proofs.maps.ids_by_template.Goals as goal
 
-pub returns-in-Ok : goal.returns-in-Ok
-returns-in-Ok g c =
+pub returns : goal.returns
+returns g c =
     let known = values_of c.args.known.now.entries in
-    c.in-Ok.ensures ∙ ap (λ ls. all_listed ls c.args.policies.now) c.in_ok-map.ensures
+    c.in_ok-list_ids.ensures ∙ ap (λ ls. all_listed ls c.args.policies.now) c.in_ok-map.ensures
     ∙ listed_all (templates_in known (bodies_of c.args.bodies.now)) c.args.policies.now (templates_once (bodies_of c.args.bodies.now) known c.requires.bodies) c.requires.policies

@@ -17,8 +17,8 @@ put_all_last-requires-clause-new g c =
     let k : CanTakeIn (board_in m) (bodies_of c.args.bodies.items) (bodies_of (values_of es)) (values_of fs) = subst (λ b. CanTakeIn b (bodies_of c.args.bodies.items) (bodies_of (values_of es)) (values_of fs)) (sym c.self.view_is) c.requires.can in
     rw c.make_room.ensures.bodies (bodies_new m (bodies_of c.args.bodies.items) c.self.inside.templates.entries es fs c.self.invariant refl k c.requires.bodies)
 
-pub put_all_last-requires-in-Ok-clause-new : goal.put_all_last-requires-in-Ok-clause-new
-put_all_last-requires-in-Ok-clause-new g c =
+pub put_all_last-requires-2-clause-new : goal.put_all_last-requires-2-clause-new
+put_all_last-requires-2-clause-new g c =
     let m : Maps = maps_of c.self.inside.templates.entries c.self.inside.links.entries c.self.inside.template_to_links_map.entries in
     let es = c.args.entering.templates.entries in
     let fs = c.args.entering.links.entries in
@@ -29,8 +29,8 @@ pub grow_lists-requires-clause-once : goal.grow_lists-requires-clause-once
 grow_lists-requires-clause-once g c =
     grown_once (bodies_of c.args.bodies.items) c.args.self.now.policies (values_of c.args.entering.links.entries) c.args.entering.grown.entries c.requires.can.once c.requires.grown
 
-pub put_all_last-requires-in-Ok-2-clause-new : goal.put_all_last-requires-in-Ok-2-clause-new
-put_all_last-requires-in-Ok-2-clause-new g c =
+pub put_all_last-requires-3-clause-new : goal.put_all_last-requires-3-clause-new
+put_all_last-requires-3-clause-new g c =
     let m : Maps = maps_of c.self.inside.templates.entries c.self.inside.links.entries c.self.inside.template_to_links_map.entries in
     let es = c.args.entering.templates.entries in
     let fs = c.args.entering.links.entries in
@@ -39,8 +39,8 @@ put_all_last-requires-in-Ok-2-clause-new g c =
     lists_new m (bodies_of c.args.bodies.items) (bodies_of (values_of es)) (values_of fs) c.grow_lists.new.map.entries c.args.entering.listed.entries (lists_of gs) c.self.invariant k
     (c.grow_lists.ensures.lists ∙ ap (λ ls. grown_by ls (lists_of gs)) c.make_room.ensures.lists) c.requires.listed
 
-pub invariant_of-self : goal.invariant_of-self
-invariant_of-self g c =
+pub invariant_of-self-2 : goal.invariant_of-self-2
+invariant_of-self-2 g c =
     let ts = c.self.inside.templates.entries in
     let ps = c.self.inside.links.entries in
     let ls = c.self.inside.template_to_links_map.entries in
@@ -49,15 +49,15 @@ invariant_of-self g c =
     let gs = c.args.entering.grown.entries in
     let grown : lists_of gs ≡ ids_by_body (templates_in (values_of ps) (bodies_of c.args.bodies.items)) (values_of fs) = subst (λ (b : Board). lists_of gs ≡ ids_by_body (templates_in b.policies (bodies_of c.args.bodies.items)) (values_of fs)) (sym c.self.view_is) c.requires.grown in
     let k : CanTakeIn (board_in (maps_of ts ps ls)) (bodies_of c.args.bodies.items) (bodies_of (values_of es)) (values_of fs) = subst (λ b. CanTakeIn b (bodies_of c.args.bodies.items) (bodies_of (values_of es)) (values_of fs)) (sym c.self.view_is) c.requires.can in
-    (entered ts es c.keep_bodies.new.templates.entries ps fs c.keep_policies.new.links.entries ls gs c.grow_lists.new.map.entries c.args.entering.listed.entries c.put_all_last-in-Ok-2.new.map.entries
+    (entered ts es c.keep_bodies.new.templates.entries ps fs c.keep_policies.new.links.entries ls gs c.grow_lists.new.map.entries c.args.entering.listed.entries c.put_all_last-3.new.map.entries
     (bodies_of c.args.bodies.items) c.self.invariant k c.requires.bodies c.requires.policies c.requires.listed grown
     (c.keep_bodies.ensures ∙ ap shared_of c.put_all_last.ensures ∙ ap (λ us. shared_of (us ++ es)) c.make_room.ensures.bodies)
-    (c.keep_policies.ensures ∙ c.put_all_last-in-Ok.ensures ∙ ap (λ qs. qs ++ fs) c.make_room.ensures.policies)
+    (c.keep_policies.ensures ∙ c.put_all_last-2.ensures ∙ ap (λ qs. qs ++ fs) c.make_room.ensures.policies)
     (c.grow_lists.ensures.lists ∙ ap (λ ls. grown_by ls (lists_of gs)) c.make_room.ensures.lists)
-    c.put_all_last-in-Ok-2.ensures).0
+    c.put_all_last-3.ensures).0
 
-pub returns-in-Ok-clause-ok : goal.returns-in-Ok-clause-ok
-returns-in-Ok-clause-ok g c =
+pub returns-clause-ok : goal.returns-clause-ok
+returns-clause-ok g c =
     let ts = c.self.inside.templates.entries in
     let ps = c.self.inside.links.entries in
     let ls = c.self.inside.template_to_links_map.entries in
@@ -66,10 +66,10 @@ returns-in-Ok-clause-ok g c =
     let gs = c.args.entering.grown.entries in
     let grown : lists_of gs ≡ ids_by_body (templates_in (values_of ps) (bodies_of c.args.bodies.items)) (values_of fs) = subst (λ (b : Board). lists_of gs ≡ ids_by_body (templates_in b.policies (bodies_of c.args.bodies.items)) (values_of fs)) (sym c.self.view_is) c.requires.grown in
     let k : CanTakeIn (board_in (maps_of ts ps ls)) (bodies_of c.args.bodies.items) (bodies_of (values_of es)) (values_of fs) = subst (λ b. CanTakeIn b (bodies_of c.args.bodies.items) (bodies_of (values_of es)) (values_of fs)) (sym c.self.view_is) c.requires.can in
-    (entered ts es c.keep_bodies.new.templates.entries ps fs c.keep_policies.new.links.entries ls gs c.grow_lists.new.map.entries c.args.entering.listed.entries c.put_all_last-in-Ok-2.new.map.entries
+    (entered ts es c.keep_bodies.new.templates.entries ps fs c.keep_policies.new.links.entries ls gs c.grow_lists.new.map.entries c.args.entering.listed.entries c.put_all_last-3.new.map.entries
     (bodies_of c.args.bodies.items) c.self.invariant k c.requires.bodies c.requires.policies c.requires.listed grown
     (c.keep_bodies.ensures ∙ ap shared_of c.put_all_last.ensures ∙ ap (λ us. shared_of (us ++ es)) c.make_room.ensures.bodies)
-    (c.keep_policies.ensures ∙ c.put_all_last-in-Ok.ensures ∙ ap (λ qs. qs ++ fs) c.make_room.ensures.policies)
+    (c.keep_policies.ensures ∙ c.put_all_last-2.ensures ∙ ap (λ qs. qs ++ fs) c.make_room.ensures.policies)
     (c.grow_lists.ensures.lists ∙ ap (λ ls. grown_by ls (lists_of gs)) c.make_room.ensures.lists)
-    c.put_all_last-in-Ok-2.ensures).1
+    c.put_all_last-3.ensures).1
     ∙ ap (λ (b : Board). taken_in b (bodies_of (values_of es)) (values_of fs)) c.self.view_is

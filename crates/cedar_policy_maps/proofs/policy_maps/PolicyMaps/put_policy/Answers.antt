@@ -13,15 +13,15 @@ put_last-requires-clause-absent g c =
     let m : Maps = maps_of c.self.inside.templates.entries c.self.inside.links.entries c.self.inside.template_to_links_map.entries in
     let p = c.args.policy in
     let j : CanJoin (board_in m) p = subst (λ b. CanJoin b p) (sym c.self.view_is) c.requires in
-    let k : c.in-Ok.id ≡ policy_id p = c.in-Ok.ensures.id in
+    let k : c.in_ok-id.id ≡ policy_id p = c.in_ok-id.ensures.id in
     rw (k, c.list_policy.ensures.policies) (absent_policy m (policy_id p) c.self.invariant (free_link p.link (board_in m) p refl j))
 
-pub invariant_of-self : goal.invariant_of-self
-invariant_of-self g c =
+pub invariant_of-self-2 : goal.invariant_of-self-2
+invariant_of-self-2 g c =
     let m : Maps = maps_of c.self.inside.templates.entries c.self.inside.links.entries c.self.inside.template_to_links_map.entries in
     let p = c.args.policy in
     let j : CanJoin (board_in m) p = subst (λ b. CanJoin b p) (sym c.self.view_is) c.requires in
-    let k : c.in-Ok.id ≡ policy_id p = c.in-Ok.ensures.id in
+    let k : c.in_ok-id.id ≡ policy_id p = c.in_ok-id.ensures.id in
     (policy_kept m p c.put_last.new.map.entries (lists_of c.list_policy.new.map.entries) c.self.invariant j
     (c.put_last.ensures ∙ (λ i. c.list_policy.ensures.policies i ++ (k i, p) ∷ []))
-    c.in-Ok.ensures.ok).0
+    c.in_ok-id.ensures.ok).0

@@ -13,24 +13,24 @@ put_last-requires-clause-absent g c =
     let m : Maps = maps_of c.self.inside.templates.entries c.self.inside.links.entries c.self.inside.template_to_links_map.entries in
     let p = c.args.policy in
     let j : CanJoinBoth (board_in m) p = subst (λ b. CanJoinBoth b p) (sym c.self.view_is) c.requires.joins in
-    let k : c.in-Ok.body ≡ p.template.id = c.in-Ok.ensures.ids.0 in
+    let k : c.in_ok-joining.joining.body_id ≡ p.template.id = c.in_ok-joining.ensures.body_id in
     rw (k, c.room_for_both.ensures.bodies) (absent_body m c.self.inside.templates.entries p.template.id c.self.invariant refl j.0)
 
-pub put_last-requires-in-Ok-clause-absent : goal.put_last-requires-in-Ok-clause-absent
-put_last-requires-in-Ok-clause-absent g c =
+pub put_last-requires-2-clause-absent : goal.put_last-requires-2-clause-absent
+put_last-requires-2-clause-absent g c =
     let m : Maps = maps_of c.self.inside.templates.entries c.self.inside.links.entries c.self.inside.template_to_links_map.entries in
     let p = c.args.policy in
     let j : CanJoinBoth (board_in m) p = subst (λ b. CanJoinBoth b p) (sym c.self.view_is) c.requires.joins in
-    let k : c.in-Ok.own ≡ policy_id p = c.in-Ok.ensures.ids.1 in
+    let k : c.in_ok-joining.joining.policy_id ≡ policy_id p = c.in_ok-joining.ensures.policy_id in
     rw (k, c.room_for_both.ensures.policies) (absent_policy m (policy_id p) c.self.invariant (both_free p.link (board_in m) p refl j.0 j.1))
 
-pub invariant_of-self : goal.invariant_of-self
-invariant_of-self g c =
+pub invariant_of-self-2 : goal.invariant_of-self-2
+invariant_of-self-2 g c =
     let m : Maps = maps_of c.self.inside.templates.entries c.self.inside.links.entries c.self.inside.template_to_links_map.entries in
     let p = c.args.policy in
     let j : CanJoinBoth (board_in m) p = subst (λ b. CanJoinBoth b p) (sym c.self.view_is) c.requires.joins in
-    let k : c.in-Ok.body ≡ p.template.id = c.in-Ok.ensures.ids.0 in
-    let n : c.in-Ok.own ≡ policy_id p = c.in-Ok.ensures.ids.1 in
+    let k : c.in_ok-joining.joining.body_id ≡ p.template.id = c.in_ok-joining.ensures.body_id in
+    let n : c.in_ok-joining.joining.policy_id ≡ policy_id p = c.in_ok-joining.ensures.policy_id in
     (static_kept m p _ _ c.self.invariant j c.requires.no_link
-    (read_last (λ v. v.value) c.self.inside.templates.entries c.room_for_both.new.templates.entries c.put_last.new.map.entries _ p.template.id c.in-Ok.template p.template c.room_for_both.ensures.bodies c.put_last.ensures k c.in-Ok.ensures.share)
-    (c.put_last-in-Ok.ensures ∙ (λ i. c.room_for_both.ensures.policies i ++ (n i, p) ∷ []))).0
+    (read_last (λ v. v.value) c.self.inside.templates.entries c.room_for_both.new.templates.entries c.put_last.new.map.entries _ p.template.id c.in_ok-joining.joining.body p.template c.room_for_both.ensures.bodies c.put_last.ensures k c.in_ok-joining.ensures.body)
+    (c.put_last-2.ensures ∙ (λ i. c.room_for_both.ensures.policies i ++ (n i, p) ∷ []))).0
