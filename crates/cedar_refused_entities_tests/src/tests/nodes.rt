@@ -1,6 +1,8 @@
 // Entities as nodes, whose keys are uids or shared uids.
-ghost use Rattle.std.specs.Prelude.{nat_eq};
+ghost use Rattle.std.specs.Prelude.{◌≡◌, nat_eq};
+ghost use Rattle.std.specs.List.{list_any};
 ghost use Rattle.std.specs.HashSet.{contains};
+ghost use Rattle.cedar_graph.specs.laws.Writings.{AreNewTo};
 
 use super::entities::{counted, counted_text};
 use super::parts::{entity, text_of};
@@ -10,7 +12,7 @@ use cedar_entity::node::SharedEntity;
 use cedar_graph::TCNode;
 use cedar_ids::entity::EntityUID;
 use cedar_refusals::{
-    Calls, Row, Tried, ample_if, both, changed, has_words, is_worded, joined, judged, made,
+    Answer, Calls, Row, Tried, ample_if, both, changed, has_words, is_worded, joined, judged, made,
     memory_if, on, refuse, relent, tried_rows, unmade, with_last,
 };
 use cedar_uid_sets::SharedUid;
@@ -116,9 +118,30 @@ pub(super) fn is_among(text: &str, others: &str) -> bool {
     text.split_whitespace().all(|word| others.split_whitespace().any(|other| other == word))
 }
 
-// What comes of adding edges to keys; where that is refused, the former edges stay, and each further one leads to a
-// key.
+// What came of adding edges, by the node's text before; where that is refused, the former edges stay, and each further
+// one leads to a key.
 fn grown<K: Eq + Drop, N: TCNode<K> + Told + Drop>(
+    alloc: Global,
+    before: String,
+    node: N,
+    answer: Result<(), AllocError>,
+    want: &str,
+) -> Answer {
+    let after = N::told(alloc, &node).unwrap_or(String::new(alloc));
+    drop(node);
+    let came = match answer {
+        Ok(()) => ample_if(has_words(after.as_str(), want)),
+        Err(_) => memory_if(
+            is_among(before.as_str(), after.as_str()) && is_among(after.as_str(), want),
+        ),
+    };
+    drop(before);
+    drop(after);
+    came
+}
+
+// What comes of adding edges to keys.
+fn joined_to<K: Eq + Drop, N: TCNode<K> + Told + Drop>(
     alloc: Global,
     number: usize,
     mut node: N,
@@ -129,18 +152,51 @@ fn grown<K: Eq + Drop, N: TCNode<K> + Told + Drop>(
     refuse(alloc, number);
     let answer = node.add_edges_to(alloc, &mut keys);
     let refused = relent(alloc);
-    let after = N::told(alloc, &node).unwrap_or(String::new(alloc));
-    drop(node);
     drop(keys);
-    let answer = match answer {
-        Ok(()) => ample_if(has_words(after.as_str(), want)),
-        Err(_) => memory_if(
-            is_among(before.as_str(), after.as_str()) && is_among(after.as_str(), want),
-        ),
-    };
-    drop(before);
-    drop(after);
+    let answer = grown::<K, N>(alloc, before, node, answer, want);
     Tried { answer, refused }
+}
+
+// What comes of adding an edge to a key that the node has none to, as a row of that key.
+fn newly_joined_to<K: Eq + Drop, N: TCNode<K> + Told + Drop>(
+    alloc: Global,
+    number: usize,
+    mut node: N,
+    mut row: Vec<K>,
+    want: &str,
+) -> Tried
+    requires { AreNewTo K.eq (N.edges node) row.items }
+{
+    let before = N::told(alloc, &node).unwrap_or(String::new(alloc));
+    refuse(alloc, number);
+    let answer = node.add_new_edges_to(alloc, &mut row);
+    let refused = relent(alloc);
+    drop(row);
+    let answer = grown::<K, N>(alloc, before, node, answer, want);
+    Tried { answer, refused }
+}
+
+// Whether the node has an edge to one of the keys.
+fn has_edge_among<K: Eq + Drop, N: TCNode<K>>(node: &N, keys: &[K]) -> bool
+    ensures { result ≡ list_any (N.edges node.now) keys.now }
+{
+    keys.iter().any(|key| node.has_edge_to(key))
+}
+
+// What comes of adding edges to keys that the node has none to.
+fn newly_joined<K: Eq + Drop, N: TCNode<K> + Told + Drop>(
+    alloc: Global,
+    number: usize,
+    node: N,
+    keys: Vec<K>,
+    want: &str,
+) -> Tried {
+    if has_edge_among(&node, &keys) {
+        drop(node);
+        drop(keys);
+        return unmade();
+    }
+    newly_joined_to(alloc, number, node, keys, want)
 }
 
 // What comes of adding an edge to the last of some keys.
@@ -270,7 +326,8 @@ fn asked<K: Eq + Display + Drop, N: TCNode<K> + Told + Drop>(
             )
         }
         "add_edge_to" => led(alloc, number, node, keys, want),
-        "add_edges_to" => grown(alloc, number, node, keys, want),
+        "add_edges_to" => joined_to(alloc, number, node, keys, want),
+        "add_new_edges_to" => newly_joined(alloc, number, node, keys, want),
         "order" => {
             drop(node);
             ordered::<K, N>(alloc, number, keys, want)
@@ -340,6 +397,7 @@ const ENTITIES: &str = "
     TCNode::list_edges | 7 | 7
     TCNode::order | a, c b | 2
     TCNode::add_edges_to | a b / c e, f d b | a b / c d e f / /
+    TCNode::add_new_edges_to | a b / c e, f d | a b / c d e f / /
     - TCNode::reserve_edges | a b / c, d | a b / c / /
     TCNode<SharedUid> for Entity::get_key | a b / c | A::\"a\"
     TCNode<SharedUid> for Entity::add_edge_to | a b / c / k=1, d | a b / c d / k=1 /
@@ -351,6 +409,8 @@ const ENTITIES: &str = "
     TCNode<SharedUid> for Entity::order | a, c b | 2
     TCNode<SharedUid> for Entity::add_edges_to | a b / c e, f d b | a b / c d e f / /
     TCNode<SharedUid> for Entity::add_edges_to | a b / c e, d f | a b / c d e f / /
+    TCNode<SharedUid> for Entity::add_new_edges_to | a b / c e, d f | a b / c d e f / /
+    - TCNode<SharedUid> for Entity::add_new_edges_to | a b / /, d f | a b / d f / /
 ";
 
 impl Calls for OnEntities {
@@ -390,6 +450,7 @@ const COUNTED: &str = "
     TCNode<SharedUid> for SharedEntity::direct_edges | a b / c d | A::\"b\"
     TCNode<SharedUid> for SharedEntity::order | a, c b | 2
     TCNode<SharedUid> for SharedEntity::add_edges_to | a b / c e, f d b | a b / c d e f / /
+    TCNode<SharedUid> for SharedEntity::add_new_edges_to | a b / c e, f d | a b / c d e f / /
 ";
 
 // What comes of a call on an entity that another node shares, which stays as it was.
