@@ -30,13 +30,8 @@ impl PolicySet {
         let _whole = policy.is_static();
         let _total = policy.env();
         let mut set = PolicySet::new(alloc);
-        match set.maps.put_both(policy) {
-            Ok(()) => Ok(set),
-            Err(error) => {
-                drop(set);
-                Err(error)
-            }
-        }
+        set.maps.put_both(policy)?;
+        Ok(set)
     }
 
     /// The set that adding these policies leaves, one after another; the first refusal is the answer, and there is no

@@ -15,10 +15,8 @@ use std::hash::BuildHasher;
 fn numbered(alloc: Global, number: u128) -> Result<PolicyID, AllocError>
     ensures { IfOk result (λ i. i ≡ numbered number) }
 {
-    match format!(in alloc; "policy{number}") {
-        Ok(text) => Ok(PolicyID::from_smolstr(text)),
-        Err(error) => Err(error),
-    }
+    let text = format!(in alloc; "policy{number}")?;
+    Ok(PolicyID::from_smolstr(text))
 }
 
 // Whether one of two sets binds an id.

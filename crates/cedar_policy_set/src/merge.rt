@@ -67,18 +67,11 @@ impl<S: BuildHasher + Copy> PolicySet<S> {
         let _boards = (self.maps.is_empty(), other.maps.is_empty());
         let ids = conflicting_ids(alloc, &self.maps, &other.maps)?;
         if let Some(id) = refused(&ids, rename_duplicates) {
-            let id: Result<PolicyID, AllocError> = id.clone();
-            drop(ids);
-            return Err(PolicySetError::Occupied { id: id? });
+            return Err(PolicySetError::Occupied { id: id.clone()? });
         }
         let renaming = fresh_ids(alloc, ids, &self.maps, &other.maps)?;
-        match put_merged(alloc, &mut self.maps, &other.maps, &renaming) {
-            Ok(()) => Ok(renaming),
-            Err(error) => {
-                drop(renaming);
-                Err(PolicySetError::from(error))
-            }
-        }
+        put_merged(alloc, &mut self.maps, &other.maps, &renaming)?;
+        Ok(renaming)
     }
 }
 
@@ -96,13 +89,8 @@ fn put_merged<S: BuildHasher + Copy>(
     // No effect at run time: these calls say that both are boards.
     let _boards = (here.is_empty(), other.is_empty());
     let bodies = parted_bodies(alloc, here, other, renaming)?;
-    match parted_policies(alloc, here, other, renaming) {
-        Ok(policies) => here.take_in(alloc, bodies, policies),
-        Err(error) => {
-            drop(bodies);
-            Err(error)
-        }
-    }
+    let policies = parted_policies(alloc, here, other, renaming)?;
+    here.take_in(alloc, bodies, policies)
 }
 
 // The first of some ids, where none may be renamed.
@@ -142,13 +130,8 @@ fn conflicting_ids<S: BuildHasher + Copy>(
     ensures { IfOk result (λ ids. ids.keys ≡ conflicts here.now other.now) }
 {
     let mut ids = IndexSet::with_hasher(alloc, *here.hasher());
-    match gather_all(&mut ids, here, other) {
-        Ok(()) => Ok(ids),
-        Err(error) => {
-            drop(ids);
-            Err(error)
-        }
-    }
+    gather_all(&mut ids, here, other)?;
+    Ok(ids)
 }
 
 // Gathers the ids that conflict, group after group.
@@ -303,13 +286,8 @@ fn parted_bodies<S: BuildHasher + Copy>(
         ≡ joined_bodies here.now (new_id renaming.now.entries) other.now.bodies) }
 {
     let mut parted = Parted::new(alloc);
-    match part_bodies(alloc, &mut parted, here, other.shared_bodies(), renaming) {
-        Ok(()) => Ok(parted),
-        Err(error) => {
-            drop(parted);
-            Err(error)
-        }
-    }
+    part_bodies(alloc, &mut parted, here, other.shared_bodies(), renaming)?;
+    Ok(parted)
 }
 
 // Puts bodies of the other set, under their new ids, last among those that stand here or those that join.
@@ -379,13 +357,8 @@ fn parted_policies<S: BuildHasher + Copy>(
         (new_id renaming.now.entries) other.now.policies) }
 {
     let mut parted = Parted::new(alloc);
-    match part_policies(alloc, &mut parted, here, other.all_policies(), renaming) {
-        Ok(()) => Ok(parted),
-        Err(error) => {
-            drop(parted);
-            Err(error)
-        }
-    }
+    part_policies(alloc, &mut parted, here, other.all_policies(), renaming)?;
+    Ok(parted)
 }
 
 // Puts policies of the other set, under their new ids, last among those that stand here or those that join.
@@ -439,11 +412,7 @@ fn renamed_policy<S: BuildHasher + Copy>(
 {
     match on_renamed_template(alloc, policy, renaming)? {
         None => under_new_id(alloc, policy, new),
-        Some(renamed) => {
-            let named = under_new_id(alloc, &renamed, new);
-            drop(renamed);
-            named
-        }
+        Some(renamed) => under_new_id(alloc, &renamed, new),
     }
 }
 

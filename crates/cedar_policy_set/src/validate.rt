@@ -25,13 +25,8 @@ impl<S: BuildHasher + Copy> PolicySet<S> {
     pub fn try_validate(self, alloc: Global) -> Result<PolicySet<S>, PolicySetValidationError>
         ensures { ValidatesSet result self }
     {
-        match self.check(alloc) {
-            Ok(()) => Ok(self),
-            Err(error) => {
-                drop(self);
-                Err(error)
-            }
-        }
+        self.check(alloc)?;
+        Ok(self)
     }
 
     // Refuses the first link of a template without slots, else the first body that is not valid.
@@ -87,12 +82,9 @@ fn validate_body(alloc: Global, template: &Template) -> Result<(), PolicySetVali
             Ok(())
         }
         Err(TemplateValidationError::Memory) => Err(PolicySetValidationError::Memory),
-        Err(error) => match template.id().clone() {
-            Ok(id) => Err(PolicySetValidationError::InvalidTemplate { id, error }),
-            Err(refused) => {
-                drop(error);
-                Err(PolicySetValidationError::from(refused))
-            }
-        },
+        Err(error) => {
+            let id = template.id().clone()?;
+            Err(PolicySetValidationError::InvalidTemplate { id, error })
+        }
     }
 }

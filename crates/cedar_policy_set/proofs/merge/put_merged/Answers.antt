@@ -9,4 +9,4 @@ take_in-requires g c =
     let o = c.args.other.now in
     let r = c.args.renaming.now.entries in
     let k = takes_in h o (new_id r) (renames h o r c.requires) c.is_empty.ensures.board c.is_empty-2.ensures.board in
-    rw (c.in_ok-bodies.ensures.stand, c.in_ok-bodies.ensures.join, c.in-Ok.ensures) k
+    rw (c.in_ok-bodies.ensures.stand, c.in_ok-bodies.ensures.join, c.in_ok-policies.ensures) k

@@ -16,11 +16,14 @@ returns-clause-conflicts g c = conflicts_differ c.args.self.now c.args.other.now
 pub returns-in-Some-clause-conflicts : goal.returns-in-Some-clause-conflicts
 returns-in-Some-clause-conflicts g c = conflicts_differ c.args.self.now c.args.other.now (subst IsBoard c.self.view_is c.is_empty.ensures.board) (subst IsBoard c.other.view_is c.is_empty-2.ensures.board)
 
-pub returns-in_err-id-clause-conflicts : goal.returns-in_err-id-clause-conflicts
-returns-in_err-id-clause-conflicts g c = conflicts_differ c.args.self.now c.args.other.now (subst IsBoard c.self.view_is c.is_empty.ensures.board) (subst IsBoard c.other.view_is c.is_empty-2.ensures.board)
+pub returns-in_err-clone-clause-conflicts : goal.returns-in_err-clone-clause-conflicts
+returns-in_err-clone-clause-conflicts g c = conflicts_differ c.args.self.now c.args.other.now (subst IsBoard c.self.view_is c.is_empty.ensures.board) (subst IsBoard c.other.view_is c.is_empty-2.ensures.board)
 
 pub returns-in_err-ids-clause-conflicts : goal.returns-in_err-ids-clause-conflicts
 returns-in_err-ids-clause-conflicts g c = conflicts_differ c.args.self.now c.args.other.now (subst IsBoard c.self.view_is c.is_empty.ensures.board) (subst IsBoard c.other.view_is c.is_empty-2.ensures.board)
 
 pub returns-in_err-renaming-clause-conflicts : goal.returns-in_err-renaming-clause-conflicts
 returns-in_err-renaming-clause-conflicts g c = conflicts_differ c.args.self.now c.args.other.now (subst IsBoard c.self.view_is c.is_empty.ensures.board) (subst IsBoard c.other.view_is c.is_empty-2.ensures.board)
+
+pub returns-in_err-put_merged-clause-conflicts : goal.returns-in_err-put_merged-clause-conflicts
+returns-in_err-put_merged-clause-conflicts g c = conflicts_differ c.args.self.now c.args.other.now (subst IsBoard c.self.view_is c.is_empty.ensures.board) (subst IsBoard c.other.view_is c.is_empty-2.ensures.board)
