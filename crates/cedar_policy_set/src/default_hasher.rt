@@ -4,9 +4,9 @@ ghost use Rattle.cedar_policy_maps.specs.Boards.{empty_board, HasOwnId};
 ghost use Rattle.cedar_policy_set.specs.Refusals.{Makes, told_by_set};
 ghost use Rattle.cedar_policy_set.specs.Steps.{add_step, add_then};
 
-use crate::err::PolicySetError;
 use crate::policy_set::PolicySet;
 use cedar_policy::Policy;
+use cedar_policy_set_errors::err::PolicySetError;
 use std::alloc::{AllocError, Global};
 use std::hash::BuildHasherDefault;
 

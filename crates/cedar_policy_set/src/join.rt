@@ -9,11 +9,11 @@ ghost use Rattle.cedar_policy_set.specs.Steps.{add_static_step, add_template_ste
 ghost use Rattle.cedar_policy_set.specs.Steps.{add_then, UnlinksTo};
 ghost use Rattle.cedar_policy_set.specs.laws.Standing.{HasNoTemplate, Stands, StandsThere, TellsBound};
 
-use crate::err::PolicySetError;
 use crate::policy_set::PolicySet;
 use cedar_ids::policy_id::PolicyID;
 use cedar_policy::{LinkingError, Policy, SlotEnv, StaticPolicy, Template};
 use cedar_policy_maps::Found;
+use cedar_policy_set_errors::err::PolicySetError;
 use std::alloc::{AllocError, Global};
 use std::hash::BuildHasher;
 use std::rc::Rc;

@@ -7,10 +7,10 @@ ghost use Rattle.cedar_policy_set.specs.Validity.{ValidatesSet};
 ghost use Rattle.cedar_policy_maps.specs.Views.{bodies_of};
 ghost use Rattle.cedar_policy_set.specs.laws.BodyFaults.{IsBodyFault, IsFirstFault};
 
-use crate::err::PolicySetValidationError;
 use crate::policy_set::PolicySet;
 use cedar_policy::{Policy, Template, TemplateValidationError};
 use cedar_policy_maps::{has_no_slots, is_link};
+use cedar_policy_set_errors::err::PolicySetValidationError;
 use std::alloc::Global;
 use std::hash::BuildHasher;
 use std::rc::Rc;

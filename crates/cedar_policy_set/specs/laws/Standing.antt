@@ -2,7 +2,7 @@
 use Rattle.std.specs.Prelude.{◌≡◌, ℕ, Bool, List, Option, Some, None, Result, Err, if◌then◌else◌}
 use Rattle.cedar_body.specs.Bodies.{BodyParts}
 use Rattle.cedar_body.specs.BodyEquality.{same_body}
-use Rattle.cedar_policy_set.specs.declared.err.PolicySetError.{PolicySetError}
+use Rattle.cedar_policy_set_errors.specs.declared.err.PolicySetError.{PolicySetError}
 use Rattle.cedar_policy_maps.specs.Boards.{Board, Binding, Static, Template, Link, bound_at, is_bound}
 use Rattle.cedar_policy_set.specs.Refusals.{IsRefusal, told_by_set}
 use Rattle.cedar_policy_set.specs.Steps.{Refusal, occupied}
