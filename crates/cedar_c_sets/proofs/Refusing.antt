@@ -5,8 +5,8 @@ use Rattle.cedar_policy_set.specs.Boards.{Board, Binding}
 use Rattle.cedar_policy_set.specs.Merge.{Merges, conflicts}
 use Rattle.cedar_policy_set.specs.Refusals.{IsRefusal, told_by_set}
 use Rattle.cedar_policy_set.specs.Steps.{Refusal, occupied, no_body, no_such_template, arity, not_an_action, id_conflict, no_link, not_a_link, no_template, with_links, not_a_template, no_static, not_static}
-use Rattle.cedar_policy_set.specs.declared.err.PolicySetError.{PolicySetError}
-use Rattle.cedar_policy_set.specs.declared.err.PolicySetError.TheVariants.{Occupied, Memory}
+use Rattle.cedar_policy_set_errors.specs.declared.err.PolicySetError.{PolicySetError}
+use Rattle.cedar_policy_set_errors.specs.declared.err.PolicySetError.TheVariants.{Occupied, Memory}
 use Rattle.cedar_c_lists.specs.Reasons.{number_of, words_of}
 use Rattle.cedar_c_lists.specs.declared.reason.Reason.{Reason}
 use Rattle.cedar_c_lists.specs.declared.reason.Reason.TheVariants as reasons

@@ -4,8 +4,8 @@ use Rattle.std.proofs.Common.{ap, refl, inl, inr}
 use Rattle.cedar_policy_set.specs.Boards.{Board}
 use Rattle.cedar_policy_set.specs.Merge as sets
 use Rattle.cedar_policy_set.specs.Steps.{occupied}
-use Rattle.cedar_policy_set.specs.declared.err.PolicySetError.{PolicySetError}
-use Rattle.cedar_policy_set.specs.declared.err.PolicySetError.TheVariants.{Occupied, Memory}
+use Rattle.cedar_policy_set_errors.specs.declared.err.PolicySetError.{PolicySetError}
+use Rattle.cedar_policy_set_errors.specs.declared.err.PolicySetError.TheVariants.{Occupied, Memory}
 use Rattle.cedar_policy_lines.specs.Boards.{Boards, with_current}
 use Rattle.cedar_policy_lines.specs.PolicyCommand.{Merge}
 use Rattle.cedar_policy_lines.specs.PolicyOutput.{merged_line, refused_line, PolicyWrites}

@@ -3,12 +3,12 @@ pub use Rattle.cedar_policy_maps.specs.Codes
 pub use Rattle.cedar_policy_maps.specs.Lists
 pub use Rattle.cedar_policy_maps.specs.Maps
 pub use Rattle.cedar_policy_maps.specs.Views
+pub use Rattle.cedar_policy_merge.specs.Fresh
+pub use Rattle.cedar_policy_merge.specs.Merge
+pub use Rattle.cedar_policy_set_errors.specs.SetFaults
 pub mod BoardEquality
 pub mod BoardTexts
-pub mod Fresh
-pub mod Merge
 pub mod Refusals
-pub mod SetFaults
 pub mod Steps
 pub mod Validity
 pub mod laws

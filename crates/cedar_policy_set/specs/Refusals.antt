@@ -3,16 +3,16 @@ use Rattle.std.specs.Prelude.{◌≡◌, ℕ, List, Option, Some, None, Result, 
 use Rattle.cedar_ids.specs.UidOf.{uid_parts}
 use Rattle.cedar_binding.specs.declared.err.LinkingError.{LinkingError}
 use Rattle.cedar_binding.specs.declared.err.LinkingError.TheVariants as links
-use Rattle.cedar_policy_set.specs.declared.err.PolicySetError.{PolicySetError}
-use Rattle.cedar_policy_set.specs.declared.err.PolicySetError.TheVariants as sets
-use Rattle.cedar_policy_set.specs.declared.err.PolicySetGetLinksError.{PolicySetGetLinksError}
-use Rattle.cedar_policy_set.specs.declared.err.PolicySetGetLinksError.TheVariants as listings
-use Rattle.cedar_policy_set.specs.declared.err.PolicySetPolicyRemovalError.{PolicySetPolicyRemovalError}
-use Rattle.cedar_policy_set.specs.declared.err.PolicySetPolicyRemovalError.TheVariants as removals
-use Rattle.cedar_policy_set.specs.declared.err.PolicySetTemplateRemovalError.{PolicySetTemplateRemovalError}
-use Rattle.cedar_policy_set.specs.declared.err.PolicySetTemplateRemovalError.TheVariants as templates
-use Rattle.cedar_policy_set.specs.declared.err.PolicySetUnlinkError.{PolicySetUnlinkError}
-use Rattle.cedar_policy_set.specs.declared.err.PolicySetUnlinkError.TheVariants as unlinks
+use Rattle.cedar_policy_set_errors.specs.declared.err.PolicySetError.{PolicySetError}
+use Rattle.cedar_policy_set_errors.specs.declared.err.PolicySetError.TheVariants as sets
+use Rattle.cedar_policy_set_errors.specs.declared.err.PolicySetGetLinksError.{PolicySetGetLinksError}
+use Rattle.cedar_policy_set_errors.specs.declared.err.PolicySetGetLinksError.TheVariants as listings
+use Rattle.cedar_policy_set_errors.specs.declared.err.PolicySetPolicyRemovalError.{PolicySetPolicyRemovalError}
+use Rattle.cedar_policy_set_errors.specs.declared.err.PolicySetPolicyRemovalError.TheVariants as removals
+use Rattle.cedar_policy_set_errors.specs.declared.err.PolicySetTemplateRemovalError.{PolicySetTemplateRemovalError}
+use Rattle.cedar_policy_set_errors.specs.declared.err.PolicySetTemplateRemovalError.TheVariants as templates
+use Rattle.cedar_policy_set_errors.specs.declared.err.PolicySetUnlinkError.{PolicySetUnlinkError}
+use Rattle.cedar_policy_set_errors.specs.declared.err.PolicySetUnlinkError.TheVariants as unlinks
 use Rattle.cedar_policy_maps.specs.Boards.{Board, Binding, without_id}
 use Rattle.cedar_policy_set.specs.Steps.{Refusal, occupied, no_body, no_such_template, arity, not_an_action}
 use Rattle.cedar_policy_set.specs.Steps.{id_conflict, no_link, not_a_link, no_template, with_links, not_a_template}

@@ -6,9 +6,10 @@ use Rattle.cedar_policy.specs.Policies.{PolicyParts, policy_id}
 use Rattle.cedar_policy.specs.Validation.{HasActions, IsTemplateFault, clause_fault}
 use Rattle.cedar_policy.specs.declared.err.TemplateValidationError.{TemplateValidationError}
 use Rattle.cedar_policy.specs.declared.err.TemplateValidationError.TheVariants as templates
-use Rattle.cedar_policy_set.specs.declared.err.PolicySetValidationError.{PolicySetValidationError}
-use Rattle.cedar_policy_set.specs.declared.err.PolicySetValidationError.TheVariants.{InvalidTemplate}
-use Rattle.cedar_policy_set.specs.declared.err.PolicySetValidationError.TheVariants.{LinkToSlotlessTemplate, Memory}
+use Rattle.cedar_policy_set_errors.specs.declared.err.PolicySetValidationError.{PolicySetValidationError}
+use Rattle.cedar_policy_set_errors.specs.declared.err.PolicySetValidationError.TheVariants.{InvalidTemplate}
+use Rattle.cedar_policy_set_errors.specs.declared.err.PolicySetValidationError.TheVariants.{LinkToSlotlessTemplate}
+use Rattle.cedar_policy_set_errors.specs.declared.err.PolicySetValidationError.TheVariants.{Memory}
 use Rattle.cedar_policy_maps.specs.Boards.{Board}
 use Rattle.cedar_policy_maps.specs.Lists.{is_slotless}
 

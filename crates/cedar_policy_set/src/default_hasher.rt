@@ -4,9 +4,9 @@ ghost use Rattle.cedar_policy_maps.specs.Boards.{empty_board, HasOwnId};
 ghost use Rattle.cedar_policy_set.specs.Refusals.{Makes, told_by_set};
 ghost use Rattle.cedar_policy_set.specs.Steps.{add_step, add_then};
 
-use crate::err::PolicySetError;
 use crate::policy_set::PolicySet;
 use cedar_policy::Policy;
+use cedar_policy_set_errors::err::PolicySetError;
 use std::alloc::{AllocError, Global};
 use std::hash::BuildHasherDefault;
 
@@ -30,13 +30,8 @@ impl PolicySet {
         let _whole = policy.is_static();
         let _total = policy.env();
         let mut set = PolicySet::new(alloc);
-        match set.maps.put_both(policy) {
-            Ok(()) => Ok(set),
-            Err(error) => {
-                drop(set);
-                Err(error)
-            }
-        }
+        set.maps.put_both(policy)?;
+        Ok(set)
     }
 
     /// The set that adding these policies leaves, one after another; the first refusal is the answer, and there is no

@@ -1,19 +1,19 @@
 //! What joins a policy set: policies, static policies, templates, and links of a template in the set.
-ghost use Rattle.std.specs.Prelude.{◌≡◌, ◌<◌, length, IfOk, IfErr, OnOk, MatchOption, Ok, Some, None};
+ghost use Rattle.std.specs.Prelude.{◌≡◌, ◌<◌, length, false, IfOk, IfErr, OnOk, MatchOption, Ok, Some, None};
 ghost use Rattle.cedar_body.specs.BodyEquality.{same_body};
 ghost use Rattle.cedar_body.specs.Bodies.{body_slots};
 ghost use Rattle.cedar_binding.specs.Views.{env_of};
-ghost use Rattle.cedar_policy_maps.specs.Boards.{empty_board, bound_at, Template as template_binding};
+ghost use Rattle.cedar_policy_maps.specs.Boards.{empty_board, bound_at, is_bound, Template as template_binding};
 ghost use Rattle.cedar_policy_set.specs.Refusals.{IsRefusal, Steps, Makes, told_by_set, told_by_linking};
 ghost use Rattle.cedar_policy_set.specs.Steps.{add_static_step, add_template_step, add_step, link_onto, link_step};
 ghost use Rattle.cedar_policy_set.specs.Steps.{add_then, UnlinksTo};
-ghost use Rattle.cedar_policy_set.specs.laws.Standing.{HasNoTemplate, Stands, StandsThere};
+ghost use Rattle.cedar_policy_set.specs.laws.Standing.{HasNoTemplate, Stands, StandsThere, TellsBound};
 
-use crate::err::PolicySetError;
 use crate::policy_set::PolicySet;
 use cedar_ids::policy_id::PolicyID;
 use cedar_policy::{LinkingError, Policy, SlotEnv, StaticPolicy, Template};
 use cedar_policy_maps::Found;
+use cedar_policy_set_errors::err::PolicySetError;
 use std::alloc::{AllocError, Global};
 use std::hash::BuildHasher;
 use std::rc::Rc;
@@ -29,13 +29,8 @@ impl<S: BuildHasher + Copy> PolicySet<S> {
         ensures { Makes told_by_set result (add_then (Ok empty_board) policies.items) }
     {
         let mut set = PolicySet::with_hasher(alloc, hasher);
-        match set.add_all(alloc, policies) {
-            Ok(()) => Ok(set),
-            Err(error) => {
-                drop(set);
-                Err(error)
-            }
-        }
+        set.add_all(alloc, policies)?;
+        Ok(set)
     }
 
     // Takes in policies, one after another; the first refusal ends it.
@@ -50,6 +45,17 @@ impl<S: BuildHasher + Copy> PolicySet<S> {
         Ok(())
     }
 
+    // Refuses an id that is bound.
+    fn check_free(&self, id: &PolicyID) -> Result<(), PolicySetError>
+        ensures free { OnOk result (is_bound self.now id.now ≡ false) }
+        ensures bound { IfErr result (TellsBound self.now id.now) }
+    {
+        if self.maps.is_bound(id) {
+            return Err(PolicySetError::Occupied { id: id.clone()? });
+        }
+        Ok(())
+    }
+
     /// Takes in a static policy, its body last in the order of bodies and the policy last in the other.
     ///
     /// `Occupied` comes where its id is bound. Takes memory to share the body, for the policy's block and for the two
@@ -57,11 +63,7 @@ impl<S: BuildHasher + Copy> PolicySet<S> {
     pub fn add_static(&mut self, alloc: Global, policy: StaticPolicy) -> Result<(), PolicySetError>
         ensures { Steps told_by_set result self.old self.new (add_static_step self.old policy) }
     {
-        if self.maps.is_bound(policy.id()) {
-            let id: Result<PolicyID, AllocError> = policy.id().clone();
-            drop(policy);
-            return Err(PolicySetError::Occupied { id: id? });
-        }
+        self.check_free(policy.id())?;
         let policy = Policy::from_static(alloc, policy)?;
         self.maps.put_both(policy)?;
         Ok(())
@@ -74,11 +76,8 @@ impl<S: BuildHasher + Copy> PolicySet<S> {
     pub fn add_template(&mut self, alloc: Global, template: Template) -> Result<(), PolicySetError>
         ensures { Steps told_by_set result self.old self.new (add_template_step self.old template) }
     {
-        if self.maps.is_bound(template.id()) {
-            let id: Result<PolicyID, AllocError> = template.id().clone();
-            drop(template);
-            return Err(PolicySetError::Occupied { id: id? });
-        }
+        // The template, if its id is free.
+        let template = self.check_free(template.id()).and(Ok(template))?;
         let template = Rc::new(alloc, template)?;
         self.maps.put_template(template)?;
         Ok(())
@@ -109,11 +108,7 @@ impl<S: BuildHasher + Copy> PolicySet<S> {
     {
         // No effect at run time: this call says that a policy that is no link is its body.
         let _whole = policy.is_static();
-        if self.maps.is_bound(policy.id()) {
-            let id: Result<PolicyID, AllocError> = policy.id().clone();
-            drop(policy);
-            return Err(PolicySetError::Occupied { id: id? });
-        }
+        self.check_free(policy.id())?;
         self.maps.put_both(policy)?;
         Ok(())
     }
@@ -129,11 +124,9 @@ impl<S: BuildHasher + Copy> PolicySet<S> {
                 let same = are_same(template, policy.template());
                 self.add_onto(policy, same)
             }
-            Some(Found::Policy(_policy)) => {
-                let id: Result<PolicyID, AllocError> = policy.template().id().clone();
-                drop(policy);
-                Err(PolicySetError::Occupied { id: id? })
-            }
+            Some(Found::Policy(_policy)) => Err(PolicySetError::Occupied {
+                id: policy.template().id().clone()?,
+            }),
         }
     }
 
@@ -146,15 +139,11 @@ impl<S: BuildHasher + Copy> PolicySet<S> {
         // No effect at run time: this call says that exactly the slots of its template are bound.
         let _total = policy.env();
         if !same {
-            let id: Result<PolicyID, AllocError> = policy.template().id().clone();
-            drop(policy);
-            return Err(PolicySetError::Occupied { id: id? });
+            return Err(PolicySetError::Occupied {
+                id: policy.template().id().clone()?,
+            });
         }
-        if self.maps.is_bound(policy.id()) {
-            let id: Result<PolicyID, AllocError> = policy.id().clone();
-            drop(policy);
-            return Err(PolicySetError::Occupied { id: id? });
-        }
+        self.check_free(policy.id())?;
         self.maps.put_policy(policy)?;
         Ok(())
     }
@@ -169,9 +158,9 @@ impl<S: BuildHasher + Copy> PolicySet<S> {
         let _total = policy.env();
         let is_taken = policy.id() == policy.template().id() || self.maps.is_bound(policy.id());
         if is_taken {
-            let id: Result<PolicyID, AllocError> = policy.id().clone();
-            drop(policy);
-            return Err(PolicySetError::Occupied { id: id? });
+            return Err(PolicySetError::Occupied {
+                id: policy.id().clone()?,
+            });
         }
         self.maps.put_both(policy)?;
         Ok(())
@@ -191,22 +180,9 @@ impl<S: BuildHasher + Copy> PolicySet<S> {
         ensures undone { OnOk result (UnlinksTo self.old template_id new_id (env_of values) self.new) }
         ensures there { OnOk result (0 < length self.new.policies) }
     {
-        match self.template(&template_id) {
-            Ok(None) => {
-                drop(new_id);
-                drop(values);
-                Err(LinkingError::NoSuchTemplate { id: template_id })
-            }
-            Ok(Some(template)) => {
-                drop(template_id);
-                self.link_template(alloc, template, new_id, values)
-            }
-            Err(error) => {
-                drop(template_id);
-                drop(new_id);
-                drop(values);
-                Err(LinkingError::from(error))
-            }
+        match self.template(&template_id)? {
+            None => Err(LinkingError::NoSuchTemplate { id: template_id }),
+            Some(template) => self.link_template(alloc, template, new_id, values),
         }
     }
 

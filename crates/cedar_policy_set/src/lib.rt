@@ -4,13 +4,12 @@
 //! what holds of every set). Each call is its step on them (`specs/Steps.antt`): the board after it, or why it is
 //! refused, the first reason in a stated order; a refused call leaves both orders as they were
 //! (`specs/Refusals.antt`). The set is kept in the three ordered maps of `cedar_policy_maps`, which also has how a set
-//! is seen (`Boards.antt`) and its iterators; look-ups go by their keys.
+//! is seen (`Boards.antt`) and its iterators; look-ups go by their keys. The refusals are those of
+//! `cedar_policy_set_errors`, and two sets are merged by `cedar_policy_merge`.
 #![tactic(auto)]
 
 mod compare;
 mod default_hasher;
-pub mod err;
-mod fresh;
 mod join;
 pub mod linked;
 mod merge;
@@ -22,9 +21,9 @@ mod validate;
 pub use cedar_policy_maps::{
     AllTemplates, IntoPolicies, LinkedIds, Policies, StaticPolicies, Templates, iters,
 };
-pub use err::{
+pub use cedar_policy_set_errors::{
     PolicySetError, PolicySetGetLinksError, PolicySetPolicyRemovalError,
-    PolicySetTemplateRemovalError, PolicySetUnlinkError, PolicySetValidationError,
+    PolicySetTemplateRemovalError, PolicySetUnlinkError, PolicySetValidationError, err,
 };
 pub use linked::Linked;
 pub use policy_set::PolicySet;

@@ -8,12 +8,12 @@ ghost use Rattle.cedar_policy_maps.specs.Maps.{board_in, maps_of, CanMakeSet};
 ghost use Rattle.cedar_policy_set.specs.Refusals.{Answers, told_by_listing};
 ghost use Rattle.cedar_policy_set.specs.Steps.{get_linked_step};
 
-use crate::err::PolicySetGetLinksError;
 use cedar_ids::policy_id::PolicyID;
 use cedar_policy::{Policy, Template};
 use cedar_policy_maps::{
     AllTemplates, IntoPolicies, LinkedIds, Policies, PolicyMaps, StaticPolicies, Templates,
 };
+use cedar_policy_set_errors::err::PolicySetGetLinksError;
 use indexmap::{IndexMap, IndexSet};
 use std::alloc::Global;
 use std::fmt;

@@ -5,13 +5,13 @@ ghost use Rattle.cedar_policy_set.specs.Refusals.{TakesFromBoard, told_by_unlink
 ghost use Rattle.cedar_policy_set.specs.Refusals.{told_by_template_removal};
 ghost use Rattle.cedar_policy_set.specs.Steps.{unlink_step, remove_static_step, remove_template_step};
 
-use crate::err::{
-    PolicySetPolicyRemovalError, PolicySetTemplateRemovalError, PolicySetUnlinkError,
-};
 use crate::policy_set::PolicySet;
 use cedar_ids::policy_id::PolicyID;
 use cedar_policy::{Policy, Template};
 use cedar_policy_maps::{Found, is_link};
+use cedar_policy_set_errors::err::{
+    PolicySetPolicyRemovalError, PolicySetTemplateRemovalError, PolicySetUnlinkError,
+};
 use std::hash::BuildHasher;
 
 impl<S: BuildHasher + Copy> PolicySet<S> {

@@ -7,10 +7,10 @@ ghost use Rattle.cedar_policy_set.specs.Validity.{ValidatesSet};
 ghost use Rattle.cedar_policy_maps.specs.Views.{bodies_of};
 ghost use Rattle.cedar_policy_set.specs.laws.BodyFaults.{IsBodyFault, IsFirstFault};
 
-use crate::err::PolicySetValidationError;
 use crate::policy_set::PolicySet;
 use cedar_policy::{Policy, Template, TemplateValidationError};
 use cedar_policy_maps::{has_no_slots, is_link};
+use cedar_policy_set_errors::err::PolicySetValidationError;
 use std::alloc::Global;
 use std::hash::BuildHasher;
 use std::rc::Rc;
@@ -25,13 +25,8 @@ impl<S: BuildHasher + Copy> PolicySet<S> {
     pub fn try_validate(self, alloc: Global) -> Result<PolicySet<S>, PolicySetValidationError>
         ensures { ValidatesSet result self }
     {
-        match self.check(alloc) {
-            Ok(()) => Ok(self),
-            Err(error) => {
-                drop(self);
-                Err(error)
-            }
-        }
+        self.check(alloc)?;
+        Ok(self)
     }
 
     // Refuses the first link of a template without slots, else the first body that is not valid.
@@ -87,12 +82,9 @@ fn validate_body(alloc: Global, template: &Template) -> Result<(), PolicySetVali
             Ok(())
         }
         Err(TemplateValidationError::Memory) => Err(PolicySetValidationError::Memory),
-        Err(error) => match template.id().clone() {
-            Ok(id) => Err(PolicySetValidationError::InvalidTemplate { id, error }),
-            Err(refused) => {
-                drop(error);
-                Err(PolicySetValidationError::from(refused))
-            }
-        },
+        Err(error) => {
+            let id = template.id().clone()?;
+            Err(PolicySetValidationError::InvalidTemplate { id, error })
+        }
     }
 }

@@ -9,7 +9,7 @@ ghost use Rattle.cedar_policy_set.specs.Boards.{Template, Link, bound_at};
 ghost use Rattle.cedar_policy_set.specs.Merge.{IsRenaming, conflicts, merged, new_id};
 ghost use Rattle.cedar_policy_set.specs.Refusals.{Steps, told_by_linking};
 ghost use Rattle.cedar_policy_set.specs.Steps.{link_step};
-ghost use Rattle.cedar_policy_set.specs.declared.err.PolicySetError.TheVariants.{Memory};
+ghost use Rattle.cedar_policy_set_errors.specs.declared.err.PolicySetError.TheVariants.{Memory};
 
 use cedar_store::bindings::no_bindings;
 use cedar_store::{EntityUID, LinkingError, PolicyID, PolicySet, PolicySetError, SlotId};

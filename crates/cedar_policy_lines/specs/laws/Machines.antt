@@ -1,7 +1,7 @@
 -- What the machine's parts add to what is written.
 use Rattle.std.specs.Prelude.{◌≡◌, ℕ, List, ◌++◌, Option, Some, None, Result, Ok, Err, codes}
 use Rattle.cedar_lines.specs.Lines.{written_line}
-use Rattle.cedar_policy_set.specs.declared.err.PolicySetError.{PolicySetError}
+use Rattle.cedar_policy_set_errors.specs.declared.err.PolicySetError.{PolicySetError}
 use Rattle.cedar_policy_set.specs.Refusals.{told_by_set}
 use Rattle.cedar_policy_set.specs.Steps.{Refusal}
 use Rattle.cedar_policy_lines.specs.PolicyOutput.{ok_line, merged_line, refused_line}

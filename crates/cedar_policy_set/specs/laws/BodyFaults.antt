@@ -1,9 +1,10 @@
 -- What the check of bodies answers, one by one.
 use Rattle.std.specs.Prelude.{◌≡◌, List, ◌∷◌, ◌++◌, All}
 use Rattle.cedar_body.specs.Bodies.{BodyParts}
-use Rattle.cedar_policy_set.specs.declared.err.PolicySetValidationError.{PolicySetValidationError}
-use Rattle.cedar_policy_set.specs.declared.err.PolicySetValidationError.TheVariants.{InvalidTemplate}
-use Rattle.cedar_policy_set.specs.declared.err.PolicySetValidationError.TheVariants.{LinkToSlotlessTemplate, Memory}
+use Rattle.cedar_policy_set_errors.specs.declared.err.PolicySetValidationError.{PolicySetValidationError}
+use Rattle.cedar_policy_set_errors.specs.declared.err.PolicySetValidationError.TheVariants.{InvalidTemplate}
+use Rattle.cedar_policy_set_errors.specs.declared.err.PolicySetValidationError.TheVariants.{LinkToSlotlessTemplate}
+use Rattle.cedar_policy_set_errors.specs.declared.err.PolicySetValidationError.TheVariants.{Memory}
 use Rattle.cedar_policy_set.specs.Validity.{IsValidBody, IsBodyRefusal}
 
 -- the error has the body's id and its first fault

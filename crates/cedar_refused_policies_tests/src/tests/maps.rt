@@ -1,5 +1,6 @@
-// The maps that a set is kept in: what goes last in them, alone and with others, and copies. A policy is written as in
-// `sets`; what stands then is the ids of bodies and of policies, in their orders.
+// The maps that a set is kept in: what goes last in them, alone and with others, merging, and copies. A policy is
+// written as in `sets`; to merge, one for each of the maps and `keep` or `rename`, parted by `//`. What stands then is
+// the ids of bodies and of policies, in their orders.
 ghost use Rattle.std.specs.Prelude.{◌≡◌, ◌∷◌, [], IfOk, IsTrue};
 ghost use Rattle.cedar_body.specs.BodyEquality.{same_body};
 ghost use Rattle.cedar_policy_maps.specs.Boards.{empty_board};
@@ -11,7 +12,9 @@ use super::sets::{ids_in, policy};
 use super::templates::shared;
 use cedar_policy::{Policy, Template};
 use cedar_policy_maps::{Found, Parted, PolicyMaps};
-use cedar_refusals::{Calls, Row, Tried, has_words, judged, on, refuse, tried_rows, unmade};
+use cedar_policy_merge::merge_maps;
+use cedar_policy_set_errors::PolicySetError;
+use cedar_refusals::{Calls, Row, Tried, both, has_words, judged, on, refuse, tried_rows, unmade};
 use std::alloc::{AllocError, Global};
 use std::hash::{BuildHasherDefault, FoldHasher};
 use std::rc::Rc;
@@ -209,6 +212,52 @@ fn copied(alloc: Global, number: usize, policy: Policy, want: &str) -> Tried {
     })
 }
 
+fn maps_of(alloc: Global, text: &str) -> Option<Maps> {
+    match policy(alloc, text) {
+        Some(policy) => of_both(alloc, policy),
+        None => None,
+    }
+}
+
+// What these maps are after merging, unless it was refused.
+fn merged_in(
+    alloc: Global,
+    maps: Maps,
+    other: &Maps,
+    rename: bool,
+) -> Result<Maps, PolicySetError> {
+    let mut maps = maps;
+    match merge_maps(alloc, &mut maps, other, rename) {
+        Ok(renaming) => {
+            drop(renaming);
+            Ok(maps)
+        }
+        Err(error) => {
+            drop(maps);
+            Err(error)
+        }
+    }
+}
+
+fn merged(alloc: Global, number: usize, row: Row<'_>) -> Tried {
+    let (here, rest) = row.given.split_once(" // ").unwrap_or((row.given, ""));
+    let (there, word) = rest.split_once(" // ").unwrap_or((rest, ""));
+    match both(maps_of(alloc, here), maps_of(alloc, there)) {
+        Some((maps, other)) => {
+            refuse(alloc, number);
+            let answer = merged_in(alloc, maps, &other, word == "rename");
+            drop(other);
+            judged(
+                alloc,
+                answer,
+                row.want,
+                |maps| has_ids(alloc, maps, row.want),
+            )
+        }
+        None => unmade(),
+    }
+}
+
 struct OnMaps;
 
 const MAPS: &str = "
@@ -220,6 +269,9 @@ const MAPS: &str = "
     PolicyMaps::take_in | l = t principal, principal=x | t / l
     PolicyMaps::clone | a noted | a / a
     PolicyMaps::clone | l = t principal, principal=x | t / l
+    merge_maps | a // l = t principal, principal=x // keep | a t / a l
+    merge_maps | a // a forbid // rename | a policy0 / a policy0
+    merge_maps | a // a forbid // keep | ! duplicate template or policy id `a`
 ";
 
 impl Calls for OnMaps {
@@ -229,6 +281,9 @@ impl Calls for OnMaps {
                 Some(template) => put_template(alloc, number, template, row.want),
                 None => unmade(),
             };
+        }
+        if row.call == "merge_maps" {
+            return merged(alloc, number, row);
         }
         match policy(alloc, row.given) {
             Some(policy) => match row.call {

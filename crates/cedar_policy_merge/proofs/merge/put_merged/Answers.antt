@@ -1,0 +1,12 @@
+use Rattle.cedar_policy_merge.specs.Merge.{new_id}
+use Rattle.cedar_policy_merge.specs.laws.MergeTakesIn.{takes_in}
+use Rattle.cedar_policy_merge.specs.laws.RenamingLaws.{renames}
+use Rattle.cedar_policy_merge.proofs.merge.put_merged.Goals as goal
+
+pub take_in-requires : goal.take_in-requires
+take_in-requires g c =
+    let h = c.args.here.now in
+    let o = c.args.other.now in
+    let r = c.args.renaming.now.entries in
+    let k = takes_in h o (new_id r) (renames h o r c.requires) c.is_empty.ensures.board c.is_empty-2.ensures.board in
+    rw (c.in_ok-bodies.ensures.stand, c.in_ok-bodies.ensures.join, c.in_ok-policies.ensures) k

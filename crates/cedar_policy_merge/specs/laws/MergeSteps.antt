@@ -1,0 +1,148 @@
+-- The steps of a merge, one id, body and policy after another.
+use Rattle.std.specs.Prelude.{◌≡◌, ℕ, ◌+◌, ◌<◌, length, List, [], ◌∷◌, ◌++◌, Bool, true, false, not, ◌&&◌, Option, Some}
+use Rattle.std.specs.Prelude.{None, refl, map, if◌then◌else◌}
+use Rattle.std.proofs.Common.{sym, ap, ◌∙◌, take, get_or}
+use Rattle.std.specs.declared.rc.Rc.{Rc}
+use Rattle.std.specs.declared.alloc.Global.{Global}
+use Rattle.std.specs.List.{filter, list_any}
+use Rattle.std.specs.Option.{option_map, unwrap_or}
+use Rattle.std.proofs.lemmas.List.{map-append, append_assoc}
+use Rattle.std.proofs.lemmas.List.Elements.{filter-append}
+use Rattle.cedar_ids.specs.Texts.{same_text}
+use Rattle.cedar_body.specs.Bodies.{BodyParts, with_id}
+use Rattle.cedar_policy.specs.Policies.{PolicyParts, policy_id, renamed, with_policy_id}
+use Rattle.cedar_policy_maps.specs.Boards.{Board, AreOnce, is_bound}
+use Rattle.cedar_policy_merge.specs.Merge.{has_body, has_policy, body_ids, policy_ids, conflicting, conflicts, gathered}
+use Rattle.cedar_policy_merge.specs.Merge.{is_same_at, renamed_body, renamed_policy, joined_bodies, joined_policies}
+use Rattle.cedar_policy_maps.specs.Views.{bodies_of}
+use Rattle.cedar_policy_maps.specs.laws.OnceLaws.{once-push}
+use Rattle.cedar_policy_maps.specs.laws.Walks.{bodies_more, policies_more}
+
+-- the first of some ids is refused, where none may be renamed
+abbrev pub Refuses : Option (List ℕ) → List (List ℕ) → Bool → Type 0
+Refuses None ids rename = rename ≡ false → ids ≡ []
+Refuses (Some i) ids rename = (rename ≡ false) × (rest : List (List ℕ)) × (ids ≡ i ∷ rest)
+
+-- a link with its template under its new id; a static policy as it is
+abbrev pub template_renamed_by : Option (List ℕ) → (List ℕ → List ℕ) → PolicyParts → PolicyParts
+template_renamed_by None c p = p
+template_renamed_by (Some l) c p = record { template = renamed_body c p.template; link = Some l; env = p.env }
+
+abbrev pub with_template_renamed : (List ℕ → List ℕ) → PolicyParts → PolicyParts
+with_template_renamed c p = template_renamed_by p.link c p
+
+-- gathering goes on behind what was gathered
+pub gathered-append : (seen xs ys : List (List ℕ)) → gathered seen (xs ++ ys) ≡ gathered (gathered seen xs) ys
+gathered-append seen [] ys = refl
+gathered-append seen (x ∷ xs) ys = gathered-append (if list_any (same_text x) seen then seen else seen ++ x ∷ []) xs ys
+
+-- the first of some ids
+pub gathered_first : (h o : Board) (stands : List ℕ → Bool) (seen xs : List (List ℕ)) (x : List ℕ) →
+    gathered (gathered seen (conflicting h o stands (x ∷ []))) (conflicting h o stands xs)
+    ≡ gathered seen (conflicting h o stands (x ∷ xs))
+gathered_first h o stands seen xs x =
+    sym (ap (gathered seen) (filter-append (λ i. stands i && not (is_same_at h o i)) (x ∷ []) xs)
+    ∙ gathered-append seen (conflicting h o stands (x ∷ [])) (conflicting h o stands xs))
+
+once_step : (x : List ℕ) (seen : List (List ℕ)) (v : Bool) → list_any (same_text x) seen ≡ v
+    → AreOnce (λ (i : List ℕ). i) seen → AreOnce (λ (i : List ℕ). i) (if v then seen else seen ++ x ∷ [])
+once_step x seen true e h = h
+once_step x seen false e h = once-push (λ (i : List ℕ). i) seen x h e
+
+-- what is gathered stands once
+pub once_gathered : (seen xs : List (List ℕ)) → AreOnce (λ (i : List ℕ). i) seen
+    → AreOnce (λ (i : List ℕ). i) (gathered seen xs)
+once_gathered seen [] h = h
+once_gathered seen (x ∷ xs) h =
+    once_gathered (if list_any (same_text x) seen then seen else seen
+    ++ x ∷ []) xs (once_step x seen (list_any (same_text x) seen) refl h)
+
+-- one more body, and one more policy
+pub joined_body_more : (h : Board) (c : List ℕ → List ℕ) (xs : List BodyParts) (x : BodyParts)
+    → joined_bodies h c (xs ++ x ∷ []) ≡ joined_bodies h c xs ++ joined_bodies h c (x ∷ [])
+joined_body_more h c xs x =
+    ap (filter (λ (t : BodyParts). not (is_bound h t.id))) (map-append (renamed_body c) xs (x ∷ []))
+    ∙ filter-append (λ (t : BodyParts). not (is_bound h t.id)) (map (renamed_body c) xs) (map (renamed_body c) (x ∷ []))
+
+pub joined_policy_more : (h : Board) (c : List ℕ → List ℕ) (xs : List PolicyParts) (x : PolicyParts)
+    → joined_policies h c (xs ++ x ∷ []) ≡ joined_policies h c xs ++ joined_policies h c (x ∷ [])
+joined_policy_more h c xs x =
+    ap (filter (λ p. not (is_bound h (policy_id p)))) (map-append (renamed_policy c) xs (x ∷ []))
+    ∙ filter-append (λ p. not (is_bound h (policy_id p))) (map (renamed_policy c) xs) (map (renamed_policy c) (x ∷ []))
+
+-- the four groups, one after another
+pub gathered_all : (a b c d : List (List ℕ)) → gathered (gathered (gathered (gathered [] a) b) c) d
+    ≡ gathered [] (a ++ (b ++ (c ++ d)))
+gathered_all a b c d =
+    sym (gathered-append [] a (b ++ (c ++ d)) ∙ gathered-append (gathered [] a) b (c ++ d)
+    ∙ gathered-append (gathered (gathered [] a) b) c d)
+
+renamed_by : (o : Option (List ℕ)) (c : List ℕ → List ℕ) (p : PolicyParts) (i : List ℕ) → o ≡ p.link
+    → i ≡ c (unwrap_or o p.template.id) →
+    with_policy_id i (template_renamed_by o c p) ≡ renamed_policy c p
+renamed_by None c p i e q =
+    ap (λ l. renamed i l p) (sym e) ∙ (λ j. record {
+      template = with_id (q j) p.template;
+      link =
+          option_map c (e j);
+      env = p.env;
+    })
+renamed_by (Some l) c p i e q =
+    (λ j. record { template = renamed_body c p.template; link = Some (q j); env = p.env })
+    ∙ (λ j. record { template = renamed_body c p.template; link = option_map c (e j); env = p.env })
+
+renamed_twice_by : (o : Option (List ℕ)) (c : List ℕ → List ℕ) (p : PolicyParts) (i : List ℕ) → o ≡ p.link
+    → i ≡ c (policy_id p) → with_policy_id i (template_renamed_by o c p) ≡ renamed_policy c p
+renamed_twice_by o c p i e q = renamed_by o c p i e (q ∙ ap (λ l. c (unwrap_or l p.template.id)) (sym e))
+
+same_id_by : (o : Option (List ℕ)) (c : List ℕ → List ℕ) (p : PolicyParts) → o ≡ p.link
+    → policy_id (template_renamed_by o c p) ≡ policy_id p
+same_id_by None c p e = refl
+same_id_by (Some l) c p e = ap (λ l. unwrap_or l p.template.id) e
+
+-- a policy with its template renamed, and then itself: what has the former's id gets the latter's
+pub renamed_twice : (c : List ℕ → List ℕ) (p q : PolicyParts) (n : Option (List ℕ)) → q ≡ with_template_renamed c p
+    → unwrap_or n (policy_id p) ≡ c (policy_id p) →
+    with_policy_id (unwrap_or n (policy_id q)) q ≡ renamed_policy c p
+renamed_twice c p q n s e =
+    ap (λ q. with_policy_id (unwrap_or n (policy_id q)) q) s
+    ∙ renamed_twice_by p.link c p (unwrap_or n (policy_id (with_template_renamed c p))) refl
+    (ap (unwrap_or n) (same_id_by p.link c p refl) ∙ e)
+
+own_id : (o : Option (List ℕ)) (p : PolicyParts) → o ≡ p.link → renamed (unwrap_or o p.template.id) o p ≡ p
+own_id None p e = λ j. record { template = p.template; link = e j; env = p.env }
+own_id (Some l) p e = λ j. record { template = p.template; link = e j; env = p.env }
+
+-- under its own id a policy is as it was
+pub same_id_kept : (p : PolicyParts) → with_policy_id (policy_id p) p ≡ p
+same_id_kept p = own_id p.link p refl
+
+-- one more body joins, if it does
+pub joined_body_step : (h : Board) (c : List ℕ → List ℕ) (ts : List (Rc BodyParts Global)) (k : ℕ)
+    (t : Rc BodyParts Global) (old now new : List BodyParts) → k < length ts → t ≡ get_or ts k t →
+    now ≡ old ++ joined_bodies h c (bodies_of (take k ts)) → new ≡ now ++ joined_bodies h c (t.value ∷ [])
+    → new ≡ old ++ joined_bodies h c (bodies_of (take (k + 1) ts))
+joined_body_step h c ts k t old now new l e n m =
+    m ∙ ap (λ x. x ++ joined_bodies h c (t.value ∷ [])) n
+    ∙ append_assoc old (joined_bodies h c (bodies_of (take k ts))) (joined_bodies h c (t.value ∷ []))
+    ∙ ap (λ x. old ++ x) (sym (joined_body_more h c (bodies_of (take k ts)) t.value))
+    ∙ ap (λ x. old ++ joined_bodies h c x) (sym (bodies_more ts k t l e))
+
+pub joined_policy_step : (h : Board) (c : List ℕ → List ℕ) (ps : List PolicyParts) (k : ℕ) (p : PolicyParts)
+    (old now new : List PolicyParts) → k < length ps → p ≡ get_or ps k p →
+    now ≡ old ++ joined_policies h c (take k ps) → new ≡ now ++ joined_policies h c (p ∷ [])
+    → new ≡ old ++ joined_policies h c (take (k + 1) ps)
+joined_policy_step h c ps k p old now new l e n m =
+    m ∙ ap (λ x. x ++ joined_policies h c (p ∷ [])) n ∙ append_assoc old (joined_policies h c (take k ps))
+    (joined_policies h c (p ∷ []))
+    ∙ ap (λ x. old ++ x) (sym (joined_policy_more h c (take k ps) p))
+    ∙ ap (λ x. old ++ joined_policies h c x) (sym (policies_more ps k p l e))
+
+-- ids that conflict stand once
+pub once_conflicts : (h o : Board) → AreOnce (λ (i : List ℕ). i) (conflicts h o)
+once_conflicts h o =
+    once_gathered []
+    (conflicting h o (has_body h) (body_ids o)
+    ++ (conflicting h o (has_policy h) (policy_ids o)
+    ++ (conflicting h o (has_policy h) (body_ids o)
+    ++ conflicting h o (has_body h) (policy_ids o)))) tt

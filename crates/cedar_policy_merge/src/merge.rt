@@ -1,0 +1,445 @@
+//! Merging other maps into these: what the two bind, under ids that do not conflict.
+ghost use Rattle.std.specs.Prelude.{◌≡◌, ◌↔◌, ◌&&◌, ◌++◌, ◌+◌, ◌∷◌, [], true, false, not, length, if◌then◌else◌, IfOk};
+ghost use Rattle.std.specs.Prelude.{OnErr, OnOk, IsTrue, List, ℕ};
+ghost use Rattle.std.specs.List.{list_any};
+ghost use Rattle.std.specs.Map.{values_of};
+ghost use Rattle.std.specs.Option.{option_copied, unwrap_or};
+ghost use Rattle.cedar_body.specs.Bodies.{with_id};
+ghost use Rattle.cedar_policy.specs.Policies.{policy_id, with_policy_id};
+ghost use Rattle.cedar_ids.specs.Texts.{same_text};
+ghost use Rattle.cedar_policy_maps.specs.Boards.{AreOnce, bound_at};
+ghost use Rattle.cedar_policy_merge.specs.Fresh.{is_bound_in_either};
+ghost use Rattle.cedar_policy_merge.specs.Merge.{has_body, body_ids, policy_ids, is_same_at, conflicting, gathered};
+ghost use Rattle.cedar_policy_merge.specs.Merge.{conflicts, Differ, renamed_body, renamed_policy, joined_bodies};
+ghost use Rattle.cedar_policy_merge.specs.Merge.{joined_policies, merged, new_id, IsRenaming, Merges, AreBelow};
+ghost use Rattle.cedar_policy_merge.specs.Merge.{bound_ids};
+ghost use Rattle.cedar_policy_merge.specs.laws.GatherLaws.{in_groups, looked_at};
+ghost use Rattle.cedar_policy_merge.specs.laws.MergeTakesIn.{standing_bodies};
+ghost use Rattle.cedar_policy_merge.specs.laws.MergeSteps.{Refuses, with_template_renamed};
+ghost use Rattle.cedar_policy_maps.specs.Views.{bodies_of};
+
+use crate::fresh::fresh_ids;
+use cedar_ids::policy_id::PolicyID;
+use cedar_policy::{Policy, Template};
+use cedar_policy_maps::{Parted, PolicyMaps, is_link};
+use cedar_policy_set_errors::err::PolicySetError;
+use indexmap::{IndexMap, IndexSet};
+use std::alloc::{AllocError, Global};
+use std::hash::BuildHasher;
+use std::rc::Rc;
+
+/// Takes in what the other maps bind, which stay as they are, and answers the ids that were renamed with their new
+/// ones.
+///
+/// An id conflicts where both bind it and not alike. Where none may be renamed the first of them is refused as
+/// `Occupied`. Else each gets the next of the ids `policy0`, `policy1` and so on that neither binds. What the other
+/// maps bind goes last, in their orders, under its new ids; what both bind alike takes the other's value. The merging
+/// of policy sets is this call, and its comment says the rest: the order of the conflicts, and what the call costs.
+///
+/// Takes memory for a copy of what the other maps bind, for room in the maps and in the lists of links that grow, for
+/// what is renamed and for the answer. A refused call, for memory too, leaves both orders as they were: all that can be
+/// refused is done first.
+#[tactic(auto, using(crate::specs::laws::RenamingLaws::once_free, crate::specs::laws::RenamingLaws::none_bound_of, crate::specs::laws::RenamingLaws::numbers_below))]
+pub fn merge_maps<S: BuildHasher + Copy>(
+    alloc: Global,
+    here: &mut PolicyMaps<S>,
+    other: &PolicyMaps<S>,
+    rename_duplicates: bool,
+) -> Result<IndexMap<PolicyID, PolicyID, S>, PolicySetError>
+    ensures merges { Merges (λ r. r.entries) result here.old other.now rename_duplicates here.new }
+    ensures conflicts { (i : List ℕ) → (list_any (same_text i) (conflicts here.old other.now) ≡ true)
+        ↔ Differ (bound_at here.old i) (bound_at other.now i) }
+    ensures apart { IfOk result (λ r. AreOnce (λ (i : List ℕ). i) (values_of r.entries)) }
+    ensures unbound { IfOk result (λ r. list_any (is_bound_in_either here.old other.now) (values_of r.entries)
+        ≡ false) }
+    ensures below { IfOk result (λ r. AreBelow (length (bound_ids here.old other.now) + length r.entries)
+        (values_of r.entries)) }
+{
+    // No effect at run time: these calls say that both are boards.
+    let _boards = (here.is_empty(), other.is_empty());
+    let ids = conflicting_ids(alloc, here, other)?;
+    if let Some(id) = refused(&ids, rename_duplicates) {
+        return Err(PolicySetError::Occupied { id: id.clone()? });
+    }
+    let renaming = fresh_ids(alloc, ids, here, other)?;
+    put_merged(alloc, here, other, &renaming)?;
+    Ok(renaming)
+}
+
+// Puts what two sets bind, the other's under new ids, in the place of all.
+fn put_merged<S: BuildHasher + Copy>(
+    alloc: Global,
+    here: &mut PolicyMaps<S>,
+    other: &PolicyMaps<S>,
+    renaming: &IndexMap<PolicyID, PolicyID, S>,
+) -> Result<(), AllocError>
+    requires { IsRenaming here.old other.now renaming.now.entries }
+    ensures ok { OnOk result (here.new ≡ merged here.old other.now (new_id renaming.now.entries)) }
+    ensures err { OnErr result (here.new ≡ here.old) }
+{
+    // No effect at run time: these calls say that both are boards.
+    let _boards = (here.is_empty(), other.is_empty());
+    let bodies = parted_bodies(alloc, here, other, renaming)?;
+    let policies = parted_policies(alloc, here, other, renaming)?;
+    here.take_in(alloc, bodies, policies)
+}
+
+// The first of some ids, where none may be renamed.
+fn refused<'a, S: BuildHasher + Copy>(
+    ids: &'a IndexSet<PolicyID, S>,
+    rename: bool,
+) -> Option<&'a PolicyID>
+    ensures { Refuses (option_copied result) ids.now.keys rename }
+{
+    if rename {
+        return None;
+    }
+    ids.iter().next()
+}
+
+// Which ids of the other set are looked at: those of one of its orders that stand in an order here. What an earlier
+// group looked at is left out.
+#[derive(Clone, Copy, Debug)]
+pub(crate) enum Group {
+    // Of bodies there: bodies here.
+    Bodies,
+    // Of policies there: policies here, but not where both sets have a body with the id.
+    Policies,
+    // Of bodies there: policies here, but not where there is a body here.
+    Links,
+    // Of policies there: bodies here, but not where there is a policy here.
+    Templates,
+}
+
+// The ids that conflict.
+#[tactic(auto, using(crate::specs::laws::GatherLaws::conflicts_in_groups))]
+fn conflicting_ids<S: BuildHasher + Copy>(
+    alloc: Global,
+    here: &PolicyMaps<S>,
+    other: &PolicyMaps<S>,
+) -> Result<IndexSet<PolicyID, S>, AllocError>
+    ensures { IfOk result (λ ids. ids.keys ≡ conflicts here.now other.now) }
+{
+    let mut ids = IndexSet::with_hasher(alloc, *here.hasher());
+    gather_all(&mut ids, here, other)?;
+    Ok(ids)
+}
+
+// Gathers the ids that conflict, group after group.
+fn gather_all<S: BuildHasher + Copy>(
+    ids: &mut IndexSet<PolicyID, S>,
+    here: &PolicyMaps<S>,
+    other: &PolicyMaps<S>,
+) -> Result<(), AllocError>
+    ensures { OnOk result (ids.new.keys ≡ in_groups ids.old.keys here.now other.now) }
+{
+    gather_bodies(ids, here, other, Group::Bodies)?;
+    gather_policies(ids, here, other, Group::Policies)?;
+    gather_bodies(ids, here, other, Group::Links)?;
+    gather_policies(ids, here, other, Group::Templates)
+}
+
+// Gathers the ids of bodies there that conflict and are looked at in this group.
+fn gather_bodies<S: BuildHasher + Copy>(
+    ids: &mut IndexSet<PolicyID, S>,
+    here: &PolicyMaps<S>,
+    other: &PolicyMaps<S>,
+    group: Group,
+) -> Result<(), AllocError>
+    ensures { OnOk result (ids.new.keys ≡ gathered ids.old.keys
+        (conflicting here.now other.now (looked_at group here.now other.now) (body_ids other.now))) }
+{
+    for template in other.all_templates() {
+        gather_one(ids, here, other, template.id(), group)?;
+    }
+    Ok(())
+}
+
+// Gathers the ids of policies there that conflict and are looked at in this group.
+fn gather_policies<S: BuildHasher + Copy>(
+    ids: &mut IndexSet<PolicyID, S>,
+    here: &PolicyMaps<S>,
+    other: &PolicyMaps<S>,
+    group: Group,
+) -> Result<(), AllocError>
+    ensures { OnOk result (ids.new.keys ≡ gathered ids.old.keys
+        (conflicting here.now other.now (looked_at group here.now other.now) (policy_ids other.now))) }
+{
+    for policy in other.policies() {
+        gather_one(ids, here, other, policy.id(), group)?;
+    }
+    Ok(())
+}
+
+// Gathers an id, if it conflicts and is looked at in this group.
+fn gather_one<S: BuildHasher + Copy>(
+    ids: &mut IndexSet<PolicyID, S>,
+    here: &PolicyMaps<S>,
+    other: &PolicyMaps<S>,
+    id: &PolicyID,
+    group: Group,
+) -> Result<(), AllocError>
+    ensures { OnOk result (ids.new.keys ≡ gathered ids.old.keys
+        (conflicting here.now other.now (looked_at group here.now other.now) (id.now ∷ []))) }
+{
+    if is_conflicting(here, other, id, group) {
+        ids.insert(id.clone()?)?;
+    }
+    Ok(())
+}
+
+// Whether an id is looked at in this group and is not bound alike in both sets.
+fn is_conflicting<S: BuildHasher + Copy>(
+    here: &PolicyMaps<S>,
+    other: &PolicyMaps<S>,
+    id: &PolicyID,
+    group: Group,
+) -> bool
+    ensures { result ≡ (looked_at group here.now other.now id.now && not (is_same_at here.now other.now id.now)) }
+{
+    is_looked_at(here, other, id, group) && !is_same_at(here, other, id)
+}
+
+// Whether an id is looked at in this group.
+fn is_looked_at<S: BuildHasher + Copy>(
+    here: &PolicyMaps<S>,
+    other: &PolicyMaps<S>,
+    id: &PolicyID,
+    group: Group,
+) -> bool
+    ensures { result ≡ looked_at group here.now other.now id.now }
+{
+    match group {
+        Group::Bodies => here.has_body(id),
+        Group::Policies => !have_bodies(here, other, id) && here.has_policy(id),
+        Group::Links => !here.has_body(id) && here.has_policy(id),
+        Group::Templates => !here.has_policy(id) && here.has_body(id),
+    }
+}
+
+// Whether a body here and one there have an id.
+fn have_bodies<S: BuildHasher + Copy>(
+    here: &PolicyMaps<S>,
+    other: &PolicyMaps<S>,
+    id: &PolicyID,
+) -> bool
+    ensures { result ≡ (has_body here.now id.now && has_body other.now id.now) }
+{
+    here.has_body(id) && other.has_body(id)
+}
+
+// Whether an id is bound alike in both sets.
+fn is_same_at<S: BuildHasher + Copy>(
+    here: &PolicyMaps<S>,
+    other: &PolicyMaps<S>,
+    id: &PolicyID,
+) -> bool
+    ensures { result ≡ is_same_at here.now other.now id.now }
+{
+    here.policy_at(id) == other.policy_at(id) && here.template_at(id) == other.template_at(id)
+}
+
+// The id that was found for an id, else the id itself.
+fn new_or<'a>(new: Option<&'a PolicyID>, id: &'a PolicyID) -> &'a PolicyID
+    ensures { result.now ≡ unwrap_or (option_copied new.entry) id.now }
+{
+    match new {
+        Some(new) => new,
+        None => id,
+    }
+}
+
+// Puts something last among what stands there or what joins.
+fn part<T: Drop>(parted: &mut Parted<T>, stands: bool, thing: T) -> Result<(), AllocError>
+    ensures stand { OnOk result (parted.new.stand.items
+        ≡ parted.old.stand.items ++ (if stands then thing ∷ [] else [])) }
+    ensures join { OnOk result (parted.new.join.items ≡ parted.old.join.items
+        ++ (if not stands then thing ∷ [] else [])) }
+{
+    if stands {
+        parted.stand.push(thing)?;
+    } else {
+        parted.join.push(thing)?;
+    }
+    Ok(())
+}
+
+// The bodies of the other set, under their new ids.
+fn parted_bodies<S: BuildHasher + Copy>(
+    alloc: Global,
+    here: &PolicyMaps<S>,
+    other: &PolicyMaps<S>,
+    renaming: &IndexMap<PolicyID, PolicyID, S>,
+) -> Result<Parted<Rc<Template>>, AllocError>
+    ensures stand { IfOk result (λ p. bodies_of p.stand.items
+        ≡ standing_bodies here.now (new_id renaming.now.entries) other.now.bodies) }
+    ensures join { IfOk result (λ p. bodies_of p.join.items
+        ≡ joined_bodies here.now (new_id renaming.now.entries) other.now.bodies) }
+{
+    let mut parted = Parted::new(alloc);
+    part_bodies(alloc, &mut parted, here, other.shared_bodies(), renaming)?;
+    Ok(parted)
+}
+
+// Puts bodies of the other set, under their new ids, last among those that stand here or those that join.
+fn part_bodies<S: BuildHasher + Copy>(
+    alloc: Global,
+    parted: &mut Parted<Rc<Template>>,
+    here: &PolicyMaps<S>,
+    theirs: &[Rc<Template>],
+    renaming: &IndexMap<PolicyID, PolicyID, S>,
+) -> Result<(), AllocError>
+    ensures stand { OnOk result (bodies_of parted.new.stand.items
+        ≡ bodies_of parted.old.stand.items ++ standing_bodies here.now (new_id renaming.now.entries)
+        (bodies_of theirs.now)) }
+    ensures join { OnOk result (bodies_of parted.new.join.items
+        ≡ bodies_of parted.old.join.items ++ joined_bodies here.now (new_id renaming.now.entries)
+        (bodies_of theirs.now)) }
+{
+    for template in theirs {
+        part_body(alloc, parted, here, template, renaming)?;
+    }
+    Ok(())
+}
+
+// Puts a body of the other set, under its new id, last among those that stand here or those that join.
+fn part_body<S: BuildHasher + Copy>(
+    alloc: Global,
+    parted: &mut Parted<Rc<Template>>,
+    here: &PolicyMaps<S>,
+    template: &Rc<Template>,
+    renaming: &IndexMap<PolicyID, PolicyID, S>,
+) -> Result<(), AllocError>
+    ensures stand { OnOk result (bodies_of parted.new.stand.items
+        ≡ bodies_of parted.old.stand.items ++ standing_bodies here.now (new_id renaming.now.entries)
+        (template.now.value ∷ [])) }
+    ensures join { OnOk result (bodies_of parted.new.join.items
+        ≡ bodies_of parted.old.join.items ++ joined_bodies here.now (new_id renaming.now.entries)
+        (template.now.value ∷ [])) }
+{
+    let new = renaming.get(template.id());
+    let stands = here.is_bound(new_or(new, template.id()));
+    part(parted, stands, renamed_body(alloc, template, new)?)
+}
+
+// A body under its new id, if it gets one.
+fn renamed_body(
+    alloc: Global,
+    template: &Rc<Template>,
+    new: Option<&PolicyID>,
+) -> Result<Rc<Template>, AllocError>
+    ensures { IfOk result (λ t. t.value ≡ with_id (unwrap_or
+        (option_copied new.entry) template.now.value.id) template.now.value) }
+{
+    match new {
+        None => template.clone(),
+        Some(id) => Ok(Rc::new(alloc, template.new_id(id.clone()?)?)?),
+    }
+}
+
+// The policies of the other set, under their new ids.
+fn parted_policies<S: BuildHasher + Copy>(
+    alloc: Global,
+    here: &PolicyMaps<S>,
+    other: &PolicyMaps<S>,
+    renaming: &IndexMap<PolicyID, PolicyID, S>,
+) -> Result<Parted<Policy>, AllocError>
+    ensures { IfOk result (λ p. p.join.items ≡ joined_policies here.now
+        (new_id renaming.now.entries) other.now.policies) }
+{
+    let mut parted = Parted::new(alloc);
+    part_policies(alloc, &mut parted, here, other.all_policies(), renaming)?;
+    Ok(parted)
+}
+
+// Puts policies of the other set, under their new ids, last among those that stand here or those that join.
+fn part_policies<S: BuildHasher + Copy>(
+    alloc: Global,
+    parted: &mut Parted<Policy>,
+    here: &PolicyMaps<S>,
+    theirs: &[Policy],
+    renaming: &IndexMap<PolicyID, PolicyID, S>,
+) -> Result<(), AllocError>
+    ensures { OnOk result (parted.new.join.items ≡ parted.old.join.items
+        ++ joined_policies here.now (new_id renaming.now.entries) theirs.now) }
+{
+    for policy in theirs {
+        part_policy(alloc, parted, here, policy, renaming)?;
+    }
+    Ok(())
+}
+
+// Puts a policy of the other set, under its new id, last among those that stand here or those that join.
+fn part_policy<S: BuildHasher + Copy>(
+    alloc: Global,
+    parted: &mut Parted<Policy>,
+    here: &PolicyMaps<S>,
+    policy: &Policy,
+    renaming: &IndexMap<PolicyID, PolicyID, S>,
+) -> Result<(), AllocError>
+    ensures { OnOk result (parted.new.join.items ≡ parted.old.join.items
+        ++ joined_policies here.now (new_id renaming.now.entries) (policy.now ∷ [])) }
+{
+    let new = renaming.get(policy.id());
+    let stands = here.is_bound(new_or(new, policy.id()));
+    part(
+        parted,
+        stands,
+        renamed_policy(alloc, policy, new, renaming)?,
+    )
+}
+
+// A policy under its new id, if it gets one, a link with its template under its own.
+#[tactic(auto, using(crate::specs::laws::MergeSteps::renamed_twice))]
+fn renamed_policy<S: BuildHasher + Copy>(
+    alloc: Global,
+    policy: &Policy,
+    new: Option<&PolicyID>,
+    renaming: &IndexMap<PolicyID, PolicyID, S>,
+) -> Result<Policy, AllocError>
+    requires { unwrap_or (option_copied new) (policy_id policy.now)
+        ≡ new_id renaming.now.entries (policy_id policy.now) }
+    ensures { IfOk result (λ p. p ≡ renamed_policy (new_id renaming.now.entries) policy.now) }
+{
+    match on_renamed_template(alloc, policy, renaming)? {
+        None => under_new_id(alloc, policy, new),
+        Some(renamed) => under_new_id(alloc, &renamed, new),
+    }
+}
+
+// A policy under its new id, if it gets one.
+#[tactic(auto, using(crate::specs::laws::MergeSteps::same_id_kept))]
+fn under_new_id(
+    alloc: Global,
+    policy: &Policy,
+    new: Option<&PolicyID>,
+) -> Result<Policy, AllocError>
+    ensures { IfOk result (λ p. p ≡ with_policy_id (unwrap_or (option_copied new.entry)
+        (policy_id policy.now)) policy.now) }
+{
+    match new {
+        None => policy.clone(),
+        Some(id) => policy.new_id(alloc, id.clone()?),
+    }
+}
+
+// A link with its template under its new id, if that gets one. None of a static policy.
+fn on_renamed_template<S: BuildHasher + Copy>(
+    alloc: Global,
+    policy: &Policy,
+    renaming: &IndexMap<PolicyID, PolicyID, S>,
+) -> Result<Option<Policy>, AllocError>
+    ensures { IfOk result (λ o. unwrap_or o policy.now
+        ≡ with_template_renamed (new_id renaming.now.entries) policy.now) }
+{
+    if !is_link(policy) {
+        return Ok(None);
+    }
+    match renaming.get(policy.template().id()) {
+        None => Ok(None),
+        Some(id) => {
+            let id = id.clone()?;
+            policy.clone()?.new_template_id(alloc, id)
+        }
+    }
+}
