@@ -297,12 +297,12 @@ pub fn compute_tc_counted<
     ensures reads { IfOk result (λ w. w.reads ≤ hash_map_len nodes.old) }
     ensures closings { IfOk result (λ w. w.closings ≤ 2 * hash_map_len nodes.old) }
 {
-    let work = close(alloc, nodes)?;
-    if !enforce_dag {
-        return Ok(work);
+    let closed = close(alloc, nodes)?;
+    if !enforce_dag || !closed.has_loop {
+        return Ok(closed.work);
     }
     enforce_no_loop(nodes)?;
-    Ok(work)
+    Ok(closed.work)
 }
 
 /// Closes part of a graph: adds to the nodes at the keys `nodes_to_fix` an edge to each key that
