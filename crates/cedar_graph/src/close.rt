@@ -206,7 +206,7 @@ fn goes_back<K: Clone + Eq + Hash, S: BuildHasher>(
     numbers.contains(&x)
 }
 
-// What was done, and whether a number that was fixed reaches itself.
+// What was done, and whether a number to fix was seen to reach itself.
 #[derive(Drop)]
 pub(crate) struct Closed {
     pub(crate) work: Work,
@@ -214,7 +214,8 @@ pub(crate) struct Closed {
 }
 
 // Adds to the node of each number to fix an edge to the key of each number that it reaches, counts
-// the nodes, and tells whether one of the numbers reaches itself.
+// the nodes, and tells whether one of the numbers reaches itself. For that it looks at those alone
+// that are marked when it comes to them: on each way back to its beginning there is one.
 fn write_rows<K: Clone + Eq + Hash, V: TCNode<K>, S: BuildHasher>(
     alloc: Global,
     nodes: &mut HashMap<K, V, S>,
@@ -280,7 +281,7 @@ fn close_read<K: Clone + Eq + Hash, V: TCNode<K>, S: BuildHasher>(
     write_rows(alloc, nodes, read, &reached)
 }
 
-// Adds an edge to each key that is reached, and tells whether some key may have an edge to itself then.
+// Adds an edge to each key that is reached, and tells whether some key has an edge to itself then.
 pub(crate) fn close<K: Clone + Eq + Hash, V: TCNode<K>, S: BuildHasher + Clone>(
     alloc: Global,
     nodes: &mut HashMap<K, V, S>,
