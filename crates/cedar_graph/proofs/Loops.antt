@@ -3,7 +3,8 @@ use Rattle.std.specs.Cmp.{IsEquivalence}
 use Rattle.std.specs.HashMap.{HashMap}
 use Rattle.std.specs.List.{IsDistinct}
 use Rattle.std.proofs.lemmas.Bool.{cases_eq, cases_lt}
-use Rattle.std.proofs.Common.{◌≡◌, Bool, true, ℕ, ◌+◌, ◌<◌, ◌≤◌, ◌⊎◌, inl, inr, List, [], ◌∷◌, ◌++◌, refl, slice_index, sym, subst, ◌∙◌, arith}
+use Rattle.std.proofs.Common.{◌≡◌, Bool, true, ℕ, ◌+◌, ◌<◌, ◌≤◌, ◌⊎◌, inl, inr, List, [], ◌∷◌, ◌++◌, refl, slice_index}
+use Rattle.std.proofs.Common.{sym, subst, ◌∙◌, arith}
 use Rattle.cedar_components.specs.Reach.{Walk, Leads, Goes}
 use Rattle.cedar_graph.specs.Graph.{graph_of, AddsOnlyReached, HasNoLoop}
 use Rattle.cedar_graph.specs.laws.Arcs.{AreSameEdges, HasNumberBelow}

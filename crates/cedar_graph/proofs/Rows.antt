@@ -7,12 +7,14 @@ use Rattle.std.proofs.lemmas.Bool.{cases_eq}
 use Rattle.std.proofs.lemmas.List.{get_or-take, get_or-drop}
 use Rattle.std.proofs.lemmas.List.Folds.{list_any_at}
 use Rattle.std.proofs.lemmas.Result.{on_ok_weaker}
-use Rattle.std.proofs.Common.{◌≡◌, Bool, true, ℕ, ◌<◌, ◌≤◌, ◌+◌, ◌-◌, inl, inr, nat_eq, List, Some, Result, Ok, OnOk, length, drop, get_or, arith, ap, refl, sym, subst, ◌∙◌, length-take, length-drop}
+use Rattle.std.proofs.Common.{◌≡◌, Bool, true, ℕ, ◌<◌, ◌≤◌, ◌+◌, ◌-◌, inl, inr, nat_eq, List, Some, Result, Ok, OnOk}
+use Rattle.std.proofs.Common.{length, drop, get_or, arith, ap, refl, sym, subst, ◌∙◌, length-take, length-drop}
 use Rattle.cedar_components.specs.Reach.{Goes, IsReach, IsWithin}
 use Rattle.cedar_graph.specs.Graph.{graph_of}
 use Rattle.cedar_graph.specs.declared.close.Known.{Known}
 use Rattle.cedar_graph.specs.laws.Arcs.{IsKeyAt, IsRowEdge, IsRowEdgeBelow, ReachesKey}
-use Rattle.cedar_graph.specs.laws.Writings.{CountsFound, HasNodes, IsAt, IsEdgeTo, IsKeyBelow, IsRowOf, KnowsEdges, Writes}
+use Rattle.cedar_graph.specs.laws.Writings.{CountsFound, HasNodes, IsAt, IsEdgeTo, IsKeyBelow, IsRowOf, KnowsEdges}
+use Rattle.cedar_graph.specs.laws.Writings.{Writes}
 use Rattle.cedar_graph.proofs.Reaches.{graph_from, graph_to, same_found}
 
 -- a part of a list

@@ -19,10 +19,13 @@ returns g c =
     let i = c.index.result.now in
     let j = c.index-2.result.now in
     let x_in = subst (λ n. x < n) (sym r.component_len) within in
-    let i_is : i ≡ get_or start (get_or component x 0) 0 = row_begins component start x c.index-component.result.now i j
-    c.index-component.ensures x_in c.index.ensures c.index-2.ensures (r.component_in x within) in
-    let j_is : j ≡ get_or start (get_or component x 0 + 1) 0 = row_ends component start x c.index-component.result.now i j
-    c.index-component.ensures x_in c.index.ensures c.index-2.ensures (r.component_in x within) in
+    let p = c.index-component.result.now in
+    let p_is = c.index-component.ensures in
+    let p_in = r.component_in x within in
+    let i_is : i ≡ get_or start (get_or component x 0) 0 =
+    row_begins component start x p i j p_is x_in c.index.ensures c.index-2.ensures p_in in
+    let j_is : j ≡ get_or start (get_or component x 0 + 1) 0 =
+    row_ends component start x p i j p_is x_in c.index.ensures c.index-2.ensures p_in in
     λ no goes.
     let has : list_any (λ v. nat_eq v x) (slice_range lists i j) ≡ true =
     part_has eq read.keys.keys (IsArc read) component start lists r x within i j i_is j_is x goes in

@@ -82,6 +82,6 @@ returns-clause-visits g c =
     let f = c.in_ok-read.ensures in
     let fix = c.args.fix.now in
     λ all.
-    let whole = c.in_ok-closed.ensures.work.closings.all (λ q at. all q (sym (member_alike g.met.K.Eq.laws fix.keys at.2.0 q at.2.2)
-    ∙ f.only at.0 at.2.0 at.1 at.2.1)) in
+    let whole = c.in_ok-closed.ensures.work.closings.all (λ q at.
+    all q (sym (member_alike g.met.K.Eq.laws fix.keys at.2.0 q at.2.2) ∙ f.only at.0 at.2.0 at.1 at.2.1)) in
     omega (arith, whole, f.least)

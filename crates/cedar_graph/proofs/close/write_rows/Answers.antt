@@ -11,7 +11,8 @@ use Rattle.cedar_graph.proofs.Keyed.{number_same}
 use Rattle.cedar_graph.proofs.Loops.{marked_more, none_further}
 use Rattle.cedar_graph.proofs.Rows.{none_written, rows_next, rows_written, rows_wider}
 use Rattle.cedar_graph.proofs.close.write_rows.Goals as goal
-use Rattle.cedar_graph.proofs.close.write_rows.Goals.{then-has_loop, else-has_loop+then-index-ne0, else-has_loop+else-index-ne0}
+use Rattle.cedar_graph.proofs.close.write_rows.Goals.{then-has_loop, else-has_loop+then-index-ne0}
+use Rattle.cedar_graph.proofs.close.write_rows.Goals.{else-has_loop+else-index-ne0}
 
 pub loop-x-init : goal.loop-x-init
 loop-x-init g c =

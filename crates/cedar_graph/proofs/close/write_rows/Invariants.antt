@@ -2,7 +2,8 @@ use Rattle.std.proofs.Common.{◌≡◌, ◌≤◌, false, length}
 use Rattle.cedar_graph.specs.Calls.{KeepsAll}
 use Rattle.cedar_graph.specs.laws.Arcs.{IsRowEdgeBelow}
 use Rattle.cedar_graph.specs.laws.Readings.{IsArc}
-use Rattle.cedar_graph.specs.laws.Writings.{AreAtMost, AreMarked, CountsFound, HasNodes, IsToFix, NoneGoesBack, StartsAt, Writes}
+use Rattle.cedar_graph.specs.laws.Writings.{AreAtMost, AreMarked, CountsFound, HasNodes, IsToFix, NoneGoesBack}
+use Rattle.cedar_graph.specs.laws.Writings.{StartsAt, Writes}
 use Rattle.cedar_graph.proofs.Rows.{done}
 use Rattle.cedar_graph.proofs.close.write_rows.Given as goal
 

@@ -3,7 +3,8 @@ use Rattle.std.proofs.lemmas.Bool.{false≢true, not-true}
 use Rattle.std.proofs.lemmas.Result.{err_from_is_err_and}
 use Rattle.cedar_graph.proofs.Closing.{closes_in_part, closes_whole, loop_named}
 use Rattle.cedar_graph.proofs.transitive_closure.compute_tc_counted.Goals as goal
-use Rattle.cedar_graph.proofs.transitive_closure.compute_tc_counted.Goals.{then-not-enforce_dag-via-then-not-enforce_dag, then-not-enforce_dag-via-else-not-enforce_dag+then-not-closed}
+use Rattle.cedar_graph.proofs.transitive_closure.compute_tc_counted.Goals.{then-not-enforce_dag-via-then-not-enforce_dag}
+use Rattle.cedar_graph.proofs.transitive_closure.compute_tc_counted.Goals.{then-not-enforce_dag-via-else-not-enforce_dag+then-not-closed}
 
 pub returns-in_err-closed-clause-closes : goal.returns-in_err-closed-clause-closes
 returns-in_err-closed-clause-closes g c =
