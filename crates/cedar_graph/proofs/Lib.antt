@@ -1,5 +1,6 @@
 pub mod Closing
 pub mod Keyed
+pub mod Loops
 pub mod Members
 pub mod Numbers
 pub mod Orders

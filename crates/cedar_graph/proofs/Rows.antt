@@ -1,17 +1,20 @@
 -- Rows of keys, and what is written of them.
-use Rattle.std.specs.Cmp.{IsEquivalence}
+use Rattle.std.specs.Cmp.{IsEquivalence, nat_eq_equiv}
 use Rattle.std.specs.HashMap.{HashMap, get, keys}
-use Rattle.std.specs.List.{slice_get, slice_range}
+use Rattle.std.specs.List.{list_any, slice_get, slice_range}
 use Rattle.std.specs.Option.{is_some}
 use Rattle.std.proofs.lemmas.Bool.{cases_eq}
 use Rattle.std.proofs.lemmas.List.{get_or-take, get_or-drop}
+use Rattle.std.proofs.lemmas.List.Folds.{list_any_at}
 use Rattle.std.proofs.lemmas.Result.{on_ok_weaker}
-use Rattle.std.proofs.Common.{◌≡◌, Bool, true, ℕ, ◌<◌, ◌≤◌, ◌+◌, ◌-◌, inl, inr, List, Some, Result, Ok, OnOk, length, drop, get_or, arith, ap, refl, sym, subst, ◌∙◌, length-take, length-drop}
-use Rattle.cedar_components.specs.Reach.{IsReach, IsWithin}
+use Rattle.std.proofs.Common.{◌≡◌, Bool, true, ℕ, ◌<◌, ◌≤◌, ◌+◌, ◌-◌, inl, inr, nat_eq, List, Some, Result, Ok, OnOk}
+use Rattle.std.proofs.Common.{length, drop, get_or, arith, ap, refl, sym, subst, ◌∙◌, length-take, length-drop}
+use Rattle.cedar_components.specs.Reach.{Goes, IsReach, IsWithin}
 use Rattle.cedar_graph.specs.Graph.{graph_of}
 use Rattle.cedar_graph.specs.declared.close.Known.{Known}
 use Rattle.cedar_graph.specs.laws.Arcs.{IsKeyAt, IsRowEdge, IsRowEdgeBelow, ReachesKey}
-use Rattle.cedar_graph.specs.laws.Writings.{CountsFound, HasNodes, IsAt, IsEdgeTo, IsKeyBelow, IsRowOf, KnowsEdges, Writes}
+use Rattle.cedar_graph.specs.laws.Writings.{CountsFound, HasNodes, IsAt, IsEdgeTo, IsKeyBelow, IsRowOf, KnowsEdges}
+use Rattle.cedar_graph.specs.laws.Writings.{Writes}
 use Rattle.cedar_graph.proofs.Reaches.{graph_from, graph_to, same_found}
 
 -- a part of a list
@@ -58,6 +61,18 @@ module _ {K : Type 0} (eq : K → K → Bool) (keys : List K) (E : ℕ → ℕ �
       let at : get_or (slice_range lists i j) n 0 ≡ p.0 = part_at lists i j ordered inside n n_in
       ∙ ap (λ m. get_or lists m 0) place ∙ w.3 in
       (n, p.1, omega (arith, part_len lists i j ordered inside), rw at p.3, p.4)
+
+  -- a number that is reached is found in the part
+  pub part_has : (y : ℕ) → Goes E x y → list_any (λ v. nat_eq v y) (slice_range lists i j) ≡ true
+  part_has y goes =
+      let w = r.complete x y within goes in
+      let n = w.0 - i in
+      let n_in : n < j - i = omega (arith, w.1, w.2) in
+      let place : i + n ≡ w.0 = omega (arith, w.1) in
+      let at : get_or (slice_range lists i j) n 0 ≡ y = part_at lists i j ordered inside n n_in
+      ∙ ap (λ m. get_or lists m 0) place ∙ w.3 in
+      let len : n < length (slice_range lists i j) = omega (arith, part_len lists i j ordered inside) in
+      list_any_at (λ v. nat_eq v y) (slice_range lists i j) n 0 len (rw at (nat_eq_equiv.refl y))
 
   -- the row of a number, given to the node at its key, is what the number reaches
   pub number_written : {V S T F : Type 0} (laws : IsEquivalence eq) (edges : V → K → Bool)

@@ -1,12 +1,14 @@
 //! Closing and repairing: what the nodes' numbers reach, written back as edges.
 ghost use Rattle.std.specs.Prelude.{
   ◌≡◌,
+  ℕ,
   ◌<◌,
   ◌≤◌,
   ◌+◌,
   true,
   false,
   length,
+  slice_index,
   is_some,
   IfOk,
   OnOk,
@@ -16,8 +18,8 @@ ghost use Rattle.std.specs.Set.{is_member, ClonesAreEqual};
 ghost use Rattle.std.specs.HashMap.{get, hash_map_len};
 ghost use Rattle.std.specs.HashSet.{contains, hash_set_len};
 ghost use Rattle.indexmap.specs.IndexSet.{IsUnique};
-ghost use Rattle.cedar_components.specs.Reach.{AreArcs};
-ghost use Rattle.cedar_graph.specs.Graph.{graph_of, Grows, IsTrusted};
+ghost use Rattle.cedar_components.specs.Reach.{AreArcs, Goes};
+ghost use Rattle.cedar_graph.specs.Graph.{graph_of, Grows, HasNoLoop, IsTrusted};
 ghost use Rattle.cedar_graph.specs.Calls.{HasAll, KeepsAll, OnlyAdds};
 ghost use Rattle.cedar_graph.specs.laws.Reaches.{HasReached};
 ghost use Rattle.cedar_graph.specs.laws.Arcs.{Ascends, IsKeyAt, IsRowEdge};
@@ -37,6 +39,7 @@ ghost use Rattle.cedar_graph.specs.laws.Writings.{
   IsToFix,
   KnowsEdges,
   KnowsTargets,
+  NoneGoesBack,
   StartsAt,
   TakesKey,
   Writes,
@@ -173,6 +176,8 @@ fn mark_targets(from: &[usize], to: &[usize], known: &mut Known, x: usize, e: us
     ensures len { length known.new.marks.items ≡ length known.old.marks.items }
     ensures below { AreAtMost (x + 1) known.new.marks.items }
     ensures known { KnowsTargets from.now to.now x known.new }
+    ensures mark { known.new.mark ≡ x + 1 }
+    ensures grows { (y : ℕ) → slice_index known.old.marks.items y ≤ slice_index known.new.marks.items y }
     ensures starts { StartsAt from.now (x + 1) result }
     ensures place { result ≤ length from.now }
 {
@@ -186,21 +191,46 @@ fn mark_targets(from: &[usize], to: &[usize], known: &mut Known, x: usize, e: us
     k
 }
 
-// Adds to the node of each number to fix an edge to the key of each number that it reaches, and
-// counts the nodes.
+// Whether number x reaches itself.
+fn goes_back<K: Clone + Eq + Hash, S: BuildHasher>(
+    read: &Reading<K, S>,
+    reached: &Reached,
+    x: usize,
+) -> bool
+    requires reach { IsReachOf read.now reached.now }
+    requires within { x < length read.now.keys.keys }
+    ensures { result ≡ false → Goes (IsArc read.now) x x → ⊥ }
+{
+    let component = reached.component[x];
+    let numbers = &reached.lists[reached.start[component]..reached.start[component + 1]];
+    numbers.contains(&x)
+}
+
+// What was done, and whether a number to fix was seen to reach itself.
+#[derive(Drop)]
+pub(crate) struct Closed {
+    pub(crate) work: Work,
+    pub(crate) has_loop: bool,
+}
+
+// Adds to the node of each number to fix an edge to the key of each number that it reaches, counts
+// the nodes, and tells whether one of the numbers reaches itself. For that it looks at those alone
+// that are marked when it comes to them: on each way back to its beginning there is one.
 fn write_rows<K: Clone + Eq + Hash, V: TCNode<K>, S: BuildHasher>(
     alloc: Global,
     nodes: &mut HashMap<K, V, S>,
     read: &FixReading<K, S>,
     reached: &Reached,
-) -> Result<Work, AllocError>
+) -> Result<Closed, AllocError>
     requires copies { ClonesAreEqual K.eq K.is_clone }
     requires read { AreRead K.eq (graph_of K.eq V.edges nodes.old) read.now }
     requires reach { IsReachOf read.now.reading reached.now }
     ensures keeps { KeepsAll K.eq V.key V.rest V.kept nodes.old nodes.new }
     ensures writes { Writes K.eq V.edges (IsToFix K.eq read.now) (IsFixEdge K.eq read.now)
         nodes.old nodes.new result }
-    ensures work { IfOk result (CountsWork K.eq read.now nodes.old) }
+    ensures work { IfOk result (λ c. CountsWork K.eq read.now nodes.old c.work) }
+    ensures loops { IfOk result (λ c.
+        c.has_loop ≡ false → NoneGoesBack (IsArc read.now.reading) read.now.fixed) }
 {
     let arcs = &read.reading;
     let mut known = Known {
@@ -210,28 +240,34 @@ fn write_rows<K: Clone + Eq + Hash, V: TCNode<K>, S: BuildHasher>(
     };
     let mut place = 0;
     let mut closings = 0;
+    let mut has_loop = false;
     for x in 0..read.fixed {
         place = mark_targets(&arcs.from, &arcs.to, &mut known, x, place);
         closings += write_number(alloc, nodes, arcs, reached, x, &known)?;
+        has_loop = has_loop || known.marks[x] != 0 && goes_back(arcs, reached, x);
     }
-    Ok(Work {
+    let work = Work {
         reads: arcs.reads,
         closings,
-    })
+    };
+    Ok(Closed { work, has_loop })
 }
 
-// Adds to the nodes of the numbers to fix the edges that what was read asks for.
+// Adds to the nodes of the numbers to fix the edges that what was read asks for, and tells whether one of these numbers
+// reaches itself.
 fn close_read<K: Clone + Eq + Hash, V: TCNode<K>, S: BuildHasher>(
     alloc: Global,
     nodes: &mut HashMap<K, V, S>,
     read: &FixReading<K, S>,
-) -> Result<Work, AllocError>
+) -> Result<Closed, AllocError>
     requires copies { ClonesAreEqual K.eq K.is_clone }
     requires read { AreRead K.eq (graph_of K.eq V.edges nodes.old) read.now }
     ensures keeps { KeepsAll K.eq V.key V.rest V.kept nodes.old nodes.new }
     ensures writes { Writes K.eq V.edges (IsToFix K.eq read.now) (IsFixEdge K.eq read.now)
         nodes.old nodes.new result }
-    ensures work { IfOk result (CountsWork K.eq read.now nodes.old) }
+    ensures work { IfOk result (λ c. CountsWork K.eq read.now nodes.old c.work) }
+    ensures loops { IfOk result (λ c.
+        c.has_loop ≡ false → NoneGoesBack (IsArc read.now.reading) read.now.fixed) }
 {
     let keys = read.reading.keys.as_slice();
     let order = order_of::<K, V>(alloc, keys, &read.reading.to)?;
@@ -245,18 +281,20 @@ fn close_read<K: Clone + Eq + Hash, V: TCNode<K>, S: BuildHasher>(
     write_rows(alloc, nodes, read, &reached)
 }
 
-// Adds an edge to each key that is reached.
+// Adds an edge to each key that is reached, and tells whether some key has an edge to itself then.
 pub(crate) fn close<K: Clone + Eq + Hash, V: TCNode<K>, S: BuildHasher + Clone>(
     alloc: Global,
     nodes: &mut HashMap<K, V, S>,
-) -> Result<Work, AllocError>
+) -> Result<Closed, AllocError>
     requires { ClonesAreEqual K.eq K.is_clone }
     ensures keeps { KeepsAll K.eq V.key V.rest V.kept nodes.old nodes.new }
     ensures adds { OnlyAdds (graph_of K.eq V.edges nodes.old) (graph_of K.eq V.edges nodes.new) }
     ensures ok { OnOk result (
         HasReached (graph_of K.eq V.edges nodes.old) (graph_of K.eq V.edges nodes.new)) }
-    ensures reads { IfOk result (λ w. w.reads ≤ hash_map_len nodes.old) }
-    ensures closings { IfOk result (λ w. w.closings ≤ hash_map_len nodes.old) }
+    ensures loops { IfOk result (λ c.
+        c.has_loop ≡ false → HasNoLoop (graph_of K.eq V.edges nodes.new)) }
+    ensures reads { IfOk result (λ c. c.work.reads ≤ hash_map_len nodes.old) }
+    ensures closings { IfOk result (λ c. c.work.closings ≤ hash_map_len nodes.old) }
 {
     let read = read_arcs(alloc, nodes)?;
     close_read(alloc, nodes, &read)
@@ -281,5 +319,6 @@ pub(crate) fn repair<K: Clone + Eq + Hash, V: TCNode<K>, S: BuildHasher + Clone,
         → hash_set_len fix.now ≤ w.closings) }
 {
     let read = read_fix(alloc, fix, nodes)?;
-    close_read(alloc, nodes, &read)
+    let closed = close_read(alloc, nodes, &read)?;
+    Ok(closed.work)
 }

@@ -257,7 +257,8 @@ pub struct Work {
 /// some once, asks [`TCNode::may_have_edges`] twice of each node, and then costs what the keys with
 /// edges, the edges read and the edges added cost, and nothing for a pair of keys without an edge.
 /// Asks [`TCNode::order`] once, and hands each node what it lacks in one call of
-/// [`TCNode::add_new_edges_to`]. It does not recurse, whatever the graph is, but where lists are sorted,
+/// [`TCNode::add_new_edges_to`]. With `enforce_dag` it asks nodes by [`TCNode::has_edge_to`] only where there is a
+/// cycle, until one has an edge to itself. It does not recurse, whatever the graph is, but where lists are sorted,
 /// as a node type's [`TCNode::order`] may do with all keys: in the logarithm of a list's length.
 ///
 /// The keys that have edges or to which edges lead are numbered in a set that hashes as the map does, by a copy of its
@@ -297,12 +298,12 @@ pub fn compute_tc_counted<
     ensures reads { IfOk result (λ w. w.reads ≤ hash_map_len nodes.old) }
     ensures closings { IfOk result (λ w. w.closings ≤ 2 * hash_map_len nodes.old) }
 {
-    let work = close(alloc, nodes)?;
-    if !enforce_dag {
-        return Ok(work);
+    let closed = close(alloc, nodes)?;
+    if !enforce_dag || !closed.has_loop {
+        return Ok(closed.work);
     }
     enforce_no_loop(nodes)?;
-    Ok(work)
+    Ok(closed.work)
 }
 
 /// Closes part of a graph: adds to the nodes at the keys `nodes_to_fix` an edge to each key that

@@ -3,7 +3,7 @@ use Rattle.std.specs.Prelude.{◌≡◌, ℕ, ◌<◌, ◌≤◌, ◌⊎◌, Boo
 use Rattle.std.specs.Prelude.{is_some, Result, OnOk}
 use Rattle.std.specs.Set.{is_member}
 use Rattle.std.specs.HashMap.{HashMap, get}
-use Rattle.cedar_components.specs.Reach.{HasArc, IsReach}
+use Rattle.cedar_components.specs.Reach.{Goes, HasArc, IsReach}
 use Rattle.cedar_components.specs.declared.Reached.{Reached}
 use Rattle.cedar_graph.specs.Graph.{graph_of, KeepsEdges}
 use Rattle.cedar_graph.specs.laws.Arcs.{IsKeyAt, IsRowEdgeBelow}
@@ -91,6 +91,14 @@ IsFixEdge eq read = IsRowEdgeBelow eq read.fixed read.reading.keys.keys (IsArc r
 abbrev pub IsReachOf : {K S H : Type 0} → Reading K S H → Reached → Type 0
 IsReachOf s reached = IsReach (IsArc s) (length s.keys.keys) reached.component.items reached.start.items
     reached.lists.items
+
+-- no number below n to which an arc leads from one that is not above it reaches itself
+abbrev pub NoneGoesBack : (ℕ → ℕ → Type 0) → ℕ → Type 0
+NoneGoesBack E n = (w x : ℕ) → w ≤ x → x < n → E w x → Goes E x x → ⊥
+
+-- each number to which an arc leads from one below n has a mark
+abbrev pub AreMarked : (ℕ → ℕ → Type 0) → ℕ → List ℕ → Type 0
+AreMarked E n marks = (w y : ℕ) → w < n → E w y → 0 < slice_index marks y
 
 -- nodes at keys that meet A were given edges that meet X, all of these where nothing was refused; all else stays
 pub record Writes {K V S T E : Type 0} (eq : K → K → Bool) (edges : V → K → Bool) (A : K → Type 0)

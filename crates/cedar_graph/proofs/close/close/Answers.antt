@@ -2,6 +2,7 @@ use Rattle.std.proofs.Common.{arith}
 use Rattle.std.proofs.lemmas.Result.{on_ok_weaker, IfOk-weaker}
 use Rattle.cedar_graph.specs.laws.Readings.{IsArc}
 use Rattle.cedar_graph.proofs.Closing.{closed_only, closed_has}
+use Rattle.cedar_graph.proofs.Loops.{no_loop}
 use Rattle.cedar_graph.proofs.close.close.Goals as goal
 
 pub close_read-requires-clause-read : goal.close_read-requires-clause-read
@@ -34,6 +35,17 @@ returns-clause-ok g c =
     (λ done. closed_has g.met.K.Eq.laws g.V.TCNode.edges g.met.V.TCNode.respects_eq c.args.nodes.now
     c.close_read.new.nodes s.reading.keys.keys (IsArc s.reading) s.fixed done f.same f.all)
     c.close_read.ensures.writes.ok
+
+pub returns-clause-loops : goal.returns-clause-loops
+returns-clause-loops g c =
+    let s = c.in_ok-read.read in
+    let f = c.in_ok-read.ensures in
+    let nodes = c.args.nodes.now in
+    let only = closed_only g.met.K.Eq.laws g.V.TCNode.edges g.met.V.TCNode.respects_eq nodes c.close_read.new.nodes
+    s.reading.keys.keys (IsArc s.reading) s.fixed c.close_read.ensures.writes.only f.same in
+    IfOk-weaker c.close_read.result _ _ (λ w none told. no_loop g.met.K.Eq.laws g.V.TCNode.edges nodes
+    c.close_read.new.nodes s.reading.keys.keys f.unique (IsArc s.reading) s.fixed f.same f.all only (none told))
+    c.close_read.ensures.loops
 
 pub returns-clause-reads : goal.returns-clause-reads
 returns-clause-reads g c =

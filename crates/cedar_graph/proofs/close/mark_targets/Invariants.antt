@@ -9,6 +9,7 @@ invariant-loop-k l = record {
   below : AreAtMost (l.x + 1) l.known.marks.items;
   marked : (y : ℕ) → y < length l.known.marks.items → slice_index l.known.marks.items y ≡ l.x + 1
       → HasArc l.from l.to l.x y;
+  grows : (y : ℕ) → slice_index l.fn.known.marks.items y ≤ slice_index l.known.marks.items y;
   begun : l.e ≤ l.k;
   passed : (j : ℕ) → l.e ≤ j → j < l.k → slice_index l.from j ≡ l.x;
   targets : (j : ℕ) → l.e ≤ j → j < l.k → slice_index l.known.marks.items (slice_index l.to j) ≡ l.x + 1;

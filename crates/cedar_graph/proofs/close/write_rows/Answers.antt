@@ -1,14 +1,18 @@
 use Rattle.std.proofs.Common.{◌≡◌, ◌+◌, ◌<◌, ◌≤◌, arith, rules, inl, inr, refl, sym, subst, ◌∙◌, length}
+use Rattle.std.proofs.lemmas.Bool.{false≢true}
 use Rattle.std.proofs.lemmas.Grind.{common_steps}
 use Rattle.std.proofs.lemmas.Option.{slice_get_within}
 use Rattle.cedar_components.specs.Reach.{HasArc}
 use Rattle.cedar_graph.specs.laws.Readings.{IsArc}
 use Rattle.cedar_graph.specs.laws.Arcs.{Ascends}
-use Rattle.cedar_graph.specs.laws.Writings.{IsToFix, StartsAt}
+use Rattle.cedar_graph.specs.laws.Writings.{AreMarked, IsToFix, StartsAt}
 use Rattle.cedar_graph.proofs.Reaches.{same_found, KeepsAll-refl, KeepsAll-trans}
 use Rattle.cedar_graph.proofs.Keyed.{number_same}
+use Rattle.cedar_graph.proofs.Loops.{marked_more, none_further}
 use Rattle.cedar_graph.proofs.Rows.{none_written, rows_next, rows_written, rows_wider}
 use Rattle.cedar_graph.proofs.close.write_rows.Goals as goal
+use Rattle.cedar_graph.proofs.close.write_rows.Goals.{then-has_loop, else-has_loop+then-index-ne0}
+use Rattle.cedar_graph.proofs.close.write_rows.Goals.{else-has_loop+else-index-ne0}
 
 pub loop-x-init : goal.loop-x-init
 loop-x-init g c =
@@ -24,6 +28,8 @@ loop-x-init g c =
       keeps = KeepsAll-refl eq node.key node.rest node.kept m;
       writes = none_written eq node.edges read.reading.keys.keys (IsArc read.reading) (IsToFix eq read) m;
       counts = record { most = omega arith; all = λ _. refl };
+      marked = λ w y h e. absurd (omega (arith, h));
+      loops = λ _ w v le h e goes. absurd (omega (arith, h));
     }
 
 pub mark_targets-place-requires-clause-before : goal.mark_targets-place-requires-clause-before
@@ -111,6 +117,16 @@ loop-x-preserved g c =
     let i = c.loop-x.invariant in
     let e = c.in_ok-closings.ensures in
     let same = i.keeps.rests.keys_stay in
+    let from = read.reading.from.items in
+    let to = read.reading.to.items in
+    let E = IsArc read.reading in
+    let marks = c.mark_targets-place.new.known.marks.items in
+    let led : AreMarked E (x + 1) marks = marked_more E x c.mark_targets-place.new.known.mark
+    c.loop-x.known.marks.items marks i.marked marked.grows (λ y arc.
+    let arc_to : HasArc from c.deref-in-loop-x.result.now x y = subst (λ v. HasArc from v x y)
+    (sym c.deref-in-loop-x.ensures.value) arc in
+    marked.known.all y (subst (λ v. HasArc v c.deref-in-loop-x.result.now x y) (sym c.deref.ensures.value) arc_to))
+    marked.mark in
     record {
       marks_len = marked.len ∙ i.marks_len;
       marks_below = marked.below;
@@ -128,6 +144,14 @@ loop-x-preserved g c =
               (λ q at. same_found eq m n q same ∙ has q (x, omega arith, at)),
         );
       };
+      marked = led;
+      loops = elim c.if-has_loop.branch [
+        | then-has_loop w ↦ λ no. absurd (false≢true (sym no ∙ w.has_loop-is ∙ w.if-has_loop.true))
+        | else-has_loop+then-index-ne0 w ↦ λ no. none_further E x marks (i.loops w.if-has_loop.false)
+            (λ _ goes. w.goes_back.ensures (sym w.has_loop-is ∙ no) goes) led
+        | else-has_loop+else-index-ne0 w ↦ λ no. none_further E x marks (i.loops w.if-has_loop.false)
+            (λ above goes. absurd (grind (arith, common_steps))) led
+      ];
     }
 
 pub returns-clause-keeps : goal.returns-clause-keeps
@@ -145,6 +169,9 @@ returns-clause-writes g c =
       ];
       ok = λ a b e. w.ok a b (e.0, omega (arith, e.1), e.2);
     }
+
+pub returns-clause-loops : goal.returns-clause-loops
+returns-clause-loops g c = λ no w x le h e goes. c.loop-x.invariant.loops no w x le (omega (arith, h)) e goes
 
 pub returns-clause-work : goal.returns-clause-work
 returns-clause-work g c =
