@@ -30,8 +30,8 @@ impl<S: BuildHasher + Copy> KeptStore<S> {
     /// is read. A refusal of the call on the store, for memory too, leaves the store without entities; want of memory
     /// leaves the text of the last refusal, as it does in each call here. Takes memory.
     pub fn build(&mut self, alloc: Global, lists: EntityLists<'_>, mode: u32) -> Result<(), Reason>
-        ensures { BuildsListed lists.entry.text.now lists.entry.uids.now lists.entry.count lists.entry.edges.now mode result
-            self.old self.new }
+        ensures { BuildsListed lists.entry.text.now lists.entry.uids.now lists.entry.count
+            lists.entry.edges.now mode result self.old self.new }
     {
         let mode = mode_of(mode)?;
         let list = entities_of(alloc, lists.text, lists.uids, lists.count, lists.edges)?;
@@ -41,8 +41,8 @@ impl<S: BuildHasher + Copy> KeptStore<S> {
     /// The entities that lists say are added, as `Entities::add_entities` does, in the mode of a number. Refused as
     /// `build` is.
     pub fn add(&mut self, alloc: Global, lists: EntityLists<'_>, mode: u32) -> Result<(), Reason>
-        ensures { AddsListed lists.entry.text.now lists.entry.uids.now lists.entry.count lists.entry.edges.now mode result
-            self.old self.new }
+        ensures { AddsListed lists.entry.text.now lists.entry.uids.now lists.entry.count
+            lists.entry.edges.now mode result self.old self.new }
     {
         let mode = mode_of(mode)?;
         let list = entities_of(alloc, lists.text, lists.uids, lists.count, lists.edges)?;
@@ -52,8 +52,8 @@ impl<S: BuildHasher + Copy> KeptStore<S> {
     /// The entities that lists say are put over what the store holds, as `Entities::upsert_entities` does, in the mode
     /// of a number. Refused as `build` is.
     pub fn upsert(&mut self, alloc: Global, lists: EntityLists<'_>, mode: u32) -> Result<(), Reason>
-        ensures { UpsertsListed lists.entry.text.now lists.entry.uids.now lists.entry.count lists.entry.edges.now mode result
-            self.old self.new }
+        ensures { UpsertsListed lists.entry.text.now lists.entry.uids.now lists.entry.count
+            lists.entry.edges.now mode result self.old self.new }
     {
         let mode = mode_of(mode)?;
         let list = entities_of(alloc, lists.text, lists.uids, lists.count, lists.edges)?;
