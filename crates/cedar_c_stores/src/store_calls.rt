@@ -1,12 +1,16 @@
 //! The calls on a store that take lists of a caller.
-ghost use Rattle.std.specs.Prelude.{◌≡◌};
+ghost use Rattle.std.specs.Prelude.{◌≡◌, MatchResult};
+ghost use Rattle.cedar_entities.specs.Plain.{entities_in};
+ghost use Rattle.cedar_c_stores.specs.Lists.{AreListed, IsUnlisted};
 ghost use Rattle.cedar_c_stores.specs.Stores.{AddsListed, BuildsListed, RemovesListed, UpsertsListed};
 
 use crate::kept_store::KeptStore;
 use crate::listing::{entities_of, mode_of};
 use cedar_c_lists::{Edge, Reason, Span, uids_of};
+use cedar_entities::Entity;
 use std::alloc::Global;
 use std::hash::BuildHasher;
+use std::rc::Rc;
 
 /// The lists by which a caller says entities: uids, which are parts of a text, of which the first `count` are those of
 /// the entities, and edges from these to their parents, by the places of both among the uids.
@@ -22,6 +26,18 @@ pub struct EntityLists<'a> {
     pub edges: &'a [Edge],
 }
 
+impl EntityLists<'_> {
+    // The entities that the lists say.
+    fn entities(&self, alloc: Global) -> Result<Vec<Rc<Entity>>, Reason>
+        ensures { MatchResult result
+            (λ v. AreListed self.now.text.now self.now.uids.now self.now.count self.now.edges.now
+            (entities_in v.items))
+            (IsUnlisted self.now.text.now self.now.uids.now self.now.count self.now.edges.now) }
+    {
+        entities_of(alloc, self.text, self.uids, self.count, self.edges)
+    }
+}
+
 impl<S: BuildHasher + Copy> KeptStore<S> {
     /// The entities that lists say become the store, in the mode of a number: it is what adding them to the store
     /// without entities gives.
@@ -34,7 +50,10 @@ impl<S: BuildHasher + Copy> KeptStore<S> {
             lists.entry.edges.now mode result self.old self.new }
     {
         let mode = mode_of(mode)?;
-        let list = entities_of(alloc, lists.text, lists.uids, lists.count, lists.edges)?;
+        let list = match lists.entities(alloc) {
+            Ok(list) => list,
+            Err(reason) => return Err(reason),
+        };
         self.build_list(alloc, list, mode)
     }
 
@@ -45,7 +64,10 @@ impl<S: BuildHasher + Copy> KeptStore<S> {
             lists.entry.edges.now mode result self.old self.new }
     {
         let mode = mode_of(mode)?;
-        let list = entities_of(alloc, lists.text, lists.uids, lists.count, lists.edges)?;
+        let list = match lists.entities(alloc) {
+            Ok(list) => list,
+            Err(reason) => return Err(reason),
+        };
         self.add_list(alloc, list, mode)
     }
 
@@ -56,7 +78,10 @@ impl<S: BuildHasher + Copy> KeptStore<S> {
             lists.entry.edges.now mode result self.old self.new }
     {
         let mode = mode_of(mode)?;
-        let list = entities_of(alloc, lists.text, lists.uids, lists.count, lists.edges)?;
+        let list = match lists.entities(alloc) {
+            Ok(list) => list,
+            Err(reason) => return Err(reason),
+        };
         self.upsert_list(alloc, list, mode)
     }
 
