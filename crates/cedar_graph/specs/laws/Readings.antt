@@ -1,6 +1,6 @@
 -- What is read of a map of nodes: numbers for keys, and arcs between them.
-use Rattle.std.specs.Prelude.{◌≡◌, ℕ, List, ◌<◌, ◌≤◌, ◌+◌, ◌++◌, ◌∷◌, [], ◌⊎◌, Bool, true, length, take, slice_get, Some}
-use Rattle.std.specs.Prelude.{IsSomeAnd}
+use Rattle.std.specs.Prelude.{◌≡◌, ℕ, List, ◌<◌, ◌≤◌, ◌+◌, ◌++◌, ◌∷◌, [], ◌⊎◌, Bool, true, length, take, slice_get}
+use Rattle.std.specs.Prelude.{Some, IsSomeAnd}
 use Rattle.std.specs.Borrow.{Bor}
 use Rattle.std.specs.Set.{is_member}
 use Rattle.std.specs.HashMap.{HashMap, get, hash_map_len}
