@@ -124,13 +124,8 @@ fn run_by<S: BuildHasher + Copy, R: Read, W: Write>(
 {
     let input = read_all(alloc, reader)?;
     let (out, status, session) = answer(alloc, hasher, &input).map_err(|_| RunError::Memory)?;
-    match send(writer, &out) {
-        Ok(()) => Ok((status, session)),
-        Err(error) => {
-            drop(session);
-            Err(error)
-        }
-    }
+    send(writer, &out)?;
+    Ok((status, session))
 }
 
 /// Reads the input to its end, and writes its output: what each line that is a command writes, up to the
