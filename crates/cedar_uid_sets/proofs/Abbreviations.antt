@@ -2,6 +2,7 @@
 use Rattle.std.specs.Prelude.{◌≡◌, ◌⊎◌, ℕ, zero, suc, ◌+◌, ◌*◌, ◌^◌, ◌<◌, ◌≤◌, Bool, true, false, ◌&&◌, ◌||◌, cond, List, [], ◌∷◌, ◌++◌, length, nat_le, nat_eq, slice_index, IsTrue}
 use Rattle.std.proofs.Common.{ap, sym, refl, subst, ◌∙◌, arith, inl, inr}
 use Rattle.std.proofs.Math.Nat.{mul-le-mul_right, pow-suc}
+use Rattle.std.proofs.Math.Dec.{eqb-suc-zero, eqb-zero-suc, eqb-suc-suc}
 use Rattle.std.proofs.lemmas.Bool.{leb-true, eqb-true, eq-eqb, false≢true}
 use Rattle.std.specs.Cmp.{ranks, first_so, second_so}
 use Rattle.std.specs.Cmp.Lexicographic.{slice_cmp, pointwise, nat_list_cmp_total}
@@ -103,6 +104,19 @@ told_apart (suc n) (x ∷ xs) [] l k h g e = absurd (omega (arith, e, zeros n, n
 told_apart (suc n) (x ∷ xs) (y ∷ ys) l k h g e =
     let both = first_same x y (number n (slice_index xs)) (number n (slice_index ys)) (256 ^ n) (bound n (slice_index xs) (digits n xs h.1)) (bound n (slice_index ys) (digits n ys g.1)) e in
     λ i. both.0 i ∷ told_apart n xs ys (omega (arith, l)) (omega (arith, k)) h.1 g.1 both.1 i
+
+-- texts that begin alike and are no longer are the same where they are of one length
+pub lengths_tell : (n : ℕ) (xs ys : List ℕ) → length xs ≤ n → AreDigits n (slice_index xs) → AreDigits n (slice_index ys)
+    → number n (slice_index xs) ≡ number n (slice_index ys) → nat_eq (length xs) (length ys) ≡ pointwise nat_eq xs ys
+lengths_tell n [] [] l h k e = refl
+lengths_tell n [] (y ∷ ys) l h k e = eqb-zero-suc (length ys)
+lengths_tell n (x ∷ xs) [] l h k e = eqb-suc-zero (length xs)
+lengths_tell zero (x ∷ xs) (y ∷ ys) l h k e = absurd (omega (arith, l))
+lengths_tell (suc n) (x ∷ xs) (y ∷ ys) l h k e =
+    let both = first_same x y (number n (slice_index xs)) (number n (slice_index ys)) (256 ^ n)
+        (bound n (slice_index xs) h.1) (bound n (slice_index ys) k.1) e in
+    eqb-suc-suc (length xs) (length ys) ∙ lengths_tell n xs ys (omega (arith, l)) h.1 k.1 both.1
+    ∙ sym (ap (λ b. b && pointwise nat_eq xs ys) (eq-eqb x y both.0))
 
 -- ---- ids have no zero byte
 

@@ -1,9 +1,9 @@
 //! The numbers that abbreviate uids, and comparisons by them.
-ghost use Rattle.std.specs.Prelude.{◌≡◌, ◌<◌, nat_eq, slice_index};
+ghost use Rattle.std.specs.Prelude.{◌≡◌, ◌<◌, ◌+◌, ◌*◌, nat_eq, slice_index};
 ghost use Rattle.std.specs.Ordering.{nat_cmp};
 ghost use Rattle.std.specs.Cmp.Lexicographic.{pointwise, slice_cmp};
 ghost use Rattle.cedar_ids.specs.UidOf.{same_uid, uid_order, uid_parts};
-ghost use Rattle.cedar_uid_sets.specs.laws.Fronts.{front, kind, is_short, same_numbers, BeginsWithBytes};
+ghost use Rattle.cedar_uid_sets.specs.laws.Fronts.{AreDigits, front, kind, is_short, number, same_numbers, BeginsWithBytes};
 
 use cedar_ids::entity::EntityUID;
 use cedar_ids::name::Name;
@@ -23,19 +23,35 @@ fn byte(text: &[u8], at: usize) -> u64
     }
 }
 
-// The first eight bytes, the first as the highest.
+// The number of four bytes, the first as the highest.
+fn number_of(a: u8, b: u8, c: u8, d: u8) -> u64
+    ensures value { result ≡ a * 0x100_0000 + (b * 0x1_0000 + (c * 0x100 + d)) }
+    ensures small { result < 0x1_0000_0000 }
+{
+    u64::from(a) * 0x100_0000 + u64::from(b) * 0x1_0000 + u64::from(c) * 0x100 + u64::from(d)
+}
+
+// The first four bytes, the first as the highest, with a zero for each that is not there.
+fn half(text: &[u8]) -> u64
+    ensures value { result ≡ number 4 (slice_index text.now) }
+    ensures small { result < 0x1_0000_0000 }
+    ensures bytes { AreDigits 4 (slice_index text.now) }
+{
+    if let [a, b, c, d, ..] = text {
+        return number_of(*a, *b, *c, *d);
+    }
+    byte(text, 0) * 0x100_0000 + byte(text, 1) * 0x1_0000 + byte(text, 2) * 0x100 + byte(text, 3)
+}
+
+// The first eight bytes, the first as the highest: four at once where there are as many.
 fn front(text: &[u8]) -> u64
     ensures value { result ≡ front text.now }
     ensures bytes { BeginsWithBytes text.now }
 {
-    byte(text, 0) * 0x100_0000_0000_0000
-        + byte(text, 1) * 0x1_0000_0000_0000
-        + byte(text, 2) * 0x100_0000_0000
-        + byte(text, 3) * 0x1_0000_0000
-        + byte(text, 4) * 0x100_0000
-        + byte(text, 5) * 0x1_0000
-        + byte(text, 6) * 0x100
-        + byte(text, 7)
+    if let [a, b, c, d, rest @ ..] = text {
+        return number_of(*a, *b, *c, *d) * 0x1_0000_0000 + half(rest);
+    }
+    half(text) * 0x1_0000_0000
 }
 
 // Whether a name has no path, and a basename of at most eight bytes.
@@ -191,11 +207,19 @@ pub(crate) fn order_of(one: &Key<'_>, other: &Key<'_>) -> Ordering
     order_of_eids(one.uid, other.uid)
 }
 
-// Whether two uids have one eid.
+// Whether two uids have one eid, whose first eight bytes are the same: where one has no more, the lengths tell.
 fn have_one_eid(one: &EntityUID, other: &EntityUID) -> bool
+    requires same { front (uid_parts one.now).eid ≡ front (uid_parts other.now).eid }
+    requires one { BeginsWithBytes (uid_parts one.now).eid }
+    requires other { BeginsWithBytes (uid_parts other.now).eid }
     ensures { result ≡ pointwise nat_eq (uid_parts one.now).eid (uid_parts other.now).eid }
 {
-    one.eid().as_ref() == other.eid().as_ref()
+    let one = one.eid().as_ref();
+    let other = other.eid().as_ref();
+    if one.len() <= 8 {
+        return one.len() == other.len();
+    }
+    one == other
 }
 
 // Whether two uids have the same numbers. Where they have not they differ.
