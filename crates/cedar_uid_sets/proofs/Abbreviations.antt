@@ -114,7 +114,7 @@ lengths_tell n (x ∷ xs) [] l h k e = eqb-suc-zero (length xs)
 lengths_tell zero (x ∷ xs) (y ∷ ys) l h k e = absurd (omega (arith, l))
 lengths_tell (suc n) (x ∷ xs) (y ∷ ys) l h k e =
     let both = first_same x y (number n (slice_index xs)) (number n (slice_index ys)) (256 ^ n)
-        (bound n (slice_index xs) h.1) (bound n (slice_index ys) k.1) e in
+    (bound n (slice_index xs) h.1) (bound n (slice_index ys) k.1) e in
     eqb-suc-suc (length xs) (length ys) ∙ lengths_tell n xs ys (omega (arith, l)) h.1 k.1 both.1
     ∙ sym (ap (λ b. b && pointwise nat_eq xs ys) (eq-eqb x y both.0))
 

@@ -11,4 +11,4 @@ returns-then-one-le8 c =
     let other : c.as_ref-other.result.now ≡ (uid_parts c.args.other.now).eid = c.as_ref-other.ensures ∙ c.eid-2.ensures in
     (λ i. nat_eq (length (one i)) (length (other i)))
     ∙ lengths_tell 8 (uid_parts c.args.one.now).eid (uid_parts c.args.other.now).eid
-        (subst (λ (t : List ℕ). length t ≤ 8) one c.if-one-le8.true) c.requires.one c.requires.other c.requires.same
+    (subst (λ (t : List ℕ). length t ≤ 8) one c.if-one-le8.true) c.requires.one c.requires.other c.requires.same
