@@ -7,6 +7,7 @@ ghost use Rattle.cedar_ids.specs.UidOf.{uid_parts};
 ghost use Rattle.cedar_ids.specs.Views.{type_name};
 ghost use Rattle.cedar_ids.specs.declared.entity.EntityUID.{EntityUID};
 ghost use Rattle.cedar_lines.specs.Reads.{ReadsAs};
+ghost use Rattle.cedar_lines.specs.laws.Halves.{IsMadeOf};
 
 use crate::field::uid_field;
 use cedar_ids::entity::{Eid, EntityType, EntityUID};
@@ -134,37 +135,25 @@ fn type_of(known: &KnownType) -> Result<EntityType, AllocError>
     known.ty.clone()
 }
 
-// The uid of this type with a text, if the text is that of one whose eid is its own escape.
-fn uid_of_type(
-    alloc: Global,
-    known: &KnownType,
-    text: &str,
-) -> Result<Option<EntityUID>, AllocError>
-    ensures { IfOk result (λ o. IfSome o (λ u. IsPrinted (uid_parts u) text.now)) }
+// What stands behind the text of a type between `::"` and a `"` at the end, where that is its own escape.
+fn eid_of_type<'a>(known: &KnownType, text: &'a str) -> Option<&'a str>
+    ensures made { IfSome result (λ e. IsMadeOf known.now e.now text.now) }
+    ensures own_escape { IfSome result (λ e. IsTrue (is_own_escape e.now)) }
 {
-    let Some(rest) = text.strip_prefix(known.text.as_str()) else {
-        return Ok(None);
-    };
-    let Some(eid) = eid_after(rest) else {
-        return Ok(None);
-    };
-    Ok(Some(uid_of_parts(alloc, type_of(known)?, eid)?))
+    eid_after(text.strip_prefix(known.text.as_str())?)
 }
 
-// The uid with a text, of a type that is known.
-fn uid_of_known(
-    alloc: Global,
-    known: &[KnownType],
-    text: &str,
-) -> Result<Option<EntityUID>, AllocError>
-    ensures { IfOk result (λ o. IfSome o (λ u. IsPrinted (uid_parts u) text.now)) }
+// The type that is known and the eid of which a text is made, if that is its own escape.
+fn known_halves<'a, 'b>(known: &'a [KnownType], text: &'b str) -> Option<(&'a KnownType, &'b str)>
+    ensures made { IfSome result (λ r. IsMadeOf r.0.now r.1.now text.now) }
+    ensures own_escape { IfSome result (λ r. IsTrue (is_own_escape r.1.now)) }
 {
     for one in known {
-        if let Some(uid) = uid_of_type(alloc, one, text)? {
-            return Ok(Some(uid));
+        if let Some(eid) = eid_of_type(one, text) {
+            return Some((one, eid));
         }
     }
-    Ok(None)
+    None
 }
 
 // The uid of a type that is read anew and an eid that is its own escape, if the first text is that of a type.
@@ -192,13 +181,24 @@ fn uid_without_escape(
 ) -> Result<Option<EntityUID>, AllocError>
     ensures { IfOk result (λ o. IfSome o (λ u. IsPrinted (uid_parts u) text.now)) }
 {
-    if let Some(uid) = uid_of_known(alloc, known, text)? {
-        return Ok(Some(uid));
-    }
     match unescaped_halves(text) {
         None => Ok(None),
         Some((name, eid)) => uid_of_halves(alloc, known, name, eid),
     }
+}
+
+// The uid with a text, of which no type that is known is a part.
+fn read_uid(
+    alloc: Global,
+    known: &mut Vec<KnownType>,
+    text: &str,
+) -> Result<Option<EntityUID>, AllocError>
+    ensures { IfOk result (ReadsAs (λ (u : EntityUID). IsPrinted (uid_parts u) text.now) (λ u. u)) }
+{
+    if let Some(uid) = uid_without_escape(alloc, known, text)? {
+        return Ok(Some(uid));
+    }
+    uid_field(alloc, text)
 }
 
 /// The uid with an ASCII eid whose text a field is, if there is one: what [`uid_field`] answers. Where the eid has no
@@ -215,8 +215,9 @@ pub fn uid_of_text(
 ) -> Result<Option<EntityUID>, AllocError>
     ensures { IfOk result (ReadsAs (λ (u : EntityUID). IsPrinted (uid_parts u) text.now) (λ u. u)) }
 {
-    if let Some(uid) = uid_without_escape(alloc, &mut known.types, text)? {
-        return Ok(Some(uid));
-    }
-    uid_field(alloc, text)
+    let Some((one, eid)) = known_halves(&known.types, text) else {
+        return read_uid(alloc, &mut known.types, text);
+    };
+    let ty = type_of(one)?;
+    Ok(Some(uid_of_parts(alloc, ty, eid)?))
 }

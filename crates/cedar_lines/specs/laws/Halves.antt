@@ -1,0 +1,9 @@
+-- The two halves of the text of a uid.
+use Rattle.std.specs.Prelude.{◌≡◌, ◌++◌, List, ℕ, codes}
+use Rattle.cedar_ids.specs.Name.{NameParts}
+use Rattle.cedar_ids.specs.TextOf.{IsNameText}
+
+-- the text is a text of the name, `::"`, what is between the quotes, and a `"`
+abbrev pub IsMadeOf : NameParts → List ℕ → List ℕ → Type 0
+IsMadeOf n between text =
+    (name : List ℕ) × IsNameText n name × (text ≡ name ++ (codes "::\"" ++ (between ++ codes "\"")))
