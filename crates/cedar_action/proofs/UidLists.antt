@@ -14,7 +14,8 @@ use Rattle.cedar_action.specs.RuleTexts.{after_comma}
 use Rattle.cedar_terms.specs.UidTrees.{is_ascii_uid}
 
 -- lists are ordered as the lists of their parts
-pub shared_lists_cmp : (us vs : List Shared) → slice_cmp (λ u v. uid_cmp (parts u) (parts v)) us vs ≡ slice_cmp uid_cmp (map parts us) (map parts vs)
+pub shared_lists_cmp : (us vs : List Shared)
+    → slice_cmp (λ u v. uid_cmp (parts u) (parts v)) us vs ≡ slice_cmp uid_cmp (map parts us) (map parts vs)
 shared_lists_cmp [] [] = refl
 shared_lists_cmp [] (v ∷ vs) = refl
 shared_lists_cmp (u ∷ us) [] = refl
@@ -30,7 +31,8 @@ pub lists_of_one_cmp : (u v : UidParts) → slice_cmp uid_cmp (u ∷ []) (v ∷ 
 lists_of_one_cmp u v = then_Equal (uid_cmp u v)
 
 -- a list feeds what the list of its parts does
-pub shared_lists_fed : (us : List Shared) → fed.slice (λ u. uid_hash_input (parts u)) us ≡ fed.slice uid_hash_input (map parts us)
+pub shared_lists_fed : (us : List Shared)
+    → fed.slice (λ u. uid_hash_input (parts u)) us ≡ fed.slice uid_hash_input (map parts us)
 shared_lists_fed us = λ i. fed.usize (sym (length-map us parts) i) ++ sym (flat_map-map uid_hash_input parts us) i
 
 pub more_text : (us : List Shared) → flat_map after_comma (map parts us) ≡ flat_map (λ u. after_comma (parts u)) us

@@ -11,7 +11,8 @@ abbrev pub SharedClause : Type 0
 SharedClause = Option (Rc ExprTree Global)
 
 -- shared clauses are equal where the clauses are
-pub clauses_told : (x y : SharedClause) → option_eq (λ d e. same_expr d.value e.value) x y ≡ same_clause (option_map (λ e. e.value) x) (option_map (λ e. e.value) y)
+pub clauses_told : (x y : SharedClause) → option_eq (λ d e. same_expr d.value e.value) x y
+    ≡ same_clause (option_map (λ e. e.value) x) (option_map (λ e. e.value) y)
 clauses_told None None = refl
 clauses_told None (Some e) = refl
 clauses_told (Some d) None = refl

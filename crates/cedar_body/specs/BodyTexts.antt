@@ -20,7 +20,9 @@ head_text b =
     effect_text b.effect
     ++ (codes "(\n  "
     ++ (constraint_text variables.Principal b.principal
-    ++ (codes ",\n  " ++ (rule_text b.action ++ (codes ",\n  " ++ (constraint_text variables.Resource b.resource ++ codes "\n)"))))))
+    ++ (codes ",\n  "
+    ++ (rule_text b.action
+    ++ (codes ",\n  " ++ (constraint_text variables.Resource b.resource ++ codes "\n)"))))))
 
 -- the annotations, a line each, then the head, then the clause
 abbrev pub body_text : BodyParts → List ℕ

@@ -11,21 +11,26 @@ use Rattle.std.specs.Option.{IsSomeAnd}
 use Rattle.cedar_policy_set.specs.Boards.{Board}
 
 -- what an open handle holds was changed, and put back
-pub changed : (P : Result (Unit {0}) Reason → Kept → Kept → Type 0) (old new : Option Inner) (i k : Inner) (j : Kept) (r : Result (Unit {0}) Reason) (n : ℕ) → Some i ≡ old → k ≡ i → new ≡ Some (record { kept = j })
+pub changed : (P : Result (Unit {0}) Reason → Kept → Kept → Type 0) (old new : Option Inner) (i k : Inner) (j : Kept)
+    (r : Result (Unit {0}) Reason) (n : ℕ) → Some i ≡ old → k ≡ i → new ≡ Some (record { kept = j })
     → n ≡ status_of r → P r k.kept j → Changes P old n new
-changed P old new i k j r n was is put status p = subst (λ o. Changes P o n new) was (r, status, (record { kept = j }, put, subst (λ (x : Inner). P r x.kept j) is p))
+changed P old new i k j r n was is put status p =
+    subst (λ o. Changes P o n new) was (r, status, (record { kept = j }, put, subst (λ (x : Inner). P r x.kept j) is p))
 
 -- nothing was made, and the handle holds what it held
-pub filled_not : (made : Result Kept Reason) (w : Reason) (n : ℕ) (old : Option Inner) → n ≡ number_of w → (made ≡ Err w) ⊎ (w ≡ NoMemory) → FillsBy made old n old
+pub filled_not : (made : Result Kept Reason) (w : Reason) (n : ℕ) (old : Option Inner) → n ≡ number_of w
+    → (made ≡ Err w) ⊎ (w ≡ NoMemory) → FillsBy made old n old
 filled_not made w n old status (inl is) = (Err w, status, refl, inl (sym is))
 filled_not made w n old status (inr is) = (Err w, status, refl, inr (ap Err is))
 
 -- what was made is what the handle holds
-pub filled : (made : Result Kept Reason) (i : Inner) (old new : Option Inner) → made ≡ Ok i.kept → new ≡ Some i → FillsBy made old 0 new
+pub filled : (made : Result Kept Reason) (i : Inner) (old new : Option Inner) → made ≡ Ok i.kept → new ≡ Some i
+    → FillsBy made old 0 new
 filled made i old new is put = (Ok i.kept, refl, (i, put, refl), inl (sym is))
 
 -- what is so of a set that a handle is filled with is so of what it holds
-pub holds : (P : Kept → Type 0) (k : Kept) (old new : Option Inner) (n : ℕ) → P k → FillsBy (Ok k) old n new → n ≡ ok → IsSomeAnd new (λ (i : Inner). P i.kept)
+pub holds : (P : Kept → Type 0) (k : Kept) (old new : Option Inner) (n : ℕ) → P k → FillsBy (Ok k) old n new → n ≡ ok
+    → IsSomeAnd new (λ (i : Inner). P i.kept)
 holds P k old new n so f zero = elim f.3 [
   | inl is ↦
       let g = subst (λ r. IsFilled r old new) is f.2 in
@@ -34,8 +39,11 @@ holds P k old new n so f zero = elim f.3 [
 ]
 
 -- the same of a change by the set of another handle
-pub changed_by : (P : Board → Result (Unit {0}) Reason → Kept → Kept → Type 0) (other old new : Option Inner) (o l i k : Inner) (j : Kept) (r : Result (Unit {0}) Reason) (n : ℕ) → Some o ≡ other → l ≡ o → Some i ≡ old → k ≡ i
+pub changed_by : (P : Board → Result (Unit {0}) Reason → Kept → Kept → Type 0) (other old new : Option Inner)
+    (o l i k : Inner) (j : Kept) (r : Result (Unit {0}) Reason) (n : ℕ) → Some o ≡ other → l ≡ o → Some i ≡ old → k ≡ i
     → new ≡ Some (record { kept = j }) → n ≡ status_of r → P l.kept.set r k.kept j → ChangesBy P other old n new
 changed_by P other old new o l i k j r n beside same was is put status p =
     subst (λ x. ChangesBy P x old n new) beside
-    (subst (λ x. ChangesBy P (Some o) x n new) was (changed (P o.kept.set) (Some i) new i k j r n refl is put status (subst (λ (x : Inner). P x.kept.set r k.kept j) same p)))
+    (subst (λ x. ChangesBy P (Some o) x n new) was
+    (changed (P o.kept.set) (Some i) new i k j r n refl is put status
+    (subst (λ (x : Inner). P x.kept.set r k.kept j) same p)))

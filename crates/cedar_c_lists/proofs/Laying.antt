@@ -24,7 +24,8 @@ zero_plus : (n : ℕ) → n ≡ 0 + n
 zero_plus n = omega arith
 
 -- the text that stands behind some bytes, and before others
-part_behind : (pre t rest : List ℕ) → part (pre ++ (t ++ rest)) (record { start = length pre; end = length pre + length t }) ≡ t
+part_behind : (pre t rest : List ℕ)
+    → part (pre ++ (t ++ rest)) (record { start = length pre; end = length pre + length t }) ≡ t
 part_behind pre t rest =
     ap (λ n. take n (drop (length pre) (pre ++ (t ++ rest)))) (minus_plus (length pre) (length t))
     ∙ ap (take (length t)) (drop-append_seam pre (t ++ rest))
@@ -34,18 +35,22 @@ part_behind pre t rest =
 read_behind : (pre : List ℕ) (ts : List (List ℕ)) → texts_in (pre ++ concat ts) (spans_from (length pre) ts) ≡ ts
 read_behind pre [] = refl
 read_behind pre (t ∷ ts) =
-    ap (λ x. x ∷ texts_in (pre ++ (t ++ concat ts)) (spans_from (length pre + length t) ts)) (part_behind pre t (concat ts))
+    ap (λ x. x ∷ texts_in (pre ++ (t ++ concat ts)) (spans_from (length pre + length t) ts))
+    (part_behind pre t (concat ts))
     ∙ ap (λ l. t ∷ l) (
     ap (λ n. texts_in (pre ++ (t ++ concat ts)) (spans_from n ts)) (sym (length-append pre t))
     ∙ ap (λ bs. texts_in bs (spans_from (length (pre ++ t)) ts)) (sym (append_assoc pre t (concat ts)))
     ∙ read_behind (pre ++ t) ts)
 
 -- texts that are laid are read back
-pub read_back : (bytes : List ℕ) (spans : List Span) (ts : List (List ℕ)) → IsLaid bytes spans ts → texts_in bytes spans ≡ ts
+pub read_back : (bytes : List ℕ) (spans : List Span) (ts : List (List ℕ)) → IsLaid bytes spans ts
+    → texts_in bytes spans ≡ ts
 read_back bytes spans ts l = ap (λ bs. texts_in bs spans) l.0 ∙ ap (texts_in (concat ts)) l.1 ∙ read_behind [] ts
 
 -- the places of texts and one more
-spans_more : (k : ℕ) (ts : List (List ℕ)) (t : List ℕ) → spans_from k (ts ++ t ∷ []) ≡ spans_from k ts ++ record { start = k + length (concat ts); end = k + length (concat ts) + length t } ∷ []
+spans_more : (k : ℕ) (ts : List (List ℕ)) (t : List ℕ)
+    → spans_from k (ts ++ t ∷ []) ≡ spans_from k ts
+    ++ record { start = k + length (concat ts); end = k + length (concat ts) + length t } ∷ []
 spans_more k [] t = ap (λ n. record { start = n; end = n + length t } ∷ []) (omega arith)
 spans_more k (u ∷ ts) t =
     ap (λ l. record { start = k; end = k + length u } ∷ l) (
@@ -60,23 +65,29 @@ laid_more bytes spans ts t l = (
   ap (λ bs. bs ++ t) l.0 ∙ ap (λ bs. concat ts ++ bs) (sym (append-nil t)) ∙ sym (concat-append ts (t ∷ [])),
   ap (λ n. spans ++ record { start = length bytes; end = n } ∷ []) (length-append bytes t)
       ∙ ap (λ ss. ss ++ record { start = length bytes; end = length bytes + length t } ∷ []) l.1
-      ∙ ap (λ n. spans_from 0 ts ++ record { start = n; end = n + length t } ∷ []) (ap length l.0 ∙ zero_plus (length (concat ts)))
+      ∙ ap (λ n. spans_from 0 ts ++ record { start = n; end = n + length t } ∷ []) (ap length l.0
+      ∙ zero_plus (length (concat ts)))
       ∙ sym (spans_more 0 ts t),
 )
 
 -- a text more is read back behind the others
 pub read_more : (bytes : List ℕ) (spans : List Span) (t : List ℕ) → IsLaid bytes spans (texts_in bytes spans) →
-    texts_in (bytes ++ t) (spans ++ record { start = length bytes; end = length (bytes ++ t) } ∷ []) ≡ texts_in bytes spans ++ t ∷ []
+    texts_in (bytes ++ t) (spans ++ record { start = length bytes; end = length (bytes ++ t) } ∷ [])
+    ≡ texts_in bytes spans ++ t ∷ []
 read_more bytes spans t l = read_back _ _ _ (laid_more bytes spans (texts_in bytes spans) t l)
 
 -- both, of bytes and places that are those of one more text
-pub laid_with : (bytes bytes' t : List ℕ) (spans spans' : List Span) (start end : ℕ) → IsLaid bytes spans (texts_in bytes spans) →
-    start ≡ length bytes → bytes' ≡ bytes ++ t → end ≡ length bytes' → spans' ≡ spans ++ record { start = start; end = end } ∷ [] →
+pub laid_with : (bytes bytes' t : List ℕ) (spans spans' : List Span) (start end : ℕ)
+    → IsLaid bytes spans (texts_in bytes spans) →
+    start ≡ length bytes → bytes' ≡ bytes ++ t → end ≡ length bytes'
+    → spans' ≡ spans ++ record { start = start; end = end } ∷ [] →
     (texts_in bytes' spans' ≡ texts_in bytes spans ++ t ∷ []) × IsLaid bytes' spans' (texts_in bytes' spans')
 laid_with bytes bytes' t spans spans' start end l from grown to longer =
     let places : spans' ≡ spans ++ record { start = length bytes; end = length (bytes ++ t) } ∷ [] =
-    longer ∙ ap (λ n. spans ++ record { start = n; end = end } ∷ []) from ∙ ap (λ n. spans ++ record { start = length bytes; end = n } ∷ []) (to ∙ ap length grown) in
-    let text : texts_in bytes' spans' ≡ texts_in bytes spans ++ t ∷ [] = ap (λ bs. texts_in bs spans') grown ∙ ap (texts_in (bytes ++ t)) places ∙ read_more bytes spans t l in (
+    longer ∙ ap (λ n. spans ++ record { start = n; end = end } ∷ []) from
+    ∙ ap (λ n. spans ++ record { start = length bytes; end = n } ∷ []) (to ∙ ap length grown) in
+    let text : texts_in bytes' spans' ≡ texts_in bytes spans ++ t ∷ [] = ap (λ bs. texts_in bs spans') grown
+    ∙ ap (texts_in (bytes ++ t)) places ∙ read_more bytes spans t l in (
       text,
       (
         grown ∙ (laid_more bytes spans (texts_in bytes spans) t l).0 ∙ ap concat (sym text),

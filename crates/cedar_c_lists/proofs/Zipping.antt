@@ -7,13 +7,16 @@ use Rattle.cedar_ids.specs.declared.entity.EntityUID.{EntityUID}
 use Rattle.cedar_c_lists.specs.Texts.{AreReadAt, IsReadAt}
 use Rattle.cedar_c_lists.specs.declared.layout.Span.{Span}
 
-zip_more : {A B : Type 0} (R : A → B → Type 0) (xs : List A) (ys : List B) (x : A) (y : B) → AllZip R xs ys → R x y → AllZip R (xs ++ x ∷ []) (ys ++ y ∷ [])
+zip_more : {A B : Type 0} (R : A → B → Type 0) (xs : List A) (ys : List B) (x : A) (y : B) → AllZip R xs ys → R x y
+    → AllZip R (xs ++ x ∷ []) (ys ++ y ∷ [])
 zip_more R [] [] x y z r = (r, tt)
 zip_more R [] (b ∷ ys) x y z r = absurd z
 zip_more R (a ∷ xs) [] x y z r = absurd z
 zip_more R (a ∷ xs) (b ∷ ys) x y z r = (z.0, zip_more R xs ys x y z.1 r)
 
 -- one uid more, read of the next part
-pub read_more_uids : (text : List ℕ) (us : List EntityUID) (spans : List Span) (k : ℕ) (d : Span) (u : EntityUID) → k < length spans → AreReadAt text us (take k spans) → IsReadAt text u (get_or spans k d)
+pub read_more_uids : (text : List ℕ) (us : List EntityUID) (spans : List Span) (k : ℕ) (d : Span) (u : EntityUID)
+    → k < length spans → AreReadAt text us (take k spans) → IsReadAt text u (get_or spans k d)
     → AreReadAt text (us ++ u ∷ []) (take (k + 1) spans)
-read_more_uids text us spans k d u l h r = rw (take_more spans k d l) (zip_more (IsReadAt text) us (take k spans) u (get_or spans k d) h r)
+read_more_uids text us spans k d u l h r =
+    rw (take_more spans k d l) (zip_more (IsReadAt text) us (take k spans) u (get_or spans k d) h r)

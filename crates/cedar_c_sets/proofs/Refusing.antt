@@ -1,10 +1,13 @@
 -- A refusal of a step as it is told to a caller.
-use Rattle.std.specs.Prelude.{◌≡◌, ◌⊎◌, ℕ, List, ◌∷◌, Bool, false, ◌++◌, IfOk, MatchResult, Option, Some, None, Result, Ok, Err}
+use Rattle.std.specs.Prelude.{◌≡◌, ◌⊎◌, ℕ, List, ◌∷◌, Bool, false, ◌++◌, IfOk, MatchResult, Option, Some, None, Result}
+use Rattle.std.specs.Prelude.{Ok, Err}
 use Rattle.std.proofs.Common.{ap, sym, subst, ◌∙◌, inl, inr, arith}
 use Rattle.cedar_policy_set.specs.Boards.{Board, Binding}
 use Rattle.cedar_policy_set.specs.Merge.{Merges, conflicts}
 use Rattle.cedar_policy_set.specs.Refusals.{IsRefusal, told_by_set}
-use Rattle.cedar_policy_set.specs.Steps.{Refusal, occupied, no_body, no_such_template, arity, not_an_action, id_conflict, no_link, not_a_link, no_template, with_links, not_a_template, no_static, not_static}
+use Rattle.cedar_policy_set.specs.Steps.{Refusal, occupied, no_body, no_such_template, arity, not_an_action}
+use Rattle.cedar_policy_set.specs.Steps.{id_conflict, no_link, not_a_link, no_template, with_links, not_a_template}
+use Rattle.cedar_policy_set.specs.Steps.{no_static, not_static}
 use Rattle.cedar_policy_set_errors.specs.declared.err.PolicySetError.{PolicySetError}
 use Rattle.cedar_policy_set_errors.specs.declared.err.PolicySetError.TheVariants.{Occupied, Memory}
 use Rattle.cedar_c_lists.specs.Reasons.{number_of, words_of}
@@ -14,8 +17,10 @@ use Rattle.cedar_c_sets.specs.Sets.{IsToldBy, IsToldFor, named_by, reason_of, ta
 use Rattle.cedar_c_sets.specs.declared.telling.Told.{Told}
 
 -- a step that takes something out is refused as is told; or memory for the text was
-pub told_taking : {E : Type 0} (o : Option Refusal) (step : Result Binding Refusal) (b : Board) (i : List ℕ) (told : Result Told E) (w : Reason) (before text : List ℕ) → IsRefusal o step
-    → IfOk told (λ t. IsToldFor o t.reason t.text.items) → MatchResult told (λ t. (w ≡ t.reason) × (text ≡ t.text.items)) (λ _. (w ≡ reasons.NoMemory) × (text ≡ before))
+pub told_taking : {E : Type 0} (o : Option Refusal) (step : Result Binding Refusal) (b : Board) (i : List ℕ)
+    (told : Result Told E) (w : Reason) (before text : List ℕ) → IsRefusal o step
+    → IfOk told (λ t. IsToldFor o t.reason t.text.items)
+    → MatchResult told (λ t. (w ≡ t.reason) × (text ≡ t.text.items)) (λ _. (w ≡ reasons.NoMemory) × (text ≡ before))
     → (w ≡ reasons.NoMemory) ⊎ ((x : Refusal) × (taking b i step ≡ Err x) × IsToldBy x w text)
 told_taking o step b i (Err e) w before text r t h = inl h.0
 told_taking None step b i (Ok told) w before text r t h = absurd t
@@ -23,28 +28,50 @@ told_taking (Some x) step b i (Ok told) w before text r t h =
     inr (x, ap (taking b i) r, (h.0 ∙ t.0, λ n. h.1 ∙ t.1 n ∙ ap (λ v. words_of v ++ (32 ∷ named_by x)) (sym h.0)))
 
 -- a step that puts something in is refused as is told; or memory for the text was
-pub told_step : {B E : Type 0} (o : Option Refusal) (step : Result B Refusal) (told : Result Told E) (w : Reason) (before text : List ℕ) → IsRefusal o step
-    → IfOk told (λ t. IsToldFor o t.reason t.text.items) → MatchResult told (λ t. (w ≡ t.reason) × (text ≡ t.text.items)) (λ _. (w ≡ reasons.NoMemory) × (text ≡ before))
+pub told_step : {B E : Type 0} (o : Option Refusal) (step : Result B Refusal) (told : Result Told E) (w : Reason)
+    (before text : List ℕ) → IsRefusal o step
+    → IfOk told (λ t. IsToldFor o t.reason t.text.items)
+    → MatchResult told (λ t. (w ≡ t.reason) × (text ≡ t.text.items)) (λ _. (w ≡ reasons.NoMemory) × (text ≡ before))
     → (w ≡ reasons.NoMemory) ⊎ ((x : Refusal) × (step ≡ Err x) × IsToldBy x w text)
 told_step o step (Err e) w before text r t h = inl h.0
 told_step None step (Ok told) w before text r t h = absurd t
-told_step (Some x) step (Ok told) w before text r t h = inr (x, r, (h.0 ∙ t.0, λ n. h.1 ∙ t.1 n ∙ ap (λ v. words_of v ++ (32 ∷ named_by x)) (sym h.0)))
+told_step (Some x) step (Ok told) w before text r t h =
+    inr (x, r, (h.0 ∙ t.0, λ n. h.1 ∙ t.1 n ∙ ap (λ v. words_of v ++ (32 ∷ named_by x)) (sym h.0)))
 
 -- a merge is refused by the first id that conflicts, as is told; or memory was
-merging_told : {A E : Type 0} (entries : A → List (List ℕ × List ℕ)) (e : PolicySetError) (copy now other : Board) (rename : Bool) (new : Board) (told : Result Told E) (w : Reason) (before text : List ℕ) → copy ≡ now
+merging_told : {A E : Type 0} (entries : A → List (List ℕ × List ℕ)) (e : PolicySetError) (copy now other : Board)
+    (rename : Bool) (new : Board) (told : Result Told E) (w : Reason) (before text : List ℕ) → copy ≡ now
     → Merges entries (Err e) copy other rename new
-    → IfOk told (λ t. IsToldFor (told_by_set e) t.reason t.text.items) → MatchResult told (λ t. (w ≡ t.reason) × (text ≡ t.text.items)) (λ _. (w ≡ reasons.NoMemory) × (text ≡ before))
-    → (w ≡ reasons.NoMemory) ⊎ ((rename ≡ false) × ((id : List ℕ) × (rest : List (List ℕ)) × (conflicts now other ≡ id ∷ rest) × IsToldBy (occupied id) w text))
+    → IfOk told (λ t. IsToldFor (told_by_set e) t.reason t.text.items)
+    → MatchResult told (λ t. (w ≡ t.reason) × (text ≡ t.text.items)) (λ _. (w ≡ reasons.NoMemory) × (text ≡ before))
+    → (w ≡ reasons.NoMemory) ⊎ ((rename ≡ false)
+    × ((id : List ℕ) × (rest : List (List ℕ)) × (conflicts now other ≡ id ∷ rest)
+    × IsToldBy (occupied id) w text))
 merging_told entries e copy now other rename new (Err f) w before text is m t h = inl h.0
 merging_told entries Memory copy now other rename new (Ok told) w before text is m t h = absurd t
 merging_told entries (Occupied i) copy now other rename new (Ok told) w before text is m t h =
-    inr (m.1, (i, m.2, ap (λ b. conflicts b other) (sym is) ∙ m.3, (h.0 ∙ t.0, λ n. h.1 ∙ t.1 n ∙ ap (λ v. words_of v ++ (32 ∷ named_by (occupied i))) (sym h.0))))
+    inr (
+      m.1,
+      (
+        i,
+        m.2,
+        ap (λ b. conflicts b other) (sym is) ∙ m.3,
+        (h.0 ∙ t.0, λ n. h.1 ∙ t.1 n ∙ ap (λ v. words_of v ++ (32 ∷ named_by (occupied i))) (sym h.0)),
+      ),
+    )
 
-pub told_merging : {A E : Type 0} (entries : A → List (List ℕ × List ℕ)) (r : Result A PolicySetError) (e : PolicySetError) (copy now other : Board) (rename : Bool) (new : Board) (told : Result Told E) (w : Reason) (before text : List ℕ) → r ≡ Err e → copy ≡ now
+pub told_merging : {A E : Type 0} (entries : A → List (List ℕ × List ℕ)) (r : Result A PolicySetError)
+    (e : PolicySetError) (copy now other : Board) (rename : Bool) (new : Board) (told : Result Told E) (w : Reason)
+    (before text : List ℕ) → r ≡ Err e → copy ≡ now
     → Merges entries r copy other rename new
-    → IfOk told (λ t. IsToldFor (told_by_set e) t.reason t.text.items) → MatchResult told (λ t. (w ≡ t.reason) × (text ≡ t.text.items)) (λ _. (w ≡ reasons.NoMemory) × (text ≡ before))
-    → (w ≡ reasons.NoMemory) ⊎ ((rename ≡ false) × ((id : List ℕ) × (rest : List (List ℕ)) × (conflicts now other ≡ id ∷ rest) × IsToldBy (occupied id) w text))
-told_merging entries r e copy now other rename new told w before text err is m t h = merging_told entries e copy now other rename new told w before text is (subst (λ x. Merges entries x copy other rename new) err m) t h
+    → IfOk told (λ t. IsToldFor (told_by_set e) t.reason t.text.items)
+    → MatchResult told (λ t. (w ≡ t.reason) × (text ≡ t.text.items)) (λ _. (w ≡ reasons.NoMemory) × (text ≡ before))
+    → (w ≡ reasons.NoMemory) ⊎ ((rename ≡ false)
+    × ((id : List ℕ) × (rest : List (List ℕ)) × (conflicts now other ≡ id ∷ rest)
+    × IsToldBy (occupied id) w text))
+told_merging entries r e copy now other rename new told w before text err is m t h =
+    merging_told entries e copy now other rename new told w before text is
+    (subst (λ x. Merges entries x copy other rename new) err m) t h
 
 -- no refusal is told as want of memory
 no_memory_told : (x : Refusal) → reason_of x ≡ reasons.NoMemory → ⊥
@@ -64,7 +91,8 @@ no_memory_told (not_static i) m = absurd (omega (arith, ap number_of m))
 
 -- the text of the last refusal is as it was where memory was refused
 pub kept_before : {E : Type 0} (o : Option Refusal) (told : Result Told E) (w : Reason) (before text : List ℕ)
-    → IfOk told (λ t. IsToldFor o t.reason t.text.items) → MatchResult told (λ t. (w ≡ t.reason) × (text ≡ t.text.items)) (λ _. (w ≡ reasons.NoMemory) × (text ≡ before))
+    → IfOk told (λ t. IsToldFor o t.reason t.text.items)
+    → MatchResult told (λ t. (w ≡ t.reason) × (text ≡ t.text.items)) (λ _. (w ≡ reasons.NoMemory) × (text ≡ before))
     → w ≡ reasons.NoMemory → text ≡ before
 kept_before o (Err e) w before text t h m = h.1
 kept_before None (Ok told) w before text t h m = absurd t

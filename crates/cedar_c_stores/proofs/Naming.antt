@@ -4,7 +4,8 @@ use Rattle.std.specs.List.{AllZip}
 use Rattle.cedar_ids.specs.declared.entity.EntityUID.{EntityUID}
 use Rattle.cedar_c_lists.specs.Texts.{AreTextsOf, IsTextOf}
 
-zip_more : {A B : Type 0} (R : A → B → Type 0) (xs : List A) (ys : List B) (x : A) (y : B) → AllZip R xs ys → R x y → AllZip R (xs ++ x ∷ []) (ys ++ y ∷ [])
+zip_more : {A B : Type 0} (R : A → B → Type 0) (xs : List A) (ys : List B) (x : A) (y : B) → AllZip R xs ys → R x y
+    → AllZip R (xs ++ x ∷ []) (ys ++ y ∷ [])
 zip_more R [] [] x y z r = (r, tt)
 zip_more R [] (b ∷ ys) x y z r = absurd z
 zip_more R (a ∷ xs) [] x y z r = absurd z
@@ -15,8 +16,10 @@ append_one [] x ys = refl
 append_one (y ∷ xs) x ys = ap (λ l. y ∷ l) (append_one xs x ys)
 
 -- the texts of those that came so far, and of the next
-pub texts_next : (whole rest rest' : List EntityUID) (u : EntityUID) (answer answer' : List (List ℕ)) → rest ≡ u ∷ rest' →
-    ((done : List EntityUID) × (done ++ rest ≡ whole) × AreTextsOf done answer) → ((t : List ℕ) × IsTextOf u t × (answer' ≡ answer ++ t ∷ [])) →
+pub texts_next : (whole rest rest' : List EntityUID) (u : EntityUID) (answer answer' : List (List ℕ))
+    → rest ≡ u ∷ rest' →
+    ((done : List EntityUID) × (done ++ rest ≡ whole) × AreTextsOf done answer)
+    → ((t : List ℕ) × IsTextOf u t × (answer' ≡ answer ++ t ∷ [])) →
     (done : List EntityUID) × (done ++ rest' ≡ whole) × AreTextsOf done answer'
 texts_next whole rest rest' u answer answer' step so next = (
   so.0 ++ u ∷ [],

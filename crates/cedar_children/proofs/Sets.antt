@@ -1,5 +1,6 @@
 -- Steps of the lists and sets that a walk keeps.
-use Rattle.std.specs.Prelude.{◌≡◌, ◌+◌, ◌<◌, ℕ, Bool, true, false, cond, not, ◌&&◌, ◌||◌, List, [], ◌∷◌, ◌++◌, Option, Some, map, take, length}
+use Rattle.std.specs.Prelude.{◌≡◌, ◌+◌, ◌<◌, ℕ, Bool, true, false, cond, not, ◌&&◌, ◌||◌, List, [], ◌∷◌, ◌++◌, Option}
+use Rattle.std.specs.Prelude.{Some, map, take, length}
 use Rattle.std.proofs.Common.{ap, sym, refl, ◌∙◌, get_or, Bor}
 use Rattle.std.proofs.lemmas.List.Folds.{list_any_more, list_any-append}
 use Rattle.std.specs.Set.{is_member}
@@ -42,32 +43,39 @@ todo_step false false true s = refl
 todo_step false false false s = refl
 
 -- membership with one more
-pub member_push : (done : List EntityUID) (k q : EntityUID) → is_member same_uid (done ++ k ∷ []) q ≡ (is_member same_uid done q || same_uid k q)
-member_push done k q = list_any-append (same_uid q) done (k ∷ []) ∙ ap (λ b. is_member same_uid done q || b) (or_off (same_uid q k) ∙ sym (same_uid_equiv.symm k q))
+pub member_push : (done : List EntityUID) (k q : EntityUID)
+    → is_member same_uid (done ++ k ∷ []) q ≡ (is_member same_uid done q || same_uid k q)
+member_push done k q = list_any-append (same_uid q) done (k ∷ [])
+    ∙ ap (λ b. is_member same_uid done q || b) (or_off (same_uid q k) ∙ sym (same_uid_equiv.symm k q))
 
 -- membership in what a loop has come by, with the next
-pub member_more : (xs : List EntityUID) (i : ℕ) (x q : EntityUID) → i < length xs → x ≡ get_or xs i x → is_member same_uid (take (i + 1) xs) q ≡ (is_member same_uid (take i xs) q || same_uid x q)
+pub member_more : (xs : List EntityUID) (i : ℕ) (x q : EntityUID) → i < length xs → x ≡ get_or xs i x
+    → is_member same_uid (take (i + 1) xs) q ≡ (is_member same_uid (take i xs) q || same_uid x q)
 member_more xs i x q within is =
     list_any_more (same_uid q) xs i x within
     ∙ ap (λ b. is_member same_uid (take i xs) q || b) (ap (same_uid q) (sym is) ∙ same_uid_equiv.symm q x)
 
 -- the set of one parent is another now, with one child more
 pub added_at : (f g : EntityUID → Option UidValues) (parent child : EntityUID) (t : UidValues)
-    → ((p : EntityUID) → g p ≡ cond (same_uid parent p) (Some t) (f p)) → ((q : EntityUID) → set.contains t q ≡ (is_in (f parent) q || same_uid child q))
+    → ((p : EntityUID) → g p ≡ cond (same_uid parent p) (Some t) (f p))
+    → ((q : EntityUID) → set.contains t q ≡ (is_in (f parent) q || same_uid child q))
     → (p q : EntityUID) → is_in (g p) q ≡ (is_in (f p) q || (same_uid parent p && same_uid child q))
 added_at f g parent child t updates has p q = ap (λ o. is_in o q) (updates p) ∙ at (same_uid parent p) refl
   where
-    at : (b : Bool) → same_uid parent p ≡ b → is_in (cond b (Some t) (f p)) q ≡ (is_in (f p) q || (b && same_uid child q))
+    at : (b : Bool) → same_uid parent p ≡ b
+        → is_in (cond b (Some t) (f p)) q ≡ (is_in (f p) q || (b && same_uid child q))
     at true is = has q ∙ ap (λ u. is_in (f u) q || same_uid child q) ((same_uid_decides parent p).0 is)
     at false is = sym (or_off (is_in (f p) q))
 
 -- or with one child less
 pub taken_at : (f g : EntityUID → Option UidValues) (parent child : EntityUID) (t : UidValues)
-    → ((p : EntityUID) → g p ≡ cond (same_uid parent p) (Some t) (f p)) → ((q : EntityUID) → set.contains t q ≡ (is_in (f parent) q && not (same_uid child q)))
+    → ((p : EntityUID) → g p ≡ cond (same_uid parent p) (Some t) (f p))
+    → ((q : EntityUID) → set.contains t q ≡ (is_in (f parent) q && not (same_uid child q)))
     → (p q : EntityUID) → is_in (g p) q ≡ (is_in (f p) q && not (same_uid parent p && same_uid child q))
 taken_at f g parent child t updates has p q = ap (λ o. is_in o q) (updates p) ∙ at (same_uid parent p) refl
   where
-    at : (b : Bool) → same_uid parent p ≡ b → is_in (cond b (Some t) (f p)) q ≡ (is_in (f p) q && not (b && same_uid child q))
+    at : (b : Bool) → same_uid parent p ≡ b
+        → is_in (cond b (Some t) (f p)) q ≡ (is_in (f p) q && not (b && same_uid child q))
     at true is = has q ∙ ap (λ u. is_in (f u) q && not (same_uid child q)) ((same_uid_decides parent p).0 is)
     at false is = sym (and_on (is_in (f p) q))
 
@@ -87,14 +95,17 @@ and_turn false false = refl
 pub inserted : (s : UidValues) (u q : EntityUID) → set.contains (set.insert s u) q ≡ (set.contains s q || same_uid u q)
 inserted s u q =
     set.contains-insert uid_order_total s u q
-    ∙ ap (λ b. b || set.contains s q) (ap (λ (f : EntityUID → EntityUID → Bool). f q u) same_tests ∙ same_uid_equiv.symm q u)
+    ∙ ap (λ b. b || set.contains s q) (ap (λ (f : EntityUID → EntityUID → Bool). f q u) same_tests
+    ∙ same_uid_equiv.symm q u)
     ∙ or_turn (same_uid u q) (set.contains s q)
 
 -- and with one less
-pub removed : (s : UidValues) (u q : EntityUID) → set.contains (set.remove s u) q ≡ (set.contains s q && not (same_uid u q))
+pub removed : (s : UidValues) (u q : EntityUID)
+    → set.contains (set.remove s u) q ≡ (set.contains s q && not (same_uid u q))
 removed s u q =
     set.contains-remove uid_order_total s u q
-    ∙ ap (λ b. not b && set.contains s q) (ap (λ (f : EntityUID → EntityUID → Bool). f q u) same_tests ∙ same_uid_equiv.symm q u)
+    ∙ ap (λ b. not b && set.contains s q) (ap (λ (f : EntityUID → EntityUID → Bool). f q u) same_tests
+    ∙ same_uid_equiv.symm q u)
     ∙ and_turn (not (same_uid u q)) (set.contains s q)
 
 pub more_parents : (a m s c : Bool) → ((a || (m && c)) || (s && c)) ≡ (a || ((m || s) && c))
@@ -118,5 +129,8 @@ map_append_one f [] x = refl
 map_append_one f (y ∷ ys) x = ap (λ l. f y ∷ l) (map_append_one f ys x)
 
 -- membership in what an iterator has given, with the next
-pub member_next : (done : List (Bor EntityUID)) (x : Bor EntityUID) (q : EntityUID) → is_member same_uid (map (λ y. y.now) (done ++ x ∷ [])) q ≡ (is_member same_uid (map (λ y. y.now) done) q || same_uid x.now q)
-member_next done x q = ap (λ l. is_member same_uid l q) (map_append_one (λ y. y.now) done x) ∙ member_push (map (λ y. y.now) done) x.now q
+pub member_next : (done : List (Bor EntityUID)) (x : Bor EntityUID) (q : EntityUID)
+    → is_member same_uid (map (λ y. y.now) (done ++ x ∷ [])) q
+    ≡ (is_member same_uid (map (λ y. y.now) done) q || same_uid x.now q)
+member_next done x q = ap (λ l. is_member same_uid l q) (map_append_one (λ y. y.now) done x)
+    ∙ member_push (map (λ y. y.now) done) x.now q

@@ -33,40 +33,56 @@ stored m D is = (λ i q. sym (get_seen m q) i) ∙ ap (λ (E : Held). finmap.get
 
 pub put_in : {S : Type 0} (m n : HashMap EntityUID SharedEntity S) (D : Held) (L : List EntityView) → held_map m ≡ D
     → ((q : EntityUID) → held n q ≡ option_or (held m q) (first_entity L q)) → held_map n ≡ with_first D L
-put_in m n D L is put = seen_as n (with_first D L) (λ q. put q ∙ ap (λ f. option_or (f q) (first_entity L q)) (stored m D is) ∙ sym (get_with_first D L q))
+put_in m n D L is put =
+    seen_as n (with_first D L) (λ q. put q ∙ ap (λ f. option_or (f q) (first_entity L q)) (stored m D is)
+    ∙ sym (get_with_first D L q))
 
 -- over nothing all that is held then was inserted
-pub all_inserted : {S : Type 0} (l m : HashMap EntityUID SharedEntity S) (L : List EntityView) → ((q : EntityUID) → held l q ≡ None)
-    → ((q : EntityUID) → held m q ≡ option_or (held l q) (first_entity L q)) → (q : EntityUID) → is_some (held m q) ≡ true → is_touched (held_map l) (inserted_in (held_map l) L) q ≡ true
+pub all_inserted : {S : Type 0} (l m : HashMap EntityUID SharedEntity S) (L : List EntityView)
+    → ((q : EntityUID) → held l q ≡ None)
+    → ((q : EntityUID) → held m q ≡ option_or (held l q) (first_entity L q)) → (q : EntityUID)
+    → is_some (held m q) ≡ true → is_touched (held_map l) (inserted_in (held_map l) L) q ≡ true
 all_inserted l m L none put q there =
-    or_left (is_member same_uid (inserted_in (held_map l) L) q) (list_any (ancestry (held_map l) q) (inserted_in (held_map l) L))
+    or_left (is_member same_uid (inserted_in (held_map l) L) q)
+    (list_any (ancestry (held_map l) q) (inserted_in (held_map l) L))
     (inserted_members (held_map l) L q
-    ∙ ap (λ o. is_member same_uid (uids_of L) q && not (is_some o)) (sym (ap (λ f. f q) (stored l (held_map l) refl)) ∙ none q)
+    ∙ ap (λ o. is_member same_uid (uids_of L) q && not (is_some o)) (sym (ap (λ f. f q) (stored l (held_map l) refl))
+    ∙ none q)
     ∙ sym (and_on (is_member same_uid (uids_of L) q))
     ∙ sym (first_some L q)
     ∙ sym (ap is_some (put q ∙ ap (λ o. option_or o (first_entity L q)) (none q)))
     ∙ there)
 
 -- a refusal of the closure for one reason is one for another that follows
-pub refused_for : (C F : TcError EntityUID → Type 0) → ((t : TcError EntityUID) → C t → F t) → (e : EntitiesError) → MatchRefusal e (λ _. ⊥) C → MatchRefusal e (λ _. ⊥) F
+pub refused_for : (C F : TcError EntityUID → Type 0) → ((t : TcError EntityUID) → C t → F t) → (e : EntitiesError)
+    → MatchRefusal e (λ _. ⊥) C → MatchRefusal e (λ _. ⊥) F
 refused_for C F f e h = refusal_cases (λ _. ⊥) C (λ r. MatchRefusal r (λ _. ⊥) F) (λ u n. absurd n) f tt e h
 
 -- a refusal for a mismatch, over the same versions
-pub mismatch_at : (f g : EntityUID → Option EntityView) (L : List EntityView) (C : TcError EntityUID → Type 0) → f ≡ g → (e : EntitiesError) → MatchRefusal e (FirstMismatch f L) (λ _. ⊥) → MatchRefusal e (FirstMismatch g L) C
-mismatch_at f g L C is e h = refusal_cases (FirstMismatch f L) (λ _. ⊥) (λ r. MatchRefusal r (FirstMismatch g L) C) (λ u m. subst (λ k. FirstMismatch k L u) is m) (λ t n. absurd n) tt e h
+pub mismatch_at : (f g : EntityUID → Option EntityView) (L : List EntityView) (C : TcError EntityUID → Type 0) → f ≡ g
+    → (e : EntitiesError) → MatchRefusal e (FirstMismatch f L) (λ _. ⊥) → MatchRefusal e (FirstMismatch g L) C
+mismatch_at f g L C is e h =
+    refusal_cases (FirstMismatch f L) (λ _. ⊥) (λ r. MatchRefusal r (FirstMismatch g L) C)
+    (λ u m. subst (λ k. FirstMismatch k L u) is m) (λ t n. absurd n) tt e h
 
 -- a refusal of the closure, where all matched before it
-pub closure_at : (D E : Held) (tc : TCComputation) (P : EntityUID → Type 0) (A : Type 0) → D ≡ E → A → (e : EntitiesError) → MatchRefusal e (λ _. ⊥) (IsClosureRefused tc D)
+pub closure_at : (D E : Held) (tc : TCComputation) (P : EntityUID → Type 0) (A : Type 0) → D ≡ E → A
+    → (e : EntitiesError) → MatchRefusal e (λ _. ⊥) (IsClosureRefused tc D)
     → MatchRefusal e P (λ t. A × IsClosureRefused tc E t)
 closure_at D E tc P A is a e h =
-    refusal_cases (λ _. ⊥) (IsClosureRefused tc D) (λ r. MatchRefusal r P (λ t. A × IsClosureRefused tc E t)) (λ u n. absurd n) (λ t k. (a, subst (λ F. IsClosureRefused tc F t) is k)) tt e h
+    refusal_cases (λ _. ⊥) (IsClosureRefused tc D) (λ r. MatchRefusal r P (λ t. A × IsClosureRefused tc E t))
+    (λ u n. absurd n) (λ t k. (a, subst (λ F. IsClosureRefused tc F t) is k)) tt e h
 
 -- over the plain store of a world a refusal is that of the world
-pub refused_over_plain : (W : World) (S : StoreView) (L : List EntityView) → IsPlainStore W S → AreBare L → (tc : TCComputation) (e : EntitiesError)
-    → MatchRefusal e (FirstMismatch (finmap.get S.held) L) (λ t. AllMatch (finmap.get S.held) L × IsClosureRefused tc (with_first S.held L) t)
+pub refused_over_plain : (W : World) (S : StoreView) (L : List EntityView) → IsPlainStore W S → AreBare L
+    → (tc : TCComputation) (e : EntitiesError)
+    → MatchRefusal e (FirstMismatch (finmap.get S.held) L)
+    (λ t. AllMatch (finmap.get S.held) L × IsClosureRefused tc (with_first S.held L) t)
     → WhereComputed tc (IsAddingRefused W (map given_of L) e)
 refused_over_plain W S L plain bare modes.AssumeAlreadyComputed e h = tt
 refused_over_plain W S L plain bare modes.EnforceAlreadyComputed e h = tt
 refused_over_plain W S L plain bare modes.ComputeNow e h =
-    refusal_cases (FirstMismatch (finmap.get S.held) L) (λ t. AllMatch (finmap.get S.held) L × IsClosureRefused modes.ComputeNow (with_first S.held L) t) (IsAddingRefused W (map given_of L))
-    (λ u m. first_differs W S L plain bare u m) (λ t k. (all_agree W S L plain bare k.0, refused_plain W S L plain bare modes.ComputeNow t k.1)) tt e h
+    refusal_cases (FirstMismatch (finmap.get S.held) L) (λ t. AllMatch (finmap.get S.held) L
+    × IsClosureRefused modes.ComputeNow (with_first S.held L) t) (IsAddingRefused W (map given_of L))
+    (λ u m. first_differs W S L plain bare u m)
+    (λ t k. (all_agree W S L plain bare k.0, refused_plain W S L plain bare modes.ComputeNow t k.1)) tt e h

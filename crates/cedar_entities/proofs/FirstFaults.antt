@@ -1,5 +1,6 @@
 -- The first entity of a store that is not valid.
-use Rattle.std.specs.Prelude.{◌≡◌, Bool, true, false, List, [], ◌∷◌, ◌++◌, cond, Option, Some, None, MatchOption, map, if◌then◌else◌}
+use Rattle.std.specs.Prelude.{◌≡◌, Bool, true, false, List, [], ◌∷◌, ◌++◌, cond, Option, Some, None, MatchOption, map}
+use Rattle.std.specs.Prelude.{if◌then◌else◌}
 use Rattle.std.proofs.Common.{ap, sym, refl, subst, inl, inr, ◌∙◌}
 use Rattle.std.proofs.lemmas.Bool.{false≢true}
 use Rattle.std.proofs.lemmas.List.Elements.{All-push, All-weaker, All-map, All-same, recursion_from_All}
@@ -33,7 +34,8 @@ abbrev ValidBefore : EntityUID → EntityView → Type 0
 ValidBefore u e = uid_order e.uid u ≡ Less → IsValid e
 
 -- what is the first of the entities of a list that is not valid, and held
-abbrev pub IsFirstOf : {Y : Type 0} → (EntityUID → Option EntityView) → (Y → EntityView) → List Y → Option EntityView → Type 0
+abbrev pub IsFirstOf : {Y : Type 0} → (EntityUID → Option EntityView) → (Y → EntityView) → List Y → Option EntityView
+    → Type 0
 IsFirstOf o entity ys None = All (λ y. IsValid (entity y)) ys
 IsFirstOf o entity ys (Some a) = (o a.uid ≡ Some a) × (IsValid a → ⊥) × All (λ y. ValidBefore a.uid (entity y)) ys
 
@@ -42,18 +44,24 @@ module _ {Y : Type 0} (o : EntityUID → Option EntityView) (entity : Y → Enti
   kept None v h = All-push (λ x. IsValid (entity x)) ys y h v
   kept (Some a) v h = (h.0, h.1, All-push (λ x. ValidBefore a.uid (entity x)) ys y h.2 (λ _. v))
 
-  chosen : (a : EntityView) (b : Bool) → is_lt (uid_order (entity y).uid a.uid) ≡ b → o (entity y).uid ≡ Some (entity y) → (IsValid (entity y) → ⊥) → IsFirstOf o entity ys (Some a)
+  chosen : (a : EntityView) (b : Bool) → is_lt (uid_order (entity y).uid a.uid) ≡ b → o (entity y).uid ≡ Some (entity y)
+      → (IsValid (entity y) → ⊥) → IsFirstOf o entity ys (Some a)
       → IsFirstOf o entity (ys ++ y ∷ []) (if b then Some (entity y) else Some a)
   chosen a true l at faulty h = (
     at,
     faulty,
     All-push (λ x. ValidBefore (entity y).uid (entity x)) ys y
-        (All-weaker (λ x. ValidBefore a.uid (entity x)) (λ x. ValidBefore (entity y).uid (entity x)) (λ x k g. k (uid_order_total.trans (entity x).uid (entity y).uid a.uid g (less (uid_order (entity y).uid a.uid) l))) ys h.2)
+        (All-weaker (λ x. ValidBefore a.uid (entity x)) (λ x. ValidBefore (entity y).uid (entity x))
+        (λ x k g.
+        k (uid_order_total.trans (entity x).uid (entity y).uid a.uid g
+        (less (uid_order (entity y).uid a.uid) l))) ys h.2)
         (λ g. absurd (irreflexive (entity y).uid g)),
   )
-  chosen a false l at faulty h = (h.0, h.1, All-push (λ x. ValidBefore a.uid (entity x)) ys y h.2 (λ g. absurd (false≢true (sym l ∙ ap is_lt g))))
+  chosen a false l at faulty h =
+      (h.0, h.1, All-push (λ x. ValidBefore a.uid (entity x)) ys y h.2 (λ g. absurd (false≢true (sym l ∙ ap is_lt g))))
 
-  lesser_faulty : (r : Option EntityView) → o (entity y).uid ≡ Some (entity y) → (IsValid (entity y) → ⊥) → IsFirstOf o entity ys r → IsFirstOf o entity (ys ++ y ∷ []) (lesser_of (entity y) r)
+  lesser_faulty : (r : Option EntityView) → o (entity y).uid ≡ Some (entity y) → (IsValid (entity y) → ⊥)
+      → IsFirstOf o entity ys r → IsFirstOf o entity (ys ++ y ∷ []) (lesser_of (entity y) r)
   lesser_faulty None at faulty h = (
     at,
     faulty,
@@ -64,50 +72,64 @@ module _ {Y : Type 0} (o : EntityUID → Option EntityView) (entity : Y → Enti
   lesser_faulty (Some a) at faulty h = chosen a (is_lt (uid_order (entity y).uid a.uid)) refl at faulty h
 
   -- one entity more
-  pub first_step : (r s : Option EntityView) → o (entity y).uid ≡ Some (entity y) → TakesFaulty (entity y) r s → IsFirstOf o entity ys r → IsFirstOf o entity (ys ++ y ∷ []) s
+  pub first_step : (r s : Option EntityView) → o (entity y).uid ≡ Some (entity y) → TakesFaulty (entity y) r s
+      → IsFirstOf o entity ys r → IsFirstOf o entity (ys ++ y ∷ []) s
   first_step r s at (inl t) h = subst (IsFirstOf o entity (ys ++ y ∷ [])) (sym t.1) (kept r t.0 h)
   first_step r s at (inr t) h = subst (IsFirstOf o entity (ys ++ y ∷ [])) (sym t.1) (lesser_faulty r at t.0 h)
 
 module _ (P : EntityView → Type 0) (q : EntityUID) where
-  found_in : (b : Bool) (e : SharedEntity) (rest : Option SharedEntity) → P (shared e) → IfSome (option_map shared rest) P → IfSome (option_map shared (cond b (Some e) rest)) P
+  found_in : (b : Bool) (e : SharedEntity) (rest : Option SharedEntity) → P (shared e)
+      → IfSome (option_map shared rest) P → IfSome (option_map shared (cond b (Some e) rest)) P
   found_in true e rest h k = h
   found_in false e rest h k = k
 
   -- what is found in a list is as each of the list is
-  found_so : (es : List (EntityUID × SharedEntity)) → AllByRecursion (λ e. P (shared e.1)) es → IfSome (option_map shared (lookup (same_uid q) es)) P
+  found_so : (es : List (EntityUID × SharedEntity)) → AllByRecursion (λ e. P (shared e.1)) es
+      → IfSome (option_map shared (lookup (same_uid q) es)) P
   found_so [] h = tt
   found_so (e ∷ es) h = found_in (same_uid q e.0) e.1 (lookup (same_uid q) es) h.0 (found_so es h.1)
 
-before_at : (u q : EntityUID) (o : Option EntityView) → uid_order q u ≡ Less → IfSome o (λ e. e.uid ≡ q) → IfSome o (ValidBefore u) → IfSome o IsValid
+before_at : (u q : EntityUID) (o : Option EntityView) → uid_order q u ≡ Less → IfSome o (λ e. e.uid ≡ q)
+    → IfSome o (ValidBefore u) → IfSome o IsValid
 before_at u q None l k h = tt
 before_at u q (Some e) l k h = h (ap (λ x. uid_order x u) k ∙ l)
 
 module _ {S : Type 0} (m : HashMap EntityUID SharedEntity S) where
   -- what is held at its own uid, as the map has it
-  pub at_own_uid : UidsMatch m → (q : EntityUID) (n : SharedEntity) → get same_uid m q ≡ Some n → held m (shared n).uid ≡ Some (shared n)
+  pub at_own_uid : UidsMatch m → (q : EntityUID) (n : SharedEntity) → get same_uid m q ≡ Some n
+      → held m (shared n).uid ≡ Some (shared n)
   at_own_uid match q n is =
       let at : held m q ≡ Some (shared n) = ap (option_map shared) is in
-      let key : (shared n).uid ≡ q = subst (λ o. IfSome o (λ e. e.uid ≡ q)) (get_seen m q ∙ at) (seen_keyed m match q) in
+      let key : (shared n).uid ≡ q = subst (λ o. IfSome o (λ e. e.uid ≡ q)) (get_seen m q ∙ at)
+      (seen_keyed m match q) in
       ap (held m) key ∙ at
 
-  held_so : (P : EntityView → Type 0) (ys : List (Bor EntityUID × Bor SharedEntity)) → map deref_pair ys ≡ m.entries → All (λ p. P (shared p.1.now)) ys → (q : EntityUID) → IfSome (held m q) P
+  held_so : (P : EntityView → Type 0) (ys : List (Bor EntityUID × Bor SharedEntity)) → map deref_pair ys ≡ m.entries
+      → All (λ p. P (shared p.1.now)) ys → (q : EntityUID) → IfSome (held m q) P
   held_so P ys whole h q =
       let Q : EntityUID × SharedEntity → Type 0 = λ e. P (shared e.1) in
-      found_so P q m.entries (recursion_from_All Q m.entries (All-same Q m.entries (map deref_pair ys) (sym whole) (All-map Q deref_pair ys h)))
+      found_so P q m.entries (recursion_from_All Q m.entries
+      (All-same Q m.entries (map deref_pair ys) (sym whole) (All-map Q deref_pair ys h)))
 
-  seen_so : (P : EntityView → Type 0) → ((q : EntityUID) → IfSome (held m q) P) → (q : EntityUID) → IfSome (finmap.get (held_map m) q) P
+  seen_so : (P : EntityView → Type 0) → ((q : EntityUID) → IfSome (held m q) P) → (q : EntityUID)
+      → IfSome (finmap.get (held_map m) q) P
   seen_so P h q = subst (λ o. IfSome o P) (sym (get_seen m q)) (h q)
 
   -- the first of all entries
-  pub first_of_all : UidsMatch m → (ys : List (Bor EntityUID × Bor SharedEntity)) → map deref_pair ys ≡ m.entries → (r : Option EntityView) → IsFirstOf (held m) (λ p. shared p.1.now) ys r
+  pub first_of_all : UidsMatch m → (ys : List (Bor EntityUID × Bor SharedEntity)) → map deref_pair ys ≡ m.entries
+      → (r : Option EntityView) → IsFirstOf (held m) (λ p. shared p.1.now) ys r
       → MatchOption r (AreAllValid (held_map m)) (IsFirstFaulty (held_map m))
   first_of_all match ys whole None h = seen_so IsValid (held_so IsValid ys whole h)
   first_of_all match ys whole (Some a) h = record {
     held = get_seen m a.uid ∙ h.0;
     faulty = h.1;
-    before = λ q l. before_at a.uid q (finmap.get (held_map m) q) l (seen_keyed m match q) (seen_so (ValidBefore a.uid) (held_so (ValidBefore a.uid) ys whole h.2) q);
+    before =
+        λ q l. before_at a.uid q (finmap.get (held_map m) q) l (seen_keyed m match q)
+        (seen_so (ValidBefore a.uid) (held_so (ValidBefore a.uid) ys whole h.2) q);
   }
 
 -- what is wrong with an entity, where nothing is with the graph
 pub told_of_first : (D : Held) (r : EntitiesError) → IsSound D → IsFirstFault D r → IsStoreFault D r
-told_of_first D r h f = other_fault (IsClosureRefused modes.EnforceAlreadyComputed D) (λ e. IsSound D × IsFirstFault D e) (λ t g. absurd g.1.fault) r (h, f)
+told_of_first D r h f =
+    other_fault (IsClosureRefused modes.EnforceAlreadyComputed D) (λ e. IsSound D × IsFirstFault D e)
+    (λ t g. absurd g.1.fault) r (h, f)

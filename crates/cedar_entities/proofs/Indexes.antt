@@ -1,5 +1,6 @@
 -- What becomes of the children that are listed, one uid after another and over a whole edit.
-use Rattle.std.specs.Prelude.{◌≡◌, ◌↔◌, Bool, true, false, cond, not, ◌&&◌, ◌||◌, List, Option, Some, None, Result, Ok, Err, IfOk, map}
+use Rattle.std.specs.Prelude.{◌≡◌, ◌↔◌, Bool, true, false, cond, not, ◌&&◌, ◌||◌, List, Option, Some, None, Result, Ok}
+use Rattle.std.specs.Prelude.{Err, IfOk, map}
 use Rattle.std.proofs.Common.{ap, sym, refl, subst, inl, inr, ◌∙◌}
 use Rattle.std.proofs.lemmas.Map.Made.{is_member-filter}
 use Rattle.std.proofs.lemmas.Bool.{and_parts, or_left, or_right, or_cases}
@@ -69,24 +70,31 @@ parent_held None p = refl
 parent_held (Some e) p = refl
 
 -- ancestors in a plain store are transitive
-pub plain_transitive : {S : Type 0} (m : HashMap EntityUID SharedEntity S) → IsPlainHeld (held_map m) → AreTransitive (held m)
-plain_transitive m plain = subst AreTransitive (sym (stored m (held_map m) refl)) (λ a b c p q. (reached a c).1 (reach_trans (graph plain.0) a b c ((reached a b).0 p) ((reached b c).0 q)))
+pub plain_transitive : {S : Type 0} (m : HashMap EntityUID SharedEntity S) → IsPlainHeld (held_map m)
+    → AreTransitive (held m)
+plain_transitive m plain =
+    subst AreTransitive (sym (stored m (held_map m) refl))
+    (λ a b c p q. (reached a c).1 (reach_trans (graph plain.0) a b c ((reached a b).0 p) ((reached b c).0 q)))
   where
     reached : (a b : EntityUID) → (ancestry (held_map m) a b ≡ true) ↔ Reach (graph plain.0) a b
     reached = ancestry_plain plain.0 (record { held = held_map m; partial = plain.0.partial }) plain.1
 
 -- over the entities of a plain store what lies below some uids is what an edit of these touches
-pub below_touched : (D : Held) → IsPlainHeld D → (child : EntityUID → EntityUID → Bool) → ((p q : EntityUID) → child p q ≡ parentage (finmap.get D) p q)
-    → (A : List EntityUID) (seen : EntityUID → Bool) → ((q : EntityUID) → (seen q ≡ true) ↔ IsBelow (λ a b. child b a) A q)
+pub below_touched : (D : Held) → IsPlainHeld D → (child : EntityUID → EntityUID → Bool)
+    → ((p q : EntityUID) → child p q ≡ parentage (finmap.get D) p q)
+    → (A : List EntityUID) (seen : EntityUID → Bool)
+    → ((q : EntityUID) → (seen q ≡ true) ↔ IsBelow (λ a b. child b a) A q)
     → (q : EntityUID) → seen q ≡ is_touched D A q
 below_touched D held child is A seen all q = same_bool (seen q) (is_touched D A q)
     (λ t. elim ((all q).0 t) [
       | inl m ↦ or_left (is_member same_uid A q) (list_any (ancestry D q) A) m
-      | inr r ↦ or_right (is_member same_uid A q) (list_any (ancestry D q) A) (any_member (ancestry D q) A r.0 r.1 ((plain q r.0).1 (subst (λ G. Reach G q r.0) same r.2)))
+      | inr r ↦ or_right (is_member same_uid A q) (list_any (ancestry D q) A)
+          (any_member (ancestry D q) A r.0 r.1 ((plain q r.0).1 (subst (λ G. Reach G q r.0) same r.2)))
     ])
     (λ t. elim (or_cases (is_member same_uid A q) (list_any (ancestry D q) A) t) [
       | inl m ↦ (all q).1 (inl m)
-      | inr k ↦ let f = any_found (ancestry D q) A k in (all q).1 (inr (f.0, f.1, subst (λ G. Reach G q f.0) (sym same) ((plain q f.0).0 f.2)))
+      | inr k ↦ let f = any_found (ancestry D q) A k in
+          (all q).1 (inr (f.0, f.1, subst (λ G. Reach G q f.0) (sym same) ((plain q f.0).0 f.2)))
     ])
   where
     W : World
@@ -108,16 +116,19 @@ unfolding parent_kept
 kept_parent None p = refl
 kept_parent (Some e) p = refl
 
-same_parents : (n o : Option EntityView) → option_map kept n ≡ option_map kept o → (p : EntityUID) → is_parent_at n p ≡ is_parent_at o p
+same_parents : (n o : Option EntityView) → option_map kept n ≡ option_map kept o → (p : EntityUID)
+    → is_parent_at n p ≡ is_parent_at o p
 same_parents n o same p = sym (kept_parent n p) ∙ ap (λ k. parent_kept k p) same ∙ kept_parent o p
 
 -- how an edit ends changes no parents
-pub settled_kept : (t : TCComputation) (touched : EntityUID → Bool) (D N : Held) → IsSettled t touched D N → (q : EntityUID) → option_map kept (finmap.get N q) ≡ option_map kept (finmap.get D q)
+pub settled_kept : (t : TCComputation) (touched : EntityUID → Bool) (D N : Held) → IsSettled t touched D N
+    → (q : EntityUID) → option_map kept (finmap.get N q) ≡ option_map kept (finmap.get D q)
 settled_kept modes.AssumeAlreadyComputed touched D N s q = ap (λ M. option_map kept (finmap.get M q)) s
 settled_kept modes.EnforceAlreadyComputed touched D N s q = ap (λ M. option_map kept (finmap.get M q)) s.0
 settled_kept modes.ComputeNow touched D N s q = s.0.parts q
 
-pub mended_kept : (t : TCComputation) (touched : EntityUID → Bool) (D N : Held) → IsMended t touched D N → (q : EntityUID) → option_map kept (finmap.get N q) ≡ option_map kept (finmap.get D q)
+pub mended_kept : (t : TCComputation) (touched : EntityUID → Bool) (D N : Held) → IsMended t touched D N
+    → (q : EntityUID) → option_map kept (finmap.get N q) ≡ option_map kept (finmap.get D q)
 mended_kept modes.AssumeAlreadyComputed touched D N s q = s.parts q
 mended_kept modes.EnforceAlreadyComputed touched D N s q = s.0.parts q
 mended_kept modes.ComputeNow touched D N s q = s.0.parts q
@@ -130,65 +141,92 @@ and_off : (b : Bool) → (b && false) ≡ false
 and_off true = refl
 and_off false = refl
 
-lessened_parents : (D : Held) (A : List EntityUID) (o : Option EntityView) (p : EntityUID) → is_parent_at (option_map (lessened D A) o) p ≡ is_parent_at o p
+lessened_parents : (D : Held) (A : List EntityUID) (o : Option EntityView) (p : EntityUID)
+    → is_parent_at (option_map (lessened D A) o) p ≡ is_parent_at o p
 lessened_parents D A None p = refl
 lessened_parents D A (Some e) p = refl
 
 -- the children after an overwriting
 pub children_over : (D N : Held) (L : List EntityView) (A : List EntityUID) (mid : EntityUID → Option EntityView)
-    → ((q : EntityUID) → is_member same_uid A q ≡ is_member same_uid (uids_of L) q) → ((q : EntityUID) → mid q ≡ finmap.get (put_over D L) q)
+    → ((q : EntityUID) → is_member same_uid A q ≡ is_member same_uid (uids_of L) q)
+    → ((q : EntityUID) → mid q ≡ finmap.get (put_over D L) q)
     → ((q : EntityUID) → option_map kept (finmap.get N q) ≡ option_map kept (finmap.get (put_over D L) q))
-    → (p q : EntityUID) → ((not (is_member same_uid A q) && is_parent_at (finmap.get D q) p) || (is_member same_uid A q && is_parent_at (mid q) p)) ≡ parentage (finmap.get N) p q
+    → (p q : EntityUID)
+    → ((not (is_member same_uid A q) && is_parent_at (finmap.get D q) p)
+    || (is_member same_uid A q && is_parent_at (mid q) p)) ≡ parentage (finmap.get N) p q
 children_over D N L A mid same is keeps p q = at (is_member same_uid A q) refl
   where
     after : parentage (finmap.get N) p q ≡ is_parent_at (finmap.get (put_over D L) q) p
     after = same_parents (finmap.get N q) (finmap.get (put_over D L) q) (keeps q) p
 
-    at : (b : Bool) → is_member same_uid A q ≡ b → ((not b && is_parent_at (finmap.get D q) p) || (b && is_parent_at (mid q) p)) ≡ parentage (finmap.get N) p q
+    at : (b : Bool) → is_member same_uid A q ≡ b
+        → ((not b && is_parent_at (finmap.get D q) p) || (b && is_parent_at (mid q) p)) ≡ parentage (finmap.get N) p q
     at true t = ap (λ o. is_parent_at o p) (is q) ∙ sym after
     at false t =
         or_off (is_parent_at (finmap.get D q) p)
-        ∙ sym (after ∙ ap (λ o. is_parent_at o p) (get_put_over D L q ∙ ap (λ o. option_or o (option_map (lessened D (uids_of L)) (finmap.get D q))) (is_none (last_entity L q) (last_some L q ∙ sym (same q) ∙ t)))
+        ∙ sym (after
+        ∙ ap (λ o. is_parent_at o p) (get_put_over D L q
+        ∙ ap (λ o. option_or o (option_map (lessened D (uids_of L)) (finmap.get D q)))
+        (is_none (last_entity L q) (last_some L q ∙ sym (same q) ∙ t)))
         ∙ lessened_parents D (uids_of L) (finmap.get D q) p)
 
 -- after a removal
 pub children_out : (D N : Held) (U A : List EntityUID) → ((q : EntityUID) → is_member same_uid A q ≡ leaves D U q)
     → ((q : EntityUID) → option_map kept (finmap.get N q) ≡ option_map kept (finmap.get (taken_out D U) q))
-    → (p q : EntityUID) → (not (is_member same_uid A p) && (not (is_member same_uid A q) && is_parent_at (finmap.get D q) p)) ≡ parentage (finmap.get N) p q
+    → (p q : EntityUID)
+    → (not (is_member same_uid A p) && (not (is_member same_uid A q) && is_parent_at (finmap.get D q) p))
+    ≡ parentage (finmap.get N) p q
 children_out D N U A same keeps p q = at (leaves D U q) refl ∙ sym after
   where
-    after : parentage (finmap.get N) p q ≡ is_parent_at (option_map (remains D U) (cond (not (leaves D U q)) (finmap.get D q) None)) p
-    after = same_parents (finmap.get N q) (finmap.get (taken_out D U) q) (keeps q) p ∙ ap (λ o. is_parent_at o p) (get_taken_out D U q)
+    after : parentage (finmap.get N) p q ≡ is_parent_at
+        (option_map (remains D U) (cond (not (leaves D U q)) (finmap.get D q) None)) p
+    after = same_parents (finmap.get N q) (finmap.get (taken_out D U) q) (keeps q) p
+        ∙ ap (λ o. is_parent_at o p) (get_taken_out D U q)
 
-    stays : (o : Option EntityView) → (not (is_member same_uid A p) && is_parent_at o p) ≡ is_parent_at (option_map (remains D U) o) p
+    stays : (o : Option EntityView) → (not (is_member same_uid A p) && is_parent_at o p)
+        ≡ is_parent_at (option_map (remains D U) o) p
     stays None = and_off (not (is_member same_uid A p))
-    stays (Some e) = and_both (not (is_member same_uid A p)) (set.contains e.parents p) ∙ ap (λ b. set.contains e.parents p && not b) (same p) ∙ sym (kept_in e.parents (leaves D U) p)
+    stays (Some e) = and_both (not (is_member same_uid A p)) (set.contains e.parents p)
+        ∙ ap (λ b. set.contains e.parents p && not b) (same p) ∙ sym (kept_in e.parents (leaves D U) p)
 
-    at : (b : Bool) → leaves D U q ≡ b → (not (is_member same_uid A p) && (not (is_member same_uid A q) && is_parent_at (finmap.get D q) p)) ≡ is_parent_at (option_map (remains D U) (cond (not b) (finmap.get D q) None)) p
-    at true t = ap (λ b. not (is_member same_uid A p) && (not b && is_parent_at (finmap.get D q) p)) (same q ∙ t) ∙ and_off (not (is_member same_uid A p))
-    at false t = ap (λ b. not (is_member same_uid A p) && (not b && is_parent_at (finmap.get D q) p)) (same q ∙ t) ∙ stays (finmap.get D q)
+    at : (b : Bool) → leaves D U q ≡ b
+        → (not (is_member same_uid A p) && (not (is_member same_uid A q) && is_parent_at (finmap.get D q) p))
+        ≡ is_parent_at (option_map (remains D U) (cond (not b) (finmap.get D q) None)) p
+    at true t = ap (λ b. not (is_member same_uid A p) && (not b && is_parent_at (finmap.get D q) p)) (same q ∙ t)
+        ∙ and_off (not (is_member same_uid A p))
+    at false t = ap (λ b. not (is_member same_uid A p) && (not b && is_parent_at (finmap.get D q) p)) (same q ∙ t)
+        ∙ stays (finmap.get D q)
 
 -- after an adding
-pub children_in : (D N : Held) (L : List EntityView) (A : List EntityUID) (mid : EntityUID → Option EntityView) → ((q : EntityUID) → is_member same_uid A q ≡ is_member same_uid (inserted_in D L) q)
+pub children_in : (D N : Held) (L : List EntityView) (A : List EntityUID) (mid : EntityUID → Option EntityView)
+    → ((q : EntityUID) → is_member same_uid A q ≡ is_member same_uid (inserted_in D L) q)
     → ((q : EntityUID) → mid q ≡ finmap.get (with_first D L) q)
     → ((q : EntityUID) → option_map kept (finmap.get N q) ≡ option_map kept (finmap.get (with_first D L) q))
-    → (p q : EntityUID) → (parentage (finmap.get D) p q || (is_member same_uid A q && is_parent_at (mid q) p)) ≡ parentage (finmap.get N) p q
+    → (p q : EntityUID) → (parentage (finmap.get D) p q || (is_member same_uid A q && is_parent_at (mid q) p))
+    ≡ parentage (finmap.get N) p q
 children_in D N L A mid same is keeps p q = at (is_member same_uid (inserted_in D L) q) refl ∙ sym after
   where
     after : parentage (finmap.get N) p q ≡ is_parent_at (finmap.get (with_first D L) q) p
     after = same_parents (finmap.get N q) (finmap.get (with_first D L) q) (keeps q) p
 
     absent : is_member same_uid (inserted_in D L) q ≡ true → finmap.get D q ≡ None
-    absent t = is_none (finmap.get D q) (not_true (is_some (finmap.get D q)) (and_parts (is_member same_uid (uids_of L) q) (not (finmap.contains_key D q))
-        (sym (is_member-filter same_uid_equiv (λ u. not (finmap.contains_key D u)) q (λ x e. ap (λ u. not (finmap.contains_key D u)) ((same_uid_decides q x).0 e)) (uids_of L)) ∙ t)).1)
+    absent t =
+        is_none (finmap.get D q) (not_true (is_some (finmap.get D q))
+        (and_parts (is_member same_uid (uids_of L) q) (not (finmap.contains_key D q))
+        (sym (is_member-filter same_uid_equiv (λ u. not (finmap.contains_key D u)) q
+        (λ x e. ap (λ u. not (finmap.contains_key D u)) ((same_uid_decides q x).0 e)) (uids_of L)) ∙ t)).1)
       where
         not_true : (b : Bool) → not b ≡ true → b ≡ false
         not_true true h = sym h
         not_true false h = refl
 
-    at : (b : Bool) → is_member same_uid (inserted_in D L) q ≡ b → (parentage (finmap.get D) p q || (is_member same_uid A q && is_parent_at (mid q) p)) ≡ is_parent_at (finmap.get (with_first D L) q) p
-    at true t = ap (λ o. is_parent_at o p || (is_member same_uid A q && is_parent_at (mid q) p)) (absent t) ∙ ap (λ b. b && is_parent_at (mid q) p) (same q ∙ t) ∙ ap (λ o. is_parent_at o p) (is q)
-    at false t = ap (λ b. parentage (finmap.get D) p q || (b && is_parent_at (mid q) p)) (same q ∙ t) ∙ or_off (parentage (finmap.get D) p q) ∙ ap (λ o. is_parent_at o p) (sym (added_same D L q t))
+    at : (b : Bool) → is_member same_uid (inserted_in D L) q ≡ b
+        → (parentage (finmap.get D) p q || (is_member same_uid A q && is_parent_at (mid q) p))
+        ≡ is_parent_at (finmap.get (with_first D L) q) p
+    at true t = ap (λ o. is_parent_at o p || (is_member same_uid A q && is_parent_at (mid q) p)) (absent t)
+        ∙ ap (λ b. b && is_parent_at (mid q) p) (same q ∙ t) ∙ ap (λ o. is_parent_at o p) (is q)
+    at false t = ap (λ b. parentage (finmap.get D) p q || (b && is_parent_at (mid q) p)) (same q ∙ t)
+        ∙ or_off (parentage (finmap.get D) p q) ∙ ap (λ o. is_parent_at o p) (sym (added_same D L q t))
 
 -- some fact of what was found follows from another
 pub if_some : {X : Type 0} (P Q : X → Type 0) (o : Option X) → ((x : X) → P x → Q x) → IfSome o P → IfSome o Q
@@ -204,37 +242,62 @@ pub some_shared : (o : Option SharedEntity) → is_some o ≡ is_some (option_ma
 some_shared None = refl
 some_shared (Some n) = refl
 
--- where entities are put over those of a plain store and what that touches is closed, they are those of a plain store again
-pub plain_over : (D : Held) → IsPlainHeld D → (L : List EntityView) → AreBare L → (t : TCComputation) → t ≡ modes.ComputeNow → (N : Held) → IsSettled t (is_touched D (uids_of L)) (put_over D L) N → IsPlainHeld N
+-- where entities are put over those of a plain store and what that touches is closed, they are those of a plain store
+-- again
+pub plain_over : (D : Held) → IsPlainHeld D → (L : List EntityView) → AreBare L → (t : TCComputation)
+    → t ≡ modes.ComputeNow → (N : Held) → IsSettled t (is_touched D (uids_of L)) (put_over D L) N → IsPlainHeld N
 plain_over D held L bare t is N s =
     let W = held.0 in (
       overwritten W (map given_of L),
-      subst (λ m. WhereComputed m (IsPlainStore (overwritten W (map given_of L)) (record { held = N; partial = W.partial }))) is
-          (over_plain W (record { held = D; partial = W.partial }) L held.1 bare t (record { held = N; partial = W.partial }) refl s),
+      subst (λ m.
+          WhereComputed m
+          (IsPlainStore (overwritten W (map given_of L)) (record { held = N; partial = W.partial }))) is
+          (over_plain W (record { held = D; partial = W.partial }) L held.1 bare t
+          (record { held = N; partial = W.partial }) refl s),
     )
 
 -- the same where they are added
-pub plain_in : (D : Held) → IsPlainHeld D → (L : List EntityView) → AreBare L → (t : TCComputation) → t ≡ modes.ComputeNow → (N : Held) → IsSettled t (is_touched D (inserted_in D L)) (with_first D L) N → IsPlainHeld N
+pub plain_in : (D : Held) → IsPlainHeld D → (L : List EntityView) → AreBare L → (t : TCComputation)
+    → t ≡ modes.ComputeNow → (N : Held) → IsSettled t (is_touched D (inserted_in D L)) (with_first D L) N
+    → IsPlainHeld N
 plain_in D held L bare t is N s =
     let W = held.0 in (
       added W (map given_of L),
-      subst (λ m. WhereComputed m (IsPlainStore (added W (map given_of L)) (record { held = N; partial = W.partial }))) is
-          (settled_plain W (record { held = D; partial = W.partial }) L held.1 bare t (record { held = N; partial = W.partial }) refl s),
+      subst (λ m.
+          WhereComputed m (IsPlainStore (added W (map given_of L)) (record { held = N; partial = W.partial }))) is
+          (settled_plain W (record { held = D; partial = W.partial }) L held.1 bare t
+          (record { held = N; partial = W.partial }) refl s),
     )
 
 -- and where some are taken out, in each mode
-pub plain_out : (D : Held) → IsPlainHeld D → (U : List EntityUID) (t : TCComputation) (N : Held) → IsMended t (is_touched D (removed_from D U)) (taken_out D U) N → IsPlainHeld N
+pub plain_out : (D : Held) → IsPlainHeld D → (U : List EntityUID) (t : TCComputation) (N : Held)
+    → IsMended t (is_touched D (removed_from D U)) (taken_out D U) N → IsPlainHeld N
 plain_out D held U t N s =
-    let W = held.0 in
-    (deleted W U, mended_plain W (record { held = D; partial = W.partial }) U held.1 t (record { held = N; partial = W.partial }) refl s)
+    let W = held.0 in (
+      deleted W U,
+      mended_plain W (record { held = D; partial = W.partial }) U held.1 t
+          (record { held = N; partial = W.partial }) refl s,
+    )
 
 -- a store is plain whether it is partial or not
 pub plain_held : (W : World) (S : StoreView) → IsPlainStore W S → IsPlainHeld S.held
-plain_held W S p = (W, record { partial = refl; holds = p.holds; keyed = p.keyed; reached = p.reached; apart = p.apart; acyclic = p.acyclic })
+plain_held W S p = (
+  W,
+  record {
+    partial = refl;
+    holds = p.holds;
+    keyed = p.keyed;
+    reached = p.reached;
+    apart = p.apart;
+    acyclic = p.acyclic;
+  },
+)
 
 -- the children by what the map has are those by what is held
-pub children_seen : {S T H : Type 0} (n : HashMap EntityUID SharedEntity T) (o : Option (Children S H)) → IfSome o (HasChildren (parentage (held n))) → IfSome o (HasChildren (parentage (finmap.get (held_map n))))
+pub children_seen : {S T H : Type 0} (n : HashMap EntityUID SharedEntity T) (o : Option (Children S H))
+    → IfSome o (HasChildren (parentage (held n))) → IfSome o (HasChildren (parentage (finmap.get (held_map n))))
 children_seen n o = subst (λ f. IfSome o (HasChildren (parentage f))) (stored n (held_map n) refl)
 
-pub children_back : {S T H : Type 0} (n : HashMap EntityUID SharedEntity T) (D : Held) (o : Option (Children S H)) → held_map n ≡ D → IfSome o (HasChildren (parentage (finmap.get D))) → IfSome o (HasChildren (parentage (held n)))
+pub children_back : {S T H : Type 0} (n : HashMap EntityUID SharedEntity T) (D : Held) (o : Option (Children S H))
+    → held_map n ≡ D → IfSome o (HasChildren (parentage (finmap.get D))) → IfSome o (HasChildren (parentage (held n)))
 children_back n D o is = subst (λ f. IfSome o (HasChildren (parentage f))) (sym (stored n D is))

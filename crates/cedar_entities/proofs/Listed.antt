@@ -16,11 +16,13 @@ use Rattle.cedar_entities.specs.Present.{keyed}
 use Rattle.cedar_entity.specs.View.{EntityView}
 use Rattle.cedar_entities.proofs.StoreMaps.{len_seen}
 
-listed_keyed : {S : Type 0} (m : HashMap EntityUID SharedEntity S) → UidsMatch m → (es : List (EntityUID × SharedEntity)) → AllByRecursion (λ e. get same_uid m e.0 ≡ Some e.1) es
+listed_keyed : {S : Type 0} (m : HashMap EntityUID SharedEntity S) → UidsMatch m
+    → (es : List (EntityUID × SharedEntity)) → AllByRecursion (λ e. get same_uid m e.0 ≡ Some e.1) es
     → map keyed (map (λ e. shared e.1) es) ≡ map (λ e. (e.0, shared e.1)) es
 listed_keyed m match [] h = refl
 listed_keyed m match (e ∷ es) h =
-    let same : same_uid e.0 (shared e.1).uid ≡ true = subst (λ o. IfSome o (λ v. same_uid e.0 (shared v).uid ≡ true)) h.0 (match e.0) in
+    let same : same_uid e.0 (shared e.1).uid ≡ true =
+    subst (λ o. IfSome o (λ v. same_uid e.0 (shared v).uid ≡ true)) h.0 (match e.0) in
     λ i. (sym ((same_uid_decides e.0 (shared e.1).uid).0 same) i, shared e.1) ∷ listed_keyed m match es h.1 i
 
 length_listed : (es : List (EntityUID × SharedEntity)) → length {A = EntityView} (map (λ e. shared e.1) es) ≡ length es
@@ -28,8 +30,12 @@ length_listed [] = refl
 length_listed (e ∷ es) = ap suc (length_listed es)
 
 -- the entities of the entries, each once
-pub lists_held : {S : Type 0} (m : HashMap EntityUID SharedEntity S) → UidsMatch m → All (λ e. get same_uid m e.0 ≡ Some e.1) m.entries → IsDistinct same_uid (keys m) → ListsHeld (held_map m) (map (λ e. shared e.1) m.entries)
+pub lists_held : {S : Type 0} (m : HashMap EntityUID SharedEntity S) → UidsMatch m
+    → All (λ e. get same_uid m e.0 ≡ Some e.1) m.entries → IsDistinct same_uid (keys m)
+    → ListsHeld (held_map m) (map (λ e. shared e.1) m.entries)
 lists_held m match found distinct = record {
-  held = ap (λ es. finmap.from_entries es) (listed_keyed m match m.entries (recursion_from_All (λ e. get same_uid m e.0 ≡ Some e.1) m.entries found));
+  held =
+      ap (λ es. finmap.from_entries es)
+      (listed_keyed m match m.entries (recursion_from_All (λ e. get same_uid m e.0 ≡ Some e.1) m.entries found));
   once = length_listed m.entries ∙ len_seen m distinct;
 }

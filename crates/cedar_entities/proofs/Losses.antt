@@ -1,5 +1,6 @@
 -- What is read of the store once for all uids of an edit, and what that comes to.
-use Rattle.std.specs.Prelude.{◌≡◌, ◌+◌, Bool, true, false, not, ◌&&◌, ◌||◌, List, [], ◌∷◌, ◌++◌, Option, Some, None, length}
+use Rattle.std.specs.Prelude.{◌≡◌, ◌+◌, Bool, true, false, not, ◌&&◌, ◌||◌, List, [], ◌∷◌, ◌++◌, Option, Some, None}
+use Rattle.std.specs.Prelude.{length}
 use Rattle.std.proofs.Common.{ap, arith, sym, refl, subst, inl, inr, ◌∙◌, get_or, take_all}
 use Rattle.std.proofs.lemmas.Bool.{and_parts, and_from, or_cases, or_right}
 use Rattle.std.proofs.lemmas.List.Folds.{list_any-append}
@@ -46,19 +47,25 @@ stripped_touched false true = refl
 stripped_touched false false = refl
 
 -- of the hits T holds for one where it does for one of the list that is hit
-pub any_hit : (h T : EntityUID → Bool) (hits A : List EntityUID) → ((q : EntityUID) → is_member same_uid hits q ≡ (is_member same_uid A q && h q)) → list_any T hits ≡ list_any (λ u. h u && T u) A
+pub any_hit : (h T : EntityUID → Bool) (hits A : List EntityUID)
+    → ((q : EntityUID) → is_member same_uid hits q ≡ (is_member same_uid A q && h q))
+    → list_any T hits ≡ list_any (λ u. h u && T u) A
 any_hit h T hits A is = same_bool (list_any T hits) (list_any (λ u. h u && T u) A)
-    (λ t. let r = any_found T hits t in let p = and_parts (is_member same_uid A r.0) (h r.0) (sym (is r.0) ∙ r.1) in any_member (λ u. h u && T u) A r.0 p.0 (and_from (h r.0) (T r.0) p.1 r.2))
-    (λ t. let r = any_found (λ u. h u && T u) A t in let p = and_parts (h r.0) (T r.0) r.2 in any_member T hits r.0 (is r.0 ∙ and_from (is_member same_uid A r.0) (h r.0) r.1 p.0) p.1)
+    (λ t. let r = any_found T hits t in let p = and_parts (is_member same_uid A r.0) (h r.0) (sym (is r.0) ∙ r.1) in
+    any_member (λ u. h u && T u) A r.0 p.0 (and_from (h r.0) (T r.0) p.1 r.2))
+    (λ t. let r = any_found (λ u. h u && T u) A t in let p = and_parts (h r.0) (T r.0) r.2 in
+    any_member T hits r.0 (is r.0 ∙ and_from (is_member same_uid A r.0) (h r.0) r.1 p.0) p.1)
 
 -- where ancestors are transitive, what goes with a uid that goes with another goes with that too
-takes_on : (f : EntityUID → Option EntityView) → AreTransitive f → (h u w : EntityUID) → takes f h u ≡ true → takes f u w ≡ true → takes f h w ≡ true
+takes_on : (f : EntityUID → Option EntityView) → AreTransitive f → (h u w : EntityUID) → takes f h u ≡ true
+    → takes f u w ≡ true → takes f h w ≡ true
 takes_on f further h u w t v =
     let p = and_parts (is_some (f h)) (same_uid h u || is_ancestor_in (f h) u) t in
     let r = and_parts (is_some (f u)) (same_uid u w || is_ancestor_in (f u) w) v in
     elim (or_cases (same_uid h u) (is_ancestor_in (f h) u) p.1) [
       | inl same ↦ subst (λ x. takes f x w ≡ true) (sym ((same_uid_decides h u).0 same)) v
-      | inr above ↦ and_from (is_some (f h)) (same_uid h w || is_ancestor_in (f h) w) p.0 (or_right (same_uid h w) (is_ancestor_in (f h) w)
+      | inr above ↦ and_from (is_some (f h)) (same_uid h w || is_ancestor_in (f h) w) p.0
+          (or_right (same_uid h w) (is_ancestor_in (f h) w)
           (elim (or_cases (same_uid u w) (is_ancestor_in (f u) w) r.1) [
             | inl same ↦ subst (λ x. is_ancestor_in (f h) x ≡ true) ((same_uid_decides u w).0 same) above
             | inr more ↦ further h u w above more
@@ -68,9 +75,11 @@ takes_on f further h u w t v =
 -- so one that has gone with some takes nothing more with it
 pub covered : (f : EntityUID → Option EntityView) → AreTransitive f → (A : List EntityUID) (u w : EntityUID)
     → list_any (λ h. takes f h u) A ≡ true → takes f u w ≡ true → list_any (λ h. takes f h w) A ≡ true
-covered f further A u w t v = let r = any_found (λ h. takes f h u) A t in any_member (λ h. takes f h w) A r.0 r.1 (takes_on f further r.0 u w r.2 v)
+covered f further A u w t v = let r = any_found (λ h. takes f h u) A t in
+    any_member (λ h. takes f h w) A r.0 r.1 (takes_on f further r.0 u w r.2 v)
 
-pub counts_push : (done : List Counted) (a : Counted) (q : EntityUID) → counts (done ++ a ∷ []) q ≡ (counts done q || same_uid a.uid q)
+pub counts_push : (done : List Counted) (a : Counted) (q : EntityUID)
+    → counts (done ++ a ∷ []) q ≡ (counts done q || same_uid a.uid q)
 counts_push done a q =
     list_any-append (λ (x : Counted). same_uid q x.uid) done (a ∷ [])
     ∙ ap (λ b. counts done q || b) (last (same_uid q a.uid) ∙ sym (same_uid_equiv.symm a.uid q))
@@ -80,17 +89,23 @@ counts_push done a q =
     last false = refl
 
 -- what a test says of a list of one
-pub any_one : (T : EntityUID → Bool) (xs : List EntityUID) (k : EntityUID) → length xs ≡ 1 → k ≡ get_or xs 0 k → T k ≡ list_any T xs
+pub any_one : (T : EntityUID → Bool) (xs : List EntityUID) (k : EntityUID) → length xs ≡ 1 → k ≡ get_or xs 0 k
+    → T k ≡ list_any T xs
 any_one T xs k one is = sym (any_more T xs 0 k (omega arith) is) ∙ ap (list_any T) (take_all (0 + 1) xs (omega arith))
 
 -- a difference keeps what the other set lacks
 pub difference_kept : (s t : UidValues) → set.difference s t ≡ set.retain s (λ p. not (set.contains t p))
-difference_kept s t = set.same_set uid_order_total one_equal _ _ (λ x. set.contains-difference uid_order_total s t x ∙ sym (kept_in s (set.contains t) x))
+difference_kept s t =
+    set.same_set uid_order_total one_equal _ _
+    (λ x. set.contains-difference uid_order_total s t x ∙ sym (kept_in s (set.contains t) x))
 
 -- lists with the same members lessen alike
-pub lessened_alike : (D : Held) (A B : List EntityUID) → ((q : EntityUID) → is_member same_uid A q ≡ is_member same_uid B q) → (o : Option EntityView) → option_map (lessened D A) o ≡ option_map (lessened D B) o
+pub lessened_alike : (D : Held) (A B : List EntityUID)
+    → ((q : EntityUID) → is_member same_uid A q ≡ is_member same_uid B q) → (o : Option EntityView)
+    → option_map (lessened D A) o ≡ option_map (lessened D B) o
 lessened_alike D A B same None = refl
-lessened_alike D A B same (Some e) = λ i. Some (record e { indirect = set.retain e.indirect (λ w. not (any_alike (goes_with D e w) A B same i)) })
+lessened_alike D A B same (Some e) =
+    λ i. Some (record e { indirect = set.retain e.indirect (λ w. not (any_alike (goes_with D e w) A B same i)) })
 
 absorb : (x g : Bool) → (g || (x && g)) ≡ g
 absorb true true = refl
@@ -98,18 +113,24 @@ absorb true false = refl
 absorb false true = refl
 absorb false false = refl
 
-module _ (D : Held) (A : List EntityUID) (R : List Loss) (who : (q : EntityUID) → loses R q ≡ is_stripped A q (ancestry D q)) (lost : AllByRecursion (IsLossOf (finmap.get D) A) R) (q : EntityUID) where
-  by_loss : (e : EntityView) → finmap.get D q ≡ Some e → (w : EntityUID) (S : List Loss) → AllByRecursion (IsLossOf (finmap.get D) A) S → loses_uid S q w ≡ (loses S q && list_any (goes_with D e w) A)
+module _ (D : Held) (A : List EntityUID) (R : List Loss)
+    (who : (q : EntityUID) → loses R q ≡ is_stripped A q (ancestry D q))
+    (lost : AllByRecursion (IsLossOf (finmap.get D) A) R) (q : EntityUID) where
+  by_loss : (e : EntityView) → finmap.get D q ≡ Some e → (w : EntityUID) (S : List Loss)
+      → AllByRecursion (IsLossOf (finmap.get D) A) S → loses_uid S q w ≡ (loses S q && list_any (goes_with D e w) A)
   by_loss e is w [] h = refl
   by_loss e is w (a ∷ S) h = at (same_uid q a.uid) refl (by_loss e is w S h.1)
     where
       here : same_uid q a.uid ≡ true → set.contains a.lost w ≡ list_any (goes_with D e w) A
       here t =
-          h.0 w ∙ ap (λ x. list_any (λ u. is_ancestor_in (finmap.get D x) u && takes (finmap.get D) u w) A) (sym ((same_uid_decides q a.uid).0 t))
+          h.0 w ∙ ap (λ x. list_any (λ u. is_ancestor_in (finmap.get D x) u && takes (finmap.get D) u w) A)
+          (sym ((same_uid_decides q a.uid).0 t))
           ∙ ap (λ o. list_any (λ u. is_ancestor_in o u && takes (finmap.get D) u w) A) is
-          ∙ ap (λ f. list_any f A) (λ i u. and_turn (has_ancestor e u) (is_some (finmap.get D u)) (same_uid u w || ancestry D u w) i)
+          ∙ ap (λ f. list_any f A)
+          (λ i u. and_turn (has_ancestor e u) (is_some (finmap.get D u)) (same_uid u w || ancestry D u w) i)
 
-      at : (b : Bool) → same_uid q a.uid ≡ b → loses_uid S q w ≡ (loses S q && list_any (goes_with D e w) A) → ((b && set.contains a.lost w) || loses_uid S q w) ≡ ((b || loses S q) && list_any (goes_with D e w) A)
+      at : (b : Bool) → same_uid q a.uid ≡ b → loses_uid S q w ≡ (loses S q && list_any (goes_with D e w) A)
+          → ((b && set.contains a.lost w) || loses_uid S q w) ≡ ((b || loses S q) && list_any (goes_with D e w) A)
       at true t more =
           ap (λ c. c || loses_uid S q w) (here t) ∙ ap (λ c. list_any (goes_with D e w) A || c) more
           ∙ absorb (loses S q) (list_any (goes_with D e w) A)
@@ -120,18 +141,26 @@ module _ (D : Held) (A : List EntityUID) (R : List Loss) (who : (q : EntityUID) 
   loses_below out = who q ∙ ap (λ m. not m && list_any (ancestry D q) A) out
 
   -- and what goes from it is what goes with one of them
-  pub goes_by_loss : is_member same_uid A q ≡ false → (e : EntityView) → finmap.get D q ≡ Some e → (w : EntityUID) → loses_uid R q w ≡ list_any (goes_with D e w) A
+  pub goes_by_loss : is_member same_uid A q ≡ false → (e : EntityView) → finmap.get D q ≡ Some e → (w : EntityUID)
+      → loses_uid R q w ≡ list_any (goes_with D e w) A
   goes_by_loss out e is w =
-      by_loss e is w R lost ∙ ap (λ b. b && list_any (goes_with D e w) A) (loses_below out ∙ ap (λ o. list_any (is_ancestor_in o) A) is)
+      by_loss e is w R lost
+      ∙ ap (λ b. b && list_any (goes_with D e w) A) (loses_below out ∙ ap (λ o. list_any (is_ancestor_in o) A) is)
       ∙ within (list_any (has_ancestor e) A) (list_any (goes_with D e w) A)
       (λ t. let r = any_found (goes_with D e w) A t in
-      any_member (has_ancestor e) A r.0 r.1 (and_parts (is_some (finmap.get D r.0)) (has_ancestor e r.0) (and_parts (is_some (finmap.get D r.0) && has_ancestor e r.0) (same_uid r.0 w || ancestry D r.0 w) r.2).0).1)
+      any_member (has_ancestor e) A r.0 r.1 (and_parts (is_some (finmap.get D r.0)) (has_ancestor e r.0)
+      (and_parts (is_some (finmap.get D r.0) && has_ancestor e r.0)
+      (same_uid r.0 w || ancestry D r.0 w) r.2).0).1)
 
   -- it is stripped of just that
-  pub stripped_at : is_member same_uid A q ≡ false → (none : UidValues) → none ≡ set.empty → (o : Option EntityView) → finmap.get D q ≡ o
+  pub stripped_at : is_member same_uid A q ≡ false → (none : UidValues) → none ≡ set.empty → (o : Option EntityView)
+      → finmap.get D q ≡ o
       → option_map (stripped (λ p. loses R q && set.contains none p) (loses_uid R q)) o ≡ option_map (lessened D A) o
   stripped_at out none n None is = refl
   stripped_at out none n (Some e) is = λ i. Some (record e {
-    parents = none_retained e.parents (λ p. loses R q && set.contains none p) (λ x t. ap (λ b. loses R q && b) (ap (λ s. set.contains s x) n ∙ set.contains-empty uid_order x) ∙ and_off (loses R q)) i;
+    parents =
+        none_retained e.parents (λ p. loses R q && set.contains none p)
+        (λ x t. ap (λ b. loses R q && b) (ap (λ s. set.contains s x) n ∙ set.contains-empty uid_order x)
+        ∙ and_off (loses R q)) i;
     indirect = set.retain e.indirect (λ w. not (goes_by_loss out e is w i));
   })

@@ -1,7 +1,9 @@
 -- Overwriting, over any store and over the plain store of a world.
-use Rattle.std.specs.Prelude.{◌≡◌, ◌↔◌, ◌⊎◌, Bool, true, false, cond, not, ◌&&◌, ◌||◌, List, [], ◌∷◌, ◌++◌, Option, Some, None, map}
+use Rattle.std.specs.Prelude.{◌≡◌, ◌↔◌, ◌⊎◌, Bool, true, false, cond, not, ◌&&◌, ◌||◌, List, [], ◌∷◌, ◌++◌, Option}
+use Rattle.std.specs.Prelude.{Some, None, map}
 use Rattle.std.proofs.Common.{inl, inr, ap, sym, refl, subst, ◌∙◌}
-use Rattle.std.proofs.lemmas.Bool.{and_from, and_parts, both_ways, false_from_ne_true, or_cases, or_left, or_parts, or_right}
+use Rattle.std.proofs.lemmas.Bool.{and_from, and_parts, both_ways, false_from_ne_true, or_cases, or_left, or_parts}
+use Rattle.std.proofs.lemmas.Bool.{or_right}
 use Rattle.std.specs.Option.{option_or, option_map, IfSome, is_some}
 use Rattle.std.specs.List.{AllByRecursion, list_any}
 use Rattle.std.specs.Set.{is_member}
@@ -19,17 +21,20 @@ use Rattle.cedar_entity.specs.declared.err.EntitiesError.{EntitiesError}
 use Rattle.cedar_entities.specs.Edits.{uids_of, goes_with, lessened, put_over}
 use Rattle.cedar_entities.specs.laws.Edits.{last_entity}
 use Rattle.cedar_entities.specs.Modes.{ancestry, is_ancestor_in, IsClosureRefused, WhereComputed}
-use Rattle.cedar_entities.specs.Plain.{StoreView, Held, IsPlainStore, IsKeyed, IsApart, IsBare, AreBare, parts_of, given_of}
+use Rattle.cedar_entities.specs.Plain.{StoreView, Held, IsPlainStore, IsKeyed, IsApart, IsBare, AreBare, parts_of}
+use Rattle.cedar_entities.specs.Plain.{given_of}
 use Rattle.cedar_entities.specs.Present.{first_entity, keyed}
 use Rattle.cedar_entities.specs.Refusals.{MatchRefusal, IsOverwritingRefused}
 use Rattle.cedar_entities.specs.laws.Refusals.{refusal_cases}
-use Rattle.cedar_entities.specs.Touching.{is_touched, is_indirect_in, IsSettled, LosesBetween, StaysUntouched, WhereTaken, StripsBetween}
+use Rattle.cedar_entities.specs.Touching.{is_touched, is_indirect_in, IsSettled, LosesBetween, StaysUntouched}
+use Rattle.cedar_entities.specs.Touching.{WhereTaken, StripsBetween}
 use Rattle.cedar_entities.specs.World.{World, graph, is_parent_in, entry_of, reversed, overwritten}
 use Rattle.cedar_entities.specs.declared.entities.TCComputation.{TCComputation}
 use Rattle.cedar_entities.specs.declared.entities.TCComputation.TheVariants as modes
 use Rattle.cedar_entities.specs.laws.Lists.{all_push}
 use Rattle.cedar_entities.specs.laws.Worlds.{get_joined, find-append, find-mapped, get_overwritten}
-use Rattle.cedar_entities.proofs.PlainStores.{plain_from, cycle_in, found_parts, map_or, if_or, first_all, first_keyed, bare_apart, bare_leads}
+use Rattle.cedar_entities.proofs.PlainStores.{plain_from, cycle_in, found_parts, map_or, if_or, first_all, first_keyed}
+use Rattle.cedar_entities.proofs.PlainStores.{bare_apart, bare_leads}
 use Rattle.cedar_entities.proofs.Reaching.{first_edge, kept_over, untouched}
 use Rattle.cedar_entities.proofs.AnyOf.{any_member, any_found, is_none, untouched_at}
 use Rattle.cedar_entities.specs.laws.PlainAncestors.{ancestry_plain}
@@ -51,16 +56,19 @@ all_reversed : {X : Type 0} (P : X → Type 0) (xs : List X) → AllByRecursion 
 all_reversed P [] a = tt
 all_reversed P (x ∷ xs) a = all_push P (reversed xs) x (all_reversed P xs a.1) a.0
 
-last_parts : (L : List EntityView) (q : EntityUID) → finmap.find uid_order q (reversed (map entry_of (map given_of L))) ≡ option_map parts_of (last_entity L q)
+last_parts : (L : List EntityView) (q : EntityUID)
+    → finmap.find uid_order q (reversed (map entry_of (map given_of L))) ≡ option_map parts_of (last_entity L q)
 last_parts L q =
     ap (finmap.find uid_order q) (map_reversed entry_of (map given_of L) ∙ ap (map entry_of) (map_reversed given_of L))
     ∙ found_parts (reversed L) q ∙ ap (option_map parts_of) (sym (last_first L q))
 
 -- the last of the list, or else what was held, lessened by the list
-pub get_put_over : (D : Held) (L : List EntityView) (q : EntityUID) → finmap.get (put_over D L) q ≡ option_or (last_entity L q) (option_map (lessened D (uids_of L)) (finmap.get D q))
+pub get_put_over : (D : Held) (L : List EntityView) (q : EntityUID)
+    → finmap.get (put_over D L) q ≡ option_or (last_entity L q) (option_map (lessened D (uids_of L)) (finmap.get D q))
 get_put_over D L q =
     get_joined (reversed (map keyed L)) (map (λ e. (e.0, lessened D (uids_of L) e.1)) (finmap.entries D)) q
-    ∙ ap (option_or (last_entity L q)) (find-mapped (lessened D (uids_of L)) (finmap.entries D) q ∙ ap (option_map (lessened D (uids_of L))) (sym (finmap.get-entries D q)))
+    ∙ ap (option_or (last_entity L q)) (find-mapped (lessened D (uids_of L)) (finmap.entries D) q
+    ∙ ap (option_map (lessened D (uids_of L))) (sym (finmap.get-entries D q)))
 
 or_some : {X : Type 0} (o p : Option X) → is_some (option_or o p) ≡ (is_some p || is_some o)
 or_some None None = refl
@@ -93,22 +101,27 @@ over_untouched D L q h =
     ∙ untouched_at D (uids_of L) (finmap.get D q) p.1
 
 -- and stays so
-pub settled_untouched : (tc : TCComputation) (A : List EntityUID) (D M N : Held) → StaysUntouched A D M → IsSettled tc (is_touched D A) M N → StaysUntouched A D N
+pub settled_untouched : (tc : TCComputation) (A : List EntityUID) (D M N : Held) → StaysUntouched A D M
+    → IsSettled tc (is_touched D A) M N → StaysUntouched A D N
 settled_untouched modes.AssumeAlreadyComputed A D M N h s q t = ap (λ (E : Held). finmap.get E q) s ∙ h q t
 settled_untouched modes.EnforceAlreadyComputed A D M N h s q t = ap (λ (E : Held). finmap.get E q) s.0 ∙ h q t
 settled_untouched modes.ComputeNow A D M N h s q t = s.0.alone q t ∙ h q t
 
-lessened_parts : (D : Held) (A : List EntityUID) (o : Option EntityView) → option_map parts_of (option_map (lessened D A) o) ≡ option_map parts_of o
+lessened_parts : (D : Held) (A : List EntityUID) (o : Option EntityView)
+    → option_map parts_of (option_map (lessened D A) o) ≡ option_map parts_of o
 lessened_parts D A None = refl
 lessened_parts D A (Some e) = refl
 
-pub map_keyed : (f : EntityView → EntityView) → ((e : EntityView) → (f e).uid ≡ e.uid) → (q : EntityUID) (o : Option EntityView) → IfSome o (λ e. e.uid ≡ q) → IfSome (option_map f o) (λ e. e.uid ≡ q)
+pub map_keyed : (f : EntityView → EntityView) → ((e : EntityView) → (f e).uid ≡ e.uid)
+    → (q : EntityUID) (o : Option EntityView) → IfSome o (λ e. e.uid ≡ q) → IfSome (option_map f o) (λ e. e.uid ≡ q)
 map_keyed f k q None h = tt
 map_keyed f k q (Some e) h = k e ∙ h
 
-lessened_apart : (D : Held) (A : List EntityUID) (o : Option EntityView) → IfSome o IsApart → IfSome (option_map (lessened D A) o) IsApart
+lessened_apart : (D : Held) (A : List EntityUID) (o : Option EntityView) → IfSome o IsApart
+    → IfSome (option_map (lessened D A) o) IsApart
 lessened_apart D A None h = tt
-lessened_apart D A (Some e) h = λ x t. kept_in e.indirect (λ w. list_any (goes_with D e w) A) x ∙ ap (λ b. b && not (list_any (goes_with D e x) A)) (h x t)
+lessened_apart D A (Some e) h = λ x t. kept_in e.indirect (λ w. list_any (goes_with D e w) A) x
+    ∙ ap (λ b. b && not (list_any (goes_with D e x) A)) (h x t)
 
 parent_some : (W : World) (a b : EntityUID) → graph W a b ≡ true → is_some (finmap.get W.entities a) ≡ true
 parent_some W a b = at (finmap.get W.entities a)
@@ -131,7 +144,9 @@ module _ (W : World) (S : StoreView) (plain : IsPlainStore W S) where
   reaches_held u b r = let f = first_edge (graph W) u b r in held_alike u ∙ parent_some W u f.0 f.1
 
   -- what goes together with u: it lies between
-  pub goes_between : (q : EntityUID) (e : EntityView) → finmap.get S.held q ≡ Some e → (w u : EntityUID) → Reach (graph W) q u → (u ≡ w) ⊎ Reach (graph W) u w → finmap.contains_key S.held u ≡ true → goes_with S.held e w u ≡ true
+  pub goes_between : (q : EntityUID) (e : EntityView) → finmap.get S.held q ≡ Some e → (w u : EntityUID)
+      → Reach (graph W) q u → (u ≡ w) ⊎ Reach (graph W) u w → finmap.contains_key S.held u ≡ true
+      → goes_with S.held e w u ≡ true
   goes_between q e is w u r s k =
       and_from _ _ (and_from _ _ k (sym (ap (λ o. is_ancestor_in o u) is) ∙ (ancestry_plain W S plain q u).1 r))
       (elim s [
@@ -139,7 +154,9 @@ module _ (W : World) (S : StoreView) (plain : IsPlainStore W S) where
         | inr t ↦ or_right (same_uid u w) (ancestry S.held u w) ((ancestry_plain W S plain u w).1 t)
       ])
 
-  pub between_goes : (q : EntityUID) (e : EntityView) → finmap.get S.held q ≡ Some e → (w u : EntityUID) → goes_with S.held e w u ≡ true → (finmap.contains_key S.held u ≡ true) × (Reach (graph W) q u × ((u ≡ w) ⊎ Reach (graph W) u w))
+  pub between_goes : (q : EntityUID) (e : EntityView) → finmap.get S.held q ≡ Some e → (w u : EntityUID)
+      → goes_with S.held e w u ≡ true → (finmap.contains_key S.held u ≡ true)
+      × (Reach (graph W) q u × ((u ≡ w) ⊎ Reach (graph W) u w))
   between_goes q e is w u t =
       let p = and_parts (finmap.contains_key S.held u && has_ancestor e u) (same_uid u w || ancestry S.held u w) t in
       let k = and_parts (finmap.contains_key S.held u) (has_ancestor e u) p.0 in (
@@ -156,13 +173,17 @@ module _ (W : World) (S : StoreView) (plain : IsPlainStore W S) where
   -- what stays of the indirect ancestors
   stays_at : (A : List EntityUID) (q w : EntityUID) (o : Option EntityView) → finmap.get S.held q ≡ o
       → (is_indirect_in (option_map (lessened S.held A) o) w ≡ true) ↔ ((is_indirect_in o w ≡ true)
-      × ((u : EntityUID) → is_member same_uid A u ≡ true → finmap.contains_key W.entities u ≡ true → Reach (graph W) q u → (u ≡ w) ⊎ Reach (graph W) u w → ⊥))
+      × ((u : EntityUID) → is_member same_uid A u ≡ true → finmap.contains_key W.entities u ≡ true → Reach (graph W) q u
+      → (u ≡ w) ⊎ Reach (graph W) u w → ⊥))
   stays_at A q w None is = (λ t. absurd (both_ways false refl t), λ p. p.0)
   stays_at A q w (Some e) is =
       let kept = kept_in e.indirect (λ x. list_any (goes_with S.held e x) A) w in (
         λ t.
-            let p = and_parts (set.contains e.indirect w) (not (list_any (goes_with S.held e w) A)) (sym kept ∙ t) in
-            (p.0, λ u m k r s. no_more (list_any (goes_with S.held e w) A) p.1 (any_member (goes_with S.held e w) A u m (goes_between q e is w u r s (held_alike u ∙ k)))),
+            let p = and_parts (set.contains e.indirect w) (not (list_any (goes_with S.held e w) A)) (sym kept ∙ t) in (
+              p.0,
+              λ u m k r s. no_more (list_any (goes_with S.held e w) A) p.1
+                  (any_member (goes_with S.held e w) A u m (goes_between q e is w u r s (held_alike u ∙ k))),
+            ),
         λ p. kept ∙ and_from (set.contains e.indirect w) (not (list_any (goes_with S.held e w) A)) p.0
             (ap not (false_from_ne_true (list_any (goes_with S.held e w) A) (λ t.
             let f = any_found (goes_with S.held e w) A t in
@@ -180,25 +201,34 @@ module _ (W : World) (S : StoreView) (plain : IsPlainStore W S) where
 
   between_at : (L : List EntityView) (N : Held) → N ≡ put_over S.held L → LosesBetween W (uids_of L) S.held N
   between_at L N s q w out = subst (λ o. (is_indirect_in o w ≡ true) ↔ ((is_indirect_in (finmap.get S.held q) w ≡ true)
-      × ((u : EntityUID) → is_member same_uid (uids_of L) u ≡ true → finmap.contains_key W.entities u ≡ true → Reach (graph W) q u → (u ≡ w) ⊎ Reach (graph W) u w → ⊥)))
-      (sym (ap (λ (E : Held). finmap.get E q) s ∙ get_put_over S.held L q ∙ ap (λ o. option_or o (option_map (lessened S.held (uids_of L)) (finmap.get S.held q))) (last_absent L q out)))
+      × ((u : EntityUID) → is_member same_uid (uids_of L) u ≡ true → finmap.contains_key W.entities u ≡ true
+      → Reach (graph W) q u → (u ≡ w) ⊎ Reach (graph W) u w → ⊥)))
+      (sym (ap (λ (E : Held). finmap.get E q) s ∙ get_put_over S.held L q
+      ∙ ap (λ o. option_or o (option_map (lessened S.held (uids_of L)) (finmap.get S.held q)))
+      (last_absent L q out)))
       (stays_at (uids_of L) q w (finmap.get S.held q) refl)
 
-  pub over_between : (tc : TCComputation) (L : List EntityView) (touched : EntityUID → Bool) (N : Held) → IsSettled tc touched (put_over S.held L) N → WhereTaken tc (LosesBetween W (uids_of L) S.held N)
+  pub over_between : (tc : TCComputation) (L : List EntityView) (touched : EntityUID → Bool) (N : Held)
+      → IsSettled tc touched (put_over S.held L) N → WhereTaken tc (LosesBetween W (uids_of L) S.held N)
   over_between modes.AssumeAlreadyComputed L touched N s = between_at L N s
   over_between modes.EnforceAlreadyComputed L touched N s = between_at L N s.0
   over_between modes.ComputeNow L touched N s = tt
 
 module _ (W : World) (S : StoreView) (L : List EntityView) (plain : IsPlainStore W S) (given : AreBare L) where
-  holds_over : (q : EntityUID) → option_map parts_of (finmap.get (put_over S.held L) q) ≡ finmap.get (overwritten W (map given_of L)).entities q
+  holds_over : (q : EntityUID) → option_map parts_of (finmap.get (put_over S.held L) q)
+      ≡ finmap.get (overwritten W (map given_of L)).entities q
   holds_over q =
-      ap (option_map parts_of) (get_put_over S.held L q) ∙ map_or (last_entity L q) (option_map (lessened S.held (uids_of L)) (finmap.get S.held q))
-      ∙ ap (option_or (option_map parts_of (last_entity L q))) (lessened_parts S.held (uids_of L) (finmap.get S.held q) ∙ plain.holds q)
+      ap (option_map parts_of) (get_put_over S.held L q)
+      ∙ map_or (last_entity L q) (option_map (lessened S.held (uids_of L)) (finmap.get S.held q))
+      ∙ ap (option_or (option_map parts_of (last_entity L q))) (lessened_parts S.held (uids_of L) (finmap.get S.held q)
+      ∙ plain.holds q)
       ∙ ap (λ o. option_or o (finmap.get W.entities q)) (sym (last_parts L q))
       ∙ sym (get_overwritten W (map given_of L) q)
 
   last_bare : (q : EntityUID) → IfSome (last_entity L q) IsBare
-  last_bare q = subst (λ o. IfSome o IsBare) (sym (last_first L q)) (first_all IsBare (reversed L) (all_reversed IsBare L given) q)
+  last_bare q =
+      subst (λ o. IfSome o IsBare) (sym (last_first L q))
+      (first_all IsBare (reversed L) (all_reversed IsBare L given) q)
 
   over_keyed : IsKeyed (put_over S.held L)
   over_keyed q = subst (λ o. IfSome o (λ e. e.uid ≡ q)) (sym (get_put_over S.held L q))
@@ -209,39 +239,64 @@ module _ (W : World) (S : StoreView) (L : List EntityView) (plain : IsPlainStore
   over_apart : (q : EntityUID) → IfSome (finmap.get (put_over S.held L) q) IsApart
   over_apart q = subst (λ o. IfSome o IsApart) (sym (get_put_over S.held L q))
       (if_or IsApart (last_entity L q) (option_map (lessened S.held (uids_of L)) (finmap.get S.held q))
-      (bare_apart (last_entity L q) (last_bare q)) (lessened_apart S.held (uids_of L) (finmap.get S.held q) (plain.apart q)))
+      (bare_apart (last_entity L q) (last_bare q))
+      (lessened_apart S.held (uids_of L) (finmap.get S.held q) (plain.apart q)))
 
   -- the world outside the list stays
-  row_same : (a : EntityUID) → is_member same_uid (uids_of L) a ≡ false → finmap.get (overwritten W (map given_of L)).entities a ≡ finmap.get W.entities a
-  row_same a out = get_overwritten W (map given_of L) a ∙ ap (λ o. option_or o (finmap.get W.entities a)) (last_parts L a ∙ ap (option_map parts_of) (last_absent L a out))
+  row_same : (a : EntityUID) → is_member same_uid (uids_of L) a ≡ false
+      → finmap.get (overwritten W (map given_of L)).entities a ≡ finmap.get W.entities a
+  row_same a out = get_overwritten W (map given_of L) a
+      ∙ ap (λ o. option_or o (finmap.get W.entities a)) (last_parts L a
+      ∙ ap (option_map parts_of) (last_absent L a out))
 
-  pub over_back : (a b : EntityUID) → is_touched S.held (uids_of L) a ≡ false → Reach (graph (overwritten W (map given_of L))) a b → Reach (graph W) a b
+  pub over_back : (a b : EntityUID) → is_touched S.held (uids_of L) a ≡ false
+      → Reach (graph (overwritten W (map given_of L))) a b → Reach (graph W) a b
   over_back a b h =
       let p = or_parts (is_member same_uid (uids_of L) a) (list_any (ancestry S.held a) (uids_of L)) h in
-      untouched (graph W) (graph (overwritten W (map given_of L))) (is_member same_uid (uids_of L)) (λ x y out t. ap (λ o. is_parent_in o y) (sym (row_same x out)) ∙ t) a b p.0
-      (λ u r. false_from_ne_true (is_member same_uid (uids_of L) u) (λ m. both_ways (list_any (ancestry S.held a) (uids_of L)) p.1 (any_member (ancestry S.held a) (uids_of L) u m ((ancestry_plain W S plain a u).1 r))))
+      untouched (graph W) (graph (overwritten W (map given_of L))) (is_member same_uid (uids_of L))
+      (λ x y out t. ap (λ o. is_parent_in o y) (sym (row_same x out)) ∙ t) a b p.0
+      (λ u r. false_from_ne_true (is_member same_uid (uids_of L) u)
+      (λ m. both_ways (list_any (ancestry S.held a) (uids_of L)) p.1
+      (any_member (ancestry S.held a) (uids_of L) u m ((ancestry_plain W S plain a u).1 r))))
 
   -- an ancestor that stays is still reached
-  stays_reached : (a b : EntityUID) (e : EntityView) → finmap.get S.held a ≡ Some e → is_member same_uid (uids_of L) a ≡ false → set.contains e.indirect b ≡ true → list_any (goes_with S.held e b) (uids_of L) ≡ false → Reach (graph (overwritten W (map given_of L))) a b
+  stays_reached : (a b : EntityUID) (e : EntityView) → finmap.get S.held a ≡ Some e
+      → is_member same_uid (uids_of L) a ≡ false → set.contains e.indirect b ≡ true
+      → list_any (goes_with S.held e b) (uids_of L) ≡ false → Reach (graph (overwritten W (map given_of L))) a b
   stays_reached a b e is out i none =
-      kept_over (graph W) (graph (overwritten W (map given_of L))) (is_member same_uid (uids_of L)) (λ x y o t. ap (λ p. is_parent_in p y) (row_same x o) ∙ t) a b out
-      (λ u r s. false_from_ne_true (is_member same_uid (uids_of L) u) (λ m. both_ways (list_any (goes_with S.held e b) (uids_of L)) none
-      (any_member (goes_with S.held e b) (uids_of L) u m (goes_between W S plain a e is b u r (inr s) (reaches_held W S plain u b s)))))
-      ((ancestry_plain W S plain a b).0 (ap (λ o. is_ancestor_in o b) is ∙ or_right (set.contains e.parents b) (set.contains e.indirect b) i))
+      kept_over (graph W) (graph (overwritten W (map given_of L))) (is_member same_uid (uids_of L))
+      (λ x y o t. ap (λ p. is_parent_in p y) (row_same x o) ∙ t) a b out
+      (λ u r s. false_from_ne_true (is_member same_uid (uids_of L) u)
+      (λ m. both_ways (list_any (goes_with S.held e b) (uids_of L)) none
+      (any_member (goes_with S.held e b) (uids_of L) u m
+      (goes_between W S plain a e is b u r (inr s) (reaches_held W S plain u b s)))))
+      ((ancestry_plain W S plain a b).0 (ap (λ o. is_ancestor_in o b) is
+      ∙ or_right (set.contains e.parents b) (set.contains e.indirect b) i))
 
-  parent_edge : (a b : EntityUID) → is_parent_in (option_map parts_of (finmap.get (put_over S.held L) a)) b ≡ true → Reach (graph (overwritten W (map given_of L))) a b
-  parent_edge a b h = reach_edge (graph (overwritten W (map given_of L))) a b (ap (λ o. is_parent_in o b) (sym (holds_over a)) ∙ h)
+  parent_edge : (a b : EntityUID) → is_parent_in (option_map parts_of (finmap.get (put_over S.held L) a)) b ≡ true
+      → Reach (graph (overwritten W (map given_of L))) a b
+  parent_edge a b h =
+      reach_edge (graph (overwritten W (map given_of L))) a b (ap (λ o. is_parent_in o b) (sym (holds_over a)) ∙ h)
 
-  only_at : (a b : EntityUID) (o p : Option EntityView) → last_entity L a ≡ o → finmap.get S.held a ≡ p → is_ancestor_in (option_or o (option_map (lessened S.held (uids_of L)) p)) b ≡ true → Reach (graph (overwritten W (map given_of L))) a b
+  only_at : (a b : EntityUID) (o p : Option EntityView) → last_entity L a ≡ o → finmap.get S.held a ≡ p
+      → is_ancestor_in (option_or o (option_map (lessened S.held (uids_of L)) p)) b ≡ true
+      → Reach (graph (overwritten W (map given_of L))) a b
   only_at a b (Some x) p last is h =
-      parent_edge a b (ap (λ o. is_parent_in (option_map parts_of o) b) (get_put_over S.held L a ∙ ap (λ o. option_or o (option_map (lessened S.held (uids_of L)) (finmap.get S.held a))) last)
+      parent_edge a b (ap (λ o. is_parent_in (option_map parts_of o) b) (get_put_over S.held L a
+      ∙ ap (λ o. option_or o (option_map (lessened S.held (uids_of L)) (finmap.get S.held a))) last)
       ∙ sym (bare_leads (Some x) b (subst (λ o. IfSome o IsBare) last (last_bare a))) ∙ h)
   only_at a b None None last is h = absurd (both_ways false refl h)
   only_at a b None (Some e) last is h = elim (or_cases (set.contains e.parents b) _ h) [
-    | inl t ↦ parent_edge a b (ap (λ o. is_parent_in (option_map parts_of o) b) (get_put_over S.held L a ∙ ap (λ o. option_or o (option_map (lessened S.held (uids_of L)) (finmap.get S.held a))) last ∙ ap (option_map (lessened S.held (uids_of L))) is) ∙ t)
+    | inl t ↦
+        parent_edge a b
+        (ap (λ o. is_parent_in (option_map parts_of o) b) (get_put_over S.held L a
+        ∙ ap (λ o. option_or o (option_map (lessened S.held (uids_of L)) (finmap.get S.held a))) last
+        ∙ ap (option_map (lessened S.held (uids_of L))) is) ∙ t)
     | inr t ↦
-        let k = and_parts (set.contains e.indirect b) (not (list_any (goes_with S.held e b) (uids_of L))) (sym (kept_in e.indirect (λ w. list_any (goes_with S.held e w) (uids_of L)) b) ∙ t) in
-        stays_reached a b e is (sym (last_some L a) ∙ ap is_some last) k.0 (not_true (list_any (goes_with S.held e b) (uids_of L)) k.1)
+        let k = and_parts (set.contains e.indirect b) (not (list_any (goes_with S.held e b) (uids_of L)))
+        (sym (kept_in e.indirect (λ w. list_any (goes_with S.held e w) (uids_of L)) b) ∙ t) in
+        stays_reached a b e is (sym (last_some L a) ∙ ap is_some last) k.0
+        (not_true (list_any (goes_with S.held e b) (uids_of L)) k.1)
   ]
     where
       not_true : (b : Bool) → not b ≡ true → b ≡ false
@@ -249,19 +304,29 @@ module _ (W : World) (S : StoreView) (L : List EntityView) (plain : IsPlainStore
       not_true false h = refl
 
   over_only : AddsOnlyReached (graph (overwritten W (map given_of L))) (ancestry (put_over S.held L))
-  over_only a b h = only_at a b (last_entity L a) (finmap.get S.held a) refl refl (sym (ap (λ o. is_ancestor_in o b) (get_put_over S.held L a)) ∙ h)
+  over_only a b h =
+      only_at a b (last_entity L a) (finmap.get S.held a) refl refl
+      (sym (ap (λ o. is_ancestor_in o b) (get_put_over S.held L a)) ∙ h)
 
   -- where ancestors are computed the plain store of the world that overwriting leaves comes
-  pub over_plain : (tc : TCComputation) (N : StoreView) → N.partial ≡ S.partial → IsSettled tc (is_touched S.held (uids_of L)) (put_over S.held L) N.held → WhereComputed tc (IsPlainStore (overwritten W (map given_of L)) N)
+  pub over_plain : (tc : TCComputation) (N : StoreView) → N.partial ≡ S.partial
+      → IsSettled tc (is_touched S.held (uids_of L)) (put_over S.held L) N.held
+      → WhereComputed tc (IsPlainStore (overwritten W (map given_of L)) N)
   over_plain modes.AssumeAlreadyComputed N same s = tt
   over_plain modes.EnforceAlreadyComputed N same s = tt
   over_plain modes.ComputeNow N same s =
-      plain_from (overwritten W (map given_of L)) (put_over S.held L) N (same ∙ plain.partial) holds_over over_keyed over_apart over_only
-      (repaired S.held (put_over S.held L) (graph W) (graph (overwritten W (map given_of L))) (is_touched S.held (uids_of L)) (ancestry_plain W S plain) plain.acyclic over_only over_back (over_untouched S.held L) N.held s.0 s.1)
+      plain_from (overwritten W (map given_of L)) (put_over S.held L) N (same
+      ∙ plain.partial) holds_over over_keyed over_apart over_only
+      (repaired S.held (put_over S.held L) (graph W) (graph (overwritten W (map given_of L)))
+      (is_touched S.held (uids_of L)) (ancestry_plain W S plain) plain.acyclic over_only over_back
+      (over_untouched S.held L) N.held s.0 s.1)
 
-  pub over_refused : (tc : TCComputation) (e : EntitiesError) → MatchRefusal e (λ _. ⊥) (IsClosureRefused tc (put_over S.held L)) → WhereComputed tc (IsOverwritingRefused W (map given_of L) e)
+  pub over_refused : (tc : TCComputation) (e : EntitiesError)
+      → MatchRefusal e (λ _. ⊥) (IsClosureRefused tc (put_over S.held L))
+      → WhereComputed tc (IsOverwritingRefused W (map given_of L) e)
   over_refused modes.AssumeAlreadyComputed e h = tt
   over_refused modes.EnforceAlreadyComputed e h = tt
   over_refused modes.ComputeNow e h =
-      refusal_cases (λ _. ⊥) (IsClosureRefused modes.ComputeNow (put_over S.held L)) (IsOverwritingRefused W (map given_of L)) (λ u n. absurd n)
+      refusal_cases (λ _. ⊥) (IsClosureRefused modes.ComputeNow (put_over S.held L))
+      (IsOverwritingRefused W (map given_of L)) (λ u n. absurd n)
       (λ t k. cycle_in (overwritten W (map given_of L)) (put_over S.held L) holds_over over_only t k) tt e h

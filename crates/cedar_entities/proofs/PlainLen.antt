@@ -25,12 +25,17 @@ parts_at None = refl
 parts_at (Some n) = refl
 
 -- a map that is seen as a plain store has as many entries as the world
-pub plain_len : {S : Type 0} (m : HashMap EntityUID SharedEntity S) (W : World) (T : StoreView) → held_map m ≡ T.held → IsDistinct same_uid (keys m) → IsPlainStore W T → hash_map_len m ≡ finmap.len W.entities
+pub plain_len : {S : Type 0} (m : HashMap EntityUID SharedEntity S) (W : World) (T : StoreView) → held_map m ≡ T.held
+    → IsDistinct same_uid (keys m) → IsPlainStore W T → hash_map_len m ≡ finmap.len W.entities
 plain_len m W T is distinct plain =
-    let same : W.entities ≡ finmap.from_entries (map (λ e. (e.0, node_parts e.1)) m.entries) = finmap.same_map uid_order_total one_equal _ _ (λ q.
+    let same : W.entities ≡ finmap.from_entries (map (λ e. (e.0, node_parts e.1)) m.entries) =
+    finmap.same_map uid_order_total one_equal _ _ (λ q.
     sym (plain.holds q) ∙ ap (λ (D : Held). option_map parts_of (finmap.get D q)) (sym is)
-    ∙ ap (option_map parts_of) (finmap.get-from_entries uid_order_total (map (λ e. (e.0, shared e.1)) m.entries) q ∙ find-mapped shared m.entries q)
+    ∙ ap (option_map parts_of) (finmap.get-from_entries uid_order_total (map (λ e. (e.0, shared e.1)) m.entries) q
+    ∙ find-mapped shared m.entries q)
     ∙ parts_at (finmap.find uid_order q m.entries)
-    ∙ sym (find-mapped node_parts m.entries q) ∙ sym (finmap.get-from_entries uid_order_total (map (λ e. (e.0, node_parts e.1)) m.entries) q)) in
+    ∙ sym (find-mapped node_parts m.entries q)
+    ∙ sym (finmap.get-from_entries uid_order_total (map (λ e. (e.0, node_parts e.1)) m.entries) q)) in
     sym (length_mapped node_parts m.entries)
-    ∙ sym (len_listed (map (λ e. (e.0, node_parts e.1)) m.entries) (subst (IsDistinct same_uid) (sym (keys_mapped node_parts m.entries)) distinct)) ∙ ap finmap.len (sym same)
+    ∙ sym (len_listed (map (λ e. (e.0, node_parts e.1)) m.entries)
+    (subst (IsDistinct same_uid) (sym (keys_mapped node_parts m.entries)) distinct)) ∙ ap finmap.len (sym same)

@@ -31,12 +31,14 @@ unfolding parts_of_kept
 kept_parts None = refl
 kept_parts (Some e) = refl
 
-keyed_at : (q : EntityUID) (o p : Option EntityView) → option_map kept o ≡ option_map kept p → IfSome p (λ e. e.uid ≡ q) → IfSome o (λ e. e.uid ≡ q)
+keyed_at : (q : EntityUID) (o p : Option EntityView) → option_map kept o ≡ option_map kept p → IfSome p (λ e. e.uid ≡ q)
+    → IfSome o (λ e. e.uid ≡ q)
 keyed_at q None p e h = tt
 keyed_at q (Some n) None e h = absurd (subst (λ (o : Option Kept). MatchOption o ⊥ (λ _. ⊤)) e tt)
 keyed_at q (Some n) (Some v) e h = ap (λ (o : Option Kept). (unwrap_or o (kept n)).0) e ∙ h
 
-reached_at : (R : EntityUID → Type 0) (o : Option EntityView) → ((x : EntityUID) → (is_ancestor_in o x ≡ true) ↔ R x) → IfSome o (λ e. (x : EntityUID) → (has_ancestor e x ≡ true) ↔ R x)
+reached_at : (R : EntityUID → Type 0) (o : Option EntityView) → ((x : EntityUID) → (is_ancestor_in o x ≡ true) ↔ R x)
+    → IfSome o (λ e. (x : EntityUID) → (has_ancestor e x ≡ true) ↔ R x)
 reached_at R None h = tt
 reached_at R (Some e) h = h
 
@@ -54,14 +56,17 @@ apart_at (Some n) (Some v) e h = λ x t.
     let same : overlap n ≡ overlap v = ap (λ (o : Option Kept). (unwrap_or o (kept n)).1.1) e in
     and_to (set.contains n.parents x) (set.contains n.indirect x)
     (sym (set.contains-intersection uid_order_total n.parents n.indirect x) ∙ ap (λ s. set.contains s x) same
-    ∙ set.contains-intersection uid_order_total v.parents v.indirect x ∙ and_from (set.contains v.parents x) (set.contains v.indirect x) (h x)) t
+    ∙ set.contains-intersection uid_order_total v.parents v.indirect x
+    ∙ and_from (set.contains v.parents x) (set.contains v.indirect x) (h x)) t
 
-parent_leads : (o : Option EntityView) (b : EntityUID) → is_parent_in (option_map parts_of o) b ≡ true → is_ancestor_in o b ≡ true
+parent_leads : (o : Option EntityView) (b : EntityUID) → is_parent_in (option_map parts_of o) b ≡ true
+    → is_ancestor_in o b ≡ true
 parent_leads None b h = h
 parent_leads (Some e) b h = ap (λ p. p || set.contains e.indirect b) h
 
 -- the parents are among the ancestors
-parents_lead : (W : World) (D : Held) → ((q : EntityUID) → option_map parts_of (finmap.get D q) ≡ finmap.get W.entities q) → KeepsEdges (graph W) (ancestry D)
+parents_lead : (W : World) (D : Held) → ((q : EntityUID)
+    → option_map parts_of (finmap.get D q) ≡ finmap.get W.entities q) → KeepsEdges (graph W) (ancestry D)
 parents_lead W D holds a b h = parent_leads (finmap.get D a) b (ap (λ o. is_parent_in o b) (holds a) ∙ h)
 
 -- D has the world's parts, all of its ancestors are truly reached, and the store closes D
@@ -76,18 +81,24 @@ plain_from W D S partial holds keys apart only closed =
     let G = reach_between (graph W) (ancestry D) (parents_lead W D holds) only in
     record {
       partial = partial;
-      holds = λ q. kept_parts (finmap.get S.held q) ∙ ap (option_map parts_of_kept) (closed.parts q) ∙ sym (kept_parts (finmap.get D q)) ∙ holds q;
+      holds = λ q. kept_parts (finmap.get S.held q) ∙ ap (option_map parts_of_kept) (closed.parts q)
+          ∙ sym (kept_parts (finmap.get D q)) ∙ holds q;
       keyed = λ q. keyed_at q (finmap.get S.held q) (finmap.get D q) (closed.parts q) (keys q);
-      reached = λ q. reached_at (Reach (graph W) q) (finmap.get S.held q) (λ x. (λ e. (G q x).0 ((closed.ancestors q x).0 e), λ r. (closed.ancestors q x).1 ((G q x).1 r)));
+      reached =
+          λ q. reached_at (Reach (graph W) q) (finmap.get S.held q)
+          (λ x. (λ e. (G q x).0 ((closed.ancestors q x).0 e), λ r. (closed.ancestors q x).1 ((G q x).1 r)));
       apart = λ q. apart_at (finmap.get S.held q) (finmap.get D q) (closed.parts q) (apart q);
       acyclic = λ q r. closed.acyclic q ((G q q).1 r);
     }
 
 -- a uid that reaches itself over ancestors that are truly reached reaches itself over the parents
-pub cycle_in : (W : World) (D : Held) → ((q : EntityUID) → option_map parts_of (finmap.get D q) ≡ finmap.get W.entities q) → AddsOnlyReached (graph W) (ancestry D)
-    → (t : TcError EntityUID) → IsClosureFault t (λ _ _ _. ⊥) (λ v. Reach (ancestry D) v v) → IsClosureFault t (λ _ _ _. ⊥) (λ v. Reach (graph W) v v)
+pub cycle_in : (W : World) (D : Held) → ((q : EntityUID)
+    → option_map parts_of (finmap.get D q) ≡ finmap.get W.entities q) → AddsOnlyReached (graph W) (ancestry D)
+    → (t : TcError EntityUID) → IsClosureFault t (λ _ _ _. ⊥) (λ v. Reach (ancestry D) v v)
+    → IsClosureFault t (λ _ _ _. ⊥) (λ v. Reach (graph W) v v)
 cycle_in W D holds only (tc.MissingTcEdge x) h = h
-cycle_in W D holds only (tc.HasCycle x) h = (reach_between (graph W) (ancestry D) (parents_lead W D holds) only x.vertex x.vertex).0 h
+cycle_in W D holds only (tc.HasCycle x) h =
+    (reach_between (graph W) (ancestry D) (parents_lead W D holds) only x.vertex x.vertex).0 h
 cycle_in W D holds only tc.Memory h = h
 
 -- the store without entities
@@ -105,21 +116,27 @@ plain_empty =
       partial = refl;
       holds = λ q. ap (option_map parts_of) (none q) ∙ sym (finmap.get-empty uid_order q);
       keyed = λ q. subst (λ o. IfSome o (λ (e : EntityView). e.uid ≡ q)) (sym (none q)) tt;
-      reached = λ q. subst (λ o. IfSome o (λ (e : EntityView). (x : EntityUID) → (has_ancestor e x ≡ true) ↔ Reach (graph empty_world) q x)) (sym (none q)) tt;
+      reached =
+          λ q. subst (λ o. IfSome o (λ (e : EntityView). (x : EntityUID)
+          → (has_ancestor e x ≡ true) ↔ Reach (graph empty_world) q x)) (sym (none q)) tt;
       apart = λ q. subst (λ o. IfSome o IsApart) (sym (none q)) tt;
       acyclic = λ q r. no_path r.0 q q r.1;
     }
 
 -- adding
-pub found_parts : (L : List EntityView) (q : EntityUID) → first (map given_of L) q ≡ option_map parts_of (first_entity L q)
+pub found_parts : (L : List EntityView) (q : EntityUID)
+    → first (map given_of L) q ≡ option_map parts_of (first_entity L q)
 found_parts [] q = refl
-found_parts (e ∷ L) q = ap (cond (eq_by_cmp uid_order q e.uid) (Some (parts_of e))) (found_parts L q) ∙ push (eq_by_cmp uid_order q e.uid) (first_entity L q)
+found_parts (e ∷ L) q = ap (cond (eq_by_cmp uid_order q e.uid) (Some (parts_of e))) (found_parts L q)
+    ∙ push (eq_by_cmp uid_order q e.uid) (first_entity L q)
   where
-    push : (b : Bool) (o : Option EntityView) → cond b (Some (parts_of e)) (option_map parts_of o) ≡ option_map parts_of (cond b (Some e) o)
+    push : (b : Bool) (o : Option EntityView)
+        → cond b (Some (parts_of e)) (option_map parts_of o) ≡ option_map parts_of (cond b (Some e) o)
     push true o = refl
     push false o = refl
 
-pub map_or : (o p : Option EntityView) → option_map parts_of (option_or o p) ≡ option_or (option_map parts_of o) (option_map parts_of p)
+pub map_or : (o p : Option EntityView) → option_map parts_of (option_or o p)
+    ≡ option_or (option_map parts_of o) (option_map parts_of p)
 map_or None p = refl
 map_or (Some x) p = refl
 
@@ -128,18 +145,22 @@ module _ (P : EntityView → Type 0) where
   if_or None p h k = k
   if_or (Some x) p h k = h
 
-  pub if_cond : (b : Bool) (e : EntityView) (o : Option EntityView) → (b ≡ true → P e) → IfSome o P → IfSome (cond b (Some e) o) P
+  pub if_cond : (b : Bool) (e : EntityView) (o : Option EntityView) → (b ≡ true → P e) → IfSome o P
+      → IfSome (cond b (Some e) o) P
   if_cond true e o h k = h refl
   if_cond false e o h k = k
 
 -- what holds of all of a list holds of the first with a uid
-pub first_all : (P : EntityView → Type 0) (L : List EntityView) → AllByRecursion P L → (q : EntityUID) → IfSome (first_entity L q) P
+pub first_all : (P : EntityView → Type 0) (L : List EntityView) → AllByRecursion P L → (q : EntityUID)
+    → IfSome (first_entity L q) P
 first_all P [] h q = tt
 first_all P (e ∷ L) h q = if_cond P (eq_by_cmp uid_order q e.uid) e (first_entity L q) (λ _. h.0) (first_all P L h.1 q)
 
 pub first_keyed : (L : List EntityView) (q : EntityUID) → IfSome (first_entity L q) (λ e. e.uid ≡ q)
 first_keyed [] q = tt
-first_keyed (e ∷ L) q = if_cond (λ x. x.uid ≡ q) (eq_by_cmp uid_order q e.uid) e (first_entity L q) (λ t. sym ((same_uid_decides q e.uid).0 (ap (λ f. f q e.uid) (sym same_tests) ∙ t))) (first_keyed L q)
+first_keyed (e ∷ L) q =
+    if_cond (λ x. x.uid ≡ q) (eq_by_cmp uid_order q e.uid) e (first_entity L q)
+    (λ t. sym ((same_uid_decides q e.uid).0 (ap (λ f. f q e.uid) (sym same_tests) ∙ t))) (first_keyed L q)
 
 pub bare_apart : (o : Option EntityView) → IfSome o IsBare → IfSome o IsApart
 bare_apart None h = tt
@@ -149,24 +170,32 @@ or_false : (x : Bool) → (x || false) ≡ x
 or_false true = refl
 or_false false = refl
 
-pub parents_alone : (e : EntityView) (b : EntityUID) → set.contains e.indirect b ≡ false → has_ancestor e b ≡ set.contains e.parents b
+pub parents_alone : (e : EntityView) (b : EntityUID) → set.contains e.indirect b ≡ false
+    → has_ancestor e b ≡ set.contains e.parents b
 parents_alone e b h = ap (λ x. set.contains e.parents b || x) h ∙ or_false (set.contains e.parents b)
 
-pub if_map : (P Q : EntityView → Type 0) (o : Option EntityView) → ((e : EntityView) → P e → Q e) → IfSome o P → IfSome o Q
+pub if_map : (P Q : EntityView → Type 0) (o : Option EntityView) → ((e : EntityView) → P e → Q e) → IfSome o P
+    → IfSome o Q
 if_map P Q None f h = tt
 if_map P Q (Some e) f h = f e h
 
 -- the ancestors of an entity without indirect ones are its parents
-pub bare_leads : (o : Option EntityView) (b : EntityUID) → IfSome o IsBare → is_ancestor_in o b ≡ is_parent_in (option_map parts_of o) b
+pub bare_leads : (o : Option EntityView) (b : EntityUID) → IfSome o IsBare
+    → is_ancestor_in o b ≡ is_parent_in (option_map parts_of o) b
 bare_leads None b h = refl
 bare_leads (Some e) b h = parents_alone e b (h b)
 
 -- each ancestor of an entity that was held, or else of one without indirect ancestors
-pub leads_or : (R : EntityUID → Type 0) (o p : Option EntityView) (b : EntityUID) → IfSome o (λ e. (x : EntityUID) → has_ancestor e x ≡ true → R x)
+pub leads_or : (R : EntityUID → Type 0) (o p : Option EntityView) (b : EntityUID)
+    → IfSome o (λ e. (x : EntityUID) → has_ancestor e x ≡ true → R x)
     → (o ≡ None → is_ancestor_in p b ≡ true → R b) → is_ancestor_in (option_or o p) b ≡ true → R b
 leads_or R None p b h k e = k refl e
 leads_or R (Some x) p b h k e = h b e
 
 -- an entity without indirect ancestors leads to its parents alone
-pub bare_only : (W : World) (D : Held) → ((q : EntityUID) → option_map parts_of (finmap.get D q) ≡ finmap.get W.entities q) → ((q : EntityUID) → IfSome (finmap.get D q) IsBare) → AddsOnlyReached (graph W) (ancestry D)
-bare_only W D holds bares a b h = reach_edge (graph W) a b (ap (λ o. is_parent_in o b) (sym (holds a)) ∙ sym (bare_leads (finmap.get D a) b (bares a)) ∙ h)
+pub bare_only : (W : World) (D : Held)
+    → ((q : EntityUID) → option_map parts_of (finmap.get D q) ≡ finmap.get W.entities q)
+    → ((q : EntityUID) → IfSome (finmap.get D q) IsBare) → AddsOnlyReached (graph W) (ancestry D)
+bare_only W D holds bares a b h =
+    reach_edge (graph W) a b (ap (λ o. is_parent_in o b) (sym (holds a)) ∙ sym (bare_leads (finmap.get D a) b (bares a))
+    ∙ h)

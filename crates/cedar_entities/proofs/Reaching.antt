@@ -11,31 +11,43 @@ module _ {K : Type 0} where
       at [] p = (b, p)
       at (x ∷ xs) p = (x, p.0)
 
-  untouched_path : (G H : K → K → Bool) (A : K → Bool) → ((a b : K) → A a ≡ false → H a b ≡ true → G a b ≡ true) → (a b : K) → A a ≡ false → ((u : K) → Reach G a u → A u ≡ false) → (xs : List K) → Path H a xs b → Path G a xs b
+  untouched_path : (G H : K → K → Bool) (A : K → Bool) → ((a b : K) → A a ≡ false → H a b ≡ true → G a b ≡ true)
+      → (a b : K) → A a ≡ false → ((u : K) → Reach G a u → A u ≡ false) → (xs : List K) → Path H a xs b → Path G a xs b
   untouched_path G H A same a b out none [] p = same a b out p
   untouched_path G H A same a b out none (x ∷ xs) p =
       let step = same a x out p.0 in
       (step, untouched_path G H A same x b (none x ([], step)) (λ u r. none u (x ∷ r.0, (step, r.1))) xs p.1)
 
   -- where H has no further edges but at keys of A, one that reaches none of A over G reaches nothing new over H
-  pub untouched : (G H : K → K → Bool) (A : K → Bool) → ((a b : K) → A a ≡ false → H a b ≡ true → G a b ≡ true) → (a b : K) → A a ≡ false → ((u : K) → Reach G a u → A u ≡ false) → Reach H a b → Reach G a b
+  pub untouched : (G H : K → K → Bool) (A : K → Bool) → ((a b : K) → A a ≡ false → H a b ≡ true → G a b ≡ true)
+      → (a b : K) → A a ≡ false → ((u : K) → Reach G a u → A u ≡ false) → Reach H a b → Reach G a b
   untouched G H A same a b out none r = (r.0, untouched_path G H A same a b out none r.0 r.1)
 
-  kept_path : (G H : K → K → Bool) (A : K → Bool) → ((a b : K) → A a ≡ false → G a b ≡ true → H a b ≡ true) → (a b : K) → A a ≡ false → ((u : K) → Reach G a u → Reach G u b → A u ≡ false) → (xs : List K) → Path G a xs b → Path H a xs b
+  kept_path : (G H : K → K → Bool) (A : K → Bool) → ((a b : K) → A a ≡ false → G a b ≡ true → H a b ≡ true) → (a b : K)
+      → A a ≡ false → ((u : K) → Reach G a u → Reach G u b → A u ≡ false) → (xs : List K) → Path G a xs b
+      → Path H a xs b
   kept_path G H A same a b out none [] p = same a b out p
-  kept_path G H A same a b out none (x ∷ xs) p =
-      (same a x out p.0, kept_path G H A same x b (none x ([], p.0) (xs, p.1)) (λ u r s. none u (x ∷ r.0, (p.0, r.1)) s) xs p.1)
+  kept_path G H A same a b out none (x ∷ xs) p = (
+    same a x out p.0,
+    kept_path G H A same x b (none x ([], p.0) (xs, p.1))
+        (λ u r s. none u (x ∷ r.0, (p.0, r.1)) s) xs p.1,
+  )
 
   -- where H keeps the edges but at keys of A, what is reached over none of A is reached over H
-  pub kept_over : (G H : K → K → Bool) (A : K → Bool) → ((a b : K) → A a ≡ false → G a b ≡ true → H a b ≡ true) → (a b : K) → A a ≡ false → ((u : K) → Reach G a u → Reach G u b → A u ≡ false) → Reach G a b → Reach H a b
+  pub kept_over : (G H : K → K → Bool) (A : K → Bool) → ((a b : K) → A a ≡ false → G a b ≡ true → H a b ≡ true)
+      → (a b : K) → A a ≡ false → ((u : K) → Reach G a u → Reach G u b → A u ≡ false) → Reach G a b → Reach H a b
   kept_over G H A same a b out none r = (r.0, kept_path G H A same a b out none r.0 r.1)
 
-  between_path : (G H : K → K → Bool) (A : K → Bool) → ((a b : K) → A a ≡ false → A b ≡ false → G a b ≡ true → H a b ≡ true) → (a b : K) → A a ≡ false → A b ≡ false → ((u : K) → Reach G a u → Reach G u b → A u ≡ false) → (xs : List K) → Path G a xs b → Path H a xs b
+  between_path : (G H : K → K → Bool) (A : K → Bool)
+      → ((a b : K) → A a ≡ false → A b ≡ false → G a b ≡ true → H a b ≡ true) → (a b : K) → A a ≡ false → A b ≡ false
+      → ((u : K) → Reach G a u → Reach G u b → A u ≡ false) → (xs : List K) → Path G a xs b → Path H a xs b
   between_path G H A same a b out end none [] p = same a b out end p
   between_path G H A same a b out end none (x ∷ xs) p =
       let inner = none x ([], p.0) (xs, p.1) in
       (same a x out inner p.0, between_path G H A same x b inner end (λ u r s. none u (x ∷ r.0, (p.0, r.1)) s) xs p.1)
 
   -- the same where edges that lead to keys of A may go too
-  pub kept_between : (G H : K → K → Bool) (A : K → Bool) → ((a b : K) → A a ≡ false → A b ≡ false → G a b ≡ true → H a b ≡ true) → (a b : K) → A a ≡ false → A b ≡ false → ((u : K) → Reach G a u → Reach G u b → A u ≡ false) → Reach G a b → Reach H a b
+  pub kept_between : (G H : K → K → Bool) (A : K → Bool)
+      → ((a b : K) → A a ≡ false → A b ≡ false → G a b ≡ true → H a b ≡ true) → (a b : K) → A a ≡ false → A b ≡ false
+      → ((u : K) → Reach G a u → Reach G u b → A u ≡ false) → Reach G a b → Reach H a b
   kept_between G H A same a b out end none r = (r.0, between_path G H A same a b out end none r.0 r.1)

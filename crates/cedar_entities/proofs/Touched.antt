@@ -43,12 +43,16 @@ added false false true = refl
 added false false false = refl
 
 -- one more uid is noted
-pub noted_push : (first now new : Bool) (done : List EntityUID) (k q : EntityUID) → now ≡ (first || is_member same_uid done q) → new ≡ cond (same_uid k q) true now → new ≡ (first || is_member same_uid (done ++ k ∷ []) q)
+pub noted_push : (first now new : Bool) (done : List EntityUID) (k q : EntityUID)
+    → now ≡ (first || is_member same_uid done q) → new ≡ cond (same_uid k q) true now
+    → new ≡ (first || is_member same_uid (done ++ k ∷ []) q)
 noted_push first now new done k q so step =
-    step ∙ ap (cond (same_uid k q) true) so ∙ added first (is_member same_uid done q) (same_uid k q) ∙ ap (λ b. first || b) (sym (member_push done k q))
+    step ∙ ap (cond (same_uid k q) true) so ∙ added first (is_member same_uid done q) (same_uid k q)
+    ∙ ap (λ b. first || b) (sym (member_push done k q))
 
 -- nothing is stripped where nothing goes
-pub nothing_stripped : (none : EntityView → EntityView) → ((e : EntityView) → e ≡ none e) → (o : Option EntityView) → o ≡ option_map none o
+pub nothing_stripped : (none : EntityView → EntityView) → ((e : EntityView) → e ≡ none e) → (o : Option EntityView)
+    → o ≡ option_map none o
 nothing_stripped none is None = refl
 nothing_stripped none is (Some e) = ap Some (is e)
 
@@ -57,14 +61,18 @@ grown true G = or_itself G
 grown false G = refl
 
 grow : (G : EntityUID → Bool) (L l : EntityUID → Bool) (D b : Bool) (o : Option EntityView)
-    → cond b (option_map (stripped G l) (option_map (stripped (λ p. D && G p) L) o)) (option_map (stripped (λ p. D && G p) L) o)
+    → cond b (option_map (stripped G l) (option_map (stripped (λ p. D && G p) L) o))
+    (option_map (stripped (λ p. D && G p) L) o)
     ≡ option_map (stripped (λ p. (D || (b || false)) && G p) (λ w. L w || ((b && l w) || false))) o
 grow G L l D true None = refl
 grow G L l D false None = refl
-grow G L l D true (Some e) = ap Some (stripped_both e (λ p. D && G p) L G l ∙ λ i. stripped (λ p. grown D (G p) i) (λ w. L w || or_off (l w) i) e)
+grow G L l D true (Some e) =
+    ap Some (stripped_both e (λ p. D && G p) L G l
+    ∙ λ i. stripped (λ p. grown D (G p) i) (λ w. L w || or_off (l w) i) e)
 grow G L l D false (Some e) = λ i. Some (stripped (λ p. or_off D i && G p) (λ w. or_off (L w) i) e)
 
-loses_push : (done : List Loss) (a : Loss) (q : EntityUID) → loses (done ++ a ∷ []) q ≡ (loses done q || same_uid a.uid q)
+loses_push : (done : List Loss) (a : Loss) (q : EntityUID)
+    → loses (done ++ a ∷ []) q ≡ (loses done q || same_uid a.uid q)
 loses_push done a q =
     list_any-append (λ (x : Loss). same_uid q x.uid) done (a ∷ [])
     ∙ ap (λ b. loses done q || b) (sym (or_off (same_uid q a.uid)) ∙ sym (same_uid_equiv.symm a.uid q))
@@ -87,9 +95,11 @@ and_on true = refl
 and_on false = refl
 
 -- one more loss is listed, or none
-pub listed_loss : (done : List Loss) (a : Loss) (key q : EntityUID) (b : Bool) → a.uid ≡ key → b ≡ true → loses (done ++ a ∷ []) q ≡ (loses done q || (same_uid key q && b))
+pub listed_loss : (done : List Loss) (a : Loss) (key q : EntityUID) (b : Bool) → a.uid ≡ key → b ≡ true
+    → loses (done ++ a ∷ []) q ≡ (loses done q || (same_uid key q && b))
 listed_loss done a key q b is h =
-    loses_push done a q ∙ ap (λ k. loses done q || same_uid k q) is ∙ ap (λ c. loses done q || c) (sym (ap (λ c. same_uid key q && c) h ∙ and_on (same_uid key q)))
+    loses_push done a q ∙ ap (λ k. loses done q || same_uid k q) is
+    ∙ ap (λ c. loses done q || c) (sym (ap (λ c. same_uid key q && c) h ∙ and_on (same_uid key q)))
 
 pub unlisted_loss : (o k b : Bool) → b ≡ false → o ≡ (o || (k && b))
 unlisted_loss true k b h = refl
@@ -97,7 +107,8 @@ unlisted_loss false true b h = sym h
 unlisted_loss false false b h = refl
 
 -- a key is found among entries with one more
-pub seen_key : (es : List (EntityUID × SharedEntity)) (k : EntityUID) (n : SharedEntity) (q : EntityUID) → is_some (lookup (same_uid q) (es ++ (k, n) ∷ [])) ≡ (is_some (lookup (same_uid q) es) || same_uid k q)
+pub seen_key : (es : List (EntityUID × SharedEntity)) (k : EntityUID) (n : SharedEntity) (q : EntityUID)
+    → is_some (lookup (same_uid q) (es ++ (k, n) ∷ [])) ≡ (is_some (lookup (same_uid q) es) || same_uid k q)
 seen_key [] k n q = at (same_uid q k) ∙ sym (same_uid_equiv.symm k q)
   where
     at : (b : Bool) → is_some (cond b (Some n) None) ≡ b
@@ -105,7 +116,10 @@ seen_key [] k n q = at (same_uid q k) ∙ sym (same_uid_equiv.symm k q)
     at false = refl
 seen_key (e ∷ es) k n q = at (same_uid q e.0) (seen_key es k n q)
   where
-    at : (b : Bool) → is_some (lookup (same_uid q) (es ++ (k, n) ∷ [])) ≡ (is_some (lookup (same_uid q) es) || same_uid k q) → is_some (cond b (Some e.1) (lookup (same_uid q) (es ++ (k, n) ∷ []))) ≡ (is_some (cond b (Some e.1) (lookup (same_uid q) es)) || same_uid k q)
+    at : (b : Bool) → is_some (lookup (same_uid q) (es ++ (k, n) ∷ []))
+        ≡ (is_some (lookup (same_uid q) es) || same_uid k q)
+        → is_some (cond b (Some e.1) (lookup (same_uid q) (es ++ (k, n) ∷ [])))
+        ≡ (is_some (cond b (Some e.1) (lookup (same_uid q) es)) || same_uid k q)
     at true h = refl
     at false h = h
 
@@ -134,19 +148,23 @@ out_of d f true h = ap (λ x. d && x) (h refl) ∙ none d ∙ sym (h refl) ∙ o
 out_of true f false h = refl
 out_of false f false h = refl
 
-module _ (f : EntityUID → Bool) (es : List (EntityUID × SharedEntity)) (k : EntityUID) (n : SharedEntity) (q : EntityUID) (now : Bool)
+module _ (f : EntityUID → Bool) (es : List (EntityUID × SharedEntity)) (k : EntityUID) (n : SharedEntity)
+    (q : EntityUID) (now : Bool)
     (so : now ≡ (is_some (lookup (same_uid q) es) && f q)) where
   -- one more key that passes is listed
-  pub listed_key : (new : Bool) → new ≡ (now || same_uid k q) → f k ≡ true → new ≡ (is_some (lookup (same_uid q) (es ++ (k, n) ∷ [])) && f q)
+  pub listed_key : (new : Bool) → new ≡ (now || same_uid k q) → f k ≡ true
+      → new ≡ (is_some (lookup (same_uid q) (es ++ (k, n) ∷ [])) && f q)
   listed_key new step hits =
       step ∙ ap (λ b. b || same_uid k q) so
-      ∙ in_both (is_some (lookup (same_uid q) es)) (f q) (same_uid k q) (λ t. sym (ap f ((same_uid_decides k q).0 t)) ∙ hits)
+      ∙ in_both (is_some (lookup (same_uid q) es)) (f q) (same_uid k q)
+      (λ t. sym (ap f ((same_uid_decides k q).0 t)) ∙ hits)
       ∙ ap (λ b. b && f q) (sym (seen_key es k n q))
 
   -- one that does not is not
   pub unlisted_key : f k ≡ false → now ≡ (is_some (lookup (same_uid q) (es ++ (k, n) ∷ [])) && f q)
   unlisted_key misses =
-      so ∙ out_of (is_some (lookup (same_uid q) es)) (f q) (same_uid k q) (λ t. sym (ap f ((same_uid_decides k q).0 t)) ∙ misses)
+      so ∙ out_of (is_some (lookup (same_uid q) es)) (f q) (same_uid k q)
+      (λ t. sym (ap f ((same_uid_decides k q).0 t)) ∙ misses)
       ∙ ap (λ b. b && f q) (sym (seen_key es k n q))
 
 -- one more key of the map, which is stripped or not
@@ -162,7 +180,9 @@ pub none_any : (us : List EntityUID) → false ≡ list_any (is_ancestor_in None
 none_any [] = refl
 none_any (u ∷ us) = none_any us
 
-pub there_only_any : (o : Option SharedEntity) (us : List EntityUID) → (is_some o && list_any (is_ancestor_in (option_map shared o)) us) ≡ list_any (is_ancestor_in (option_map shared o)) us
+pub there_only_any : (o : Option SharedEntity) (us : List EntityUID)
+    → (is_some o && list_any (is_ancestor_in (option_map shared o)) us)
+    ≡ list_any (is_ancestor_in (option_map shared o)) us
 there_only_any None us = none_any us
 there_only_any (Some n) us = refl
 
@@ -177,19 +197,24 @@ or_swap false true true d = refl
 or_swap false true false d = refl
 or_swap false false c d = refl
 
-split : (y : EntityUID) (ys xs : List EntityUID) → list_any (λ x. is_member same_uid (y ∷ ys) x) xs ≡ (is_member same_uid xs y || list_any (λ x. is_member same_uid ys x) xs)
+split : (y : EntityUID) (ys xs : List EntityUID)
+    → list_any (λ x. is_member same_uid (y ∷ ys) x) xs
+    ≡ (is_member same_uid xs y || list_any (λ x. is_member same_uid ys x) xs)
 split y ys [] = refl
 split y ys (x ∷ xs) =
     ap (λ b. (same_uid x y || is_member same_uid ys x) || b) (split y ys xs)
-    ∙ or_swap (same_uid x y) (is_member same_uid ys x) (is_member same_uid xs y) (list_any (λ z. is_member same_uid ys z) xs)
-    ∙ ap (λ b. (b || is_member same_uid xs y) || (is_member same_uid ys x || list_any (λ z. is_member same_uid ys z) xs)) (same_uid_equiv.symm x y)
+    ∙ or_swap (same_uid x y) (is_member same_uid ys x) (is_member same_uid xs y)
+    (list_any (λ z. is_member same_uid ys z) xs)
+    ∙ ap (λ b. (b || is_member same_uid xs y)
+    || (is_member same_uid ys x || list_any (λ z. is_member same_uid ys z) xs)) (same_uid_equiv.symm x y)
 
 pub meet : (xs ys : List EntityUID) → list_any (is_member same_uid ys) xs ≡ list_any (is_member same_uid xs) ys
 meet xs [] = none_in xs
 meet xs (y ∷ ys) = split y ys xs ∙ ap (λ b. is_member same_uid xs y || b) (meet xs ys)
 
 -- one of a list that passes makes the list pass
-pub any_with : {X : Type 0} (f : X → Bool) (xs : List X) (x : X) (ys : List X) → f x ≡ true → list_any f (xs ++ x ∷ ys) ≡ true
+pub any_with : {X : Type 0} (f : X → Bool) (xs : List X) (x : X) (ys : List X) → f x ≡ true
+    → list_any f (xs ++ x ∷ ys) ≡ true
 any_with f [] x ys h = ap (λ b. b || list_any f ys) h
 any_with f (y ∷ xs) x ys h = ap (λ b. f y || b) (any_with f xs x ys h) ∙ end (f y)
   where

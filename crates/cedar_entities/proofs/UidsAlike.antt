@@ -44,14 +44,21 @@ listed S T = slice_eq-Decides same_uid_decides (uids_in S) (uids_in T) (pointwis
 pub same_uids_told : (S T : StoreView) → (same_uids_and_mode S T ≡ true) ↔ HaveSameUids S T
 same_uids_told S T = (
   λ h. record {
-    mode = (booleans_Decides S.partial T.partial).0 (and_left (beq S.partial T.partial) (pointwise same_uid (uids_in S) (uids_in T)) h);
+    mode =
+        (booleans_Decides S.partial T.partial).0
+        (and_left (beq S.partial T.partial) (pointwise same_uid (uids_in S) (uids_in T)) h);
     uids = λ q.
-        let same : uids_in S ≡ uids_in T = (listed S T).0 (and_right (beq S.partial T.partial) (pointwise same_uid (uids_in S) (uids_in T)) h) in
-        sym (contains_uid S.held q) ∙ set.contains-items (uids_held S.held) q ∙ ap (list_any (eq_by_cmp uid_order q)) same
+        let same : uids_in S ≡ uids_in T = (listed S T).0
+        (and_right (beq S.partial T.partial) (pointwise same_uid (uids_in S) (uids_in T)) h) in
+        sym (contains_uid S.held q) ∙ set.contains-items (uids_held S.held) q
+        ∙ ap (list_any (eq_by_cmp uid_order q)) same
         ∙ sym (set.contains-items (uids_held T.held) q) ∙ contains_uid T.held q;
   },
-  λ k. and_both (beq S.partial T.partial) (pointwise same_uid (uids_in S) (uids_in T)) ((booleans_Decides S.partial T.partial).1 k.mode)
-      ((listed S T).1 (ap set.items (set.same_set uid_order_total one_equal (uids_held S.held) (uids_held T.held) (λ q. contains_uid S.held q ∙ k.uids q ∙ sym (contains_uid T.held q))))),
+  λ k. and_both (beq S.partial T.partial) (pointwise same_uid (uids_in S) (uids_in T))
+      ((booleans_Decides S.partial T.partial).1 k.mode)
+      ((listed S T).1
+      (ap set.items (set.same_set uid_order_total one_equal (uids_held S.held) (uids_held T.held)
+      (λ q. contains_uid S.held q ∙ k.uids q ∙ sym (contains_uid T.held q))))),
 )
 
 -- the answer of a call that tells it
@@ -62,18 +69,28 @@ some_shared : (o : Option SharedEntity) → is_some (option_map shared o) ≡ is
 some_shared None = refl
 some_shared (Some n) = refl
 
-key_held : {S : Type 0} (m : HashMap EntityUID SharedEntity S) (D : Held) → held_map m ≡ D → (q : EntityUID) → finmap.contains_key D q ≡ is_some (get same_uid m q)
+key_held : {S : Type 0} (m : HashMap EntityUID SharedEntity S) (D : Held) → held_map m ≡ D → (q : EntityUID)
+    → finmap.contains_key D q ≡ is_some (get same_uid m q)
 key_held m D is q = ap (λ f. is_some (f q)) (sym (stored m D is)) ∙ some_shared (get same_uid m q)
 
-module _ {S : Type 0} (m n : HashMap EntityUID SharedEntity S) (A B : StoreView) (is_m : held_map m ≡ A.held) (is_n : held_map n ≡ B.held) where
-  pub to_same : A.partial ≡ B.partial → ((q : EntityUID) → is_some (get same_uid n q) ≡ true → is_some (get same_uid m q) ≡ true) → ((q : EntityUID) → is_some (get same_uid m q) ≡ true → is_some (get same_uid n q) ≡ true) → HaveSameUids A B
+module _ {S : Type 0} (m n : HashMap EntityUID SharedEntity S) (A B : StoreView) (is_m : held_map m ≡ A.held)
+    (is_n : held_map n ≡ B.held) where
+  pub to_same : A.partial ≡ B.partial
+      → ((q : EntityUID) → is_some (get same_uid n q) ≡ true → is_some (get same_uid m q) ≡ true)
+      → ((q : EntityUID) → is_some (get same_uid m q) ≡ true → is_some (get same_uid n q) ≡ true) → HaveSameUids A B
   to_same mode one other = record {
     mode = mode;
-    uids = λ q. key_held m A.held is_m q ∙ same_bool (is_some (get same_uid m q)) (is_some (get same_uid n q)) (other q, one q) (λ t. t, λ t. t) ∙ sym (key_held n B.held is_n q);
+    uids =
+        λ q. key_held m A.held is_m q ∙ same_bool (is_some (get same_uid m q)) (is_some (get same_uid n q)) (
+          other q,
+          one q,
+        ) (λ t. t, λ t. t) ∙ sym (key_held n B.held is_n q);
   }
 
-  pub same_back : HaveSameUids A B → (q : EntityUID) → is_some (get same_uid n q) ≡ true → is_some (get same_uid m q) ≡ true
+  pub same_back : HaveSameUids A B → (q : EntityUID) → is_some (get same_uid n q) ≡ true
+      → is_some (get same_uid m q) ≡ true
   same_back k q t = sym (key_held m A.held is_m q) ∙ k.uids q ∙ key_held n B.held is_n q ∙ t
 
-  pub same_forth : HaveSameUids A B → (q : EntityUID) → is_some (get same_uid m q) ≡ true → is_some (get same_uid n q) ≡ true
+  pub same_forth : HaveSameUids A B → (q : EntityUID) → is_some (get same_uid m q) ≡ true
+      → is_some (get same_uid n q) ≡ true
   same_forth k q t = sym (key_held n B.held is_n q) ∙ sym (k.uids q) ∙ key_held m A.held is_m q ∙ t

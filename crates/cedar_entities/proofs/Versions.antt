@@ -38,27 +38,34 @@ or_some (Some x) p h e = refl
 or_from_none : {X : Type 0} (o p : Option X) → o ≡ None → p ≡ option_or o p
 or_from_none o p e = ap (λ r. option_or r p) (sym e)
 
-stays : (f : Fn) (x : EntityView) (h : EntityView) → f x.uid ≡ Some h → (q : EntityUID) (b : Bool) → same_uid x.uid q ≡ b → f q ≡ option_or (f q) (cond b (Some x) None)
+stays : (f : Fn) (x : EntityView) (h : EntityView) → f x.uid ≡ Some h → (q : EntityUID) (b : Bool)
+    → same_uid x.uid q ≡ b → f q ≡ option_or (f q) (cond b (Some x) None)
 stays f x h e q true s = or_some (f q) (Some x) h (ap f (sym ((same_uid_decides x.uid q).0 s)) ∙ e)
 stays f x h e q false s = or_none (f q)
 
-pub stays_held : (f : Fn) (x : EntityView) (h : EntityView) → f x.uid ≡ Some h → (q : EntityUID) → f q ≡ option_or (f q) (just x q)
+pub stays_held : (f : Fn) (x : EntityView) (h : EntityView) → f x.uid ≡ Some h → (q : EntityUID)
+    → f q ≡ option_or (f q) (just x q)
 stays_held f x h e q = stays f x h e q (same_uid x.uid q) refl
 
-grows : (f : Fn) (x : EntityView) → f x.uid ≡ None → (q : EntityUID) (b : Bool) → same_uid x.uid q ≡ b → cond b (Some x) (f q) ≡ option_or (f q) (cond b (Some x) None)
+grows : (f : Fn) (x : EntityView) → f x.uid ≡ None → (q : EntityUID) (b : Bool) → same_uid x.uid q ≡ b
+    → cond b (Some x) (f q) ≡ option_or (f q) (cond b (Some x) None)
 grows f x e q true s = or_from_none (f q) (Some x) (ap f (sym ((same_uid_decides x.uid q).0 s)) ∙ e)
 grows f x e q false s = or_none (f q)
 
-pub grows_held : (f : Fn) (x : EntityView) → f x.uid ≡ None → (q : EntityUID) → cond (same_uid x.uid q) (Some x) (f q) ≡ option_or (f q) (just x q)
+pub grows_held : (f : Fn) (x : EntityView) → f x.uid ≡ None → (q : EntityUID)
+    → cond (same_uid x.uid q) (Some x) (f q) ≡ option_or (f q) (just x q)
 grows_held f x e q = grows f x e q (same_uid x.uid q) refl
 
-pub map_cond : {X Y : Type 0} (g : X → Y) (b : Bool) (x : X) (o : Option X) → option_map g (cond b (Some x) o) ≡ cond b (Some (g x)) (option_map g o)
+pub map_cond : {X Y : Type 0} (g : X → Y) (b : Bool) (x : X) (o : Option X)
+    → option_map g (cond b (Some x) o) ≡ cond b (Some (g x)) (option_map g o)
 map_cond g true x o = refl
 map_cond g false x o = refl
 
 -- put_new
-pub put : {S : Type 0} (m n : HashMap EntityUID SharedEntity S) (k : EntityUID) (v : SharedEntity) (x : EntityView) → k ≡ x.uid → shared v ≡ x → get same_uid m k ≡ None
-    → ((q : EntityUID) → get same_uid n q ≡ cond (same_uid k q) (Some v) (get same_uid m q)) → (q : EntityUID) → held n q ≡ option_or (held m q) (just x q)
+pub put : {S : Type 0} (m n : HashMap EntityUID SharedEntity S) (k : EntityUID) (v : SharedEntity) (x : EntityView)
+    → k ≡ x.uid → shared v ≡ x → get same_uid m k ≡ None
+    → ((q : EntityUID) → get same_uid n q ≡ cond (same_uid k q) (Some v) (get same_uid m q)) → (q : EntityUID)
+    → held n q ≡ option_or (held m q) (just x q)
 put m n k v x key value absent step q =
     ap (option_map shared) (step q)
     ∙ map_cond shared (same_uid k q) v (get same_uid m q)
@@ -66,43 +73,54 @@ put m n k v x key value absent step q =
     ∙ ap (λ u. cond (same_uid u q) (Some x) (held m q)) key
     ∙ grows_held (held m) x (ap (held m) (sym key) ∙ ap (option_map shared) absent) q
 
-pub put_key : {S : Type 0} (m : HashMap EntityUID SharedEntity S) (k : EntityUID) (v : SharedEntity) (q : EntityUID) (b : Bool) → same_uid k q ≡ b → k ≡ (shared v).uid → UidsMatch m
+pub put_key : {S : Type 0} (m : HashMap EntityUID SharedEntity S) (k : EntityUID) (v : SharedEntity) (q : EntityUID)
+    (b : Bool) → same_uid k q ≡ b → k ≡ (shared v).uid → UidsMatch m
     → IfSome (cond b (Some v) (get same_uid m q)) (λ w. same_uid q (shared w).uid ≡ true)
 put_key m k v q true s key h = (same_uid_decides q (shared v).uid).1 (sym ((same_uid_decides k q).0 s) ∙ key)
 put_key m k v q false s key h = h q
 
-pub put_keys : {S : Type 0} (m n : HashMap EntityUID SharedEntity S) (k : EntityUID) (v : SharedEntity) → k ≡ (shared v).uid
+pub put_keys : {S : Type 0} (m n : HashMap EntityUID SharedEntity S) (k : EntityUID) (v : SharedEntity)
+    → k ≡ (shared v).uid
     → ((q : EntityUID) → get same_uid n q ≡ cond (same_uid k q) (Some v) (get same_uid m q)) → UidsMatch m → UidsMatch n
-put_keys m n k v key step h q = subst (λ o. IfSome o (λ w. same_uid q (shared w).uid ≡ true)) (sym (step q)) (put_key m k v q (same_uid k q) refl key h)
+put_keys m n k v key step h q =
+    subst (λ o. IfSome o (λ w. same_uid q (shared w).uid ≡ true)) (sym (step q))
+    (put_key m k v q (same_uid k q) refl key h)
 
 -- put_all
 or_assoc : {X : Type 0} (a b c : Option X) → option_or (option_or a b) c ≡ option_or a (option_or b c)
 or_assoc None b c = refl
 or_assoc (Some x) b c = refl
 
-found_or : (b : Bool) (x : EntityView) (o p : Option EntityView) → cond b (Some x) (option_or o p) ≡ option_or (cond b (Some x) o) p
+found_or : (b : Bool) (x : EntityView) (o p : Option EntityView)
+    → cond b (Some x) (option_or o p) ≡ option_or (cond b (Some x) o) p
 found_or true x o p = refl
 found_or false x o p = refl
 
-pub first_entity-append : (xs ys : List EntityView) (q : EntityUID) → first_entity (xs ++ ys) q ≡ option_or (first_entity xs q) (first_entity ys q)
+pub first_entity-append : (xs ys : List EntityView) (q : EntityUID)
+    → first_entity (xs ++ ys) q ≡ option_or (first_entity xs q) (first_entity ys q)
 first_entity-append [] ys q = refl
-first_entity-append (x ∷ xs) ys q = ap (cond (eq_by_cmp uid_order q x.uid) (Some x)) (first_entity-append xs ys q) ∙ found_or (eq_by_cmp uid_order q x.uid) x (first_entity xs q) (first_entity ys q)
+first_entity-append (x ∷ xs) ys q = ap (cond (eq_by_cmp uid_order q x.uid) (Some x)) (first_entity-append xs ys q)
+    ∙ found_or (eq_by_cmp uid_order q x.uid) x (first_entity xs q) (first_entity ys q)
 
 pub first_one : (x : EntityView) (q : EntityUID) → first_entity (x ∷ []) q ≡ just x q
-first_one x q = ap (λ f. cond (f q x.uid) (Some x) None) same_tests ∙ ap (λ b. cond b (Some x) None) (sym (same_uid_equiv.symm x.uid q))
+first_one x q = ap (λ f. cond (f q x.uid) (Some x) None) same_tests
+    ∙ ap (λ b. cond b (Some x) None) (sym (same_uid_equiv.symm x.uid q))
 
 first_here : (x : EntityView) (xs : List EntityView) → first_entity (x ∷ xs) x.uid ≡ Some x
-first_here x xs = ap (λ f. cond (f x.uid x.uid) (Some x) (first_entity xs x.uid)) same_tests ∙ ap (λ b. cond b (Some x) (first_entity xs x.uid)) (same_uid_equiv.refl x.uid)
+first_here x xs = ap (λ f. cond (f x.uid x.uid) (Some x) (first_entity xs x.uid)) same_tests
+    ∙ ap (λ b. cond b (Some x) (first_entity xs x.uid)) (same_uid_equiv.refl x.uid)
 
 unwrapped : (o : Option EntityView) (e : EntityView) → unwrap_or (option_or o (Some e)) e ≡ unwrap_or o e
 unwrapped None e = refl
 unwrapped (Some x) e = refl
 
 -- the present version is what the map holds by now, or else the entity itself
-pub present_now : (f : Fn) (done : List EntityView) (e : EntityView) (rest items : List EntityView) → items ≡ done ++ e ∷ rest → present f items e ≡ unwrap_or (option_or (f e.uid) (first_entity done e.uid)) e
+pub present_now : (f : Fn) (done : List EntityView) (e : EntityView) (rest items : List EntityView)
+    → items ≡ done ++ e ∷ rest → present f items e ≡ unwrap_or (option_or (f e.uid) (first_entity done e.uid)) e
 present_now f done e rest items is =
     ap (λ l. present f l e) is
-    ∙ ap (λ o. unwrap_or (option_or (f e.uid) o) e) (first_entity-append done (e ∷ rest) e.uid ∙ ap (option_or (first_entity done e.uid)) (first_here e rest))
+    ∙ ap (λ o. unwrap_or (option_or (f e.uid) o) e) (first_entity-append done (e ∷ rest) e.uid
+    ∙ ap (option_or (first_entity done e.uid)) (first_here e rest))
     ∙ ap (λ o. unwrap_or o e) (sym (or_assoc (f e.uid) (first_entity done e.uid) (Some e)))
     ∙ unwrapped (option_or (f e.uid) (first_entity done e.uid)) e
 
@@ -110,13 +128,24 @@ agrees_if : (o : Option EntityView) (e : EntityView) → IfSome o (λ h. IsDeepE
 agrees_if None e h = deep_equality.itself e
 agrees_if (Some x) e h = h
 
-pub agrees_now : (f now : Fn) (done : List EntityView) (e : EntityView) (rest items : List EntityView) → items ≡ done ++ e ∷ rest → ((q : EntityUID) → now q ≡ option_or (f q) (first_entity done q)) → IfSome (now e.uid) (λ h. IsDeepEqual h e) → MatchesPresent f items e
-agrees_now f now done e rest items is so h = subst (λ v. IsDeepEqual v e) (sym (present_now f done e rest items is)) (agrees_if _ e (subst (λ o. IfSome o (λ v. IsDeepEqual v e)) (so e.uid) h))
+pub agrees_now : (f now : Fn) (done : List EntityView) (e : EntityView) (rest items : List EntityView)
+    → items ≡ done ++ e ∷ rest → ((q : EntityUID) → now q ≡ option_or (f q) (first_entity done q))
+    → IfSome (now e.uid) (λ h. IsDeepEqual h e) → MatchesPresent f items e
+agrees_now f now done e rest items is so h =
+    subst (λ v. IsDeepEqual v e) (sym (present_now f done e rest items is))
+    (agrees_if _ e (subst (λ o. IfSome o (λ v. IsDeepEqual v e)) (so e.uid) h))
 
-pub differs_now : (f now : Fn) (done : List EntityView) (e h : EntityView) (rest items : List EntityView) → items ≡ done ++ e ∷ rest → ((q : EntityUID) → now q ≡ option_or (f q) (first_entity done q)) → now e.uid ≡ Some h → (IsDeepEqual h e → ⊥) → MatchesPresent f items e → ⊥
-differs_now f now done e h rest items is so at apart d = apart (subst (λ v. IsDeepEqual v e) (present_now f done e rest items is ∙ ap (λ o. unwrap_or o e) (sym (so e.uid) ∙ at)) d)
+pub differs_now : (f now : Fn) (done : List EntityView) (e h : EntityView) (rest items : List EntityView)
+    → items ≡ done ++ e ∷ rest → ((q : EntityUID) → now q ≡ option_or (f q) (first_entity done q)) → now e.uid ≡ Some h
+    → (IsDeepEqual h e → ⊥) → MatchesPresent f items e → ⊥
+differs_now f now done e h rest items is so at apart d =
+    apart (subst (λ v. IsDeepEqual v e) (present_now f done e rest items is
+    ∙ ap (λ o. unwrap_or o e) (sym (so e.uid) ∙ at)) d)
 
-pub held_push : (f now new : Fn) (done : List EntityView) (e : EntityView) → ((q : EntityUID) → now q ≡ option_or (f q) (first_entity done q)) → ((q : EntityUID) → new q ≡ option_or (now q) (just e q)) → (q : EntityUID) → new q ≡ option_or (f q) (first_entity (done ++ e ∷ []) q)
+pub held_push : (f now new : Fn) (done : List EntityView) (e : EntityView)
+    → ((q : EntityUID) → now q ≡ option_or (f q) (first_entity done q))
+    → ((q : EntityUID) → new q ≡ option_or (now q) (just e q)) → (q : EntityUID)
+    → new q ≡ option_or (f q) (first_entity (done ++ e ∷ []) q)
 held_push f now new done e so step q =
     step q ∙ ap (λ o. option_or o (just e q)) (so q) ∙ or_assoc (f q) (first_entity done q) (just e q)
     ∙ ap (λ o. option_or (f q) (option_or (first_entity done q) o)) (sym (first_one e q))
@@ -130,21 +159,38 @@ pub map_same : {X : Type 0} (xs : List X) → map (λ y. y) xs ≡ xs
 map_same [] = refl
 map_same (x ∷ xs) = ap (λ l. x ∷ l) (map_same xs)
 
-pub weaker_refusal : (f now : Fn) (done : List EntityView) (e : EntityView) (rest items : List EntityView) → items ≡ done ++ e ∷ rest → ((q : EntityUID) → now q ≡ option_or (f q) (first_entity done q)) → AllByRecursion (MatchesPresent f items) done
-    → (r : EntitiesError) → MatchRefusal r (λ u. (u ≡ e.uid) × (h : EntityView) × (now e.uid ≡ Some h) × (IsDeepEqual h e → ⊥)) (λ _. ⊥) → MatchRefusal r (FirstMismatch f items) (λ _. ⊥)
+pub weaker_refusal : (f now : Fn) (done : List EntityView) (e : EntityView) (rest items : List EntityView)
+    → items ≡ done ++ e ∷ rest → ((q : EntityUID) → now q ≡ option_or (f q) (first_entity done q))
+    → AllByRecursion (MatchesPresent f items) done
+    → (r : EntitiesError)
+    → MatchRefusal r (λ u. (u ≡ e.uid) × (h : EntityView) × (now e.uid ≡ Some h) × (IsDeepEqual h e → ⊥)) (λ _. ⊥)
+    → MatchRefusal r (FirstMismatch f items) (λ _. ⊥)
 weaker_refusal f now done e rest items is so agree r h =
-    refusal_cases (λ u. (u ≡ e.uid) × (k : EntityView) × (now e.uid ≡ Some k) × (IsDeepEqual k e → ⊥)) (λ _. ⊥) (λ s. MatchRefusal s (FirstMismatch f items) (λ _. ⊥))
-    (λ u k. record { before = done; at = e; after = rest; place = is; agree = agree; differs = differs_now f now done e k.1 rest items is so k.2 k.3; uid = sym k.0 }) (λ t n. absurd n) tt r h
+    refusal_cases (λ u. (u ≡ e.uid) × (k : EntityView) × (now e.uid ≡ Some k) × (IsDeepEqual k e → ⊥)) (λ _. ⊥)
+    (λ s. MatchRefusal s (FirstMismatch f items) (λ _. ⊥))
+    (λ u k. record {
+      before = done;
+      at = e;
+      after = rest;
+      place = is;
+      agree = agree;
+      differs = differs_now f now done e k.1 rest items is so k.2 k.3;
+      uid = sym k.0;
+    }) (λ t n. absurd n) tt r h
 
-pushed : (b : Bool) (v : SharedEntity) (x : EntityView) (o : Option SharedEntity) → shared v ≡ x → option_map shared (cond b (Some v) o) ≡ option_or (cond b (Some x) None) (option_map shared o)
+pushed : (b : Bool) (v : SharedEntity) (x : EntityView) (o : Option SharedEntity) → shared v ≡ x
+    → option_map shared (cond b (Some v) o) ≡ option_or (cond b (Some x) None) (option_map shared o)
 pushed true v x o h = ap Some h
 pushed false v x o h = refl
 
 -- overwrite
-pub put_over : {S : Type 0} (m n : HashMap EntityUID SharedEntity S) (k : EntityUID) (v : SharedEntity) (x : EntityView) → k ≡ x.uid → shared v ≡ x
-    → ((q : EntityUID) → get same_uid n q ≡ cond (same_uid k q) (Some v) (get same_uid m q)) → (q : EntityUID) → held n q ≡ option_or (just x q) (held m q)
+pub put_over : {S : Type 0} (m n : HashMap EntityUID SharedEntity S) (k : EntityUID) (v : SharedEntity) (x : EntityView)
+    → k ≡ x.uid → shared v ≡ x
+    → ((q : EntityUID) → get same_uid n q ≡ cond (same_uid k q) (Some v) (get same_uid m q)) → (q : EntityUID)
+    → held n q ≡ option_or (just x q) (held m q)
 put_over m n k v x key value step q =
-    ap (option_map shared) (step q) ∙ pushed (same_uid k q) v x (get same_uid m q) value ∙ ap (λ u. option_or (cond (same_uid u q) (Some x) None) (held m q)) key
+    ap (option_map shared) (step q) ∙ pushed (same_uid k q) v x (get same_uid m q) value
+    ∙ ap (λ u. option_or (cond (same_uid u q) (Some x) None) (held m q)) key
 
 reversed_push : {X : Type 0} (xs : List X) (x : X) → reversed (xs ++ x ∷ []) ≡ x ∷ reversed xs
 reversed_push [] x = refl
@@ -158,20 +204,27 @@ over_cond : (b : Bool) (x : EntityView) (o : Option EntityView) → cond b (Some
 over_cond true x o = refl
 over_cond false x o = refl
 
-last_push : (done : List EntityView) (e : EntityView) (q : EntityUID) → last_entity (done ++ e ∷ []) q ≡ option_or (just e q) (last_entity done q)
+last_push : (done : List EntityView) (e : EntityView) (q : EntityUID)
+    → last_entity (done ++ e ∷ []) q ≡ option_or (just e q) (last_entity done q)
 last_push done e q =
     ap (finmap.find uid_order q) (ap reversed (map_push done e) ∙ reversed_push (map keyed done) (keyed e))
-    ∙ ap (λ f. cond (f q e.uid) (Some e) (last_entity done q)) same_tests ∙ ap (λ b. cond b (Some e) (last_entity done q)) (sym (same_uid_equiv.symm e.uid q))
+    ∙ ap (λ f. cond (f q e.uid) (Some e) (last_entity done q)) same_tests
+    ∙ ap (λ b. cond b (Some e) (last_entity done q)) (sym (same_uid_equiv.symm e.uid q))
     ∙ over_cond (same_uid e.uid q) e (last_entity done q)
 
-pub over_push : (f now new : Fn) (done : List EntityView) (e : EntityView) → ((q : EntityUID) → now q ≡ option_or (last_entity done q) (f q)) → ((q : EntityUID) → new q ≡ option_or (just e q) (now q)) → (q : EntityUID) → new q ≡ option_or (last_entity (done ++ e ∷ []) q) (f q)
+pub over_push : (f now new : Fn) (done : List EntityView) (e : EntityView)
+    → ((q : EntityUID) → now q ≡ option_or (last_entity done q) (f q))
+    → ((q : EntityUID) → new q ≡ option_or (just e q) (now q)) → (q : EntityUID)
+    → new q ≡ option_or (last_entity (done ++ e ∷ []) q) (f q)
 over_push f now new done e so step q =
-    step q ∙ ap (option_or (just e q)) (so q) ∙ sym (or_assoc (just e q) (last_entity done q) (f q)) ∙ ap (λ o. option_or o (f q)) (sym (last_push done e q))
+    step q ∙ ap (option_or (just e q)) (so q) ∙ sym (or_assoc (just e q) (last_entity done q) (f q))
+    ∙ ap (λ o. option_or o (f q)) (sym (last_push done e q))
 
 pub map_append_one : {X Y : Type 0} (f : X → Y) (xs : List X) (x : X) → map f (xs ++ x ∷ []) ≡ map f xs ++ f x ∷ []
 map_append_one f [] x = refl
 map_append_one f (y ∷ xs) x = ap (λ l. f y ∷ l) (map_append_one f xs x)
 
-pub map_at : {X Y : Type 0} (f : X → Y) (xs : List X) (x : X) (ys : List X) → map f (xs ++ x ∷ ys) ≡ map f xs ++ f x ∷ map f ys
+pub map_at : {X Y : Type 0} (f : X → Y) (xs : List X) (x : X) (ys : List X)
+    → map f (xs ++ x ∷ ys) ≡ map f xs ++ f x ∷ map f ys
 map_at f [] x ys = refl
 map_at f (y ∷ xs) x ys = ap (λ l. f y ∷ l) (map_at f xs x ys)

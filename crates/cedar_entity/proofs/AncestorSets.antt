@@ -31,43 +31,62 @@ or_turn false true false = refl
 or_turn false false true = refl
 or_turn false false false = refl
 
-already : (e : EntityView) (k q : EntityUID) (b : Bool) → same_uid k q ≡ b → set.contains e.parents k ≡ true → has_ancestor e q ≡ (has_ancestor e q || b)
-already e k q true s h = ap (λ x. set.contains e.parents x || set.contains e.indirect q) (sym ((same_uid_decides k q).0 s)) ∙ ap (λ b. b || set.contains e.indirect q) h ∙ sym (or_true (has_ancestor e q))
+already : (e : EntityView) (k q : EntityUID) (b : Bool) → same_uid k q ≡ b → set.contains e.parents k ≡ true
+    → has_ancestor e q ≡ (has_ancestor e q || b)
+already e k q true s h =
+    ap (λ x. set.contains e.parents x || set.contains e.indirect q) (sym ((same_uid_decides k q).0 s))
+    ∙ ap (λ b. b || set.contains e.indirect q) h ∙ sym (or_true (has_ancestor e q))
 already e k q false s h = or_false (has_ancestor e q)
 
 more : (e : EntityView) (k q : EntityUID) (b : Bool) → set.contains e.parents k ≡ b
-    → (set.contains e.parents q || set.contains (cond b e.indirect (set.insert e.indirect k)) q) ≡ (has_ancestor e q || same_uid k q)
+    → (set.contains e.parents q || set.contains (cond b e.indirect (set.insert e.indirect k)) q)
+    ≡ (has_ancestor e q || same_uid k q)
 more e k q true h = already e k q (same_uid k q) refl h
 more e k q false h =
     ap (λ b. set.contains e.parents q || b) (set.contains-insert uid_order_total e.indirect k q)
-    ∙ ap (λ b. set.contains e.parents q || (b || set.contains e.indirect q)) (ap (λ f. f q k) same_tests ∙ sym (same_uid_equiv.symm k q))
+    ∙ ap (λ b. set.contains e.parents q || (b || set.contains e.indirect q)) (ap (λ f. f q k) same_tests
+    ∙ sym (same_uid_equiv.symm k q))
     ∙ or_turn (set.contains e.parents q) (set.contains e.indirect q) (same_uid k q)
 
 -- the ancestors after one more
-pub ancestors_with : (e : EntityView) (k q : EntityUID) → has_ancestor (with_ancestor e k) q ≡ (has_ancestor e q || same_uid k q)
+pub ancestors_with : (e : EntityView) (k q : EntityUID)
+    → has_ancestor (with_ancestor e k) q ≡ (has_ancestor e q || same_uid k q)
 ancestors_with e k q = more e k q (set.contains e.parents k) refl
 
 -- the ancestors where there are only parents
-pub ancestors_reset : (e : EntityView) (q : EntityUID) → (set.contains e.parents q || set.contains (set.empty {R = uid_order}) q) ≡ set.contains e.parents q
-ancestors_reset e q = ap (λ b. set.contains e.parents q || b) (set.contains-empty uid_order q) ∙ sym (or_false (set.contains e.parents q))
+pub ancestors_reset : (e : EntityView) (q : EntityUID)
+    → (set.contains e.parents q || set.contains (set.empty {R = uid_order}) q) ≡ set.contains e.parents q
+ancestors_reset e q = ap (λ b. set.contains e.parents q || b) (set.contains-empty uid_order q)
+    ∙ sym (or_false (set.contains e.parents q))
 
-overlap_new : (e : EntityView) (k q : EntityUID) (t : Bool) → eq_by_cmp uid_order q k ≡ t → set.contains e.parents k ≡ false → (set.contains e.parents q && (t || set.contains e.indirect q)) ≡ (set.contains e.parents q && set.contains e.indirect q)
-overlap_new e k q true t h = let out : set.contains e.parents q ≡ false = ap (set.contains e.parents) ((same_uid_decides q k).0 (ap (λ f. f q k) (sym same_tests) ∙ t)) ∙ h in ap (λ b. b && true) out ∙ ap (λ b. b && set.contains e.indirect q) (sym out)
+overlap_new : (e : EntityView) (k q : EntityUID) (t : Bool) → eq_by_cmp uid_order q k ≡ t
+    → set.contains e.parents k ≡ false → (set.contains e.parents q && (t || set.contains e.indirect q))
+    ≡ (set.contains e.parents q && set.contains e.indirect q)
+overlap_new e k q true t h =
+    let out : set.contains e.parents q ≡ false =
+    ap (set.contains e.parents) ((same_uid_decides q k).0 (ap (λ f. f q k) (sym same_tests) ∙ t)) ∙ h in
+    ap (λ b. b && true) out ∙ ap (λ b. b && set.contains e.indirect q) (sym out)
 overlap_new e k q false t h = refl
 
-overlap_at : (e : EntityView) (k q : EntityUID) (b : Bool) → set.contains e.parents k ≡ b → (set.contains e.parents q && set.contains (cond b e.indirect (set.insert e.indirect k)) q) ≡ (set.contains e.parents q && set.contains e.indirect q)
+overlap_at : (e : EntityView) (k q : EntityUID) (b : Bool) → set.contains e.parents k ≡ b
+    → (set.contains e.parents q && set.contains (cond b e.indirect (set.insert e.indirect k)) q)
+    ≡ (set.contains e.parents q && set.contains e.indirect q)
 overlap_at e k q true h = refl
-overlap_at e k q false h = ap (λ b. set.contains e.parents q && b) (set.contains-insert uid_order_total e.indirect k q) ∙ overlap_new e k q (eq_by_cmp uid_order q k) refl h
+overlap_at e k q false h = ap (λ b. set.contains e.parents q && b) (set.contains-insert uid_order_total e.indirect k q)
+    ∙ overlap_new e k q (eq_by_cmp uid_order q k) refl h
 
 -- one ancestor more leaves the overlap
 pub overlap_with : (e : EntityView) (k : EntityUID) → overlap (with_ancestor e k) ≡ overlap e
 overlap_with e k = set.same_set uid_order_total one_equal _ _ (λ q.
-    set.contains-intersection uid_order_total e.parents (cond (set.contains e.parents k) e.indirect (set.insert e.indirect k)) q
+    set.contains-intersection uid_order_total e.parents
+    (cond (set.contains e.parents k) e.indirect (set.insert e.indirect k)) q
     ∙ overlap_at e k q (set.contains e.parents k) refl
     ∙ sym (set.contains-intersection uid_order_total e.parents e.indirect q))
 
 -- what reads the same of an entity with one ancestor more reads the same after it was added or refused
-pub same_after : {T E X : Type 0} (f : EntityView → X) → ((e : EntityView) (k : EntityUID) → f (with_ancestor e k) ≡ f e) → (r : Result T E) (old new : EntityView) (k : EntityUID)
+pub same_after : {T E X : Type 0} (f : EntityView → X)
+    → ((e : EntityView) (k : EntityUID) → f (with_ancestor e k) ≡ f e)
+    → (r : Result T E) (old new : EntityView) (k : EntityUID)
     → OnOk r (new ≡ with_ancestor old k) → OnErr r (new ≡ old) → f new ≡ f old
 same_after f same (Ok x) old new k h g = ap f h ∙ same old k
 same_after f same (Err x) old new k h g = ap f g
@@ -108,19 +127,25 @@ no_parent_in_row e ks new = set.same_set uid_order_total one_equal _ _ (λ q.
     ∙ ap (λ b. b && not (set.contains e.parents q)) (sym (contains_listed ks q))
     ∙ sym (set.contains-difference uid_order_total (set.from_list ks) e.parents q))
 
-in_row : (e : EntityView) (ks : List EntityUID) (q : EntityUID) → set.contains (set.union e.indirect (set.difference (set.from_list ks) e.parents)) q ≡ (set.contains e.indirect q || (is_member same_uid ks q && not (set.contains e.parents q)))
+in_row : (e : EntityView) (ks : List EntityUID) (q : EntityUID)
+    → set.contains (set.union e.indirect (set.difference (set.from_list ks) e.parents)) q
+    ≡ (set.contains e.indirect q || (is_member same_uid ks q && not (set.contains e.parents q)))
 in_row e ks q =
     set.contains-union uid_order_total e.indirect (set.difference (set.from_list ks) e.parents) q
-    ∙ ap (λ b. set.contains e.indirect q || b) (set.contains-difference uid_order_total (set.from_list ks) e.parents q ∙ ap (λ b. b && not (set.contains e.parents q)) (contains_listed ks q))
+    ∙ ap (λ b. set.contains e.indirect q || b) (set.contains-difference uid_order_total (set.from_list ks) e.parents q
+    ∙ ap (λ b. b && not (set.contains e.parents q)) (contains_listed ks q))
 
 -- the ancestors after a row more
-pub ancestors_with_row : (e : EntityView) (ks : List EntityUID) (q : EntityUID) → has_ancestor (with_row e ks) q ≡ (has_ancestor e q || is_member same_uid ks q)
-ancestors_with_row e ks q = ap (λ b. set.contains e.parents q || b) (in_row e ks q) ∙ left_out (set.contains e.parents q) (set.contains e.indirect q) (is_member same_uid ks q)
+pub ancestors_with_row : (e : EntityView) (ks : List EntityUID) (q : EntityUID)
+    → has_ancestor (with_row e ks) q ≡ (has_ancestor e q || is_member same_uid ks q)
+ancestors_with_row e ks q = ap (λ b. set.contains e.parents q || b) (in_row e ks q)
+    ∙ left_out (set.contains e.parents q) (set.contains e.indirect q) (is_member same_uid ks q)
 
 -- a row more leaves the overlap
 pub overlap_with_row : (e : EntityView) (ks : List EntityUID) → overlap (with_row e ks) ≡ overlap e
 overlap_with_row e ks = set.same_set uid_order_total one_equal _ _ (λ q.
-    set.contains-intersection uid_order_total e.parents (set.union e.indirect (set.difference (set.from_list ks) e.parents)) q
+    set.contains-intersection uid_order_total e.parents
+    (set.union e.indirect (set.difference (set.from_list ks) e.parents)) q
     ∙ ap (λ b. set.contains e.parents q && b) (in_row e ks q)
     ∙ none_common (set.contains e.parents q) (set.contains e.indirect q) (is_member same_uid ks q)
     ∙ sym (set.contains-intersection uid_order_total e.parents e.indirect q))
@@ -129,15 +154,26 @@ held_of : (x y : Bool) → x ≡ true → (x || y) ≡ true
 held_of x y h = ap (λ b. b || y) h
 
 -- what a row leaves where it was added or refused
-pub grows_by_row : {T E : Type 0} (r : Result T E) (old new : EntityView) (ks : List EntityUID) → OnOk r (new ≡ with_row old ks) → OnErr r (new ≡ old) → Grows (has_ancestor old) (has_ancestor new) (is_member same_uid ks)
+pub grows_by_row : {T E : Type 0} (r : Result T E) (old new : EntityView) (ks : List EntityUID)
+    → OnOk r (new ≡ with_row old ks) → OnErr r (new ≡ old)
+    → Grows (has_ancestor old) (has_ancestor new) (is_member same_uid ks)
 grows_by_row (Ok x) old new ks h g =
     let more = λ (q : EntityUID). ap (λ (e : EntityView). has_ancestor e q) h ∙ ancestors_with_row old ks q in
-    record { stays = λ q e. more q ∙ held_of (has_ancestor old q) (is_member same_uid ks q) e; only = λ q e. sym (more q) ∙ e }
+    record {
+      stays = λ q e. more q ∙ held_of (has_ancestor old q) (is_member same_uid ks q) e;
+      only = λ q e. sym (more q) ∙ e;
+    }
 grows_by_row (Err x) old new ks h g =
-    record { stays = λ q e. ap (λ (e : EntityView). has_ancestor e q) g ∙ e; only = λ q e. held_of (has_ancestor old q) (is_member same_uid ks q) (sym (ap (λ (e : EntityView). has_ancestor e q) g) ∙ e) }
+    record {
+      stays = λ q e. ap (λ (e : EntityView). has_ancestor e q) g ∙ e;
+      only = λ q e. held_of (has_ancestor old q) (is_member same_uid ks q)
+          (sym (ap (λ (e : EntityView). has_ancestor e q) g) ∙ e);
+    }
 
 -- what reads the same of an entity with a row more reads the same after it was added or refused
-pub same_after_row : {T E X : Type 0} (f : EntityView → X) → ((e : EntityView) (ks : List EntityUID) → f (with_row e ks) ≡ f e) → (r : Result T E) (old new : EntityView) (ks : List EntityUID)
+pub same_after_row : {T E X : Type 0} (f : EntityView → X)
+    → ((e : EntityView) (ks : List EntityUID) → f (with_row e ks) ≡ f e)
+    → (r : Result T E) (old new : EntityView) (ks : List EntityUID)
     → OnOk r (new ≡ with_row old ks) → OnErr r (new ≡ old) → f new ≡ f old
 same_after_row f same (Ok x) old new ks h g = ap f h ∙ same old ks
 same_after_row f same (Err x) old new ks h g = ap f g

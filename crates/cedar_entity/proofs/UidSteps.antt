@@ -17,8 +17,10 @@ use Rattle.cedar_entity.specs.laws.UidOrder.{irreflexive}
 use Rattle.cedar_uid_sets.specs.laws.Sets.{same_tests, contains_listed, is_member-append}
 
 -- a list that ascends and has the members of a set lists it
-pub lists_ascending : (s : UidValues) (us : List EntityUID) → ((q : EntityUID) → is_member same_uid us q ≡ set.contains s q) → Ascend us → Lists s us
-lists_ascending s us h a = record { members = h; once = subst (λ t. IsDistinct t us) same_tests (IsDistinct-from_sorted uid_order us a) }
+pub lists_ascending : (s : UidValues) (us : List EntityUID)
+    → ((q : EntityUID) → is_member same_uid us q ≡ set.contains s q) → Ascend us → Lists s us
+lists_ascending s us h a =
+    record { members = h; once = subst (λ t. IsDistinct t us) same_tests (IsDistinct-from_sorted uid_order us a) }
 
 -- what one of two tests says
 pub either : (x y : Bool) {P : Type 0} → (x || y) ≡ true → (x ≡ true → P) → (y ≡ true → P) → P
@@ -26,7 +28,8 @@ either true y h f g = f refl
 either false y h f g = g h
 
 -- each member stands above what all are above
-pub above_member : (u q : EntityUID) (us : List EntityUID) → AllByRecursion (λ y. uid_order u y ≡ Less) us → is_member same_uid us q ≡ true → uid_order u q ≡ Less
+pub above_member : (u q : EntityUID) (us : List EntityUID) → AllByRecursion (λ y. uid_order u y ≡ Less) us
+    → is_member same_uid us q ≡ true → uid_order u q ≡ Less
 above_member u q [] h m = absurd (cc)
 above_member u q (x ∷ xs) h m = either (same_uid q x) (is_member same_uid xs q) m
     (λ e. subst (λ z. uid_order u z ≡ Less) (sym ((same_uid_decides q x).0 e)) h.0)
@@ -38,41 +41,54 @@ same q k = (same_uid_decides q k).0
 itself : (k : EntityUID) → same_uid k k ≡ true
 itself k = (same_uid_decides k k).1 refl
 
-absent : (u : EntityUID) (us : List EntityUID) (b : Bool) → is_member same_uid us u ≡ b → AllByRecursion (λ y. uid_order u y ≡ Less) us → b ≡ false
+absent : (u : EntityUID) (us : List EntityUID) (b : Bool) → is_member same_uid us u ≡ b
+    → AllByRecursion (λ y. uid_order u y ≡ Less) us → b ≡ false
 absent u us true e a = absurd (irreflexive u (above_member u u us a e))
 absent u us false e a = refl
 
 -- what is below all of a list is not in it
-not_in : (u : EntityUID) (us : List EntityUID) → AllByRecursion (λ y. uid_order u y ≡ Less) us → is_member same_uid us u ≡ false
+not_in : (u : EntityUID) (us : List EntityUID) → AllByRecursion (λ y. uid_order u y ≡ Less) us
+    → is_member same_uid us u ≡ false
 not_in u us a = absent u us (is_member same_uid us u) refl a
 
-heads : (u v : EntityUID) (us vs : List EntityUID) → AllByRecursion (λ y. uid_order u y ≡ Less) us → AllByRecursion (λ y. uid_order v y ≡ Less) vs → (same_uid u v || is_member same_uid vs u) ≡ true → (same_uid v u || is_member same_uid us v) ≡ true → u ≡ v
+heads : (u v : EntityUID) (us vs : List EntityUID) → AllByRecursion (λ y. uid_order u y ≡ Less) us
+    → AllByRecursion (λ y. uid_order v y ≡ Less) vs → (same_uid u v || is_member same_uid vs u) ≡ true
+    → (same_uid v u || is_member same_uid us v) ≡ true → u ≡ v
 heads u v us vs a b h g = either (same_uid u v) (is_member same_uid vs u) h
     (λ e. same u v e)
     (λ k. either (same_uid v u) (is_member same_uid us v) g
     (λ e. sym (same v u e))
     (λ l. absurd (irreflexive u (uid_order_total.trans u v u (above_member u v us a l) (above_member v u vs b k)))))
 
-tails : (x q : EntityUID) (us vs : List EntityUID) (b : Bool) → same_uid q x ≡ b → is_member same_uid us x ≡ false → is_member same_uid vs x ≡ false → (b || is_member same_uid us q) ≡ (b || is_member same_uid vs q) → is_member same_uid us q ≡ is_member same_uid vs q
-tails x q us vs true e f g h = ap (is_member same_uid us) (same q x e) ∙ f ∙ sym g ∙ ap (is_member same_uid vs) (sym (same q x e))
+tails : (x q : EntityUID) (us vs : List EntityUID) (b : Bool) → same_uid q x ≡ b → is_member same_uid us x ≡ false
+    → is_member same_uid vs x ≡ false → (b || is_member same_uid us q) ≡ (b || is_member same_uid vs q)
+    → is_member same_uid us q ≡ is_member same_uid vs q
+tails x q us vs true e f g h = ap (is_member same_uid us) (same q x e) ∙ f ∙ sym g
+    ∙ ap (is_member same_uid vs) (sym (same q x e))
 tails x q us vs false e f g h = h
 
 first_in : (u : EntityUID) (us : List EntityUID) → (same_uid u u || is_member same_uid us u) ≡ true
 first_in u us = ap (λ b. b || is_member same_uid us u) (itself u)
 
 -- two lists that ascend and have the same members are the same
-pub same_ascending : (us vs : List EntityUID) → Ascend us → Ascend vs → ((q : EntityUID) → is_member same_uid us q ≡ is_member same_uid vs q) → us ≡ vs
+pub same_ascending : (us vs : List EntityUID) → Ascend us → Ascend vs
+    → ((q : EntityUID) → is_member same_uid us q ≡ is_member same_uid vs q) → us ≡ vs
 unfolding IsStrictlySortedBy
 same_ascending [] [] a b h = refl
 same_ascending [] (v ∷ vs) a b h = absurd (false≢true (h v ∙ first_in v vs))
 same_ascending (u ∷ us) [] a b h = absurd (false≢true (sym (h u) ∙ first_in u us))
 same_ascending (u ∷ us) (v ∷ vs) a b h =
     let e : u ≡ v = heads u v us vs a.0 b.0 (sym (h u) ∙ first_in u us) (h v ∙ first_in v vs) in
-    let rest : us ≡ vs = same_ascending us vs a.1 b.1 (λ q. tails u q us vs (same_uid q u) refl (not_in u us a.0) (not_in u vs (subst (λ z. AllByRecursion (λ y. uid_order z y ≡ Less) vs) (sym e) b.0)) (h q ∙ ap (λ z. same_uid q z || is_member same_uid vs q) (sym e))) in
+    let rest : us ≡ vs = same_ascending us vs a.1 b.1
+    (λ q. tails u q us vs (same_uid q u) refl (not_in u us a.0)
+    (not_in u vs (subst (λ z. AllByRecursion (λ y. uid_order z y ≡ Less) vs) (sym e) b.0)) (h q
+    ∙ ap (λ z. same_uid q z || is_member same_uid vs q) (sym e))) in
     λ i. e i ∷ rest i
 
 -- two lists in turn have what their sets have
-pub both_listed : (ps is : List EntityUID) (s t : UidValues) → set.from_list ps ≡ s → set.from_list is ≡ t → (q : EntityUID) → is_member same_uid (ps ++ is) q ≡ (set.contains s q || set.contains t q)
+pub both_listed : (ps is : List EntityUID) (s t : UidValues) → set.from_list ps ≡ s → set.from_list is ≡ t
+    → (q : EntityUID) → is_member same_uid (ps ++ is) q ≡ (set.contains s q || set.contains t q)
 both_listed ps is s t f g q =
     is_member-append ps is q
-    ∙ (λ i. (sym (contains_listed ps q) ∙ ap (λ v. set.contains v q) f) i || (sym (contains_listed is q) ∙ ap (λ v. set.contains v q) g) i)
+    ∙ (λ i. (sym (contains_listed ps q) ∙ ap (λ v. set.contains v q) f) i
+    || (sym (contains_listed is q) ∙ ap (λ v. set.contains v q) g) i)

@@ -1,5 +1,6 @@
 -- What the store's steps make of its state.
-use Rattle.std.specs.Prelude.{◌≡◌, ◌↔◌, ℕ, List, [], ◌∷◌, ◌++◌, codes, Bool, true, false, ◌||◌, Option, Some, None, map, not, Result, Ok, Err, IfOk, IfErr}
+use Rattle.std.specs.Prelude.{◌≡◌, ◌↔◌, ℕ, List, [], ◌∷◌, ◌++◌, codes, Bool, true, false, ◌||◌, Option, Some, None, map}
+use Rattle.std.specs.Prelude.{not, Result, Ok, Err, IfOk, IfErr}
 use Rattle.std.proofs.Common.{ap, sym, refl, subst, ◌∙◌, inl, inr}
 use Rattle.std.specs.Prelude.{cond, if◌then◌else◌}
 use Rattle.std.specs.Cmp.Lexicographic.{bytes_decides}
@@ -24,7 +25,8 @@ use Rattle.cedar_entities.specs.Changes.{AddsPlain, RemovesPlain, UpsertsPlain}
 use Rattle.cedar_entities.specs.Plain.{StoreView, IsPlainStore, parts_of, given_of, IsBare, AreBare}
 use Rattle.cedar_entity.specs.View.{EntityView, has_ancestor}
 use Rattle.cedar_entities.specs.Refusals.{IsAddingRefused, IsOverwritingRefused}
-use Rattle.cedar_entities.specs.World.{World, Parts, Given, given, graph, is_parent_in, entry_of, reversed, goes, without, added, overwritten, deleted, empty_world}
+use Rattle.cedar_entities.specs.World.{World, Parts, Given, given, graph, is_parent_in, entry_of, reversed, goes}
+use Rattle.cedar_entities.specs.World.{without, added, overwritten, deleted, empty_world}
 use Rattle.cedar_entity.specs.declared.err.EntitiesError.{EntitiesError}
 use Rattle.cedar_entity.specs.declared.err.EntitiesError.TheVariants as errors
 use Rattle.cedar_entities.specs.declared.entities.TCComputation.TheVariants.{ComputeNow}
@@ -33,8 +35,10 @@ use Rattle.cedar_lines.specs.Lines.{written_line}
 use Rattle.cedar_slice.specs.Slices.{IsPlainSlice}
 use Rattle.cedar_slice.specs.laws.OneSlice.{slice_edges}
 use Rattle.cedar_entity_lines.specs.EntityCommand.{Ent, Build, Add, Upsert, Remove, Slice, Anc}
-use Rattle.cedar_entity_lines.specs.EntityOutput.{EntityState, Adds, Overwrites, AreAncestors, ShowsAncestors, count_line, uid_text, field_of}
-use Rattle.cedar_entity_lines.specs.Holding.{StoreAndWaiting, IsAsciiUid, IsAsciiGiven, IsAsciiWorld, AreAsciiUids, Holds, EntityWrites}
+use Rattle.cedar_entity_lines.specs.EntityOutput.{EntityState, Adds, Overwrites, AreAncestors, ShowsAncestors}
+use Rattle.cedar_entity_lines.specs.EntityOutput.{count_line, uid_text, field_of}
+use Rattle.cedar_entity_lines.specs.Holding.{StoreAndWaiting, IsAsciiUid, IsAsciiGiven, IsAsciiWorld, AreAsciiUids}
+use Rattle.cedar_entity_lines.specs.Holding.{Holds, EntityWrites}
 use Rattle.cedar_entity_lines.specs.laws.Machines.{Refused, KeepsAndTells}
 use Rattle.cedar_entity_lines.specs.laws.OneAnswer.{all_at}
 use mathlib.Core.List.{append-nil}
@@ -44,13 +48,15 @@ use Rattle.cedar_entity.specs.laws.UidSets.{kept_in}
 use Rattle.cedar_entities.specs.laws.Lists.{all_push}
 
 -- why adding was refused, as it is written
-pub refused_adds : (base : World) (L : List Given) (e : EntitiesError) (old new : List ℕ) → AllByRecursion IsAsciiGiven L → IsAddingRefused base L e → Refused e old new
+pub refused_adds : (base : World) (L : List Given) (e : EntitiesError) (old new : List ℕ)
+    → AllByRecursion IsAsciiGiven L → IsAddingRefused base L e → Refused e old new
     → (text : List ℕ) × Adds base L empty_world text × (new ≡ old ++ text)
 refused_adds base L (errors.Duplicate u) old new ascii h r =
     let g = all_at IsAsciiGiven h.before h.at h.after (subst (AllByRecursion IsAsciiGiven) h.place ascii) in
     (written_line (codes "refused: duplicate " ++ uid_text u), inl (u, h, refl, refl), r (subst IsAsciiUid h.uid g.0))
 refused_adds base L (errors.TransitiveClosureError (tc.MissingTcEdge x)) old new ascii h r = absurd r
-refused_adds base L (errors.TransitiveClosureError (tc.HasCycle x)) old new ascii h r = (written_line (codes "refused: cycle"), inr (inl (h.0, (_, h.1), refl, refl)), r)
+refused_adds base L (errors.TransitiveClosureError (tc.HasCycle x)) old new ascii h r =
+    (written_line (codes "refused: cycle"), inr (inl (h.0, (_, h.1), refl, refl)), r)
 refused_adds base L (errors.TransitiveClosureError tc.Memory) old new ascii h r = absurd r
 refused_adds base L (errors.SelfAncestor u) old new ascii h r = absurd r
 refused_adds base L (errors.DuplicateAncestor u x) old new ascii h r = absurd r
@@ -59,11 +65,13 @@ refused_adds base L (errors.ReservedKey k) old new ascii h r = absurd r
 refused_adds base L errors.Memory old new ascii h r = absurd r
 
 -- why overwriting was
-pub refused_overwrites : (base : World) (L : List Given) (e : EntitiesError) (old new : List ℕ) → IsOverwritingRefused base L e → Refused e old new
+pub refused_overwrites : (base : World) (L : List Given) (e : EntitiesError) (old new : List ℕ)
+    → IsOverwritingRefused base L e → Refused e old new
     → (text : List ℕ) × Overwrites base L empty_world text × (new ≡ old ++ text)
 refused_overwrites base L (errors.Duplicate u) old new h r = absurd h
 refused_overwrites base L (errors.TransitiveClosureError (tc.MissingTcEdge x)) old new h r = absurd r
-refused_overwrites base L (errors.TransitiveClosureError (tc.HasCycle x)) old new h r = (written_line (codes "refused: cycle"), inl ((_, h), refl, refl), r)
+refused_overwrites base L (errors.TransitiveClosureError (tc.HasCycle x)) old new h r =
+    (written_line (codes "refused: cycle"), inl ((_, h), refl, refl), r)
 refused_overwrites base L (errors.TransitiveClosureError tc.Memory) old new h r = absurd r
 refused_overwrites base L (errors.SelfAncestor u) old new h r = absurd r
 refused_overwrites base L (errors.DuplicateAncestor u x) old new h r = absurd r
@@ -75,16 +83,20 @@ refused_overwrites base L errors.Memory old new h r = absurd r
 abbrev pub ascii_parts : Option Parts → Type 0
 ascii_parts o = IfSome o (λ p. (q : EntityUID) → set.contains p.parents q ≡ true → IsAsciiUid q)
 
-pick_ascii : (b : Bool) (p : Parts) (o : Option Parts) → ((q : EntityUID) → set.contains p.parents q ≡ true → IsAsciiUid q) → ascii_parts o → ascii_parts (cond b (Some p) o)
+pick_ascii : (b : Bool) (p : Parts) (o : Option Parts)
+    → ((q : EntityUID) → set.contains p.parents q ≡ true → IsAsciiUid q) → ascii_parts o
+    → ascii_parts (cond b (Some p) o)
 pick_ascii true p o h k = h
 pick_ascii false p o h k = k
 
 abbrev pub ascii_entry : EntityUID × Parts → Type 0
 ascii_entry e = (q : EntityUID) → set.contains e.1.parents q ≡ true → IsAsciiUid q
 
-find_ascii : (es : List (EntityUID × Parts)) (a : EntityUID) → AllByRecursion ascii_entry es → ascii_parts (finmap.find uid_order a es)
+find_ascii : (es : List (EntityUID × Parts)) (a : EntityUID) → AllByRecursion ascii_entry es
+    → ascii_parts (finmap.find uid_order a es)
 find_ascii [] a h = tt
-find_ascii (e ∷ es) a h = pick_ascii (eq_by_cmp uid_order a e.0) e.1 (finmap.find uid_order a es) h.0 (find_ascii es a h.1)
+find_ascii (e ∷ es) a h =
+    pick_ascii (eq_by_cmp uid_order a e.0) e.1 (finmap.find uid_order a es) h.0 (find_ascii es a h.1)
 
 entries_ascii : (L : List Given) → AllByRecursion IsAsciiGiven L → AllByRecursion ascii_entry (map entry_of L)
 entries_ascii [] h = tt
@@ -113,20 +125,33 @@ from_parts W h a b e = parent_ascii (finmap.get W.entities a) b (h a) e
 parts_in : (W : World) → IsAsciiWorld W → (a : EntityUID) → ascii_parts (finmap.get W.entities a)
 parts_in W h a = found_parts (finmap.get W.entities a) (h a)
 
-pub added_ascii : (W : World) (L : List Given) → IsAsciiWorld W → AllByRecursion IsAsciiGiven L → IsAsciiWorld (added W L)
-added_ascii W L h k = from_parts (added W L) (λ a. subst ascii_parts (sym (get_added W L a)) (parts_or _ _ (parts_in W h a) (find_ascii (map entry_of L) a (entries_ascii L k))))
+pub added_ascii : (W : World) (L : List Given) → IsAsciiWorld W → AllByRecursion IsAsciiGiven L
+    → IsAsciiWorld (added W L)
+added_ascii W L h k =
+    from_parts (added W L)
+    (λ a. subst ascii_parts (sym (get_added W L a))
+    (parts_or _ _ (parts_in W h a) (find_ascii (map entry_of L) a (entries_ascii L k))))
 
-pub overwritten_ascii : (W : World) (L : List Given) → IsAsciiWorld W → AllByRecursion IsAsciiGiven L → IsAsciiWorld (overwritten W L)
+pub overwritten_ascii : (W : World) (L : List Given) → IsAsciiWorld W → AllByRecursion IsAsciiGiven L
+    → IsAsciiWorld (overwritten W L)
 overwritten_ascii W L h k =
-    from_parts (overwritten W L) (λ a. subst ascii_parts (sym (get_overwritten W L a)) (parts_or _ _ (find_ascii (reversed (map entry_of L)) a (all_reversed ascii_entry (map entry_of L) (entries_ascii L k))) (parts_in W h a)))
+    from_parts (overwritten W L)
+    (λ a. subst ascii_parts (sym (get_overwritten W L a))
+    (parts_or _ _ (find_ascii (reversed (map entry_of L)) a
+    (all_reversed ascii_entry (map entry_of L) (entries_ascii L k))) (parts_in W h a)))
 
-left_ascii : (gone : EntityUID → Bool) (a : EntityUID) (b : Bool) (o : Option Parts) → ascii_parts o → ascii_parts (option_map (λ p. (without gone (a, p)).1) (cond b o None))
+left_ascii : (gone : EntityUID → Bool) (a : EntityUID) (b : Bool) (o : Option Parts) → ascii_parts o
+    → ascii_parts (option_map (λ p. (without gone (a, p)).1) (cond b o None))
 left_ascii gone a false o h = tt
 left_ascii gone a true None h = tt
-left_ascii gone a true (Some p) h = λ q e. h q (first_so (set.contains p.parents q) (not (gone q)) (sym (kept_in p.parents gone q) ∙ e))
+left_ascii gone a true (Some p) h =
+    λ q e. h q (first_so (set.contains p.parents q) (not (gone q)) (sym (kept_in p.parents gone q) ∙ e))
 
 pub deleted_ascii : (W : World) (U : List EntityUID) → IsAsciiWorld W → IsAsciiWorld (deleted W U)
-deleted_ascii W U h = from_parts (deleted W U) (λ a. subst ascii_parts (sym (get_deleted W U a)) (left_ascii (goes W U) a (not (goes W U a)) (finmap.get W.entities a) (parts_in W h a)))
+deleted_ascii W U h =
+    from_parts (deleted W U)
+    (λ a. subst ascii_parts (sym (get_deleted W U a))
+    (left_ascii (goes W U) a (not (goes W U a)) (finmap.get W.entities a) (parts_in W h a)))
 
 pub empty_ascii : IsAsciiWorld empty_world
 empty_ascii a b e = absurd (false≢true (sym (ap (λ o. is_parent_in o b) (finmap.get-empty uid_order a)) ∙ e))
@@ -143,11 +168,13 @@ pub given_ascii : (u : EntityUID) (ps : List EntityUID) → AreAsciiUids (u ∷ 
 given_ascii u ps h = (h.0, λ q m. listed_ascii ps h.1 q (sym (contains_listed ps q) ∙ m))
 
 -- what is reached is a parent
-last_step : (G : EntityUID → EntityUID → Bool) (a b : EntityUID) (xs : List EntityUID) → Path G a xs b → (c : EntityUID) × (G c b ≡ true)
+last_step : (G : EntityUID → EntityUID → Bool) (a b : EntityUID) (xs : List EntityUID) → Path G a xs b
+    → (c : EntityUID) × (G c b ≡ true)
 last_step G a b [] p = (a, p)
 last_step G a b (x ∷ xs) p = last_step G x b xs p.1
 
-all_members : (P : EntityUID → Type 0) (us : List EntityUID) → ((q : EntityUID) → is_member same_uid us q ≡ true → P q) → AllByRecursion P us
+all_members : (P : EntityUID → Type 0) (us : List EntityUID) → ((q : EntityUID) → is_member same_uid us q ≡ true → P q)
+    → AllByRecursion P us
 all_members P [] h = tt
 all_members P (u ∷ us) h = (
   h u (ap (λ b. b || is_member same_uid us u) (same_uid_equiv.refl u)),
@@ -158,40 +185,58 @@ all_members P (u ∷ us) h = (
 abbrev pub FoundAt : World → EntityUID → EntityView → Type 0
 FoundAt W u e = (x : EntityUID) → (has_ancestor e x ≡ true) ↔ Reach (graph W) u x
 
-pub found_reach : (W : World) (S : StoreView) (u : EntityUID) (e : EntityView) → IsPlainStore W S → Some e ≡ finmap.get S.held u → FoundAt W u e
+pub found_reach : (W : World) (S : StoreView) (u : EntityUID) (e : EntityView) → IsPlainStore W S
+    → Some e ≡ finmap.get S.held u → FoundAt W u e
 found_reach W S u e plain at = subst (λ o. IfSome o (FoundAt W u)) (sym at) (plain.reached u)
 
-pub found_ascii : (W : World) (u : EntityUID) (e : EntityView) (us : List EntityUID) → FoundAt W u e → IsAsciiWorld W → ((q : EntityUID) → is_member same_uid us q ≡ has_ancestor e q) → AreAsciiUids us
+pub found_ascii : (W : World) (u : EntityUID) (e : EntityView) (us : List EntityUID) → FoundAt W u e → IsAsciiWorld W
+    → ((q : EntityUID) → is_member same_uid us q ≡ has_ancestor e q) → AreAsciiUids us
 found_ascii W u e us found ascii members = all_members IsAsciiUid us (λ q m.
     let r = (found q).0 (sym (members q) ∙ m) in
     let s = last_step (graph W) u q r.0 r.1 in
     ascii s.0 q s.1)
 
-holds_key : (W : World) (S : StoreView) (u : EntityUID) (o : Option EntityView) → IsPlainStore W S → o ≡ finmap.get S.held u → finmap.contains_key W.entities u ≡ is_some (option_map parts_of o)
+holds_key : (W : World) (S : StoreView) (u : EntityUID) (o : Option EntityView) → IsPlainStore W S
+    → o ≡ finmap.get S.held u → finmap.contains_key W.entities u ≡ is_some (option_map parts_of o)
 holds_key W S u o plain at = ap is_some (sym (plain.holds u)) ∙ ap (λ r. is_some (option_map parts_of r)) (sym at)
 
-pub shows_some : (W : World) (S : StoreView) (u : EntityUID) (e : EntityView) (us : List EntityUID) → IsPlainStore W S → Some e ≡ finmap.get S.held u
-    → IsStrictlySortedBy uid_order us → ((q : EntityUID) → is_member same_uid us q ≡ has_ancestor e q) → ShowsAncestors W u (written_line (codes "anc" ++ flat_map field_of us))
+pub shows_some : (W : World) (S : StoreView) (u : EntityUID) (e : EntityView) (us : List EntityUID) → IsPlainStore W S
+    → Some e ≡ finmap.get S.held u
+    → IsStrictlySortedBy uid_order us → ((q : EntityUID) → is_member same_uid us q ≡ has_ancestor e q)
+    → ShowsAncestors W u (written_line (codes "anc" ++ flat_map field_of us))
 shows_some W S u e us plain at ascend members =
     let found = found_reach W S u e plain at in
     let text = written_line (codes "anc" ++ flat_map field_of us) in
-    subst (λ b. MatchBool b ((uids : List EntityUID) × AreAncestors W u uids × (text ≡ written_line (codes "anc" ++ flat_map field_of uids))) (text ≡ written_line (codes "no entity")))
-    (sym (holds_key W S u (Some e) plain at))
-    (us, record { ascend = ascend; reached = λ q. (λ m. (found q).0 (sym (members q) ∙ m), λ r. members q ∙ (found q).1 r) }, refl)
+    subst (λ b. MatchBool b ((uids : List EntityUID) × AreAncestors W u uids
+    × (text ≡ written_line (codes "anc" ++ flat_map field_of uids))) (text ≡ written_line (codes "no entity")))
+    (sym (holds_key W S u (Some e) plain at)) (
+      us,
+      record {
+        ascend = ascend;
+        reached =
+            λ q. (λ m. (found q).0 (sym (members q) ∙ m), λ r. members q ∙ (found q).1 r);
+      },
+      refl,
+    )
 
-pub shows_none : (W : World) (S : StoreView) (u : EntityUID) → IsPlainStore W S → None ≡ finmap.get S.held u → ShowsAncestors W u (written_line (codes "no entity"))
+pub shows_none : (W : World) (S : StoreView) (u : EntityUID) → IsPlainStore W S → None ≡ finmap.get S.held u
+    → ShowsAncestors W u (written_line (codes "no entity"))
 shows_none W S u plain at =
     let text = written_line (codes "no entity") in
-    subst (λ b. MatchBool b ((uids : List EntityUID) × AreAncestors W u uids × (text ≡ written_line (codes "anc" ++ flat_map field_of uids))) (text ≡ written_line (codes "no entity")))
+    subst (λ b. MatchBool b ((uids : List EntityUID) × AreAncestors W u uids
+    × (text ≡ written_line (codes "anc" ++ flat_map field_of uids))) (text ≡ written_line (codes "no entity")))
     (sym (holds_key W S u None plain at)) refl
 
 -- no pairs give no fields
 pub no_fields : (fs : Fields) → AreFieldsOf [] fs → fs ≡ []
 no_fields [] h = refl
-no_fields (f ∷ fs) h = absurd (false≢true (ap is_some (sym (h.last f.0)) ∙ ap (λ b. is_some (if b then Some f.1 else field_at f.0 fs)) ((bytes_decides f.0 f.0).1 refl)))
+no_fields (f ∷ fs) h =
+    absurd (false≢true (ap is_some (sym (h.last f.0))
+    ∙ ap (λ b. is_some (if b then Some f.1 else field_at f.0 fs)) ((bytes_decides f.0 f.0).1 refl)))
 
 -- the store takes an entity
-pub ent_takes : (m n : StoreAndWaiting) (s : EntityState) (u : EntityUID) (ps : List EntityUID) (e : EntityView) (out : List ℕ) → Holds m s → n.waiting ≡ m.waiting ++ e ∷ [] → n.store ≡ m.store
+pub ent_takes : (m n : StoreAndWaiting) (s : EntityState) (u : EntityUID) (ps : List EntityUID) (e : EntityView)
+    (out : List ℕ) → Holds m s → n.waiting ≡ m.waiting ++ e ∷ [] → n.store ≡ m.store
     → given_of e ≡ given u ps → IsBare e → AreAsciiUids (u ∷ ps) → EntityWrites (Ent u ps) s n out out
 ent_takes m n s u ps e out h items store is bare ascii = (
   record { waiting = s.waiting ++ given u ps ∷ []; world = s.world },
@@ -208,7 +253,8 @@ ent_takes m n s u ps e out h items store is bare ascii = (
 )
 
 -- a world is held, and nothing that waits
-pub settled : (n : StoreAndWaiting) (W : World) → n.waiting ≡ [] → IsPlainStore W n.store → IsAsciiWorld W → Holds n (record { waiting = []; world = W })
+pub settled : (n : StoreAndWaiting) (W : World) → n.waiting ≡ [] → IsPlainStore W n.store → IsAsciiWorld W
+    → Holds n (record { waiting = []; world = W })
 settled n W none plain ascii = record {
   waiting = ap (map given_of) none;
   bare = subst AreBare (sym none) tt;
@@ -218,7 +264,9 @@ settled n W none plain ascii = record {
 }
 
 -- the store takes an adding
-pub add_takes : (m n : StoreAndWaiting) (s : EntityState) (list : List EntityView) (store : StoreView) (r : Result StoreView EntitiesError) (old new : List ℕ) → Holds m s → list ≡ m.waiting → store ≡ m.store → n.waiting ≡ []
+pub add_takes : (m n : StoreAndWaiting) (s : EntityState) (list : List EntityView) (store : StoreView)
+    (r : Result StoreView EntitiesError) (old new : List ℕ) → Holds m s → list ≡ m.waiting → store ≡ m.store
+    → n.waiting ≡ []
     → ((W : World) → IsPlainStore W store → AreBare list → AddsPlain ComputeNow W (map given_of list) r)
     → KeepsAndTells r n old new → EntityWrites Add s n old new
 add_takes m n s list store (Ok S) old new h same at none adds tells =
@@ -248,14 +296,24 @@ add_takes m n s list store (Err e) old new h same at none adds tells =
     )
 
 -- a build is an adding to the store without entities
-pub build_takes : (m n : StoreAndWaiting) (s : EntityState) (old new : List ℕ) → Holds m s → n.waiting ≡ m.waiting → IsPlainStore empty_world n.store
-    → (o : StoreAndWaiting) → ((t : EntityState) → Holds n t → EntityWrites Add t o old new) → EntityWrites Build s o old new
+pub build_takes : (m n : StoreAndWaiting) (s : EntityState) (old new : List ℕ) → Holds m s → n.waiting ≡ m.waiting
+    → IsPlainStore empty_world n.store
+    → (o : StoreAndWaiting) → ((t : EntityState) → Holds n t → EntityWrites Add t o old new)
+    → EntityWrites Build s o old new
 build_takes m n s old new h same plain o takes =
     takes (record { waiting = s.waiting; world = empty_world })
-    (record { waiting = ap (map given_of) same ∙ h.waiting; bare = subst AreBare (sym same) h.bare; plain = plain; ascii_waiting = h.ascii_waiting; ascii_world = empty_ascii })
+    (record {
+      waiting = ap (map given_of) same ∙ h.waiting;
+      bare = subst AreBare (sym same) h.bare;
+      plain = plain;
+      ascii_waiting = h.ascii_waiting;
+      ascii_world = empty_ascii;
+    })
 
 -- the store takes an overwriting
-pub upsert_takes : (m n : StoreAndWaiting) (s : EntityState) (list : List EntityView) (store : StoreView) (r : Result StoreView EntitiesError) (old new : List ℕ) → Holds m s → list ≡ m.waiting → store ≡ m.store → n.waiting ≡ []
+pub upsert_takes : (m n : StoreAndWaiting) (s : EntityState) (list : List EntityView) (store : StoreView)
+    (r : Result StoreView EntitiesError) (old new : List ℕ) → Holds m s → list ≡ m.waiting → store ≡ m.store
+    → n.waiting ≡ []
     → ((W : World) → IsPlainStore W store → AreBare list → UpsertsPlain ComputeNow W (map given_of list) r)
     → KeepsAndTells r n old new → EntityWrites Upsert s n old new
 upsert_takes m n s list store (Ok S) old new h same at none upserts tells =
@@ -268,7 +326,8 @@ upsert_takes m n s list store (Ok S) old new h same at none upserts tells =
       record { waiting = []; world = overwritten s.world s.waiting },
       count_line (overwritten s.world s.waiting),
       (refl, inr ((λ c. plain.acyclic c.0 c.1), refl, refl)),
-      settled n (overwritten s.world s.waiting) none k.0 (overwritten_ascii s.world s.waiting h.ascii_world h.ascii_waiting),
+      settled n (overwritten s.world s.waiting) none k.0
+          (overwritten_ascii s.world s.waiting h.ascii_world h.ascii_waiting),
       k.1,
     )
 upsert_takes m n s list store (Err e) old new h same at none upserts tells =
@@ -285,7 +344,8 @@ upsert_takes m n s list store (Err e) old new h same at none upserts tells =
     )
 
 -- the store takes a removal
-pub remove_takes : (m n : StoreAndWaiting) (s : EntityState) (us : List EntityUID) (store : StoreView) (r : Result StoreView EntitiesError) (old new : List ℕ) → Holds m s → store ≡ m.store → n.waiting ≡ m.waiting
+pub remove_takes : (m n : StoreAndWaiting) (s : EntityState) (us : List EntityUID) (store : StoreView)
+    (r : Result StoreView EntitiesError) (old new : List ℕ) → Holds m s → store ≡ m.store → n.waiting ≡ m.waiting
     → ((W : World) → IsPlainStore W store → RemovesPlain W us r)
     → KeepsAndTells r n old new → EntityWrites (Remove us) s n old new
 remove_takes m n s us store (Ok S) old new h at same removes tells =
@@ -307,7 +367,8 @@ remove_takes m n s us store (Err e) old new h at same removes tells =
     absurd (subst (λ x. Refused x old new) given.err tells.1)
 
 -- the store takes a slice
-pub slice_takes : (m n : StoreAndWaiting) (s : EntityState) (us : List EntityUID) (r : Result StoreView EntitiesError) (old new : List ℕ) → Holds m s → n.waiting ≡ m.waiting
+pub slice_takes : (m n : StoreAndWaiting) (s : EntityState) (us : List EntityUID) (r : Result StoreView EntitiesError)
+    (old new : List ℕ) → Holds m s → n.waiting ≡ m.waiting
     → IfOk r (λ S. (W : World) → IsPlainStore W m.store → IsPlainSlice W us S)
     → IfErr r (λ e. e ≡ errors.Memory)
     → KeepsAndTells r n old new → EntityWrites (Slice us) s n old new
@@ -329,11 +390,17 @@ slice_takes m n s us (Ok S) old new h same ok err tells =
 slice_takes m n s us (Err e) old new h same ok err tells = absurd (subst (λ x. Refused x old new) err tells.1)
 
 -- the ancestors are written
-pub anc_takes : (m : StoreAndWaiting) (s : EntityState) (u : EntityUID) (old new : List ℕ) → Holds m s → (text : List ℕ) × ShowsAncestors s.world u text × (new ≡ old ++ text) → EntityWrites (Anc u) s m old new
+pub anc_takes : (m : StoreAndWaiting) (s : EntityState) (u : EntityUID) (old new : List ℕ) → Holds m s
+    → (text : List ℕ) × ShowsAncestors s.world u text × (new ≡ old ++ text) → EntityWrites (Anc u) s m old new
 anc_takes m s u old new h k = (s, k.0, (refl, k.1), h, k.2)
 
 -- one field more is written, and the others are left
-pub fields_left : (x : EntityUID) (left all : List EntityUID) (start now new : List ℕ) → AreAsciiUids (x ∷ left) × (now ++ flat_map field_of (x ∷ left) ≡ start ++ flat_map field_of all) →
-    (IsAsciiUid x → new ≡ now ++ field_of x) → AreAsciiUids left × (new ++ flat_map field_of left ≡ start ++ flat_map field_of all)
-fields_left x left all start now new h step =
-    (h.0.1, ap (λ l. l ++ flat_map field_of left) (step h.0.0) ∙ append_assoc now (field_of x) (flat_map field_of left) ∙ h.1)
+pub fields_left : (x : EntityUID) (left all : List EntityUID) (start now new : List ℕ)
+    → AreAsciiUids (x ∷ left) × (now ++ flat_map field_of (x ∷ left) ≡ start ++ flat_map field_of all) →
+    (IsAsciiUid x → new ≡ now ++ field_of x)
+    → AreAsciiUids left × (new ++ flat_map field_of left ≡ start ++ flat_map field_of all)
+fields_left x left all start now new h step = (
+  h.0.1,
+  ap (λ l. l ++ flat_map field_of left) (step h.0.0) ∙ append_assoc now (field_of x) (flat_map field_of left)
+      ∙ h.1,
+)

@@ -38,8 +38,10 @@ count_line W = written_line (codes "ok " ++ decimal (finmap.len W.entities))
 -- first, whatever the graph, then a cycle; either leaves the empty world
 abbrev pub Adds : World → List Given → World → List ℕ → Type 0
 Adds base L W out =
-    ((u : EntityUID) × FirstDiffers base L u × (W ≡ empty_world) × (out ≡ written_line (codes "refused: duplicate " ++ uid_text u)))
-    ⊎ ((AllAgree base L × IsCyclic (made base (calls.Add L)) × (W ≡ empty_world) × (out ≡ written_line (codes "refused: cycle")))
+    ((u : EntityUID) × FirstDiffers base L u × (W ≡ empty_world)
+    × (out ≡ written_line (codes "refused: duplicate " ++ uid_text u)))
+    ⊎ ((AllAgree base L × IsCyclic (made base (calls.Add L)) × (W ≡ empty_world)
+    × (out ≡ written_line (codes "refused: cycle")))
     ⊎ (Passes base (calls.Add L) × (W ≡ made base (calls.Add L)) × (out ≡ count_line W)))
 
 -- the list was put over the world `base`. A cycle is refused, and leaves the empty world

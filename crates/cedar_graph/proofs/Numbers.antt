@@ -1,6 +1,7 @@
 -- Keys that are put into a list of keys.
 use Rattle.std.specs.List.{slice_get, list_any}
-use Rattle.std.proofs.Common.{◌≡◌, Bool, true, false, if◌then◌else◌, ℕ, ◌≤◌, ◌+◌, ◌⊎◌, inl, inr, length, List, [], ◌∷◌, ◌++◌, Some, zero, suc, refl, sym, position, arith, length-append}
+use Rattle.std.proofs.Common.{◌≡◌, Bool, true, false, if◌then◌else◌, ℕ, ◌≤◌, ◌+◌, ◌⊎◌, inl, inr, length, List, [], ◌∷◌}
+use Rattle.std.proofs.Common.{◌++◌, Some, zero, suc, refl, sym, position, arith, length-append}
 use Rattle.std.proofs.lemmas.Option.{slice_get-get_or}
 use Rattle.std.proofs.lemmas.List.Quantifiers.{position-Some}
 use Rattle.indexmap.specs.IndexSet.{IndexSet, IsUnique, insert_key}
@@ -9,7 +10,8 @@ use Rattle.cedar_graph.specs.laws.Readings.{HasPut}
 use Rattle.cedar_graph.proofs.Keyed.{prefix_refl}
 
 -- a place of a list with one more at its end
-got_cases : {K : Type 0} (ks : List K) (k : K) (i : ℕ) (x : K) → slice_get (ks ++ k ∷ []) i ≡ Some x → (slice_get ks i ≡ Some x) ⊎ (x ≡ k)
+got_cases : {K : Type 0} (ks : List K) (k : K) (i : ℕ) (x : K) → slice_get (ks ++ k ∷ []) i ≡ Some x
+    → (slice_get ks i ≡ Some x) ⊎ (x ≡ k)
 got_cases [] k zero x h = let e : x ≡ k = cc in inr e
 got_cases [] k (suc i) x h = cc
 got_cases (y ∷ ks) k zero x h = inl h
@@ -46,7 +48,8 @@ module _ {K : Type 0} (eq : K → K → Bool) (ks : List K) (k : K) where
   put_fresh = fresh_by ks k (list_any (eq k) ks)
 
 -- a key that is found in a set of keys has its place there as its number
-pub number_found : {K S : Type 0} (eq : K → K → Bool) (keys : IndexSet K S) (key : K) (i : ℕ) → IsUnique eq keys → Some i ≡ position (eq key) keys.keys → HasPut eq key keys keys i
+pub number_found : {K S : Type 0} (eq : K → K → Bool) (keys : IndexSet K S) (key : K) (i : ℕ) → IsUnique eq keys
+    → Some i ≡ position (eq key) keys.keys → HasPut eq key keys keys i
 number_found eq keys key i unique at =
     let p = position-Some (eq key) keys.keys i key (sym at) in
     record {

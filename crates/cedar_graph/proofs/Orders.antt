@@ -1,5 +1,6 @@
 -- Numbers in an order: those to which arcs lead, and the others behind them.
-use Rattle.std.proofs.Common.{◌≡◌, ℕ, zero, suc, ◌+◌, ◌<◌, List, [], ◌∷◌, ◌++◌, length, map, get_or, refl, sym, ap, subst, ◌∙◌, arith, append_assoc}
+use Rattle.std.proofs.Common.{◌≡◌, ℕ, zero, suc, ◌+◌, ◌<◌, List, [], ◌∷◌, ◌++◌, length, map, get_or, refl, sym, ap}
+use Rattle.std.proofs.Common.{subst, ◌∙◌, arith, append_assoc}
 use Rattle.std.specs.List.{range_with_len}
 use Rattle.std.specs.List.Sorted.{IsPermutation}
 use Rattle.std.proofs.lemmas.Grind.{get_or_moved}
@@ -32,7 +33,8 @@ pub put_first : (led others : List ℕ) (n : ℕ) → IsPermutation (led ++ othe
 put_first led others n =
     subst (λ v. IsPermutation v ((led ++ n ∷ []) ++ others)) (sym (append_assoc led others (n ∷ [])))
     (subst (λ v. IsPermutation (led ++ (others ++ n ∷ [])) v) (sym (append_assoc led (n ∷ []) others))
-    (IsPermutation-append_right led (others ++ n ∷ []) ((n ∷ []) ++ others) (IsPermutation-append_comm others (n ∷ []))))
+    (IsPermutation-append_right led (others ++ n ∷ []) ((n ∷ []) ++ others)
+    (IsPermutation-append_comm others (n ∷ []))))
 
 last : (a n j : ℕ) → a + n ≡ j → range_with_len a (suc n) ≡ range_with_len a n ++ j ∷ []
 last a zero j e = let same : a ≡ j = omega arith in ap (λ k. k ∷ []) same

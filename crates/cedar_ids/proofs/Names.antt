@@ -19,17 +19,22 @@ pub id_none : (t : List ℕ) → IsTextOfNone IsIdText t → is_id t ≡ false
 id_none t h = false_from_ne_true (is_id t) (λ e. h t (e, refl))
 
 -- one component more
-pub one_more : (path : List (List ℕ)) (front back rest x : List ℕ) (all : Option NameParts) → components rest ≡ front ∷ components back → IsTextOfOne IsIdText x front → name_of_components path (components rest) ≡ all → name_of_components (path ++ x ∷ []) (components back) ≡ all
+pub one_more : (path : List (List ℕ)) (front back rest x : List ℕ) (all : Option NameParts)
+    → components rest ≡ front ∷ components back → IsTextOfOne IsIdText x front
+    → name_of_components path (components rest) ≡ all → name_of_components (path ++ x ∷ []) (components back) ≡ all
 one_more path front back rest x all e f g =
     let p = some_piece back in
     let q = id_some front x f in
     let k = rw q.0 at (names_more path front p.0 p.1) in
     let i : components rest ≡ front ∷ p.0 ∷ p.1 = e ∙ ap (λ z. front ∷ z) p.2 in
     let j : name_of_components path (front ∷ p.0 ∷ p.1) ≡ all = rw (← i) g in
-    ap (name_of_components (path ++ x ∷ [])) p.2 ∙ sym (ap (λ y. name_of_components (path ++ y ∷ []) (p.0 ∷ p.1)) q.1) ∙ sym k ∙ j
+    ap (name_of_components (path ++ x ∷ [])) p.2 ∙ sym (ap (λ y. name_of_components (path ++ y ∷ []) (p.0 ∷ p.1)) q.1)
+    ∙ sym k ∙ j
 
 -- a component that is no id
-pub not_more : (path : List (List ℕ)) (front back rest : List ℕ) (all : Option NameParts) → components rest ≡ front ∷ components back → IsTextOfNone IsIdText front → name_of_components path (components rest) ≡ all → all ≡ None
+pub not_more : (path : List (List ℕ)) (front back rest : List ℕ) (all : Option NameParts)
+    → components rest ≡ front ∷ components back → IsTextOfNone IsIdText front
+    → name_of_components path (components rest) ≡ all → all ≡ None
 not_more path front back rest all e f g =
     let p = some_piece back in
     let k = rw (id_none front f) at (names_more path front p.0 p.1) in
@@ -38,21 +43,25 @@ not_more path front back rest all e f g =
     sym j ∙ k
 
 -- the last component
-pub at_last : (path : List (List ℕ)) (rest x : List ℕ) (all : Option NameParts) → components rest ≡ rest ∷ [] → IsTextOfOne IsIdText x rest → name_of_components path (components rest) ≡ all → all ≡ Some (record { path = path; basename = x })
+pub at_last : (path : List (List ℕ)) (rest x : List ℕ) (all : Option NameParts) → components rest ≡ rest ∷ []
+    → IsTextOfOne IsIdText x rest → name_of_components path (components rest) ≡ all
+    → all ≡ Some (record { path = path; basename = x })
 at_last path rest x all e f g =
     let q = id_some rest x f in
     let k = rw q.0 at (names_last path rest) in
     let j : name_of_components path (rest ∷ []) ≡ all = rw (← e) g in
     sym j ∙ k ∙ ap (λ y. Some (record { path = path; basename = y })) q.1
 
-pub not_last : (path : List (List ℕ)) (rest : List ℕ) (all : Option NameParts) → components rest ≡ rest ∷ [] → IsTextOfNone IsIdText rest → name_of_components path (components rest) ≡ all → all ≡ None
+pub not_last : (path : List (List ℕ)) (rest : List ℕ) (all : Option NameParts) → components rest ≡ rest ∷ []
+    → IsTextOfNone IsIdText rest → name_of_components path (components rest) ≡ all → all ≡ None
 not_last path rest all e f g =
     let k = rw (id_none rest f) at (names_last path rest) in
     let j : name_of_components path (rest ∷ []) ≡ all = rw (← e) g in
     sym j ∙ k
 
 -- an error of a part is the error of the whole
-pub same_error : {X Y : Type 0} (P : X → List ℕ → Type 0) (Q : Y → List ℕ → Type 0) (e : ParseErrors) (s t : List ℕ) → (IsTextOfNone P s → IsTextOfNone Q t) → Reads P (Err e) s → Reads Q (Err e) t
+pub same_error : {X Y : Type 0} (P : X → List ℕ → Type 0) (Q : Y → List ℕ → Type 0) (e : ParseErrors) (s t : List ℕ)
+    → (IsTextOfNone P s → IsTextOfNone Q t) → Reads P (Err e) s → Reads Q (Err e) t
 same_error P Q NotNormalized s t f h = absurd h
 same_error P Q InvalidName s t f h = f h
 same_error P Q Memory s t f h = tt

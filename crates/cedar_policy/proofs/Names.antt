@@ -32,19 +32,27 @@ is_printed_true u text h =
 printed_where_true : (u : UidParts) (text : List ℕ) → is_printed_uid u text ≡ true → IsPrinted u text
 printed_where_true u text h =
     let outer = each_true _ (same_text text (printed_uid u)) h in
-    let inner = each_true (is_name u.name) (is_ascii u.eid) outer.0 in
-    (each_true (list_all is_id u.name.path) (is_id u.name.basename) inner.0, inner.1, (same_text_decides text (printed_uid u)).0 outer.1)
+    let inner = each_true (is_name u.name) (is_ascii u.eid) outer.0 in (
+      each_true (list_all is_id u.name.path) (is_id u.name.basename) inner.0,
+      inner.1,
+      (same_text_decides text (printed_uid u)).0 outer.1,
+    )
 
 -- a uid that was read is that of the text, and of no other text with an ASCII eid
-pub reads_only : (v : EntityUID) (text : List ℕ) → (is_ascii (uid_parts v).eid ≡ true → IsPrinted (uid_parts v) text) → ((u : EntityUID) → IsPrinted (uid_parts u) text → v ≡ u)
+pub reads_only : (v : EntityUID) (text : List ℕ) → (is_ascii (uid_parts v).eid ≡ true → IsPrinted (uid_parts v) text)
+    → ((u : EntityUID) → IsPrinted (uid_parts u) text → v ≡ u)
     → (u : EntityUID) → is_ascii (uid_parts u).eid ≡ true → same_uid v u ≡ is_printed_uid (uid_parts u) text
 reads_only v text printed exact u ascii =
     same_answer (same_uid v u) (is_printed_uid (uid_parts u) text)
     (λ e.
     let same = (same_uid_decides v u).0 e in
-    is_printed_true (uid_parts u) text (subst (λ w. IsPrinted (uid_parts w) text) same (printed (ap (λ w. is_ascii (uid_parts w).eid) same ∙ ascii))))
+    is_printed_true (uid_parts u) text (subst
+    (λ w. IsPrinted (uid_parts w) text) same (printed (ap (λ w. is_ascii (uid_parts w).eid) same ∙ ascii))))
     (λ e. (same_uid_decides v u).1 (exact u (printed_where_true (uid_parts u) text e)))
 
 -- what is read as no uid is the text of none with an ASCII eid
-pub reads_none : (text : List ℕ) → ((u : EntityUID) → IsPrinted (uid_parts u) text → ⊥) → (u : EntityUID) → is_ascii (uid_parts u).eid ≡ true → false ≡ is_printed_uid (uid_parts u) text
-reads_none text none u ascii = same_answer false (is_printed_uid (uid_parts u) text) (λ e. absurd (false≢true e)) (λ e. absurd (none u (printed_where_true (uid_parts u) text e)))
+pub reads_none : (text : List ℕ) → ((u : EntityUID) → IsPrinted (uid_parts u) text → ⊥) → (u : EntityUID)
+    → is_ascii (uid_parts u).eid ≡ true → false ≡ is_printed_uid (uid_parts u) text
+reads_none text none u ascii =
+    same_answer false (is_printed_uid (uid_parts u) text) (λ e. absurd (false≢true e))
+    (λ e. absurd (none u (printed_where_true (uid_parts u) text e)))

@@ -1,5 +1,6 @@
 -- Reading fields.
-use Rattle.std.specs.Prelude.{◌≡◌, ℕ, List, [], ◌∷◌, ◌++◌, length, drop, nat_eq, Bool, true, false, Option, Some, None, Result, Ok, Err, MatchOption, ◌==◌, map, if◌then◌else◌}
+use Rattle.std.specs.Prelude.{◌≡◌, ℕ, List, [], ◌∷◌, ◌++◌, length, drop, nat_eq, Bool, true, false, Option, Some, None}
+use Rattle.std.specs.Prelude.{Result, Ok, Err, MatchOption, ◌==◌, map, if◌then◌else◌}
 use Rattle.std.proofs.Common.{ap, sym, refl, ◌∙◌, arith, get_or, ◌<◌, ◌+◌, suc}
 use Rattle.std.proofs.Math.Seq.{drop-cons}
 use Rattle.std.specs.Borrow.{Bor}
@@ -21,25 +22,32 @@ use Rattle.cedar_policy_lines.specs.PolicyCommand.{PolicyCommand, IsPolicyComman
 use Rattle.cedar_binding.specs.Bindings.{EnvParts, binds}
 use Rattle.cedar_terms.specs.declared.slot.SlotId.{SlotId}
 use Rattle.cedar_lines.specs.Reads.{ReadsAs}
-use Rattle.cedar_policy_lines.specs.laws.PolicyReading.{behind, uid_read, read_uid, binding_of, with_binding, bindings_from, policy_command}
+use Rattle.cedar_policy_lines.specs.laws.PolicyReading.{behind, uid_read, read_uid, binding_of, with_binding}
+use Rattle.cedar_policy_lines.specs.laws.PolicyReading.{bindings_from, policy_command}
 use Rattle.cedar_policy_lines.specs.laws.ReadCommands.{command_is_read, read_is_command, none_goes_on}
 
-lacks : (mark s : List ℕ) (b : Bool) → starts_with nat_eq s mark ≡ b → LacksTextAt mark s 0 → None ≡ (if b then Some (drop (length mark) s) else None)
+lacks : (mark s : List ℕ) (b : Bool) → starts_with nat_eq s mark ≡ b → LacksTextAt mark s 0
+    → None ≡ (if b then Some (drop (length mark) s) else None)
 lacks mark s false e l = refl
-lacks mark s true e l = absurd (l (drop (length mark) s) ((starts_is unsigned_Decides s mark (starts_with nat_eq s mark) refl).0 e))
+lacks mark s true e l =
+    absurd (l (drop (length mark) s) ((starts_is unsigned_Decides s mark (starts_with nat_eq s mark) refl).0 e))
 
-strips : (mark s x : List ℕ) (b : Bool) → starts_with nat_eq s mark ≡ b → StripsPrefix (FindsTextPrefix mark) s x → Some x ≡ (if b then Some (drop (length mark) s) else None)
+strips : (mark s x : List ℕ) (b : Bool) → starts_with nat_eq s mark ≡ b → StripsPrefix (FindsTextPrefix mark) s x
+    → Some x ≡ (if b then Some (drop (length mark) s) else None)
 strips mark s x true e h = ap Some (h.2 ∙ ap (λ n. drop n s) h.1.0)
 strips mark s x false e h =
     let k : s ≡ mark ++ drop (length mark) s = h.1.1 ∙ ap (λ n. mark ++ drop n s) h.1.0 in
     absurd (false≢true (sym e ∙ (starts_is unsigned_Decides s mark (starts_with nat_eq s mark) refl).1 _ k))
 
 -- what stands behind a mark
-pub behind_is : (mark s : List ℕ) (o : Option (Bor (List ℕ))) → MatchOption o (FindsTextPrefix mark s None) (λ x. StripsPrefix (FindsTextPrefix mark) s x.now) → option_map (λ x. x.now) o ≡ behind mark s
+pub behind_is : (mark s : List ℕ) (o : Option (Bor (List ℕ)))
+    → MatchOption o (FindsTextPrefix mark s None) (λ x. StripsPrefix (FindsTextPrefix mark) s x.now)
+    → option_map (λ x. x.now) o ≡ behind mark s
 behind_is mark s None h = lacks mark s (starts_with nat_eq s mark) refl h
 behind_is mark s (Some x) h = strips mark s x.now (starts_with nat_eq s mark) refl h
 
-none_by : (t : List ℕ) (r : Result (Option UidParts) ParseErrors) → uid_reading t ≡ r → ((u : EntityUID) → IsPrinted (uid_parts u) t → ⊥) → read_uid r ≡ None
+none_by : (t : List ℕ) (r : Result (Option UidParts) ParseErrors) → uid_reading t ≡ r
+    → ((u : EntityUID) → IsPrinted (uid_parts u) t → ⊥) → read_uid r ≡ None
 none_by t (Ok (Some u)) e none = absurd (none (uids.EntityUID u) (uid_found t u e))
 none_by t (Ok None) e none = refl
 none_by t (Err x) e none = refl
@@ -49,11 +57,14 @@ pub no_uid : (t : List ℕ) → ((u : EntityUID) → IsPrinted (uid_parts u) t �
 no_uid t none = none_by t (uid_reading t) refl none
 
 -- the fields from one on are that one and those behind it
-pub field_first : (fs : List (Bor (List ℕ))) (k : ℕ) (z : Bor (List ℕ)) → k < length fs → map (λ x. x.now) (drop k fs) ≡ (get_or fs k z).now ∷ map (λ x. x.now) (drop (k + 1) fs)
-field_first fs k z l = ap (map (λ x. x.now)) (drop-cons fs k z l) ∙ ap (λ n. (get_or fs k z).now ∷ map (λ x. x.now) (drop n fs)) {x = suc k} {y = k + 1} (omega arith)
+pub field_first : (fs : List (Bor (List ℕ))) (k : ℕ) (z : Bor (List ℕ)) → k < length fs
+    → map (λ x. x.now) (drop k fs) ≡ (get_or fs k z).now ∷ map (λ x. x.now) (drop (k + 1) fs)
+field_first fs k z l = ap (map (λ x. x.now)) (drop-cons fs k z l)
+    ∙ ap (λ n. (get_or fs k z).now ∷ map (λ x. x.now) (drop n fs)) {x = suc k} {y = k + 1} (omega arith)
 
 -- a field that is no further binding ends the reading with none
-pub none_behind : (d : EnvParts) (f : List ℕ) (fs : List (List ℕ)) (o : Option EnvParts) → bindings_from (Some d) (f ∷ fs) ≡ o → with_binding d (binding_of f) ≡ None → None ≡ o
+pub none_behind : (d : EnvParts) (f : List ℕ) (fs : List (List ℕ)) (o : Option EnvParts)
+    → bindings_from (Some d) (f ∷ fs) ≡ o → with_binding d (binding_of f) ≡ None → None ≡ o
 none_behind d f fs o h n = sym (none_goes_on fs) ∙ ap (λ x. bindings_from x fs) (sym n) ∙ h
 
 bound_twice : (b : Bool) (x : EnvParts) → b ≡ true → (if b then None else Some x) ≡ None
@@ -64,24 +75,32 @@ none_some : (c : PolicyCommand) → None ≡ Some c → ⊥
 none_some c e = cc
 
 -- no fields are those of no command
-pub no_command : (fs : List (Bor (List ℕ))) → length fs ≡ 0 → (c : PolicyCommand) → IsPolicyCommand c (map (λ f. f.now) fs) → ⊥
+pub no_command : (fs : List (Bor (List ℕ))) → length fs ≡ 0 → (c : PolicyCommand)
+    → IsPolicyCommand c (map (λ f. f.now) fs) → ⊥
 no_command [] e c h = none_some c (command_is_read c [] h)
 no_command (f ∷ fs) e c h = absurd (omega arith)
 
 -- what was read of the fields is the command that they are
-pub reads_as : {A : Type 0} (value : A → PolicyCommand) (fs : List (List ℕ)) (o : Option A) → option_map value o ≡ policy_command fs → ReadsAs (λ c. IsPolicyCommand c fs) value o
+pub reads_as : {A : Type 0} (value : A → PolicyCommand) (fs : List (List ℕ)) (o : Option A)
+    → option_map value o ≡ policy_command fs → ReadsAs (λ c. IsPolicyCommand c fs) value o
 reads_as value fs None e = λ c h. none_some c (e ∙ command_is_read c fs h)
 reads_as value fs (Some a) e = read_is_command fs (value a) (sym e)
 
 -- where the binding of the field at a place ends the reading, there are no bindings
-pub none_read : (fs : List (Bor (List ℕ))) (k : ℕ) (z : Bor (List ℕ)) (d : EnvParts) (o : Option EnvParts) → k < length fs → bindings_from (Some d) (map (λ x. x.now) (drop k fs)) ≡ o → with_binding d (binding_of (get_or fs k z).now) ≡ None → None ≡ o
-none_read fs k z d o l h n = none_behind d (get_or fs k z).now (map (λ x. x.now) (drop (k + 1) fs)) o (ap (bindings_from (Some d)) (sym (field_first fs k z l)) ∙ h) n
+pub none_read : (fs : List (Bor (List ℕ))) (k : ℕ) (z : Bor (List ℕ)) (d : EnvParts) (o : Option EnvParts)
+    → k < length fs → bindings_from (Some d) (map (λ x. x.now) (drop k fs)) ≡ o
+    → with_binding d (binding_of (get_or fs k z).now) ≡ None → None ≡ o
+none_read fs k z d o l h n =
+    none_behind d (get_or fs k z).now (map (λ x. x.now) (drop (k + 1) fs)) o
+    (ap (bindings_from (Some d)) (sym (field_first fs k z l)) ∙ h) n
 
 -- a field that was read as nothing is no binding
-pub unread : {A : Type 0} {B : Type 0} (g : A → B) (o : Option A) (p : Option B) → option_map g o ≡ p → o ≡ None → p ≡ None
+pub unread : {A : Type 0} {B : Type 0} (g : A → B) (o : Option A) (p : Option B) → option_map g o ≡ p → o ≡ None
+    → p ≡ None
 unread g None p e n = sym e
 unread g (Some x) p e n = absurd (cc)
 
 -- a slot that is bound is not bound once more
-pub bound_again : (d : EnvParts) (b : SlotId × UidParts) (o : Option (SlotId × UidParts)) → o ≡ Some b → binds d b.0 ≡ true → with_binding d o ≡ None
+pub bound_again : (d : EnvParts) (b : SlotId × UidParts) (o : Option (SlotId × UidParts)) → o ≡ Some b
+    → binds d b.0 ≡ true → with_binding d o ≡ None
 bound_again d b o e h = ap (with_binding d) e ∙ bound_twice (binds d b.0) (bound_more d b.0 b.1) h

@@ -74,7 +74,8 @@ merged_line r = written_line (codes "ok" ++ flat_map renamed_fields r)
 -- the ids of all bodies, and of all policies, in their orders
 abbrev pub ids_lines : Board → List ℕ
 ids_lines b =
-    written_line (codes "bodies" ++ flat_map id_field (body_ids b)) ++ written_line (codes "policies" ++ flat_map id_field (policy_ids b))
+    written_line (codes "bodies" ++ flat_map id_field (body_ids b))
+    ++ written_line (codes "policies" ++ flat_map id_field (policy_ids b))
 
 -- ---- bodies
 

@@ -1,5 +1,6 @@
 -- Entries that go last, and lists that change.
-use Rattle.std.specs.Prelude.{◌≡◌, ℕ, ◌+◌, ◌<◌, suc, length, List, [], ◌∷◌, ◌++◌, Bool, true, false, not, ◌||◌, Option, Some, None, refl, map, is_some}
+use Rattle.std.specs.Prelude.{◌≡◌, ℕ, ◌+◌, ◌<◌, suc, length, List, [], ◌∷◌, ◌++◌, Bool, true, false, not, ◌||◌, Option}
+use Rattle.std.specs.Prelude.{Some, None, refl, map, is_some}
 use Rattle.std.proofs.Common.{cond, sym, ap, ◌∙◌, subst, take, drop, get_or, Bor}
 use Rattle.std.specs.List.{filter, find, list_any, AllZip}
 use Rattle.std.specs.Map.{values_of, lookup, set_value, remove_entry}
@@ -27,7 +28,8 @@ use Rattle.cedar_policy_maps.specs.laws.Walks.{parted, bodies_more, policies_mor
 use Rattle.cedar_policy_maps.specs.laws.MapLaws.{listed_at, all_listed}
 use Rattle.cedar_policy_maps.specs.laws.OnceLaws.{is_at, find-unless, any-filter_none, any-map}
 
-unchanged_at : (v : Bool) (e : List ℕ × List (List ℕ)) (es gs : List (List ℕ × List (List ℕ))) → gs ≡ es → cond v ((e.0, e.1) ∷ es) (e ∷ gs) ≡ e ∷ es
+unchanged_at : (v : Bool) (e : List ℕ × List (List ℕ)) (es gs : List (List ℕ × List (List ℕ))) → gs ≡ es
+    → cond v ((e.0, e.1) ∷ es) (e ∷ gs) ≡ e ∷ es
 unchanged_at true e es gs h = refl
 unchanged_at false e es gs h = ap (λ xs. e ∷ xs) h
 
@@ -36,33 +38,42 @@ changed-same test [] = refl
 changed-same test (e ∷ es) = unchanged_at (test e.0) e es (changed test (λ ks. ks) es) (changed-same test es)
 
 module _ {S : Type 0} where
-  changed_at : (v : Bool) (test : List ℕ → Bool) (f : List (List ℕ) → List (List ℕ)) (e : List ℕ × IndexSet (List ℕ) S) (es gs : List (List ℕ × IndexSet (List ℕ) S)) (s w : IndexSet (List ℕ) S)
-      → cond v (Some e.1) (lookup test es) ≡ Some s → w.keys ≡ f s.keys → (lookup test es ≡ Some s → lists_of gs ≡ changed test f (lists_of es))
-      → lists_of (cond v ((e.0, w) ∷ es) (e ∷ gs)) ≡ cond v ((e.0, f e.1.keys) ∷ lists_of es) ((e.0, e.1.keys) ∷ changed test f (lists_of es))
+  changed_at : (v : Bool) (test : List ℕ → Bool) (f : List (List ℕ) → List (List ℕ)) (e : List ℕ × IndexSet (List ℕ) S)
+      (es gs : List (List ℕ × IndexSet (List ℕ) S)) (s w : IndexSet (List ℕ) S)
+      → cond v (Some e.1) (lookup test es) ≡ Some s → w.keys ≡ f s.keys
+      → (lookup test es ≡ Some s → lists_of gs ≡ changed test f (lists_of es))
+      → lists_of (cond v ((e.0, w) ∷ es) (e ∷ gs))
+      ≡ cond v ((e.0, f e.1.keys) ∷ lists_of es) ((e.0, e.1.keys) ∷ changed test f (lists_of es))
   changed_at true test f e es gs s w l k ih =
       let same : e.1 ≡ s = cc in
       ap (λ ks. (e.0, ks) ∷ lists_of es) (k ∙ ap (λ (t : IndexSet (List ℕ) S). f t.keys) (sym same))
   changed_at false test f e es gs s w l k ih = ap (λ xs. (e.0, e.1.keys) ∷ xs) (ih l)
 
   -- a set that is written through what was lent
-  pub written : (test : List ℕ → Bool) (f : List (List ℕ) → List (List ℕ)) (es : List (List ℕ × IndexSet (List ℕ) S)) (s w : IndexSet (List ℕ) S)
+  pub written : (test : List ℕ → Bool) (f : List (List ℕ) → List (List ℕ)) (es : List (List ℕ × IndexSet (List ℕ) S))
+      (s w : IndexSet (List ℕ) S)
       → lookup test es ≡ Some s → w.keys ≡ f s.keys → lists_of (set_value test es w) ≡ changed test f (lists_of es)
   written test f [] s w l k = absurd (cc)
-  written test f (e ∷ es) s w l k = changed_at (test e.0) test f e es (set_value test es w) s w l k (λ m. written test f es s w m k)
+  written test f (e ∷ es) s w l k =
+      changed_at (test e.0) test f e es (set_value test es w) s w l k (λ m. written test f es s w m k)
 
-  same_at : (v : Bool) (test : List ℕ → Bool) (f : List (List ℕ) → List (List ℕ)) (e : List ℕ × IndexSet (List ℕ) S) (es : List (List ℕ × IndexSet (List ℕ) S))
+  same_at : (v : Bool) (test : List ℕ → Bool) (f : List (List ℕ) → List (List ℕ)) (e : List ℕ × IndexSet (List ℕ) S)
+      (es : List (List ℕ × IndexSet (List ℕ) S))
       → cond v (Some e.1) (lookup test es) ≡ None → (lookup test es ≡ None → lists_of es ≡ changed test f (lists_of es))
-      → (e.0, e.1.keys) ∷ lists_of es ≡ cond v ((e.0, f e.1.keys) ∷ lists_of es) ((e.0, e.1.keys) ∷ changed test f (lists_of es))
+      → (e.0, e.1.keys) ∷ lists_of es ≡ cond v ((e.0, f e.1.keys) ∷ lists_of es)
+      ((e.0, e.1.keys) ∷ changed test f (lists_of es))
   same_at true test f e es l ih = absurd (cc)
   same_at false test f e es l ih = ap (λ xs. (e.0, e.1.keys) ∷ xs) (ih l)
 
   -- without the key nothing changes
-  pub unwritten : (test : List ℕ → Bool) (f : List (List ℕ) → List (List ℕ)) (es : List (List ℕ × IndexSet (List ℕ) S)) → lookup test es ≡ None → lists_of es ≡ changed test f (lists_of es)
+  pub unwritten : (test : List ℕ → Bool) (f : List (List ℕ) → List (List ℕ)) (es : List (List ℕ × IndexSet (List ℕ) S))
+      → lookup test es ≡ None → lists_of es ≡ changed test f (lists_of es)
   unwritten test f [] l = refl
   unwritten test f (e ∷ es) l = same_at (test e.0) test f e es l (unwritten test f es)
 
   -- a set that is written back as it was
-  pub rewritten : (test : List ℕ → Bool) (es : List (List ℕ × IndexSet (List ℕ) S)) (s w : IndexSet (List ℕ) S) → lookup test es ≡ Some s → w.keys ≡ s.keys → lists_of (set_value test es w) ≡ lists_of es
+  pub rewritten : (test : List ℕ → Bool) (es : List (List ℕ × IndexSet (List ℕ) S)) (s w : IndexSet (List ℕ) S)
+      → lookup test es ≡ Some s → w.keys ≡ s.keys → lists_of (set_value test es w) ≡ lists_of es
   rewritten test es s w l k = written test (λ ks. ks) es s w l k ∙ changed-same test (lists_of es)
 
 -- ---- entries with their values read
@@ -72,20 +83,26 @@ module _ {V W : Type 0} (f : V → W) where
   abbrev pub read_by : List (List ℕ × V) → List (List ℕ × W)
   read_by es = map (λ e. (e.0, f e.1)) es
 
-  read_removed_at : (v : Bool) (e : List ℕ × V) (es gs : List (List ℕ × V)) (hs : List (List ℕ × W)) → read_by gs ≡ hs → read_by (cond v es (e ∷ gs)) ≡ cond v (read_by es) ((e.0, f e.1) ∷ hs)
+  read_removed_at : (v : Bool) (e : List ℕ × V) (es gs : List (List ℕ × V)) (hs : List (List ℕ × W)) → read_by gs ≡ hs
+      → read_by (cond v es (e ∷ gs)) ≡ cond v (read_by es) ((e.0, f e.1) ∷ hs)
   read_removed_at true e es gs hs h = refl
   read_removed_at false e es gs hs h = ap (λ xs. (e.0, f e.1) ∷ xs) h
 
-  pub read_removed : (t : List ℕ → Bool) (es : List (List ℕ × V)) → read_by (remove_entry t es) ≡ remove_entry t (read_by es)
+  pub read_removed : (t : List ℕ → Bool) (es : List (List ℕ × V))
+      → read_by (remove_entry t es) ≡ remove_entry t (read_by es)
   read_removed t [] = refl
-  read_removed t (e ∷ es) = read_removed_at (t e.0) e es (remove_entry t es) (remove_entry t (read_by es)) (read_removed t es)
+  read_removed t (e ∷ es) =
+      read_removed_at (t e.0) e es (remove_entry t es) (remove_entry t (read_by es)) (read_removed t es)
 
   -- one more entry, as the contracts of two steps say it
-  pub read_last : (old mid new : List (List ℕ × V)) (k i : List ℕ) (v : V) (w : W) → mid ≡ old → new ≡ mid ++ (k, v) ∷ [] → k ≡ i → f v ≡ w → read_by new ≡ read_by old ++ (i, w) ∷ []
+  pub read_last : (old mid new : List (List ℕ × V)) (k i : List ℕ) (v : V) (w : W) → mid ≡ old
+      → new ≡ mid ++ (k, v) ∷ [] → k ≡ i → f v ≡ w → read_by new ≡ read_by old ++ (i, w) ∷ []
   read_last old mid new k i v w a b c d =
-      ap read_by (b ∙ ap (λ es. es ++ (k, v) ∷ []) a) ∙ map-append (λ (e : List ℕ × V). (e.0, f e.1)) old ((k, v) ∷ []) ∙ (λ j. read_by old ++ (c j, d j) ∷ [])
+      ap read_by (b ∙ ap (λ es. es ++ (k, v) ∷ []) a) ∙ map-append (λ (e : List ℕ × V). (e.0, f e.1)) old ((k, v) ∷ [])
+      ∙ (λ j. read_by old ++ (c j, d j) ∷ [])
 
-  alike_at : (v : Bool) (e : List ℕ × V) (o : Option V) (es gs : List (List ℕ × V)) (s w : V) → cond v (Some e.1) o ≡ Some s → f w ≡ f s → (o ≡ Some s → read_by gs ≡ read_by es) →
+  alike_at : (v : Bool) (e : List ℕ × V) (o : Option V) (es gs : List (List ℕ × V)) (s w : V)
+      → cond v (Some e.1) o ≡ Some s → f w ≡ f s → (o ≡ Some s → read_by gs ≡ read_by es) →
       read_by (cond v ((e.0, w) ∷ es) (e ∷ gs)) ≡ (e.0, f e.1) ∷ read_by es
   alike_at true e o es gs s w l q ih =
       let same : e.1 ≡ s = cc in
@@ -93,9 +110,11 @@ module _ {V W : Type 0} (f : V → W) where
   alike_at false e o es gs s w l q ih = ap (λ xs. (e.0, f e.1) ∷ xs) (ih l)
 
   -- what is written in the place of a value that is read alike
-  pub alike_written : (t : List ℕ → Bool) (es : List (List ℕ × V)) (s w : V) → lookup t es ≡ Some s → f w ≡ f s → read_by (set_value t es w) ≡ read_by es
+  pub alike_written : (t : List ℕ → Bool) (es : List (List ℕ × V)) (s w : V) → lookup t es ≡ Some s → f w ≡ f s
+      → read_by (set_value t es w) ≡ read_by es
   alike_written t [] s w l q = absurd (cc)
-  alike_written t (e ∷ es) s w l q = alike_at (t e.0) e (lookup t es) es (set_value t es w) s w l q (λ m. alike_written t es s w m q)
+  alike_written t (e ∷ es) s w l q =
+      alike_at (t e.0) e (lookup t es) es (set_value t es w) s w l q (λ m. alike_written t es s w m q)
 
   none_read : (o : Option V) → option_map f o ≡ None → o ≡ None
   none_read None h = refl
@@ -104,16 +123,19 @@ module _ {V W : Type 0} (f : V → W) where
   pub none_unread : (t : List ℕ → Bool) (es : List (List ℕ × V)) → lookup t (read_by es) ≡ None → lookup t es ≡ None
   none_unread t es h = none_read (lookup t es) (sym (lookup-map_values f t es) ∙ h)
 
-same_at_key : {V : Type 0} (v : Bool) (e : List ℕ × V) (o : Option V) (es gs : List (List ℕ × V)) (s w : V) → cond v (Some e.1) o ≡ Some s → w ≡ s → (o ≡ Some s → gs ≡ es) → cond v ((e.0, w) ∷ es) (e ∷ gs) ≡ e ∷ es
+same_at_key : {V : Type 0} (v : Bool) (e : List ℕ × V) (o : Option V) (es gs : List (List ℕ × V)) (s w : V)
+    → cond v (Some e.1) o ≡ Some s → w ≡ s → (o ≡ Some s → gs ≡ es) → cond v ((e.0, w) ∷ es) (e ∷ gs) ≡ e ∷ es
 same_at_key true e o es gs s w l q ih =
     let same : e.1 ≡ s = cc in
     ap (λ x. (e.0, x) ∷ es) (q ∙ sym same)
 same_at_key false e o es gs s w l q ih = ap (λ xs. e ∷ xs) (ih l)
 
 -- what is written in the place of the same value
-pub same_written : {V : Type 0} (t : List ℕ → Bool) (es : List (List ℕ × V)) (s w : V) → lookup t es ≡ Some s → w ≡ s → set_value t es w ≡ es
+pub same_written : {V : Type 0} (t : List ℕ → Bool) (es : List (List ℕ × V)) (s w : V) → lookup t es ≡ Some s → w ≡ s
+    → set_value t es w ≡ es
 same_written t [] s w l q = absurd (cc)
-same_written t (e ∷ es) s w l q = same_at_key (t e.0) e (lookup t es) es (set_value t es w) s w l q (λ m. same_written t es s w m q)
+same_written t (e ∷ es) s w l q =
+    same_at_key (t e.0) e (lookup t es) es (set_value t es w) s w l q (λ m. same_written t es s w m q)
 
 abbrev body : Rc BodyParts Global → BodyParts
 body t = t.value
@@ -125,26 +147,33 @@ pub shared_values : (es : List (List ℕ × Rc BodyParts Global)) → bodies_of 
 shared_values [] = refl
 shared_values (e ∷ es) = ap (λ ts. e.1.value ∷ ts) (shared_values es)
 
-borrowed : (o : Option (Bor (Rc BodyParts Global))) → option_map (λ t. t.now.value) o ≡ option_map body (option_copied o)
+borrowed : (o : Option (Bor (Rc BodyParts Global)))
+    → option_map (λ t. t.now.value) o ≡ option_map body (option_copied o)
 borrowed None = refl
 borrowed (Some t) = refl
 
 -- a body that is looked up
-pub body_read : (m : Maps) (es : List (List ℕ × Rc BodyParts Global)) (i : List ℕ) → DoAgree m → m.bodies ≡ shared_of es → option_map body (lookup (same_text i) es) ≡ find (is_body_at i) (board_in m).bodies
-body_read m es i h q = sym (lookup-map_values body (same_text i) es) ∙ ap (lookup (same_text i)) (sym q) ∙ lookup_is body_id (same_text i) m.bodies h.bodies_by_id
+pub body_read : (m : Maps) (es : List (List ℕ × Rc BodyParts Global)) (i : List ℕ) → DoAgree m → m.bodies ≡ shared_of es
+    → option_map body (lookup (same_text i) es) ≡ find (is_body_at i) (board_in m).bodies
+body_read m es i h q = sym (lookup-map_values body (same_text i) es) ∙ ap (lookup (same_text i)) (sym q)
+    ∙ lookup_is body_id (same_text i) m.bodies h.bodies_by_id
 
-pub body_lent : (m : Maps) (es : List (List ℕ × Rc BodyParts Global)) (i : List ℕ) (o : Option (Bor (Rc BodyParts Global))) → DoAgree m → m.bodies ≡ shared_of es → option_copied o ≡ lookup (same_text i) es →
+pub body_lent : (m : Maps) (es : List (List ℕ × Rc BodyParts Global)) (i : List ℕ)
+    (o : Option (Bor (Rc BodyParts Global))) → DoAgree m → m.bodies ≡ shared_of es
+    → option_copied o ≡ lookup (same_text i) es →
     option_map (λ t. t.now.value) o ≡ find (is_body_at i) (board_in m).bodies
 body_lent m es i o h q e = borrowed o ∙ ap (option_map body) e ∙ body_read m es i h q
 
-pub policy_read : (m : Maps) (i : List ℕ) → DoAgree m → lookup (same_text i) m.policies ≡ find (is_policy_at i) (board_in m).policies
+pub policy_read : (m : Maps) (i : List ℕ) → DoAgree m
+    → lookup (same_text i) m.policies ≡ find (is_policy_at i) (board_in m).policies
 policy_read m i h = lookup_is policy_id (same_text i) m.policies h.policies_by_id
 
 some_find : {X : Type 0} (t : X → Bool) (xs : List X) → is_some (find t xs) ≡ list_any t xs
 some_find t [] = refl
 some_find t (x ∷ xs) = some_at (t x) (some_find t xs)
   where
-    some_at : (v : Bool) → is_some (find t xs) ≡ list_any t xs → is_some (cond v (Some x) (find t xs)) ≡ (v || list_any t xs)
+    some_at : (v : Bool) → is_some (find t xs) ≡ list_any t xs
+        → is_some (cond v (Some x) (find t xs)) ≡ (v || list_any t xs)
     some_at true h = refl
     some_at false h = h
 
@@ -152,14 +181,20 @@ some_mapped : {V W : Type 0} (f : V → W) (o : Option V) → is_some o ≡ is_s
 some_mapped f None = refl
 some_mapped f (Some v) = refl
 
-pub body_known : (m : Maps) (es : List (List ℕ × Rc BodyParts Global)) (i : List ℕ) → DoAgree m → m.bodies ≡ shared_of es → is_some (lookup (same_text i) es) ≡ list_any (is_body_at i) (board_in m).bodies
-body_known m es i h q = some_mapped body (lookup (same_text i) es) ∙ ap is_some (body_read m es i h q) ∙ some_find (is_body_at i) (board_in m).bodies
+pub body_known : (m : Maps) (es : List (List ℕ × Rc BodyParts Global)) (i : List ℕ) → DoAgree m
+    → m.bodies ≡ shared_of es → is_some (lookup (same_text i) es) ≡ list_any (is_body_at i) (board_in m).bodies
+body_known m es i h q = some_mapped body (lookup (same_text i) es) ∙ ap is_some (body_read m es i h q)
+    ∙ some_find (is_body_at i) (board_in m).bodies
 
-pub policy_known : (m : Maps) (i : List ℕ) → DoAgree m → is_some (lookup (same_text i) m.policies) ≡ list_any (is_policy_at i) (board_in m).policies
+pub policy_known : (m : Maps) (i : List ℕ) → DoAgree m
+    → is_some (lookup (same_text i) m.policies) ≡ list_any (is_policy_at i) (board_in m).policies
 policy_known m i h = ap is_some (policy_read m i h) ∙ some_find (is_policy_at i) (board_in m).policies
 
-no_template_at : (i : List ℕ) (ts : List BodyParts) (ps : List PolicyParts) → list_any (is_body_at i) ts ≡ false → find (is_body_at i) (templates_in ps ts) ≡ None
-no_template_at i ts ps n = find-unless (is_body_at i) (templates_in ps ts) (any-filter_none (λ (t : BodyParts). not (list_any (is_policy_at t.id) ps)) (is_body_at i) ts n)
+no_template_at : (i : List ℕ) (ts : List BodyParts) (ps : List PolicyParts) → list_any (is_body_at i) ts ≡ false
+    → find (is_body_at i) (templates_in ps ts) ≡ None
+no_template_at i ts ps n =
+    find-unless (is_body_at i) (templates_in ps ts)
+    (any-filter_none (λ (t : BodyParts). not (list_any (is_policy_at t.id) ps)) (is_body_at i) ts n)
 
 module _ {S : Type 0} where
   abbrev ids : IndexSet (List ℕ) S → List (List ℕ)
@@ -170,25 +205,37 @@ module _ {S : Type 0} where
   lent (Some s) = refl
 
   -- the ids that are looked up
-  pub ids_lent : (m : Maps) (es : List (List ℕ × IndexSet (List ℕ) S)) (i : List ℕ) (o : Option (Bor (IndexSet (List ℕ) S))) → DoAgree m → m.listed ≡ lists_of es → option_copied o ≡ lookup (same_text i) es →
-      option_map (λ s. s.now.keys) o ≡ option_map (λ t. ids_in t.id (board_in m).policies) (find (is_body_at i) (templates_in (board_in m).policies (board_in m).bodies))
+  pub ids_lent : (m : Maps) (es : List (List ℕ × IndexSet (List ℕ) S)) (i : List ℕ)
+      (o : Option (Bor (IndexSet (List ℕ) S))) → DoAgree m → m.listed ≡ lists_of es
+      → option_copied o ≡ lookup (same_text i) es →
+      option_map (λ s. s.now.keys) o ≡ option_map (λ t. ids_in t.id (board_in m).policies)
+      (find (is_body_at i) (templates_in (board_in m).policies (board_in m).bodies))
   ids_lent m es i o h q e =
-      lent o ∙ ap (option_map ids) e ∙ sym (lookup-map_values ids (same_text i) es) ∙ ap (lookup (same_text i)) (sym q ∙ h.all_listed) ∙ listed_at i (templates_in (board_in m).policies (board_in m).bodies) (board_in m).policies
+      lent o ∙ ap (option_map ids) e ∙ sym (lookup-map_values ids (same_text i) es)
+      ∙ ap (lookup (same_text i)) (sym q ∙ h.all_listed)
+      ∙ listed_at i (templates_in (board_in m).policies (board_in m).bodies) (board_in m).policies
 
   -- what is no key
-  pub absent_list : (m : Maps) (es : List (List ℕ × IndexSet (List ℕ) S)) (i : List ℕ) → DoAgree m → m.listed ≡ lists_of es → is_bound (board_in m) i ≡ false → lookup (same_text i) es ≡ None
+  pub absent_list : (m : Maps) (es : List (List ℕ × IndexSet (List ℕ) S)) (i : List ℕ) → DoAgree m
+      → m.listed ≡ lists_of es → is_bound (board_in m) i ≡ false → lookup (same_text i) es ≡ None
   absent_list m es i h q n =
       none_unread ids (same_text i) es
-      (ap (lookup (same_text i)) (sym q ∙ h.all_listed) ∙ listed_at i (templates_in (board_in m).policies (board_in m).bodies) (board_in m).policies
-      ∙ ap (option_map (λ t. ids_in t.id (board_in m).policies)) (no_template_at i (board_in m).bodies (board_in m).policies (no_body_at (board_in m) i n)))
+      (ap (lookup (same_text i)) (sym q ∙ h.all_listed)
+      ∙ listed_at i (templates_in (board_in m).policies (board_in m).bodies) (board_in m).policies
+      ∙ ap (option_map (λ t. ids_in t.id (board_in m).policies))
+      (no_template_at i (board_in m).bodies (board_in m).policies (no_body_at (board_in m) i n)))
 
-pub absent_body : (m : Maps) (es : List (List ℕ × Rc BodyParts Global)) (i : List ℕ) → DoAgree m → m.bodies ≡ shared_of es → is_bound (board_in m) i ≡ false → lookup (same_text i) es ≡ None
+pub absent_body : (m : Maps) (es : List (List ℕ × Rc BodyParts Global)) (i : List ℕ) → DoAgree m
+    → m.bodies ≡ shared_of es → is_bound (board_in m) i ≡ false → lookup (same_text i) es ≡ None
 absent_body m es i h q n =
     none_unread body (same_text i) es
-    (ap (lookup (same_text i)) (sym q) ∙ lookup_is body_id (same_text i) m.bodies h.bodies_by_id ∙ find-unless (is_body_at i) (board_in m).bodies (no_body_at (board_in m) i n))
+    (ap (lookup (same_text i)) (sym q) ∙ lookup_is body_id (same_text i) m.bodies h.bodies_by_id
+    ∙ find-unless (is_body_at i) (board_in m).bodies (no_body_at (board_in m) i n))
 
-pub absent_policy : (m : Maps) (i : List ℕ) → DoAgree m → is_bound (board_in m) i ≡ false → lookup (same_text i) m.policies ≡ None
-absent_policy m i h n = policy_read m i h ∙ find-unless (is_policy_at i) (board_in m).policies (no_policy_at (board_in m) i n)
+pub absent_policy : (m : Maps) (i : List ℕ) → DoAgree m → is_bound (board_in m) i ≡ false
+    → lookup (same_text i) m.policies ≡ None
+absent_policy m i h n = policy_read m i h
+    ∙ find-unless (is_policy_at i) (board_in m).policies (no_policy_at (board_in m) i n)
 
 -- ---- maps that are made from lists, and copies
 
@@ -203,16 +250,20 @@ module _ {V : Type 0} (f : V → List ℕ) where
       neither a b p q = cc
 
   -- the id of the next value is no key
-  pub next_absent : (es : List (List ℕ × V)) (k : List ℕ) (v : V) (rest all : List V) → AreOnce f all → IsKeyed f es → values_of es ++ v ∷ rest ≡ all → k ≡ f v → lookup (same_text k) es ≡ None
+  pub next_absent : (es : List (List ℕ × V)) (k : List ℕ) (v : V) (rest all : List V) → AreOnce f all → IsKeyed f es
+      → values_of es ++ v ∷ rest ≡ all → k ≡ f v → lookup (same_text k) es ≡ None
   next_absent es k v rest all h g e q =
       lookup_is f (same_text k) es g
-      ∙ find-unless (is_at f k) (values_of es) (ap (λ i. list_any (is_at f i) (values_of es)) q ∙ before_at (values_of es) v rest (subst (AreOnce f) (sym e) h))
+      ∙ find-unless (is_at f k) (values_of es) (ap (λ i. list_any (is_at f i) (values_of es)) q
+      ∙ before_at (values_of es) v rest (subst (AreOnce f) (sym e) h))
 
   -- it goes last
-  pub next_put : (es fs : List (List ℕ × V)) (k : List ℕ) (v : V) (rest all : List V) → IsKeyed f es → values_of es ++ v ∷ rest ≡ all → k ≡ f v → fs ≡ es ++ (k, v) ∷ [] → IsKeyed f fs × (values_of fs ++ rest ≡ all)
+  pub next_put : (es fs : List (List ℕ × V)) (k : List ℕ) (v : V) (rest all : List V) → IsKeyed f es
+      → values_of es ++ v ∷ rest ≡ all → k ≡ f v → fs ≡ es ++ (k, v) ∷ [] → IsKeyed f fs × (values_of fs ++ rest ≡ all)
   next_put es fs k v rest all g e q p = (
     subst (IsKeyed f) (sym p) (keyed_last f es k v g q),
-    ap (λ x. x ++ rest) (ap values_of p ∙ map-append (λ (e : List ℕ × V). e.1) es ((k, v) ∷ [])) ∙ append_assoc (values_of es) (v ∷ []) rest ∙ e,
+    ap (λ x. x ++ rest) (ap values_of p ∙ map-append (λ (e : List ℕ × V). e.1) es ((k, v) ∷ []))
+        ∙ append_assoc (values_of es) (v ∷ []) rest ∙ e,
   )
 
 abbrev pub shared_id : Rc BodyParts Global → List ℕ
@@ -230,81 +281,109 @@ shared_keyed (e ∷ es) h =
     λ j. k j ∷ shared_keyed es r j
 
 -- whether a policy is known under an id
-pub known_by : (es : List (List ℕ × PolicyParts)) (i : List ℕ) → IsKeyed policy_id es → is_some (lookup (same_text i) es) ≡ list_any (is_policy_at i) (values_of es)
+pub known_by : (es : List (List ℕ × PolicyParts)) (i : List ℕ) → IsKeyed policy_id es
+    → is_some (lookup (same_text i) es) ≡ list_any (is_policy_at i) (values_of es)
 known_by es i h = ap is_some (lookup_is policy_id (same_text i) es h) ∙ some_find (is_policy_at i) (values_of es)
 
 -- no id under one body, which is a template or not
-pub no_list : (ps : List PolicyParts) (t : BodyParts) (v : Bool) → v ≡ true → v ≡ list_any (is_policy_at t.id) ps → [] ≡ ids_by_body (templates_in ps (t ∷ [])) []
+pub no_list : (ps : List PolicyParts) (t : BodyParts) (v : Bool) → v ≡ true → v ≡ list_any (is_policy_at t.id) ps
+    → [] ≡ ids_by_body (templates_in ps (t ∷ [])) []
 no_list ps t v e h = ap (λ v. ids_by_body (cond (not v) (t ∷ []) []) []) (sym e ∙ h)
 
-pub one_list : (ps : List PolicyParts) (t : BodyParts) (v : Bool) → v ≡ false → v ≡ list_any (is_policy_at t.id) ps → (t.id, []) ∷ [] ≡ ids_by_body (templates_in ps (t ∷ [])) []
+pub one_list : (ps : List PolicyParts) (t : BodyParts) (v : Bool) → v ≡ false → v ≡ list_any (is_policy_at t.id) ps
+    → (t.id, []) ∷ [] ≡ ids_by_body (templates_in ps (t ∷ [])) []
 one_list ps t v e h = ap (λ v. ids_by_body (cond (not v) (t ∷ []) []) []) (sym e ∙ h)
 
 module _ {S : Type 0} where
   -- nothing more is listed
-  pub none_listed : (es : List (List ℕ × IndexSet (List ℕ) S)) (ls : List (List ℕ × List (List ℕ))) → [] ≡ ls → lists_of es ≡ lists_of es ++ ls
+  pub none_listed : (es : List (List ℕ × IndexSet (List ℕ) S)) (ls : List (List ℕ × List (List ℕ))) → [] ≡ ls
+      → lists_of es ≡ lists_of es ++ ls
   none_listed es ls h = sym (append-nil (lists_of es)) ∙ ap (λ ls. lists_of es ++ ls) h
 
   -- one more id with nothing under it
-  pub one_listed : (es fs : List (List ℕ × IndexSet (List ℕ) S)) (k i : List ℕ) (s : IndexSet (List ℕ) S) (ls : List (List ℕ × List (List ℕ))) → fs ≡ es ++ (k, s) ∷ [] → k ≡ i → s.keys ≡ [] → (i, []) ∷ [] ≡ ls →
+  pub one_listed : (es fs : List (List ℕ × IndexSet (List ℕ) S)) (k i : List ℕ) (s : IndexSet (List ℕ) S)
+      (ls : List (List ℕ × List (List ℕ))) → fs ≡ es ++ (k, s) ∷ [] → k ≡ i → s.keys ≡ [] → (i, []) ∷ [] ≡ ls →
       lists_of fs ≡ lists_of es ++ ls
   one_listed es fs k i s ls p q e h =
-      ap lists_of p ∙ map-append (λ (e : List ℕ × IndexSet (List ℕ) S). (e.0, e.1.keys)) es ((k, s) ∷ []) ∙ (λ j. lists_of es ++ (q j, e j) ∷ []) ∙ ap (λ ls. lists_of es ++ ls) h
+      ap lists_of p ∙ map-append (λ (e : List ℕ × IndexSet (List ℕ) S). (e.0, e.1.keys)) es ((k, s) ∷ [])
+      ∙ (λ j. lists_of es ++ (q j, e j) ∷ []) ∙ ap (λ ls. lists_of es ++ ls) h
 
   -- the lists that are kept
-  pub lists_kept : (es fs : List (List ℕ × IndexSet (List ℕ) S)) (qs : List (List ℕ × PolicyParts)) → IsKeyed policy_id qs → fs ≡ filter (λ e. not (is_some (lookup (same_text e.0) qs))) es →
+  pub lists_kept : (es fs : List (List ℕ × IndexSet (List ℕ) S)) (qs : List (List ℕ × PolicyParts))
+      → IsKeyed policy_id qs → fs ≡ filter (λ e. not (is_some (lookup (same_text e.0) qs))) es →
       lists_of fs ≡ filter (λ e. not (list_any (is_policy_at e.0) (values_of qs))) (lists_of es)
   lists_kept es fs qs h p = ap lists_of p ∙ kept es
     where
-      kept_at : (v w : Bool) (e : List ℕ × IndexSet (List ℕ) S) (gs : List (List ℕ × IndexSet (List ℕ) S)) (ls : List (List ℕ × List (List ℕ))) → v ≡ w → lists_of gs ≡ ls →
+      kept_at : (v w : Bool) (e : List ℕ × IndexSet (List ℕ) S) (gs : List (List ℕ × IndexSet (List ℕ) S))
+          (ls : List (List ℕ × List (List ℕ))) → v ≡ w → lists_of gs ≡ ls →
           lists_of (cond (not v) (e ∷ gs) gs) ≡ cond (not w) ((e.0, e.1.keys) ∷ ls) ls
       kept_at v true e gs ls p h = ap (λ v. lists_of (cond (not v) (e ∷ gs) gs)) p ∙ h
       kept_at v false e gs ls p h = ap (λ v. lists_of (cond (not v) (e ∷ gs) gs)) p ∙ ap (λ ls. (e.0, e.1.keys) ∷ ls) h
 
-      kept : (es : List (List ℕ × IndexSet (List ℕ) S)) → lists_of (filter (λ e. not (is_some (lookup (same_text e.0) qs))) es) ≡ filter (λ e. not (list_any (is_policy_at e.0) (values_of qs))) (lists_of es)
+      kept : (es : List (List ℕ × IndexSet (List ℕ) S))
+          → lists_of (filter (λ e. not (is_some (lookup (same_text e.0) qs))) es)
+          ≡ filter (λ e. not (list_any (is_policy_at e.0) (values_of qs))) (lists_of es)
       kept [] = refl
       kept (e ∷ es) =
-          kept_at (is_some (lookup (same_text e.0) qs)) (list_any (is_policy_at e.0) (values_of qs)) e (filter (λ e. not (is_some (lookup (same_text e.0) qs))) es)
+          kept_at (is_some (lookup (same_text e.0) qs)) (list_any (is_policy_at e.0) (values_of qs)) e
+          (filter (λ e. not (is_some (lookup (same_text e.0) qs))) es)
           (filter (λ e. not (list_any (is_policy_at e.0) (values_of qs))) (lists_of es)) (known_by qs e.0 h) (kept es)
 
   -- no id under one more template
-  pub no_ids_more : (ts : List (Rc BodyParts Global)) (k : ℕ) (t : Rc BodyParts Global) (ps : List PolicyParts) (es fs : List (List ℕ × IndexSet (List ℕ) S)) →
-      k < length ts → t ≡ get_or ts k t → lists_of es ≡ ids_by_body (templates_in ps (bodies_of (take k ts))) [] → lists_of fs ≡ lists_of es ++ ids_by_body (templates_in ps (t.value ∷ [])) [] →
+  pub no_ids_more : (ts : List (Rc BodyParts Global)) (k : ℕ) (t : Rc BodyParts Global) (ps : List PolicyParts)
+      (es fs : List (List ℕ × IndexSet (List ℕ) S)) →
+      k < length ts → t ≡ get_or ts k t → lists_of es ≡ ids_by_body (templates_in ps (bodies_of (take k ts))) []
+      → lists_of fs ≡ lists_of es ++ ids_by_body (templates_in ps (t.value ∷ [])) [] →
       lists_of fs ≡ ids_by_body (templates_in ps (bodies_of (take (k + 1) ts))) []
   no_ids_more ts k t ps es fs n g h p =
       p ∙ ap (λ ls. ls ++ ids_by_body (templates_in ps (t.value ∷ [])) []) h
       ∙ sym
       (ap (λ bs. ids_by_body (templates_in ps bs) []) (bodies_more ts k t n g)
-      ∙ ap (λ us. ids_by_body us []) (filter-append (λ (t : BodyParts). not (list_any (is_policy_at t.id) ps)) (bodies_of (take k ts)) (t.value ∷ []))
-      ∙ map-append (λ (b : BodyParts). (b.id, ids_in b.id [])) (templates_in ps (bodies_of (take k ts))) (templates_in ps (t.value ∷ [])))
+      ∙ ap (λ us. ids_by_body us []) (filter-append
+      (λ (t : BodyParts). not (list_any (is_policy_at t.id) ps)) (bodies_of (take k ts)) (t.value ∷ []))
+      ∙ map-append (λ (b : BodyParts). (b.id, ids_in b.id [])) (templates_in ps (bodies_of (take k ts)))
+      (templates_in ps (t.value ∷ [])))
 
-  pub no_ids_absent : (ts : List (Rc BodyParts Global)) (k : ℕ) (t : Rc BodyParts Global) (ps : List PolicyParts) (es : List (List ℕ × IndexSet (List ℕ) S)) (i : List ℕ) → AreOnce body_id (bodies_of ts) →
-      k < length ts → t ≡ get_or ts k t → lists_of es ≡ ids_by_body (templates_in ps (bodies_of (take k ts))) [] → i ≡ t.value.id → lookup (same_text i) es ≡ None
+  pub no_ids_absent : (ts : List (Rc BodyParts Global)) (k : ℕ) (t : Rc BodyParts Global) (ps : List PolicyParts)
+      (es : List (List ℕ × IndexSet (List ℕ) S)) (i : List ℕ) → AreOnce body_id (bodies_of ts) →
+      k < length ts → t ≡ get_or ts k t → lists_of es ≡ ids_by_body (templates_in ps (bodies_of (take k ts))) []
+      → i ≡ t.value.id → lookup (same_text i) es ≡ None
   no_ids_absent ts k t ps es i o n g h q =
       none_unread (λ (s : IndexSet (List ℕ) S). s.keys) (same_text i) es
       (ap (lookup (same_text i)) h ∙ listed_at i (templates_in ps (bodies_of (take k ts))) []
       ∙ ap (option_map (λ b. ids_in b.id []))
       (no_template_at i (bodies_of (take k ts)) ps
-      (ap (λ j. list_any (is_body_at j) (bodies_of (take k ts))) q ∙ before_at body_id (bodies_of (take k ts)) t.value (bodies_of (drop (suc k) ts)) (subst (AreOnce body_id) (parted ts k t n g) o))))
+      (ap (λ j. list_any (is_body_at j) (bodies_of (take k ts))) q
+      ∙ before_at body_id (bodies_of (take k ts)) t.value (bodies_of (drop (suc k) ts))
+      (subst (AreOnce body_id) (parted ts k t n g) o))))
 
 -- one more policy is listed
-pub listed_more : (ps : List PolicyParts) (k : ℕ) (p : PolicyParts) (ls ms ns : List (List ℕ × List (List ℕ))) → k < length ps → p ≡ get_or ps k p → ms ≡ all_listed ls (take k ps) →
+pub listed_more : (ps : List PolicyParts) (k : ℕ) (p : PolicyParts) (ls ms ns : List (List ℕ × List (List ℕ)))
+    → k < length ps → p ≡ get_or ps k p → ms ≡ all_listed ls (take k ps) →
     ns ≡ with_listed p.template.id (policy_id p) ms → ns ≡ all_listed ls (take (k + 1) ps)
 listed_more ps k p ls ms ns n g h e =
     e ∙ ap (with_listed p.template.id (policy_id p)) h
-    ∙ sym (ap (all_listed ls) (policies_more ps k p n g) ∙ fold-append (λ (done : List (List ℕ × List (List ℕ))) (p : PolicyParts). with_listed p.template.id (policy_id p) done) ls (take k ps) (p ∷ []))
+    ∙ sym (ap (all_listed ls) (policies_more ps k p n g)
+    ∙ fold-append (λ (done : List (List ℕ × List (List ℕ)))
+    (p : PolicyParts). with_listed p.template.id (policy_id p) done) ls (take k ps) (p ∷ []))
 
-listed_from : (ts : List BodyParts) (qs ps : List PolicyParts) → AreOnce body_id ts → AreOnce policy_id (qs ++ ps) → all_listed (ids_by_body ts qs) ps ≡ ids_by_body ts (qs ++ ps)
+listed_from : (ts : List BodyParts) (qs ps : List PolicyParts) → AreOnce body_id ts → AreOnce policy_id (qs ++ ps)
+    → all_listed (ids_by_body ts qs) ps ≡ ids_by_body ts (qs ++ ps)
 listed_from ts qs [] h g = sym (ap (ids_by_body ts) (append-nil qs))
 listed_from ts qs (p ∷ ps) h g =
-    let one = join_listed body_id policy_id (λ (p : PolicyParts). p.template.id) ts qs p h (before_at policy_id qs p ps g) in
+    let one = join_listed body_id policy_id
+    (λ (p : PolicyParts). p.template.id) ts qs p h (before_at policy_id qs p ps g) in
     let more : (qs ++ p ∷ []) ++ ps ≡ qs ++ p ∷ ps = append_assoc qs (p ∷ []) ps in
-    ap (λ ls. all_listed ls ps) one ∙ listed_from ts (qs ++ p ∷ []) ps h (subst (AreOnce policy_id) (sym more) g) ∙ ap (ids_by_body ts) more
+    ap (λ ls. all_listed ls ps) one ∙ listed_from ts (qs ++ p ∷ []) ps h (subst (AreOnce policy_id) (sym more) g)
+    ∙ ap (ids_by_body ts) more
 
-pub listed_all : (ts : List BodyParts) (ps : List PolicyParts) → AreOnce body_id ts → AreOnce policy_id ps → all_listed (ids_by_body ts []) ps ≡ ids_by_body ts ps
+pub listed_all : (ts : List BodyParts) (ps : List PolicyParts) → AreOnce body_id ts → AreOnce policy_id ps
+    → all_listed (ids_by_body ts []) ps ≡ ids_by_body ts ps
 listed_all ts ps h g = listed_from ts [] ps h g
 
-pub shared_copied : (es fs : List (List ℕ × Rc BodyParts Global)) → AllZip (λ (p q : List ℕ × Rc BodyParts Global). (q.0 ≡ p.0) × (q.1.value ≡ p.1.value)) es fs → shared_of fs ≡ shared_of es
+pub shared_copied : (es fs : List (List ℕ × Rc BodyParts Global))
+    → AllZip (λ (p q : List ℕ × Rc BodyParts Global). (q.0 ≡ p.0) × (q.1.value ≡ p.1.value)) es fs
+    → shared_of fs ≡ shared_of es
 shared_copied [] [] h = refl
 shared_copied [] (f ∷ fs) h = absurd h
 shared_copied (e ∷ es) [] h = absurd h
@@ -316,7 +395,9 @@ ids_copied [] (y ∷ ys) h = absurd h
 ids_copied (x ∷ xs) [] h = absurd h
 ids_copied (x ∷ xs) (y ∷ ys) h = λ i. h.0 i ∷ ids_copied xs ys h.1 i
 
-pub lists_copied : {S : Type 0} (es fs : List (List ℕ × IndexSet (List ℕ) S)) → AllZip (λ (p q : List ℕ × IndexSet (List ℕ) S). (q.0 ≡ p.0) × AllZip (λ (x y : List ℕ). y ≡ x) p.1.keys q.1.keys) es fs → lists_of fs ≡ lists_of es
+pub lists_copied : {S : Type 0} (es fs : List (List ℕ × IndexSet (List ℕ) S))
+    → AllZip (λ (p q : List ℕ × IndexSet (List ℕ) S). (q.0 ≡ p.0)
+    × AllZip (λ (x y : List ℕ). y ≡ x) p.1.keys q.1.keys) es fs → lists_of fs ≡ lists_of es
 lists_copied [] [] h = refl
 lists_copied [] (f ∷ fs) h = absurd h
 lists_copied (e ∷ es) [] h = absurd h

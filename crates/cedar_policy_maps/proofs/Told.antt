@@ -1,5 +1,6 @@
 -- What a reader's answer says of a policy or a template, as a truth value.
-use Rattle.std.specs.Prelude.{◌≡◌, ◌↔◌, ℕ, List, [], ◌∷◌, Bool, true, false, not, Option, Some, None, IsTrue, is_some, refl}
+use Rattle.std.specs.Prelude.{◌≡◌, ◌↔◌, ℕ, List, [], ◌∷◌, Bool, true, false, not, Option, Some, None, IsTrue, is_some}
+use Rattle.std.specs.Prelude.{refl}
 use Rattle.cedar_policy_maps.specs.Lists.{is_slotless}
 use Rattle.cedar_terms.specs.declared.slot.SlotId.{SlotId}
 

@@ -8,9 +8,12 @@ use Rattle.cedar_body.specs.Bodies.{BodyParts}
 use Rattle.cedar_policy_maps.specs.Views.{bodies_of}
 
 -- one more body, if it is one of these
-body_parted_at : (v : Bool) (olds news : List (Rc BodyParts Global)) (x : Rc BodyParts Global) (t : BodyParts) → news ≡ olds ++ cond v (x ∷ []) [] → x.value ≡ t → bodies_of news ≡ bodies_of olds ++ cond v (t ∷ []) []
-body_parted_at true olds news x t e q = ap bodies_of e ∙ map-append (λ (t : Rc BodyParts Global). t.value) olds (x ∷ []) ∙ ap (λ b. bodies_of olds ++ b ∷ []) q
+body_parted_at : (v : Bool) (olds news : List (Rc BodyParts Global)) (x : Rc BodyParts Global) (t : BodyParts)
+    → news ≡ olds ++ cond v (x ∷ []) [] → x.value ≡ t → bodies_of news ≡ bodies_of olds ++ cond v (t ∷ []) []
+body_parted_at true olds news x t e q = ap bodies_of e ∙ map-append (λ (t : Rc BodyParts Global). t.value) olds (x ∷ [])
+    ∙ ap (λ b. bodies_of olds ++ b ∷ []) q
 body_parted_at false olds news x t e q = ap bodies_of e ∙ map-append (λ (t : Rc BodyParts Global). t.value) olds []
 
-pub body_parted : (v w : Bool) (olds news : List (Rc BodyParts Global)) (x : Rc BodyParts Global) (t : BodyParts) → v ≡ w → news ≡ olds ++ cond v (x ∷ []) [] → x.value ≡ t → bodies_of news ≡ bodies_of olds ++ cond w (t ∷ []) []
+pub body_parted : (v w : Bool) (olds news : List (Rc BodyParts Global)) (x : Rc BodyParts Global) (t : BodyParts)
+    → v ≡ w → news ≡ olds ++ cond v (x ∷ []) [] → x.value ≡ t → bodies_of news ≡ bodies_of olds ++ cond w (t ∷ []) []
 body_parted v w olds news x t b e q = body_parted_at w olds news x t (e ∙ ap (λ a. olds ++ cond a (x ∷ []) []) b) q

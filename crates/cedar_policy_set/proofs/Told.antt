@@ -13,7 +13,8 @@ use Rattle.cedar_body.specs.BodyEquality.{same_body}
 use Rattle.cedar_policy_set.specs.BoardTexts.{body_line, is_known_body}
 use Rattle.cedar_policy_maps.specs.Views.{bodies_of}
 
-pub bodies_told : (ts us : List (Rc BodyParts Global)) → pointwise same_body (bodies_of ts) (bodies_of us) ≡ pointwise (λ t u. same_body t.value u.value) ts us
+pub bodies_told : (ts us : List (Rc BodyParts Global))
+    → pointwise same_body (bodies_of ts) (bodies_of us) ≡ pointwise (λ t u. same_body t.value u.value) ts us
 bodies_told ts us = pointwise-map (λ (t : Rc BodyParts Global). t.value) same_body ts us
 
 -- a text that is known
@@ -24,8 +25,10 @@ known_text (Some x) h = refl
 abbrev body : Rc BodyParts Global → BodyParts
 body t = t.value
 
-pub lines_told : (ts : List (Rc BodyParts Global)) → flat_map (λ t. body_line t.value) ts ≡ flat_map body_line (bodies_of ts)
+pub lines_told : (ts : List (Rc BodyParts Global))
+    → flat_map (λ t. body_line t.value) ts ≡ flat_map body_line (bodies_of ts)
 lines_told ts = sym (flat_map-map body_line body ts)
 
-pub known_told : (ts : List (Rc BodyParts Global)) → list_all (λ t. is_known_body t.value) ts ≡ list_all is_known_body (bodies_of ts)
+pub known_told : (ts : List (Rc BodyParts Global))
+    → list_all (λ t. is_known_body t.value) ts ≡ list_all is_known_body (bodies_of ts)
 known_told ts = sym (list_all-map is_known_body body ts)

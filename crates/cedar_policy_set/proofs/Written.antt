@@ -18,9 +18,11 @@ both : (a b : Bool) → (a && b) ≡ true → (a ≡ true) × (b ≡ true)
 both true b h = (refl, h)
 both false b h = absurd (false≢true h)
 
-pub body_then : {W : Type 0} (took : W → List ℕ → W → Type 0) (first : BodyParts) (rest : List (Rc BodyParts Global)) (f g h : Formatter W) →
+pub body_then : {W : Type 0} (took : W → List ℕ → W → Type 0) (first : BodyParts) (rest : List (Rc BodyParts Global))
+    (f g h : Formatter W) →
     (is_known_body first ≡ true → IsPlainFormatter f → HasWritten took f (known_body first) g) →
-    (list_all (λ t. is_known_body t.value) rest ≡ true → IsPlainFormatter g → HasWritten took g (flat_map (λ t. body_line t.value) rest) h) →
+    (list_all (λ t. is_known_body t.value) rest ≡ true → IsPlainFormatter g
+    → HasWritten took g (flat_map (λ t. body_line t.value) rest) h) →
     (is_known_body first && list_all is_known_body (bodies_of rest)) ≡ true → IsPlainFormatter f →
     HasWritten took f (known_body first ++ flat_map body_line (bodies_of rest)) h
 body_then took first rest f g h p q k plain =
@@ -30,11 +32,13 @@ body_then took first rest f g h p q k plain =
     put_two took f g h _ _ _ one more (ap (λ x. known_body first ++ x) (lines_told rest))
 
 -- the text of two orders without anything, and of others
-pub empty_text : (ts : List (Rc BodyParts Global)) (ps : List PolicyParts) (v : Bool) → (IsTrue v ↔ ((ts ≡ []) × (ps ≡ []))) → v ≡ true → orders_text (bodies_of ts) ps ≡ codes "<empty policyset>"
+pub empty_text : (ts : List (Rc BodyParts Global)) (ps : List PolicyParts) (v : Bool)
+    → (IsTrue v ↔ ((ts ≡ []) × (ps ≡ []))) → v ≡ true → orders_text (bodies_of ts) ps ≡ codes "<empty policyset>"
 empty_text ts ps true h e = let b = h.0 refl in (λ i. orders_text (bodies_of (b.0 i)) (b.1 i))
 empty_text ts ps false h e = absurd (false≢true e)
 
-pub full_text : (ts : List (Rc BodyParts Global)) (ps : List PolicyParts) (v : Bool) → (IsTrue v ↔ ((ts ≡ []) × (ps ≡ []))) → v ≡ false → orders_text (bodies_of ts) ps ≡ titled_text (bodies_of ts) ps
+pub full_text : (ts : List (Rc BodyParts Global)) (ps : List PolicyParts) (v : Bool)
+    → (IsTrue v ↔ ((ts ≡ []) × (ps ≡ []))) → v ≡ false → orders_text (bodies_of ts) ps ≡ titled_text (bodies_of ts) ps
 full_text [] [] true h e = absurd (false≢true (cc))
 full_text [] [] false h e = absurd (cc (h.1 (refl, refl)))
 full_text [] (p ∷ ps) v h e = refl

@@ -28,7 +28,8 @@ neither : (a b : Bool) → a ≡ false → b ≡ false → (a || b) ≡ false
 neither a b p q = cc
 
 -- where an id stands once, nothing before it has it
-before : {X : Type 0} (id : X → List ℕ) (xs : List X) (x : X) (rest : List X) → AreOnce id (xs ++ x ∷ rest) → list_any (is_at id (id x)) xs ≡ false
+before : {X : Type 0} (id : X → List ℕ) (xs : List X) (x : X) (rest : List X) → AreOnce id (xs ++ x ∷ rest)
+    → list_any (is_at id (id x)) xs ≡ false
 before id [] x rest h = refl
 before id (y ∷ ys) x rest h =
     let n = or_parts _ _ (sym (list_any-append (is_at id (id y)) ys (x ∷ rest)) ∙ h.0) in
@@ -43,15 +44,18 @@ module _ {X V : Type 0} (id : X → List ℕ) (f : X → V) where
   abbrev pub put_next : List (List ℕ × V) → X → List (List ℕ × V)
   put_next es x = insert_entry same_text es (id x) (f x)
 
-  new_last : (xs : List X) (x : X) → list_any (is_at id (id x)) xs ≡ false → put_next (laid xs) x ≡ laid xs ++ (id x, f x) ∷ []
+  new_last : (xs : List X) (x : X) → list_any (is_at id (id x)) xs ≡ false
+      → put_next (laid xs) x ≡ laid xs ++ (id x, f x) ∷ []
   new_last [] x n = refl
   new_last (y ∷ ys) x n =
-      ap (λ v. cond v ((id y, f x) ∷ laid ys) ((id y, f y) ∷ put_next (laid ys) x)) (or_parts _ _ n).0 ∙ ap (λ es. (id y, f y) ∷ es) (new_last ys x (or_parts _ _ n).1)
+      ap (λ v. cond v ((id y, f x) ∷ laid ys) ((id y, f y) ∷ put_next (laid ys) x)) (or_parts _ _ n).0
+      ∙ ap (λ es. (id y, f y) ∷ es) (new_last ys x (or_parts _ _ n).1)
 
   laid_from : (ys xs : List X) → AreOnce id (ys ++ xs) → fold put_next (laid ys) xs ≡ laid (ys ++ xs)
   laid_from ys [] h = sym (ap laid (append-nil ys))
   laid_from ys (x ∷ xs) h =
-      let one : put_next (laid ys) x ≡ laid (ys ++ x ∷ []) = new_last ys x (before id ys x xs h) ∙ sym (map-append (λ x. (id x, f x)) ys (x ∷ [])) in
+      let one : put_next (laid ys) x ≡ laid (ys ++ x ∷ []) = new_last ys x (before id ys x xs h)
+      ∙ sym (map-append (λ x. (id x, f x)) ys (x ∷ [])) in
       let more : (ys ++ x ∷ []) ++ xs ≡ ys ++ x ∷ xs = append_assoc ys (x ∷ []) xs in
       ap (λ es. fold put_next es xs) one ∙ laid_from (ys ++ x ∷ []) xs (subst (AreOnce id) (sym more) h) ∙ ap laid more
 
@@ -73,15 +77,21 @@ module _ {X : Type 0} (id : X → List ℕ) where
 -- ---- entries with their values read
 
 module _ {V W : Type 0} (f : V → W) where
-  read_at : (v : Bool) (e : List ℕ × V) (w : V) (es gs : List (List ℕ × V)) (hs : List (List ℕ × W)) → map {B = List ℕ × W} (λ e. (e.0, f e.1)) gs ≡ hs →
-      map {B = List ℕ × W} (λ e. (e.0, f e.1)) (cond v ((e.0, w) ∷ es) (e ∷ gs)) ≡ cond v ((e.0, f w) ∷ map (λ e. (e.0, f e.1)) es) ((e.0, f e.1) ∷ hs)
+  read_at : (v : Bool) (e : List ℕ × V) (w : V) (es gs : List (List ℕ × V)) (hs : List (List ℕ × W))
+      → map {B = List ℕ × W} (λ e. (e.0, f e.1)) gs ≡ hs →
+      map {B = List ℕ × W} (λ e. (e.0, f e.1)) (cond v ((e.0, w) ∷ es) (e ∷ gs))
+      ≡ cond v ((e.0, f w) ∷ map (λ e. (e.0, f e.1)) es) ((e.0, f e.1) ∷ hs)
   read_at true e w es gs hs h = refl
   read_at false e w es gs hs h = ap (λ xs. (e.0, f e.1) ∷ xs) h
 
   -- what is put is read as what is read and put
-  pub read_put : (es : List (List ℕ × V)) (k : List ℕ) (w : V) → map {B = List ℕ × W} (λ e. (e.0, f e.1)) (insert_entry same_text es k w) ≡ insert_entry same_text (map (λ e. (e.0, f e.1)) es) k (f w)
+  pub read_put : (es : List (List ℕ × V)) (k : List ℕ) (w : V)
+      → map {B = List ℕ × W} (λ e. (e.0, f e.1)) (insert_entry same_text es k w)
+      ≡ insert_entry same_text (map (λ e. (e.0, f e.1)) es) k (f w)
   read_put [] k w = refl
-  read_put (e ∷ es) k w = read_at (same_text k e.0) e w es (insert_entry same_text es k w) (insert_entry same_text (map (λ e. (e.0, f e.1)) es) k (f w)) (read_put es k w)
+  read_put (e ∷ es) k w =
+      read_at (same_text k e.0) e w es (insert_entry same_text es k w)
+      (insert_entry same_text (map (λ e. (e.0, f e.1)) es) k (f w)) (read_put es k w)
 
 -- ---- the ids of the policies on a body, one after another
 
@@ -89,17 +99,22 @@ module _ (i : List ℕ) where
   abbrev pub with_id : List (List ℕ) → PolicyParts → List (List ℕ)
   with_id ks p = cond (is_on i p) (insert_key same_text ks (policy_id p)) ks
 
-  one_more : (v : Bool) (ps : List PolicyParts) (p : PolicyParts) → is_on i p ≡ v → list_any (is_at policy_id (policy_id p)) ps ≡ false →
+  one_more : (v : Bool) (ps : List PolicyParts) (p : PolicyParts) → is_on i p ≡ v
+      → list_any (is_at policy_id (policy_id p)) ps ≡ false →
       cond v (insert_key same_text (ids_in i ps) (policy_id p)) (ids_in i ps) ≡ ids_in i (ps ++ p ∷ [])
-  one_more true ps p e n = pushed_on body_id policy_id own_body (policy_id p) i ps n ∙ sym (joined_on body_id policy_id own_body i ps p e)
+  one_more true ps p e n = pushed_on body_id policy_id own_body (policy_id p) i ps n
+      ∙ sym (joined_on body_id policy_id own_body i ps p e)
   one_more false ps p e n = sym (not_joined_on body_id policy_id own_body i ps p e)
 
-  ids_from : (qs ps : List PolicyParts) → AreOnce policy_id (qs ++ ps) → fold with_id (ids_in i qs) ps ≡ ids_in i (qs ++ ps)
+  ids_from : (qs ps : List PolicyParts) → AreOnce policy_id (qs ++ ps)
+      → fold with_id (ids_in i qs) ps ≡ ids_in i (qs ++ ps)
   ids_from qs [] h = sym (ap (ids_in i) (append-nil qs))
   ids_from qs (p ∷ ps) h =
-      let one : with_id (ids_in i qs) p ≡ ids_in i (qs ++ p ∷ []) = one_more (is_on i p) qs p refl (before policy_id qs p ps h) in
+      let one : with_id (ids_in i qs) p ≡ ids_in i (qs ++ p ∷ []) =
+      one_more (is_on i p) qs p refl (before policy_id qs p ps h) in
       let more : (qs ++ p ∷ []) ++ ps ≡ qs ++ p ∷ ps = append_assoc qs (p ∷ []) ps in
-      ap (λ ks. fold with_id ks ps) one ∙ ids_from (qs ++ p ∷ []) ps (subst (AreOnce policy_id) (sym more) h) ∙ ap (ids_in i) more
+      ap (λ ks. fold with_id ks ps) one ∙ ids_from (qs ++ p ∷ []) ps (subst (AreOnce policy_id) (sym more) h)
+      ∙ ap (ids_in i) more
 
   pub all_ids : (ps : List PolicyParts) → AreOnce policy_id ps → fold with_id [] ps ≡ ids_in i ps
   all_ids ps h = ids_from [] ps h

@@ -26,7 +26,10 @@ bodies_make t u a =
     let p = static_policy t in
     let q = static_policy u in
     record {
-      placed = (λ j. cond (b j) (Some t) (cond (n j) (Some u) None), (ap (λ v. cond v (Some t) (cond (same_text t.id u.id) (Some u) None)) m, tt));
+      placed = (
+        λ j. cond (b j) (Some t) (cond (n j) (Some u) None),
+        (ap (λ v. cond v (Some t) (cond (same_text t.id u.id) (Some u) None)) m, tt),
+      );
       bodies_by_id = refl;
       policies_by_id = refl;
       all_listed =
@@ -36,10 +39,12 @@ bodies_make t u a =
     }
 
 -- the ids of two static policies are other ones
-pub ids_turned : (p q : PolicyParts) → p ≡ static_policy p.template → q ≡ static_policy q.template → same_text p.template.id q.template.id ≡ false → same_text (policy_id p) (policy_id q) ≡ false
+pub ids_turned : (p q : PolicyParts) → p ≡ static_policy p.template → q ≡ static_policy q.template
+    → same_text p.template.id q.template.id ≡ false → same_text (policy_id p) (policy_id q) ≡ false
 ids_turned p q g h a = (λ j. same_text (policy_id (g j)) (policy_id (h j))) ∙ a
 
-pub crossed : (p q : PolicyParts) → (p ≡ static_policy p.template) × (body_slots p.template ≡ []) → (q ≡ static_policy q.template) × (body_slots q.template ≡ []) → same_text p.template.id q.template.id ≡ false →
+pub crossed : (p q : PolicyParts) → (p ≡ static_policy p.template) × (body_slots p.template ≡ [])
+    → (q ≡ static_policy q.template) × (body_slots q.template ≡ []) → same_text p.template.id q.template.id ≡ false →
     CanMakeSet (record {
       bodies = (p.template.id, p.template) ∷ (q.template.id, q.template) ∷ [];
       policies = (policy_id q, q) ∷ (policy_id p, p) ∷ [];
@@ -51,14 +56,18 @@ crossed p q g h a =
       policies = (policy_id y, y) ∷ (policy_id x, x) ∷ [];
       listed = (p.template.id, policy_id x ∷ []) ∷ (q.template.id, policy_id y ∷ []) ∷ [];
     } in
-    subst (λ x. CanMakeSet (f x q)) (sym g.0) (subst (λ y. CanMakeSet (f (static_policy p.template) y)) (sym h.0) (bodies_make p.template q.template a))
+    subst (λ x. CanMakeSet (f x q)) (sym g.0)
+    (subst (λ y. CanMakeSet (f (static_policy p.template) y)) (sym h.0) (bodies_make p.template q.template a))
 
 none_read : {V W : Type 0} (f : V → W) (o : Option V) → option_map f o ≡ None → o ≡ None
 none_read f None h = refl
 none_read f (Some v) h = absurd (cc)
 
 -- another id is no key of a map of one value
-pub absent : {V W : Type 0} (f : V → W) (es : List (List ℕ × V)) (i j k : List ℕ) (w : W) → map {B = List ℕ × W} (λ e. (e.0, f e.1)) es ≡ (k, w) ∷ [] → i ≡ j → same_text j k ≡ false → lookup (same_text i) es ≡ None
+pub absent : {V W : Type 0} (f : V → W) (es : List (List ℕ × V)) (i j k : List ℕ) (w : W)
+    → map {B = List ℕ × W} (λ e. (e.0, f e.1)) es ≡ (k, w) ∷ [] → i ≡ j → same_text j k ≡ false
+    → lookup (same_text i) es ≡ None
 absent f es i j k w h q n =
     none_read f (lookup (same_text i) es)
-    (sym (lookup-map_values f (same_text i) es) ∙ ap (lookup (same_text i)) h ∙ ap (λ v. cond v (Some w) None) (ap (λ x. same_text x k) q ∙ n))
+    (sym (lookup-map_values f (same_text i) es) ∙ ap (lookup (same_text i)) h
+    ∙ ap (λ v. cond v (Some w) None) (ap (λ x. same_text x k) q ∙ n))

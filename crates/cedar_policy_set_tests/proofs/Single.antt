@@ -19,22 +19,29 @@ board_of p = record { bodies = p.template ∷ []; policies = p ∷ [] }
 stands : (p : PolicyParts) → find (is_body_at p.template.id) (p.template ∷ []) ≡ Some p.template
 stands p = ap (λ v. cond v (Some p.template) None) (same_text_equiv.refl p.template.id)
 
-placed : (o : Option (List ℕ)) (p : PolicyParts) → o ≡ p.link → (o ≡ Some p.template.id → ⊥) → IsPlacedBy o (board_of p) p
+placed : (o : Option (List ℕ)) (p : PolicyParts) → o ≡ p.link → (o ≡ Some p.template.id → ⊥)
+    → IsPlacedBy o (board_of p) p
 placed None p e own = stands p
 placed (Some l) p e own =
     let apart = other_id l p.template.id (same_text l p.template.id) refl own in
     let is : policy_id p ≡ l = ap (λ o. unwrap_or o p.template.id) (sym e) in (
       ap (λ v. v || false) apart,
       stands p,
-      (λ j. same_text p.template.id (is j) || false) ∙ ap (λ v. v || false) (same_text_equiv.symm p.template.id l ∙ apart),
+      (λ j. same_text p.template.id (is j) || false)
+          ∙ ap (λ v. v || false) (same_text_equiv.symm p.template.id l ∙ apart),
     )
 
 -- nothing is asked of them but that a link has another id than its template
 pub one_makes : (p : PolicyParts) → HasOwnId p →
-    CanMakeSet (record { bodies = (p.template.id, p.template) ∷ []; policies = (policy_id p, p) ∷ []; listed = (p.template.id, policy_id p ∷ []) ∷ [] })
+    CanMakeSet (record {
+      bodies = (p.template.id, p.template) ∷ [];
+      policies = (policy_id p, p) ∷ [];
+      listed = (p.template.id, policy_id p ∷ []) ∷ [];
+    })
 one_makes p own = record {
   placed = (placed p.link p refl own, tt);
   bodies_by_id = refl;
   policies_by_id = refl;
-  all_listed = sym (ap (λ v. (p.template.id, map policy_id (cond v (p ∷ []) [])) ∷ []) (same_text_equiv.refl p.template.id));
+  all_listed =
+      sym (ap (λ v. (p.template.id, map policy_id (cond v (p ∷ []) [])) ∷ []) (same_text_equiv.refl p.template.id));
 }

@@ -9,5 +9,6 @@ use Rattle.cedar_ids.specs.declared.entity.EntityUID.TheVariants as uids
 uid_copied : (u v : EntityUID) → Rattle.cedar_ids.specs.contracts.entity.EntityUIDClone.TheImpl.by_variants u v → v ≡ u
 uid_copied (uids.EntityUID x) (uids.EntityUID y) h = ap uids.EntityUID h
 
-pub copies_are_equal : (u v : EntityUID) → Rattle.cedar_ids.specs.contracts.entity.EntityUIDClone.TheImpl.by_variants u v → IsTrue (same_uid u v)
+pub copies_are_equal : (u v : EntityUID)
+    → Rattle.cedar_ids.specs.contracts.entity.EntityUIDClone.TheImpl.by_variants u v → IsTrue (same_uid u v)
 copies_are_equal u v h = (same_uid_decides u v).1 (sym (uid_copied u v h))

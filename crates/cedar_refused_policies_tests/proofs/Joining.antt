@@ -22,6 +22,8 @@ one_taken p c = record {
 }
 
 -- what may go first with its template may be taken in with it
-pub both_taken : (ss ts : List (Rc BodyParts Global)) (ps : List PolicyParts) (t : Rc BodyParts Global) (p : PolicyParts) → CanJoinBoth empty_board p → ss ≡ [] → ts ≡ t ∷ [] → t.value ≡ p.template → ps ≡ p ∷ [] →
+pub both_taken : (ss ts : List (Rc BodyParts Global)) (ps : List PolicyParts) (t : Rc BodyParts Global)
+    (p : PolicyParts) → CanJoinBoth empty_board p → ss ≡ [] → ts ≡ t ∷ [] → t.value ≡ p.template → ps ≡ p ∷ [] →
     CanTakeIn empty_board (bodies_of ss) (bodies_of ts) ps
-both_taken ss ts ps t p c a b d e = rw (a, b, e) (subst (λ u. CanTakeIn empty_board [] (u ∷ []) (p ∷ [])) (sym d) (one_taken p c))
+both_taken ss ts ps t p c a b d e =
+    rw (a, b, e) (subst (λ u. CanTakeIn empty_board [] (u ∷ []) (p ∷ [])) (sym d) (one_taken p c))

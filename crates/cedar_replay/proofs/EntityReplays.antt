@@ -16,7 +16,8 @@ pub made_push : (W : World) (cs : List Call) (c : Call) → all_made W (cs ++ c 
 made_push W [] c = refl
 made_push W (d ∷ cs) c = made_push (made W d) cs c
 
-pub pass_push : (W : World) (cs : List Call) (c : Call) → AllPass W cs → Passes (all_made W cs) c → AllPass W (cs ++ c ∷ [])
+pub pass_push : (W : World) (cs : List Call) (c : Call) → AllPass W cs → Passes (all_made W cs) c
+    → AllPass W (cs ++ c ∷ [])
 pass_push W [] c h p = (p, tt)
 pass_push W (d ∷ cs) c h p = (h.0, pass_push (made W d) cs c h.1 p)
 
@@ -29,8 +30,10 @@ longer [] x = refl
 longer (y ∷ ys) x = let e = longer ys x in omega arith
 
 -- a call that is refused ends the list
-pub stops : {X : Type 0} (f : X → Call) (all done : List X) (c : X) (rest : List X) (n : ℕ) (e : EntitiesError) → all ≡ done ++ c ∷ rest → length done ≡ n
-    → AllPass empty_world (map f done) → IsRefusedAs (all_made empty_world (map f done)) (f c) e → StopsAt (map f all) n e
+pub stops : {X : Type 0} (f : X → Call) (all done : List X) (c : X) (rest : List X) (n : ℕ) (e : EntitiesError)
+    → all ≡ done ++ c ∷ rest → length done ≡ n
+    → AllPass empty_world (map f done) → IsRefusedAs (all_made empty_world (map f done)) (f c) e
+    → StopsAt (map f all) n e
 stops f all done c rest n e place count passed refused = record {
   before = map f done;
   at = f c;

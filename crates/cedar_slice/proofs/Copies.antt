@@ -1,5 +1,6 @@
 -- The list of what is held at some uids, and what a store of it holds.
-use Rattle.std.specs.Prelude.{◌≡◌, Bool, true, false, cond, ◌||◌, List, [], ◌∷◌, ◌++◌, Option, Some, None, map, filter_map}
+use Rattle.std.specs.Prelude.{◌≡◌, Bool, true, false, cond, ◌||◌, List, [], ◌∷◌, ◌++◌, Option, Some, None, map}
+use Rattle.std.specs.Prelude.{filter_map}
 use Rattle.std.proofs.Common.{ap, sym, refl, subst, ◌∙◌}
 use Rattle.std.specs.List.{AllByRecursion, cons_option}
 use Rattle.std.specs.Option.{IfSome, option_or, unwrap_or}
@@ -12,7 +13,8 @@ use Rattle.cedar_uid_sets.specs.laws.Sets.{one_equal, same_tests}
 use Rattle.cedar_entity.specs.View.{EntityView, IsDeepEqual}
 use Rattle.cedar_entity.specs.laws.Views.{deep_equality}
 use Rattle.cedar_entities.specs.Plain.{Held, no_entities}
-use Rattle.cedar_entities.specs.Present.{first_entity, keyed, present, with_first, AllMatch, MatchesPresent, FirstMismatch}
+use Rattle.cedar_entities.specs.Present.{first_entity, keyed, present, with_first, AllMatch, MatchesPresent}
+use Rattle.cedar_entities.specs.Present.{FirstMismatch}
 use Rattle.cedar_entities.specs.laws.Worlds.{get_joined}
 
 absent_more : {X : Type 0} (b r : Bool) (x : Option X) → (b ≡ true → x ≡ None) → cond r x None ≡ cond (b || r) x None
@@ -20,7 +22,8 @@ absent_more true true x h = refl
 absent_more true false x h = sym (h refl)
 absent_more false r x h = refl
 
-found_more : {X : Type 0} (b r : Bool) (x : Option X) (e : X) → (b ≡ true → x ≡ Some e) → cond b (Some e) (cond r x None) ≡ cond (b || r) x None
+found_more : {X : Type 0} (b r : Bool) (x : Option X) (e : X) → (b ≡ true → x ≡ Some e)
+    → cond b (Some e) (cond r x None) ≡ cond (b || r) x None
 found_more true r x e h = sym (h refl)
 found_more false r x e h = refl
 
@@ -29,9 +32,12 @@ abbrev pub AreKeyed : Held → List EntityUID → Type 0
 AreKeyed D ks = AllByRecursion (λ k. IfSome (finmap.get D k) (λ e. e.uid ≡ k)) ks
 
 module _ (D : Held) where
-  first_more : (o : Option EntityView) (k q : EntityUID) (rest : List EntityView) (r : Bool) → finmap.get D k ≡ o → IfSome o (λ e. e.uid ≡ k)
-      → first_entity rest q ≡ cond r (finmap.get D q) None → first_entity (cons_option o rest) q ≡ cond (same_uid q k || r) (finmap.get D q) None
-  first_more None k q rest r is u h = h ∙ absent_more (same_uid q k) r (finmap.get D q) (λ t. ap (finmap.get D) ((same_uid_decides q k).0 t) ∙ is)
+  first_more : (o : Option EntityView) (k q : EntityUID) (rest : List EntityView) (r : Bool) → finmap.get D k ≡ o
+      → IfSome o (λ e. e.uid ≡ k)
+      → first_entity rest q ≡ cond r (finmap.get D q) None
+      → first_entity (cons_option o rest) q ≡ cond (same_uid q k || r) (finmap.get D q) None
+  first_more None k q rest r is u h =
+      h ∙ absent_more (same_uid q k) r (finmap.get D q) (λ t. ap (finmap.get D) ((same_uid_decides q k).0 t) ∙ is)
   first_more (Some e) k q rest r is u h =
       ap (λ f. cond (f q e.uid) (Some e) (first_entity rest q)) same_tests
       ∙ ap (λ x. cond (same_uid q x) (Some e) (first_entity rest q)) u
@@ -39,17 +45,23 @@ module _ (D : Held) where
       ∙ found_more (same_uid q k) r (finmap.get D q) e (λ t. ap (finmap.get D) ((same_uid_decides q k).0 t) ∙ is)
 
   -- the first of the list with a uid is what is held there, where the uid is one of those
-  pub first_held : (ks : List EntityUID) → AreKeyed D ks → (q : EntityUID) → first_entity (filter_map (finmap.get D) ks) q ≡ cond (is_member same_uid ks q) (finmap.get D q) None
+  pub first_held : (ks : List EntityUID) → AreKeyed D ks → (q : EntityUID)
+      → first_entity (filter_map (finmap.get D) ks) q ≡ cond (is_member same_uid ks q) (finmap.get D q) None
   first_held [] a q = refl
-  first_held (k ∷ ks) a q = first_more (finmap.get D k) k q (filter_map (finmap.get D) ks) (is_member same_uid ks q) refl a.0 (first_held ks a.1 q)
+  first_held (k ∷ ks) a q =
+      first_more (finmap.get D k) k q (filter_map (finmap.get D) ks) (is_member same_uid ks q) refl a.0
+      (first_held ks a.1 q)
 
-  held_more : (o : Option EntityView) (k : EntityUID) (rest : List EntityView) → finmap.get D k ≡ o → IfSome o (λ e. e.uid ≡ k)
-      → AllByRecursion (λ e. finmap.get D e.uid ≡ Some e) rest → AllByRecursion (λ e. finmap.get D e.uid ≡ Some e) (cons_option o rest)
+  held_more : (o : Option EntityView) (k : EntityUID) (rest : List EntityView) → finmap.get D k ≡ o
+      → IfSome o (λ e. e.uid ≡ k)
+      → AllByRecursion (λ e. finmap.get D e.uid ≡ Some e) rest
+      → AllByRecursion (λ e. finmap.get D e.uid ≡ Some e) (cons_option o rest)
   held_more None k rest is u a = a
   held_more (Some e) k rest is u a = (ap (finmap.get D) u ∙ is, a)
 
   -- each of the list is what is held at its uid
-  pub all_held : (ks : List EntityUID) → AreKeyed D ks → AllByRecursion (λ e. finmap.get D e.uid ≡ Some e) (filter_map (finmap.get D) ks)
+  pub all_held : (ks : List EntityUID) → AreKeyed D ks
+      → AllByRecursion (λ e. finmap.get D e.uid ≡ Some e) (filter_map (finmap.get D) ks)
   all_held [] a = tt
   all_held (k ∷ ks) a = held_more (finmap.get D k) k (filter_map (finmap.get D) ks) refl a.0 (all_held ks a.1)
 
@@ -57,18 +69,25 @@ module _ (D : Held) where
   found_itself true e = refl
   found_itself false e = refl
 
-  present_itself : (ks : List EntityUID) → AreKeyed D ks → (e : EntityView) → finmap.get D e.uid ≡ Some e → present (finmap.get no_entities) (filter_map (finmap.get D) ks) e ≡ e
+  present_itself : (ks : List EntityUID) → AreKeyed D ks → (e : EntityView) → finmap.get D e.uid ≡ Some e
+      → present (finmap.get no_entities) (filter_map (finmap.get D) ks) e ≡ e
   present_itself ks k e is =
-      ap (λ o. unwrap_or (option_or o (first_entity (filter_map (finmap.get D) ks) e.uid)) e) (finmap.get-empty uid_order e.uid)
-      ∙ ap (λ o. unwrap_or (option_or None o) e) (first_held ks k e.uid ∙ ap (λ o. cond (is_member same_uid ks e.uid) o None) is)
+      ap (λ o. unwrap_or (option_or o (first_entity (filter_map (finmap.get D) ks) e.uid)) e)
+      (finmap.get-empty uid_order e.uid)
+      ∙ ap (λ o. unwrap_or (option_or None o) e) (first_held ks k e.uid
+      ∙ ap (λ o. cond (is_member same_uid ks e.uid) o None) is)
       ∙ found_itself (is_member same_uid ks e.uid) e
 
-  matches : (ks : List EntityUID) → AreKeyed D ks → (L : List EntityView) → AllByRecursion (λ e. finmap.get D e.uid ≡ Some e) L → AllByRecursion (MatchesPresent (finmap.get no_entities) (filter_map (finmap.get D) ks)) L
+  matches : (ks : List EntityUID) → AreKeyed D ks → (L : List EntityView)
+      → AllByRecursion (λ e. finmap.get D e.uid ≡ Some e) L
+      → AllByRecursion (MatchesPresent (finmap.get no_entities) (filter_map (finmap.get D) ks)) L
   matches ks k [] a = tt
-  matches ks k (e ∷ L) a = (subst (λ x. IsDeepEqual x e) (sym (present_itself ks k e a.0)) (deep_equality.itself e), matches ks k L a.1)
+  matches ks k (e ∷ L) a =
+      (subst (λ x. IsDeepEqual x e) (sym (present_itself ks k e a.0)) (deep_equality.itself e), matches ks k L a.1)
 
   -- each of the list is the version of its uid that is present
-  pub all_match : (ks : List EntityUID) → AreKeyed D ks → AllMatch (finmap.get no_entities) (filter_map (finmap.get D) ks)
+  pub all_match : (ks : List EntityUID) → AreKeyed D ks
+      → AllMatch (finmap.get no_entities) (filter_map (finmap.get D) ks)
   all_match ks k = matches ks k (filter_map (finmap.get D) ks) (all_held ks k)
 
   all_at : {X : Type 0} (P : X → Type 0) (xs : List X) (y : X) (ys : List X) → AllByRecursion P (xs ++ y ∷ ys) → P y
@@ -76,17 +95,23 @@ module _ (D : Held) where
   all_at P (x ∷ xs) y ys a = all_at P xs y ys a.1
 
   -- so none is a differing duplicate
-  pub none_differs : (ks : List EntityUID) → AreKeyed D ks → (u : EntityUID) → FirstMismatch (finmap.get no_entities) (filter_map (finmap.get D) ks) u → ⊥
+  pub none_differs : (ks : List EntityUID) → AreKeyed D ks → (u : EntityUID)
+      → FirstMismatch (finmap.get no_entities) (filter_map (finmap.get D) ks) u → ⊥
   none_differs ks k u m =
       m.differs (all_at (MatchesPresent (finmap.get no_entities) (filter_map (finmap.get D) ks)) m.before m.at m.after
-      (subst (AllByRecursion (MatchesPresent (finmap.get no_entities) (filter_map (finmap.get D) ks))) m.place (all_match ks k)))
+      (subst (AllByRecursion (MatchesPresent (finmap.get no_entities) (filter_map (finmap.get D) ks))) m.place
+      (all_match ks k)))
 
   -- a store of the list holds what is held at those uids
-  pub store_of : (ks : List EntityUID) → AreKeyed D ks → (test : EntityUID → Bool) → ((q : EntityUID) → is_member same_uid ks q ≡ test q) → with_first no_entities (filter_map (finmap.get D) ks) ≡ finmap.retain_keys D test
+  pub store_of : (ks : List EntityUID) → AreKeyed D ks → (test : EntityUID → Bool)
+      → ((q : EntityUID) → is_member same_uid ks q ≡ test q)
+      → with_first no_entities (filter_map (finmap.get D) ks) ≡ finmap.retain_keys D test
   store_of ks k test same =
-      finmap.same_map uid_order_total one_equal (with_first no_entities (filter_map (finmap.get D) ks)) (finmap.retain_keys D test) (λ q.
+      finmap.same_map uid_order_total one_equal (with_first no_entities (filter_map (finmap.get D) ks))
+      (finmap.retain_keys D test) (λ q.
       get_joined (finmap.entries no_entities) (map keyed (filter_map (finmap.get D) ks)) q
-      ∙ ap (λ o. option_or o (first_entity (filter_map (finmap.get D) ks) q)) (sym (finmap.get-entries no_entities q) ∙ finmap.get-empty uid_order q)
+      ∙ ap (λ o. option_or o (first_entity (filter_map (finmap.get D) ks) q)) (sym (finmap.get-entries no_entities q)
+      ∙ finmap.get-empty uid_order q)
       ∙ first_held ks k q
       ∙ ap (λ b. cond b (finmap.get D q) None) (same q)
       ∙ sym (finmap.get-retain_keys D test q (λ x t. ap test (sym (one_equal q x t)))))

@@ -18,14 +18,17 @@ use Rattle.cedar_slice.specs.Slices.{is_wanted, sliced, part_of, IsWanted, IsPla
 use Rattle.cedar_slice.specs.laws.OneSlice.{part_edges, wanted_by}
 
 -- what a map has of the keys that pass a test
-pub get_kept : {X : Type 0} (m : finmap.FinMap uid_order X) (test : EntityUID → Bool) (q : EntityUID) → finmap.get (finmap.retain_keys m test) q ≡ cond (test q) (finmap.get m q) None
+pub get_kept : {X : Type 0} (m : finmap.FinMap uid_order X) (test : EntityUID → Bool) (q : EntityUID)
+    → finmap.get (finmap.retain_keys m test) q ≡ cond (test q) (finmap.get m q) None
 get_kept m test q = finmap.get-retain_keys m test q (λ x t. ap test (sym (one_equal q x t)))
 
-map_cond : {X Y : Type 0} (f : X → Y) (t : Bool) (o : Option X) → option_map f (cond t o None) ≡ cond t (option_map f o) None
+map_cond : {X Y : Type 0} (f : X → Y) (t : Bool) (o : Option X)
+    → option_map f (cond t o None) ≡ cond t (option_map f o) None
 map_cond f true o = refl
 map_cond f false o = refl
 
-if_cond : {X : Type 0} (P Q : X → Type 0) (t : Bool) (o : Option X) → (t ≡ true → (x : X) → P x → Q x) → IfSome o P → IfSome (cond t o None) Q
+if_cond : {X : Type 0} (P Q : X → Type 0) (t : Bool) (o : Option X) → (t ≡ true → (x : X) → P x → Q x) → IfSome o P
+    → IfSome (cond t o None) Q
 if_cond P Q true None f h = tt
 if_cond P Q true (Some x) f h = f refl x h
 if_cond P Q false o f h = tt
@@ -68,12 +71,14 @@ module _ (W : World) (S : StoreView) (plain : IsPlainStore W S) where
     same_parents : (a b : EntityUID) → test a ≡ true → graph part a b ≡ graph W a b
     same_parents a b h = ap (λ o. is_parent_in o b) (get_part a ∙ ap (λ t. cond t (finmap.get W.entities a) None) h)
 
-    path_down : (a b : EntityUID) (xs : List EntityUID) → test a ≡ true → Path (graph W) a xs b → Path (graph part) a xs b
+    path_down : (a b : EntityUID) (xs : List EntityUID) → test a ≡ true → Path (graph W) a xs b
+        → Path (graph part) a xs b
     path_down a b [] h p = same_parents a b h ∙ p
     path_down a b (x ∷ xs) h p = (same_parents a x h ∙ p.0, path_down x b xs (next_wanted a x h p.0) p.1)
 
     reach_up : (a b : EntityUID) → Reach (graph part) a b → Reach (graph W) a b
-    reach_up a b r = reach_over_reach (graph W) (graph part) (λ x y h. reach_edge (graph W) x y (part_edges W test x y h)) a b r
+    reach_up a b r =
+        reach_over_reach (graph W) (graph part) (λ x y h. reach_edge (graph W) x y (part_edges W test x y h)) a b r
 
     get_sliced : (q : EntityUID) → finmap.get (sliced S.held U) q ≡ cond (test q) (finmap.get S.held q) None
     get_sliced q = get_kept S.held test q
@@ -81,32 +86,51 @@ module _ (W : World) (S : StoreView) (plain : IsPlainStore W S) where
     is_plain_part : IsPlainStore part (record { held = sliced S.held U; partial = false })
     is_plain_part = record {
       partial = refl;
-      holds = λ q. ap (option_map parts_of) (get_sliced q) ∙ map_cond parts_of (test q) (finmap.get S.held q) ∙ ap (λ o. cond (test q) o None) (plain.holds q) ∙ sym (get_part q);
-      keyed = λ q. subst (λ o. IfSome o (λ e. e.uid ≡ q)) (sym (get_sliced q)) (if_cond (λ e. e.uid ≡ q) (λ e. e.uid ≡ q) (test q) (finmap.get S.held q) (λ t e h. h) (plain.keyed q));
-      reached = λ q. subst (λ o. IfSome o (λ e. (x : EntityUID) → (has_ancestor e x ≡ true) ↔ Reach (graph part) q x)) (sym (get_sliced q))
-          (if_cond (λ e. (x : EntityUID) → (has_ancestor e x ≡ true) ↔ Reach (graph W) q x) (λ e. (x : EntityUID) → (has_ancestor e x ≡ true) ↔ Reach (graph part) q x) (test q) (finmap.get S.held q)
-          (λ t e h x. (λ k. let r = (h x).0 k in (r.0, path_down q x r.0 t r.1), λ r. (h x).1 (reach_up q x r))) (plain.reached q));
-      apart = λ q. subst (λ o. IfSome o IsApart) (sym (get_sliced q)) (if_cond IsApart IsApart (test q) (finmap.get S.held q) (λ t e h. h) (plain.apart q));
+      holds = λ q. ap (option_map parts_of) (get_sliced q) ∙ map_cond parts_of (test q) (finmap.get S.held q)
+          ∙ ap (λ o. cond (test q) o None) (plain.holds q) ∙ sym (get_part q);
+      keyed =
+          λ q. subst (λ o. IfSome o (λ e. e.uid ≡ q)) (sym (get_sliced q))
+          (if_cond (λ e. e.uid ≡ q) (λ e. e.uid ≡ q) (test q) (finmap.get S.held q) (λ t e h. h) (plain.keyed q));
+      reached =
+          λ q. subst (λ o. IfSome o (λ e. (x : EntityUID) → (has_ancestor e x ≡ true) ↔ Reach (graph part) q x))
+          (sym (get_sliced q))
+          (if_cond (λ e. (x : EntityUID) → (has_ancestor e x ≡ true) ↔ Reach (graph W) q x) (λ e. (x : EntityUID)
+          → (has_ancestor e x ≡ true) ↔ Reach (graph part) q x) (test q) (finmap.get S.held q)
+          (λ t e h x. (λ k. let r = (h x).0 k in (r.0, path_down q x r.0 t r.1), λ r. (h x).1 (reach_up q x r)))
+          (plain.reached q));
+      apart =
+          λ q. subst (λ o. IfSome o IsApart) (sym (get_sliced q))
+          (if_cond IsApart IsApart (test q) (finmap.get S.held q) (λ t e h. h) (plain.apart q));
       acyclic = λ q r. plain.acyclic q (reach_up q q r);
     }
 
     -- the slice of the plain store of a world is the plain store of the world's slice
     pub plain_slice : IsPlainSlice W U (record { held = sliced S.held U; partial = false })
-    plain_slice = record { world = part; is_slice = record { test = test; passes = wanted_iff; entries = refl }; is_plain = is_plain_part }
+    plain_slice =
+        record {
+          world = part;
+          is_slice = record { test = test; passes = wanted_iff; entries = refl };
+          is_plain = is_plain_part;
+        }
 
     module _ (V : World) (has : IsPartWith W U V) where
-      along : (a b : EntityUID) (xs : List EntityUID) → finmap.contains_key V.entities a ≡ true → Path (graph W) a xs b → finmap.contains_key W.entities b ≡ true → finmap.contains_key V.entities b ≡ true
+      along : (a b : EntityUID) (xs : List EntityUID) → finmap.contains_key V.entities a ≡ true → Path (graph W) a xs b
+          → finmap.contains_key W.entities b ≡ true → finmap.contains_key V.entities b ≡ true
       along a b [] v p k = has.parents a b v p k
       along a b (x ∷ xs) v p k = along x b xs (has.parents a x v p.0 (first_key W x b xs p.1)) p.1 k
 
-      wanted_there : (q : EntityUID) → IsWanted W U q → finmap.contains_key W.entities q ≡ true → finmap.contains_key V.entities q ≡ true
+      wanted_there : (q : EntityUID) → IsWanted W U q → finmap.contains_key W.entities q ≡ true
+          → finmap.contains_key V.entities q ≡ true
       wanted_there q w k = elim w.leads [
-        | inl e ↦ subst (λ x. finmap.contains_key V.entities x ≡ true) e (has.asked w.from w.asked (subst (λ x. finmap.contains_key W.entities x ≡ true) (sym e) k))
+        | inl e ↦ subst (λ x. finmap.contains_key V.entities x ≡ true) e
+            (has.asked w.from w.asked (subst (λ x. finmap.contains_key W.entities x ≡ true) (sym e) k))
         | inr r ↦ along w.from q r.0 (has.asked w.from w.asked (first_key W w.from q r.0 r.1)) r.1 k
       ]
 
       -- a part of the world that has the uids and, with each, its parents has all of the slice
-      pub least_part : (q : EntityUID) → finmap.contains_key (sliced S.held U) q ≡ true → finmap.contains_key V.entities q ≡ true
+      pub least_part : (q : EntityUID) → finmap.contains_key (sliced S.held U) q ≡ true
+          → finmap.contains_key V.entities q ≡ true
       least_part q h =
           let k = some_kept (test q) (finmap.get S.held q) (sym (ap is_some (get_sliced q)) ∙ h) in
-          wanted_there q ((wanted_iff q).0 k.0) (sym (ap is_some (plain.holds q)) ∙ some_mapped parts_of (finmap.get S.held q) ∙ k.1)
+          wanted_there q ((wanted_iff q).0 k.0) (sym (ap is_some (plain.holds q))
+          ∙ some_mapped parts_of (finmap.get S.held q) ∙ k.1)

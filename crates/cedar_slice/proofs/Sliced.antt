@@ -23,7 +23,8 @@ use Rattle.cedar_slice.proofs.Copies.{AreKeyed, none_differs, store_of}
 use Rattle.cedar_slice.proofs.PlainSlices.{get_kept}
 
 -- what is asked for is as it was
-pub asked_stays : (D : Held) (U : List EntityUID) (q : EntityUID) → is_member same_uid U q ≡ true → finmap.get (sliced D U) q ≡ finmap.get D q
+pub asked_stays : (D : Held) (U : List EntityUID) (q : EntityUID) → is_member same_uid U q ≡ true
+    → finmap.get (sliced D U) q ≡ finmap.get D q
 asked_stays D U q m = get_kept D (is_wanted D U) q ∙ ap (λ t. cond t (finmap.get D q) None) (asked_is_wanted D U q m)
 
 no_fault : (t : TcError EntityUID) → IsClosureFault t (λ _ _ _. ⊥) (λ _. ⊥) → ⊥
@@ -31,21 +32,28 @@ no_fault (tc.MissingTcEdge e) h = h
 no_fault (tc.HasCycle e) h = h
 no_fault tc.Memory h = h
 
-module _ (D : Held) (ks : List EntityUID) (keyed : AreKeyed D ks) (L : List EntityView) (copies : L ≡ filter_map (finmap.get D) ks) where
+module _ (D : Held) (ks : List EntityUID) (keyed : AreKeyed D ks) (L : List EntityView)
+    (copies : L ≡ filter_map (finmap.get D) ks) where
   -- the store of the copies holds the slice
-  pub holds_slice : (U : List EntityUID) → ((q : EntityUID) → is_member same_uid ks q ≡ is_wanted D U q) → (r : Result StoreView EntitiesError)
-      → IfOk r (λ s. s.partial ≡ false) → IfOk r (λ s. s.held ≡ with_first no_entities L) → IfOk r (λ s. s ≡ record { held = sliced D U; partial = false })
+  pub holds_slice : (U : List EntityUID) → ((q : EntityUID) → is_member same_uid ks q ≡ is_wanted D U q)
+      → (r : Result StoreView EntitiesError)
+      → IfOk r (λ s. s.partial ≡ false) → IfOk r (λ s. s.held ≡ with_first no_entities L)
+      → IfOk r (λ s. s ≡ record { held = sliced D U; partial = false })
   holds_slice U same (Ok s) flag held =
-      let is : s.held ≡ sliced D U = held ∙ ap (with_first no_entities) copies ∙ store_of D ks keyed (is_wanted D U) same in
+      let is : s.held ≡ sliced D U = held ∙ ap (with_first no_entities) copies
+      ∙ store_of D ks keyed (is_wanted D U) same in
       λ i. record { held = is i; partial = flag i }
   holds_slice U same (Err e) flag held = tt
 
   -- and only want of memory refuses it
   pub only_memory : (r : Result StoreView EntitiesError)
-      → IfErr r (λ e. MatchRefusal e (FirstMismatch (finmap.get no_entities) L) (λ t. AllMatch (finmap.get no_entities) L × IsClosureRefused AssumeAlreadyComputed (with_first no_entities L) t))
+      → IfErr r
+      (λ e. MatchRefusal e (FirstMismatch (finmap.get no_entities) L) (λ t. AllMatch (finmap.get no_entities) L
+      × IsClosureRefused AssumeAlreadyComputed (with_first no_entities L) t))
       → IfErr r (λ e. e ≡ Memory)
   only_memory (Ok s) h = tt
   only_memory (Err e) h =
-      refusal_cases (FirstMismatch (finmap.get no_entities) L) (λ t. AllMatch (finmap.get no_entities) L × IsClosureRefused AssumeAlreadyComputed (with_first no_entities L) t) (λ x. x ≡ Memory)
+      refusal_cases (FirstMismatch (finmap.get no_entities) L) (λ t. AllMatch (finmap.get no_entities) L
+      × IsClosureRefused AssumeAlreadyComputed (with_first no_entities L) t) (λ x. x ≡ Memory)
       (λ u m. absurd (none_differs D ks keyed u (subst (λ l. FirstMismatch (finmap.get no_entities) l u) copies m)))
       (λ t k. absurd (no_fault t k.1)) refl e h

@@ -11,7 +11,8 @@ use Rattle.cedar_policy_lines.specs.laws.OneAnswer.{policy_gives}
 use Rattle.cedar_policy_lines.specs.laws.PolicyReading.{policy_command}
 use Rattle.cedar_policy_lines.specs.laws.ReadCommands.{command_is_read, read_is_command}
 use Rattle.cedar_store.specs.Command.{Command, Nothing, Entity, Policy, IsCommand, IsLine}
-use Rattle.cedar_store.specs.Output.{State, Written, Gives, IsOutput, IsOutputFrom, HasOneOutput, start, after, not_command}
+use Rattle.cedar_store.specs.Output.{State, Written, Gives, IsOutput, IsOutputFrom, HasOneOutput, start, after}
+use Rattle.cedar_store.specs.Output.{not_command}
 use Rattle.cedar_store.proofs.Joined.{none_found}
 use Rattle.cedar_store.proofs.OneOutput.{one_output}
 
@@ -30,7 +31,8 @@ nothing_found ([] ∷ []) = inl refl
 nothing_found ((b ∷ w) ∷ []) = inr (λ e. cc)
 nothing_found (w ∷ t ∷ ts) = inr (λ e. cc)
 
-found_by : (fs : List (List ℕ)) → (fs ≡ [] ∷ []) ⊎ (fs ≡ [] ∷ [] → ⊥) → Found (λ c. IsEntityCommand c fs) → Found (λ c. IsPolicyCommand c fs) → Found (λ c. IsCommand c fs)
+found_by : (fs : List (List ℕ)) → (fs ≡ [] ∷ []) ⊎ (fs ≡ [] ∷ [] → ⊥) → Found (λ c. IsEntityCommand c fs)
+    → Found (λ c. IsPolicyCommand c fs) → Found (λ c. IsCommand c fs)
 found_by fs (inl e) entity policy = inl (Nothing, e)
 found_by fs (inr nothing) (inl c) policy = inl (Entity c.0, c.1)
 found_by fs (inr nothing) (inr entity) (inl c) = inl (Policy c.0, c.1)
@@ -53,8 +55,10 @@ line_found l = readable_line (list_all is_line_byte l) (slice_split (λ b. b == 
 
 gives : (s : State) (c : Command) → (t : State) × (out : List ℕ) × Gives s c t out
 gives s Nothing = (s, [], (refl, refl))
-gives s (Entity c) = let a = entity_gives c s.entities in (record { entities = a.0; boards = s.boards }, a.1, (a.2, refl))
-gives s (Policy c) = let a = policy_gives c s.boards in (record { entities = s.entities; boards = a.0 }, a.1, (refl, a.2))
+gives s (Entity c) = let a = entity_gives c s.entities in
+    (record { entities = a.0; boards = s.boards }, a.1, (a.2, refl))
+gives s (Policy c) = let a = policy_gives c s.boards in
+    (record { entities = s.entities; boards = a.0 }, a.1, (refl, a.2))
 
 -- ---- the lines
 

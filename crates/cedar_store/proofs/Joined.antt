@@ -1,5 +1,6 @@
 -- What the parts of a session make of its state.
-use Rattle.std.specs.Prelude.{◌≡◌, ◌↔◌, ◌==◌, ℕ, Bool, true, false, List, [], ◌∷◌, Result, Ok, Err, IfOk, IsTrue, OnErr, is_err}
+use Rattle.std.specs.Prelude.{◌≡◌, ◌↔◌, ◌==◌, ℕ, Bool, true, false, List, [], ◌∷◌, Result, Ok, Err, IfOk, IsTrue, OnErr}
+use Rattle.std.specs.Prelude.{is_err}
 use Rattle.std.proofs.Common.{refl, sym, subst, ◌∙◌}
 use Rattle.std.proofs.lemmas.Bool.{false≢true}
 use Rattle.std.specs.List.{list_all, slice_split}
@@ -15,7 +16,8 @@ use Rattle.cedar_store.specs.Sessions.{SessionView, StandsAt, Takes}
 use Rattle.cedar_store.specs.laws.Sessions.{SessionGives, TakesKind}
 
 -- the session takes a command on the store
-pub entity_takes : (m n : SessionView) (s : State) (c : EntityCommand) (old new : List ℕ) → StandsAt m s → n.boards ≡ m.boards → n.is_lost ≡ m.is_lost
+pub entity_takes : (m n : SessionView) (s : State) (c : EntityCommand) (old new : List ℕ) → StandsAt m s
+    → n.boards ≡ m.boards → n.is_lost ≡ m.is_lost
     → held.EntityWrites c s.entities n.entities old new → SessionGives (Entity c) s n old new
 entity_takes m n s c old new h sets lost k = (
   record { entities = k.0; boards = s.boards },
@@ -26,31 +28,47 @@ entity_takes m n s c old new h sets lost k = (
 )
 
 -- the session takes a command on policy sets
-pub policy_takes : (m n : SessionView) (s : State) (c : PolicyCommand) (old new : List ℕ) → StandsAt m s → n.entities ≡ m.entities → n.is_lost ≡ m.is_lost
+pub policy_takes : (m n : SessionView) (s : State) (c : PolicyCommand) (old new : List ℕ) → StandsAt m s
+    → n.entities ≡ m.entities → n.is_lost ≡ m.is_lost
     → PolicyWrites c m.boards n.boards old new → SessionGives (Policy c) s n old new
 policy_takes m n s c old new h entities lost k = (
   record { entities = s.entities; boards = n.boards },
   k.0,
   (refl, subst (λ b. PolicyGives c b n.boards k.0) h.boards k.1),
-  record { entities = subst (λ e. held.Holds e s.entities) (sym entities) h.entities; boards = refl; whole = lost ∙ h.whole },
+  record {
+    entities = subst (λ e. held.Holds e s.entities) (sym entities) h.entities;
+    boards = refl;
+    whole = lost
+        ∙ h.whole;
+  },
   k.2,
 )
 
 -- a session stands where another does that has the same store and sets, where it is not lost
-pub stands_too : (m n : SessionView) (s : State) → n.entities ≡ m.entities → n.boards ≡ m.boards → n.is_lost ≡ false → StandsAt m s → StandsAt n s
+pub stands_too : (m n : SessionView) (s : State) → n.entities ≡ m.entities → n.boards ≡ m.boards → n.is_lost ≡ false
+    → StandsAt m s → StandsAt n s
 stands_too m n s entities sets lost h =
-    record { entities = subst (λ e. held.Holds e s.entities) (sym entities) h.entities; boards = sets ∙ h.boards; whole = lost }
+    record {
+      entities = subst (λ e. held.Holds e s.entities) (sym entities) h.entities;
+      boards = sets ∙ h.boards;
+      whole = lost;
+    }
 
 -- and so it takes what that takes
-pub takes_too : (known : Bool) (line : List ℕ) (s : State) (m n : SessionView) (old new : List ℕ) → n.entities ≡ m.entities → n.boards ≡ m.boards → n.is_lost ≡ false
+pub takes_too : (known : Bool) (line : List ℕ) (s : State) (m n : SessionView) (old new : List ℕ)
+    → n.entities ≡ m.entities → n.boards ≡ m.boards → n.is_lost ≡ false
     → Takes known line s m old new → Takes known line s n old new
-takes_too true line s m n old new entities sets lost h = (h.0, h.1, h.2, h.3, h.4, stands_too m n h.1 entities sets lost h.5, h.6)
+takes_too true line s m n old new entities sets lost h =
+    (h.0, h.1, h.2, h.3, h.4, stands_too m n h.1 entities sets lost h.5, h.6)
 takes_too false line s m n old new entities sets lost h = (h.0, stands_too m n s entities sets lost h.1, h.2)
 
 -- where its flag says whether memory was refused
-pub takes_kept : {E : Type 0} (r : Result Bool E) (P : State → Type 0) (line : List ℕ) (m n : SessionView) (old new : List ℕ) → n.entities ≡ m.entities → n.boards ≡ m.boards → n.is_lost ≡ is_err r
-    → IfOk r (λ known. (s : State) → P s → Takes known line s m old new) → IfOk r (λ known. (s : State) → P s → Takes known line s n old new)
-takes_kept (Ok known) P line m n old new entities boards lost h = λ s p. takes_too known line s m n old new entities boards lost (h s p)
+pub takes_kept : {E : Type 0} (r : Result Bool E) (P : State → Type 0) (line : List ℕ) (m n : SessionView)
+    (old new : List ℕ) → n.entities ≡ m.entities → n.boards ≡ m.boards → n.is_lost ≡ is_err r
+    → IfOk r (λ known. (s : State) → P s → Takes known line s m old new)
+    → IfOk r (λ known. (s : State) → P s → Takes known line s n old new)
+takes_kept (Ok known) P line m n old new entities boards lost h =
+    λ s p. takes_too known line s m n old new entities boards lost (h s p)
 takes_kept (Err e) P line m n old new entities boards lost h = tt
 
 pub lost_where_refused : {E : Type 0} (r : Result Bool E) (b : Bool) → b ≡ is_err r → OnErr r (b ≡ true)
@@ -58,28 +76,36 @@ lost_where_refused (Ok known) b e = tt
 lost_where_refused (Err f) b e = e
 
 -- a line whose fields are taken as a command of some kind is taken
-pub line_taken : {A : Type 0} (kind : A → Command) (line : List ℕ) (fs : List (List ℕ)) (s : State) (v : SessionView) (old new : List ℕ) → list_all is_line_byte line ≡ true → fs ≡ slice_split (λ b. b == 9) line
+pub line_taken : {A : Type 0} (kind : A → Command) (line : List ℕ) (fs : List (List ℕ)) (s : State) (v : SessionView)
+    (old new : List ℕ) → list_all is_line_byte line ≡ true → fs ≡ slice_split (λ b. b == 9) line
     → TakesKind kind true fs s v old new → Takes true line s v old new
 line_taken kind line fs s v old new readable same h =
     let g = h.2 in
     (kind h.0, g.0, g.1, (readable, subst (λ x. IsCommand (kind h.0) x) same h.1), g.2, g.3, g.4)
 
 -- and fields that are those of no command of some kind leave none for the line
-pub none_of_line : {A : Type 0} (kind : A → Command) (line : List ℕ) (fs : List (List ℕ)) → fs ≡ slice_split (λ b. b == 9) line
+pub none_of_line : {A : Type 0} (kind : A → Command) (line : List ℕ) (fs : List (List ℕ))
+    → fs ≡ slice_split (λ b. b == 9) line
     → ((a : A) → IsCommand (kind a) fs → ⊥) → (a : A) → IsCommand (kind a) (slice_split (λ b. b == 9) line) → ⊥
 none_of_line kind line fs same none a k = none a (subst (λ x. IsCommand (kind a) x) (sym same) k)
 
 -- fields that are not those of an empty line, of a command on the store or of one on policy sets are those of none
-pub none_found : (fs : List (List ℕ)) → (fs ≡ [] ∷ [] → ⊥) → ((c : EntityCommand) → IsEntityCommand c fs → ⊥) → ((c : PolicyCommand) → IsPolicyCommand c fs → ⊥) → (c : Command) → IsCommand c fs → ⊥
+pub none_found : (fs : List (List ℕ)) → (fs ≡ [] ∷ [] → ⊥) → ((c : EntityCommand) → IsEntityCommand c fs → ⊥)
+    → ((c : PolicyCommand) → IsPolicyCommand c fs → ⊥) → (c : Command) → IsCommand c fs → ⊥
 none_found fs nothing entity policy Nothing h = nothing h
 none_found fs nothing entity policy (Entity c) h = entity c h
 none_found fs nothing entity policy (Policy c) h = policy c h
 
 -- a line whose fields are those of neither kind of command is taken where it is empty, and changes nothing
-pub line_left : (b : Bool) (line : List ℕ) (fs : List (List ℕ)) (s : State) (v : SessionView) (old new : List ℕ) → list_all is_line_byte line ≡ true → fs ≡ slice_split (λ b. b == 9) line
-    → IsTrue b ↔ (fs ≡ [] ∷ []) → ((c : EntityCommand) → IsEntityCommand c (slice_split (λ b. b == 9) line) → ⊥) → ((c : PolicyCommand) → IsPolicyCommand c (slice_split (λ b. b == 9) line) → ⊥)
+pub line_left : (b : Bool) (line : List ℕ) (fs : List (List ℕ)) (s : State) (v : SessionView) (old new : List ℕ)
+    → list_all is_line_byte line ≡ true → fs ≡ slice_split (λ b. b == 9) line
+    → IsTrue b ↔ (fs ≡ [] ∷ []) → ((c : EntityCommand) → IsEntityCommand c (slice_split (λ b. b == 9) line) → ⊥)
+    → ((c : PolicyCommand) → IsPolicyCommand c (slice_split (λ b. b == 9) line) → ⊥)
     → StandsAt v s → new ≡ old → Takes b line s v old new
 line_left true line fs s v old new readable same empty entity policy h kept =
     (Nothing, s, [], (readable, sym same ∙ empty.0 refl), (refl, refl), h, kept ∙ sym (append-nil old))
-line_left false line fs s v old new readable same empty entity policy h kept =
-    (λ c k. none_found (slice_split (λ b. b == 9) line) (λ e. false≢true (empty.1 (same ∙ e))) entity policy c k.1, h, kept)
+line_left false line fs s v old new readable same empty entity policy h kept = (
+  λ c k. none_found (slice_split (λ b. b == 9) line) (λ e. false≢true (empty.1 (same ∙ e))) entity policy c k.1,
+  h,
+  kept,
+)

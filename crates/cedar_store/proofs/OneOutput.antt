@@ -3,7 +3,8 @@ use Rattle.std.specs.Prelude.{◌≡◌, ℕ, ◌+◌, List, [], ◌∷◌, code
 use Rattle.std.proofs.Common.{ap, sym, refl, subst, ◌∙◌, inl, inr}
 use Rattle.std.proofs.lemmas.Bool.{false≢true}
 use Rattle.cedar_ids.specs.declared.entity.EntityUID.{EntityUID}
-use Rattle.cedar_entity_lines.specs.EntityCommand.{EntityCommand, Ent, Build, Add, Upsert, Remove, Slice, Anc, AreFields, IsEntityCommand}
+use Rattle.cedar_entity_lines.specs.EntityCommand.{EntityCommand, Ent, Build, Add, Upsert, Remove, Slice, Anc}
+use Rattle.cedar_entity_lines.specs.EntityCommand.{AreFields, IsEntityCommand}
 use Rattle.cedar_entity_lines.specs.laws.OneAnswer.{one_entity_gives}
 use Rattle.cedar_entity_lines.specs.laws.ReadCommands.{one_entity_command}
 use Rattle.cedar_policy_lines.specs.PolicyCommand.{PolicyCommand, IsPolicyCommand}
@@ -16,7 +17,8 @@ use Rattle.cedar_store.specs.Output.{State, Written, Gives, IsOutput, IsOutputFr
 -- ---- fields are those of one command
 
 -- fields that begin with such a word are those of no command on policy sets
-none_behind : (w : List ℕ) (us : List EntityUID) (fs : List (List ℕ)) → ((ts : List (List ℕ)) → policy_command (w ∷ ts) ≡ None) → AreFields w us fs → policy_command fs ≡ None
+none_behind : (w : List ℕ) (us : List EntityUID) (fs : List (List ℕ))
+    → ((ts : List (List ℕ)) → policy_command (w ∷ ts) ≡ None) → AreFields w us fs → policy_command fs ≡ None
 none_behind w us [] none h = absurd h
 none_behind w us (f ∷ fs) none h = ap (λ v. policy_command (v ∷ fs)) h.0 ∙ none fs
 
@@ -80,10 +82,12 @@ one_command (Policy c) (Policy d) fs h k = ap Policy (same_policy c d fs h k)
 -- ---- a command gives one answer
 
 -- what two kinds of lines leave is one state
-joined : (t t' : State) (out out' : List ℕ) → t.entities ≡ t'.entities → t.boards ≡ t'.boards → out ≡ out' → (t ≡ t') × (out ≡ out')
+joined : (t t' : State) (out out' : List ℕ) → t.entities ≡ t'.entities → t.boards ≡ t'.boards → out ≡ out'
+    → (t ≡ t') × (out ≡ out')
 joined t t' out out' e b o = (λ i. record { entities = e i; boards = b i }, o)
 
-one_step : (s t t' : State) (c : Command) (out out' : List ℕ) → Gives s c t out → Gives s c t' out' → (t ≡ t') × (out ≡ out')
+one_step : (s t t' : State) (c : Command) (out out' : List ℕ) → Gives s c t out → Gives s c t' out'
+    → (t ≡ t') × (out ≡ out')
 one_step s t t' Nothing out out' h k = (h.0 ∙ sym k.0, h.1 ∙ sym k.1)
 one_step s t t' (Entity c) out out' h k =
     let same = one_entity_gives c s.entities t.entities t'.entities out out' h.0 k.0 in
@@ -92,7 +96,8 @@ one_step s t t' (Policy c) out out' h k =
     let same = one_policy_gives c s.boards t.boards t'.boards out out' h.1 k.1 in
     joined t t' out out' (h.0 ∙ sym k.0) same.0 same.1
 
-one_from : (ls : List (List ℕ)) (n : ℕ) (s : State) (v w : Written) → IsOutputFrom n s ls v → IsOutputFrom n s ls w → v ≡ w
+one_from : (ls : List (List ℕ)) (n : ℕ) (s : State) (v w : Written) → IsOutputFrom n s ls v → IsOutputFrom n s ls w
+    → v ≡ w
 unfolding IsOutputFrom
 one_from [] n s v w h k = h ∙ sym k
 one_from (l ∷ ls) n s v w (inl h) (inl k) =

@@ -1,5 +1,6 @@
 -- The answers to lines, one after another, and what they make of a run's output.
-use Rattle.std.proofs.Common.{◌≡◌, ℕ, ◌+◌, ◌==◌, List, [], ◌∷◌, ◌++◌, length, refl, sym, ap, subst, ◌∙◌, append_assoc, append-nil, inl, inr, arith}
+use Rattle.std.proofs.Common.{◌≡◌, ℕ, ◌+◌, ◌==◌, List, [], ◌∷◌, ◌++◌, length, refl, sym, ap, subst, ◌∙◌, append_assoc}
+use Rattle.std.proofs.Common.{append-nil, inl, inr, arith}
 use Rattle.std.specs.List.{slice_split}
 use Rattle.cedar_store.specs.Command.{Command, Nothing, IsLine}
 use Rattle.cedar_store.specs.Output.{State, Written, Gives, start, after, not_command, IsOutput, IsOutputFrom}
@@ -10,7 +11,8 @@ use Rattle.cedar_talk.specs.declared.manner.Manner.TheVariants.{Strict}
 use Rattle.cedar_talk.proofs.Parting.{heard_parts}
 
 -- a line more is answered last
-pub answers_more : (m : Manner) (n k : ℕ) (s t u : State) (lines : List (List ℕ)) (line out said : List ℕ) → k ≡ n + length lines
+pub answers_more : (m : Manner) (n k : ℕ) (s t u : State) (lines : List (List ℕ)) (line out said : List ℕ)
+    → k ≡ n + length lines
     → AnswersFrom m n s lines t out → Answers m k t line u said → AnswersFrom m n s (lines ++ line ∷ []) u (out ++ said)
 unfolding AnswersFrom
 answers_more m n k s t u [] line out said e h a =
@@ -35,12 +37,14 @@ after_after : (a b : List ℕ) (w : Written) → after a (after b w) ≡ after (
 after_after a b w = λ i. record { bytes = sym (append_assoc a b w.bytes) i; status = w.status }
 
 -- what is answered strictly begins a run's output
-pub begins_output : (n k : ℕ) (s t : State) (lines rest : List (List ℕ)) (out : List ℕ) (w : Written) → k ≡ n + length lines
+pub begins_output : (n k : ℕ) (s t : State) (lines rest : List (List ℕ)) (out : List ℕ) (w : Written)
+    → k ≡ n + length lines
     → AnswersFrom Strict n s lines t out → IsOutputFrom k t rest w → IsOutputFrom n s (lines ++ rest) (after out w)
 unfolding AnswersFrom IsOutputFrom
 begins_output n k s t [] rest out w e h r =
     let is : k ≡ n = omega (arith, e) in
-    subst (λ o. IsOutputFrom n s rest (after o w)) (sym h.1) (subst (λ u. IsOutputFrom n u rest w) h.0 (subst (λ j. IsOutputFrom j t rest w) is r))
+    subst (λ o. IsOutputFrom n s rest (after o w)) (sym h.1)
+    (subst (λ u. IsOutputFrom n u rest w) h.0 (subst (λ j. IsOutputFrom j t rest w) is r))
 begins_output n k s t (l ∷ lines) rest out w e h r = elim h.3 [
   | inl c ↦ inl (
     c.0,
@@ -64,29 +68,38 @@ no_more : (n : ℕ) (s : State) → IsOutputFrom n s [] (record { bytes = []; st
 unfolding IsOutputFrom
 no_more n s = refl
 
-all_is_output : (lines : List (List ℕ)) (part out : List ℕ) (t : State) → AnswersFrom Strict 1 start (all_lines (record { lines = lines; part = part })) t out
+all_is_output : (lines : List (List ℕ)) (part out : List ℕ) (t : State)
+    → AnswersFrom Strict 1 start (all_lines (record { lines = lines; part = part })) t out
     → IsOutputFrom 1 start (lines ++ part ∷ []) (record { bytes = out; status = 0 })
 all_is_output lines [] out t a =
     subst (λ o. IsOutputFrom 1 start (lines ++ [] ∷ []) (record { bytes = o; status = 0 })) (append-nil out)
-    (begins_output 1 (1 + length lines) start t lines ([] ∷ []) out (record { bytes = []; status = 0 }) refl a (nothing_more (1 + length lines) t))
+    (begins_output 1 (1 + length lines) start t lines ([] ∷ []) out (record { bytes = []; status = 0 }) refl a
+    (nothing_more (1 + length lines) t))
 all_is_output lines (b ∷ bs) out t a =
     let all = lines ++ (b ∷ bs) ∷ [] in
     subst (λ ls. IsOutputFrom 1 start ls (record { bytes = out; status = 0 })) (append-nil all)
     (subst (λ o. IsOutputFrom 1 start (all ++ []) (record { bytes = o; status = 0 })) (append-nil out)
-    (begins_output 1 (1 + length all) start t all [] out (record { bytes = []; status = 0 }) refl a (no_more (1 + length all) t)))
+    (begins_output 1 (1 + length all) start t all [] out (record { bytes = []; status = 0 }) refl a
+    (no_more (1 + length all) t)))
 
 -- the answers to all lines of an input are a run's output
-pub strict_output : (input out : List ℕ) → AnswersAll Strict input out → IsOutput input (record { bytes = out; status = 0 })
+pub strict_output : (input out : List ℕ) → AnswersAll Strict input out
+    → IsOutput input (record { bytes = out; status = 0 })
 strict_output input out a =
-    subst (λ ls. IsOutputFrom 1 start ls (record { bytes = out; status = 0 })) (sym (heard_parts input a.0 a.1)) (all_is_output a.0.lines a.0.part out a.2.0 a.2.1)
+    subst (λ ls. IsOutputFrom 1 start ls (record { bytes = out; status = 0 })) (sym (heard_parts input a.0 a.1))
+    (all_is_output a.0.lines a.0.part out a.2.0 a.2.1)
 
-refused_last : (n : ℕ) (s : State) (line : List ℕ) (rest : List (List ℕ)) → ((c : Command) → IsLine c line → ⊥) → IsOutputFrom n s (line ∷ rest) (record { bytes = not_command n; status = 2 })
+refused_last : (n : ℕ) (s : State) (line : List ℕ) (rest : List (List ℕ)) → ((c : Command) → IsLine c line → ⊥)
+    → IsOutputFrom n s (line ∷ rest) (record { bytes = not_command n; status = 2 })
 unfolding IsOutputFrom
 refused_last n s line rest none = inr (none, refl)
 
 -- a line that is no command ends a run's output
-pub ends_output : (input : List ℕ) (lines rest : List (List ℕ)) (line out : List ℕ) (n : ℕ) (t : State) → slice_split (λ b. b == 10) input ≡ lines ++ line ∷ rest
-    → n ≡ 1 + length lines → AnswersFrom Strict 1 start lines t out → ((c : Command) → IsLine c line → ⊥) → IsOutput input (record { bytes = out ++ not_command n; status = 2 })
+pub ends_output : (input : List ℕ) (lines rest : List (List ℕ)) (line out : List ℕ) (n : ℕ) (t : State)
+    → slice_split (λ b. b == 10) input ≡ lines ++ line ∷ rest
+    → n ≡ 1 + length lines → AnswersFrom Strict 1 start lines t out → ((c : Command) → IsLine c line → ⊥)
+    → IsOutput input (record { bytes = out ++ not_command n; status = 2 })
 ends_output input lines rest line out n t parts e a none =
     subst (λ ls. IsOutputFrom 1 start ls (record { bytes = out ++ not_command n; status = 2 })) (sym parts)
-    (begins_output 1 n start t lines (line ∷ rest) out (record { bytes = not_command n; status = 2 }) e a (refused_last n t line rest none))
+    (begins_output 1 n start t lines (line ∷ rest) out (record { bytes = not_command n; status = 2 }) e a
+    (refused_last n t line rest none))

@@ -1,5 +1,6 @@
 -- A conversation over a reader and a writer, one read further and at its end.
-use Rattle.std.proofs.Common.{◌≡◌, ◌⊎◌, ℕ, List, [], ◌∷◌, ◌++◌, Option, Some, None, Result, Ok, Err, IfSome, IfOk, IfErr, OnOk, refl, sym, ap, subst, ◌∙◌, append_assoc, append-nil, inl, inr, true, false}
+use Rattle.std.proofs.Common.{◌≡◌, ◌⊎◌, ℕ, List, [], ◌∷◌, ◌++◌, Option, Some, None, Result, Ok, Err, IfSome, IfOk}
+use Rattle.std.proofs.Common.{IfErr, OnOk, refl, sym, ap, subst, ◌∙◌, append_assoc, append-nil, inl, inr, true, false}
 use Rattle.std.specs.Io.KnownBytes.{Appends, Consumes, IsAtEnd, Keeps}
 use Rattle.cedar_store.specs.Output.{start, IsOutput}
 use Rattle.cedar_store.specs.Sessions.{StandsAt}
@@ -16,7 +17,8 @@ use Rattle.cedar_talk.proofs.Answering.{strict_output}
 
 -- ---- bytes that a reader gives and a writer takes, one piece after another
 
-pub reads_then : (r s t : Option (List ℕ)) (xs ys : List ℕ) → Consumes r s xs → Consumes s t ys → Consumes r t (xs ++ ys)
+pub reads_then : (r s t : Option (List ℕ)) (xs ys : List ℕ) → Consumes r s xs → Consumes s t ys
+    → Consumes r t (xs ++ ys)
 reads_then None s t xs ys f g = tt
 reads_then (Some a) None t xs ys f g = absurd f
 reads_then (Some a) (Some b) None xs ys f g = absurd g
@@ -45,14 +47,16 @@ writes_none (Some a) = sym (append-nil a)
 
 -- ---- what was read and written so far
 
-abbrev pub SoFar : {S H : Type 0} → Option (List ℕ) → Option (List ℕ) → Option (List ℕ) → Option (List ℕ) → Conversation S H → Type 0
+abbrev pub SoFar : {S H : Type 0} → Option (List ℕ) → Option (List ℕ) → Option (List ℕ) → Option (List ℕ)
+    → Conversation S H → Type 0
 SoFar r r' w w' k = (bytes : List ℕ) × (out : List ℕ) × Consumes r r' bytes × Has k bytes out × Appends w w' out
 
 pub nothing_yet : {S H : Type 0} (r w : Option (List ℕ)) (k : Conversation S H) → Has k [] [] → SoFar r r w w k
 nothing_yet r w k h = ([], [], reads_none r, h, writes_none w)
 
 -- what was answered so far
-answered : {S H : Type 0} (k : Conversation S H) (bytes out : List ℕ) → Has k bytes out → AnswersEnded k.manner bytes out
+answered : {S H : Type 0} (k : Conversation S H) (bytes out : List ℕ) → Has k bytes out
+    → AnswersEnded k.manner bytes out
 answered k bytes out h = (h.heard, h.is_heard, (h.state, h.answers))
 
 -- a piece more was read, and its answers written
@@ -67,7 +71,8 @@ one_more r r' r'' w w' w'' k l piece out s read hears sent = (
 )
 
 -- a read fails
-pub read_fails : {S H : Type 0} (m : Manner) (e : TalkError) (r r' r'' w w' : Option (List ℕ)) (k : Conversation S H) → IsReadFault e → k.manner ≡ m
+pub read_fails : {S H : Type 0} (m : Manner) (e : TalkError) (r r' r'' w w' : Option (List ℕ)) (k : Conversation S H)
+    → IsReadFault e → k.manner ≡ m
     → SoFar r r' w w' k → Keeps r' r'' → Leaves m e r r'' w w'
 read_fails m Read r r' r'' w w' k f is s kept = (
   s.0,
@@ -80,11 +85,13 @@ read_fails m Write r r' r'' w w' k f is s kept = absurd f
 read_fails m Memory r r' r'' w w' k f is s kept = absurd f
 
 -- no further read is made
-pub reads_end : {S H : Type 0} (m : Manner) (r r' w w' : Option (List ℕ)) (k : Conversation S H) → k.manner ≡ m → SoFar r r' w w' k → Leaves m Read r r' w w'
+pub reads_end : {S H : Type 0} (m : Manner) (r r' w w' : Option (List ℕ)) (k : Conversation S H) → k.manner ≡ m
+    → SoFar r r' w w' k → Leaves m Read r r' w w'
 reads_end m r r' w w' k is s = (s.0, s.1, s.2, subst (λ n. AnswersEnded n s.0 s.1) is (answered k s.0 s.1 s.3), s.4)
 
 -- memory is refused for what came last
-pub memory_fails : {S H : Type 0} (m : Manner) (e : TalkError) (r r' r'' w w' : Option (List ℕ)) (k : Conversation S H) (piece : List ℕ) → e ≡ Memory → k.manner ≡ m
+pub memory_fails : {S H : Type 0} (m : Manner) (e : TalkError) (r r' r'' w w' : Option (List ℕ)) (k : Conversation S H)
+    (piece : List ℕ) → e ≡ Memory → k.manner ≡ m
     → SoFar r r' w w' k → Consumes r' r'' piece → Leaves m e r r'' w w'
 memory_fails m e r r' r'' w w' k piece f is s read =
     subst (λ d. Leaves m d r r'' w w') (sym f) (
@@ -103,29 +110,35 @@ write_fails m Write r r' w w' f = tt
 write_fails m Memory r r' w w' f = absurd f
 
 -- at the end of the input memory is refused before anything is written, or a write fails
-pub memory_finishes : {S H : Type 0} (e : TalkError) (k : Conversation S H) (w w' : Option (List ℕ)) → e ≡ Memory → w' ≡ w → Finishes (Err e) k w w'
+pub memory_finishes : {S H : Type 0} (e : TalkError) (k : Conversation S H) (w w' : Option (List ℕ)) → e ≡ Memory
+    → w' ≡ w → Finishes (Err e) k w w'
 memory_finishes e k w w' f same = subst (λ d. Finishes (Err d) k w w') (sym f) same
 
-pub write_finishes : {S H : Type 0} (e : TalkError) (k : Conversation S H) (w w' : Option (List ℕ)) → IsWriteFault e → Finishes (Err e) k w w'
+pub write_finishes : {S H : Type 0} (e : TalkError) (k : Conversation S H) (w w' : Option (List ℕ)) → IsWriteFault e
+    → Finishes (Err e) k w w'
 write_finishes Read k w w' f = absurd f
 write_finishes Write k w w' f = tt
 write_finishes Memory k w w' f = absurd f
 
 -- what holds of what was read and whatever a reader has left holds of all that it had
-of_all : (Q : List ℕ → Type 0) (r r' : Option (List ℕ)) (bytes : List ℕ) → Consumes r r' bytes → ((rest : List ℕ) → Q (bytes ++ rest)) → IfSome r Q
+of_all : (Q : List ℕ → Type 0) (r r' : Option (List ℕ)) (bytes : List ℕ) → Consumes r r' bytes
+    → ((rest : List ℕ) → Q (bytes ++ rest)) → IfSome r Q
 of_all Q None r' bytes c q = tt
 of_all Q (Some a) None bytes c q = absurd c
 of_all Q (Some a) (Some b) bytes c q = subst Q (sym c) (q b)
 
 -- and at the end, what holds of what was read
-pub of_whole : (Q : List ℕ → Type 0) (r r' : Option (List ℕ)) (bytes : List ℕ) → Consumes r r' bytes → IsAtEnd r' → Q bytes → IfSome r Q
+pub of_whole : (Q : List ℕ → Type 0) (r r' : Option (List ℕ)) (bytes : List ℕ) → Consumes r r' bytes → IsAtEnd r'
+    → Q bytes → IfSome r Q
 of_whole Q None r' bytes c end q = tt
 of_whole Q (Some a) None bytes c end q = absurd c
 of_whole Q (Some a) (Some b) bytes c end q = subst Q (sym (c ∙ ap (λ z. bytes ++ z) end ∙ append-nil bytes)) q
 
 -- a line ends the conversation
-pub line_stops : {S H : Type 0} (m : Manner) (r r' r'' w w' w'' : Option (List ℕ)) (k l : Conversation S H) (piece out : List ℕ) → k.manner ≡ m
-    → SoFar r r' w w' k → Consumes r' r'' piece → Hears false k piece l [] out → Appends w' w'' out → Converses m (Ok 2) r r'' w w''
+pub line_stops : {S H : Type 0} (m : Manner) (r r' r'' w w' w'' : Option (List ℕ)) (k l : Conversation S H)
+    (piece out : List ℕ) → k.manner ≡ m
+    → SoFar r r' w w' k → Consumes r' r'' piece → Hears false k piece l [] out → Appends w' w'' out
+    → Converses m (Ok 2) r r'' w w''
 line_stops m r r' r'' w w' w'' k l piece out e s read hears sent = (
   s.0 ++ piece,
   s.1 ++ out,
@@ -134,13 +147,15 @@ line_stops m r r' r'' w w' w'' k l piece out e s read hears sent = (
   inr (
     refl,
     sym e ∙ (hears s.0 s.1 [] (subst (Has k s.0) (sym (append-nil s.1)) s.3)).0,
-    of_all (λ input. IsOutput input (record { bytes = s.1 ++ out; status = 2 })) r r'' (s.0 ++ piece) (reads_then r r' r'' s.0 piece s.2 read)
+    of_all (λ input. IsOutput input (record { bytes = s.1 ++ out; status = 2 })) r r'' (s.0 ++ piece)
+        (reads_then r r' r'' s.0 piece s.2 read)
         (λ rest. (hears s.0 s.1 rest (subst (Has k s.0) (sym (append-nil s.1)) s.3)).1),
   ),
 )
 
 -- the input ends
-pub input_ends : {S H : Type 0} (m : Manner) (r r' r'' w w' w'' : Option (List ℕ)) (k : Conversation S H) (result : Result ℕ TalkError) → k.manner ≡ m
+pub input_ends : {S H : Type 0} (m : Manner) (r r' r'' w w' w'' : Option (List ℕ)) (k : Conversation S H)
+    (result : Result ℕ TalkError) → k.manner ≡ m
     → SoFar r r' w w' k → Consumes r' r'' [] → IsAtEnd r'' → Finishes result k w' w'' → Converses m result r r'' w w''
 input_ends m r r' r'' w w' w'' k (Ok status) e s read end f =
     let all = subst (Consumes r r'') (append-nil s.0) (reads_then r r' r'' s.0 [] s.2 read) in (
@@ -153,7 +168,8 @@ input_ends m r r' r'' w w' w'' k (Ok status) e s read end f =
         | inr a ↦ inr (
           a.0,
           sym e ∙ (a.1 s.0 s.1 s.3).0,
-          of_whole (λ input. IsOutput input (record { bytes = s.1 ++ f.0; status = 2 })) r r'' s.0 all end (a.1 s.0 s.1 s.3).1,
+          of_whole (λ input. IsOutput input (record { bytes = s.1 ++ f.0; status = 2 })) r r'' s.0 all end
+              (a.1 s.0 s.1 s.3).1,
         )
       ],
     )
@@ -164,16 +180,26 @@ input_ends m r r' r'' w w' w'' k (Err Memory) e s read end f =
 
 -- ---- the clauses of `talk`
 
-with_output : (q w w' : Option (List ℕ)) (out : List ℕ) (n : ℕ) → IfSome q (λ input. IsOutput input (record { bytes = out; status = 2 })) → n ≡ 2 → Appends w w' out
+with_output : (q w w' : Option (List ℕ)) (out : List ℕ) (n : ℕ)
+    → IfSome q (λ input. IsOutput input (record { bytes = out; status = 2 })) → n ≡ 2 → Appends w w' out
     → IfSome q (λ input. (bytes : List ℕ) × IsOutput input (record { bytes = bytes; status = n }) × Appends w w' bytes)
 with_output None w w' out n o is sent = tt
-with_output (Some input) w w' out n o is sent = (out, subst (λ k. IsOutput input (record { bytes = out; status = k })) (sym is) o, sent)
+with_output (Some input) w w' out n o is sent =
+    (out, subst (λ k. IsOutput input (record { bytes = out; status = k })) (sym is) o, sent)
 
-pub is_strict : (m : Manner) (result : Result ℕ TalkError) (r r' w w' : Option (List ℕ)) → Converses m result r r' w w' → m ≡ Strict
-    → IfOk result (λ status. IfSome r (λ input. (bytes : List ℕ) × IsOutput input (record { bytes = bytes; status = status }) × Appends w w' bytes))
+pub is_strict : (m : Manner) (result : Result ℕ TalkError) (r r' w w' : Option (List ℕ)) → Converses m result r r' w w'
+    → m ≡ Strict
+    → IfOk result
+    (λ status. IfSome r (λ input. (bytes : List ℕ) × IsOutput input (record { bytes = bytes; status = status })
+    × Appends w w' bytes))
 is_strict m (Ok status) r r' w w' c e = elim c.4 [
-  | inl a ↦ of_whole (λ input. (bytes : List ℕ) × IsOutput input (record { bytes = bytes; status = status }) × Appends w w' bytes) r r' c.0 c.2 a.1
-      (c.1, subst (λ n. IsOutput c.0 (record { bytes = c.1; status = n })) (sym a.0) (strict_output c.0 c.1 (subst (λ n. AnswersAll n c.0 c.1) e a.2)), c.3)
+  | inl a ↦ of_whole (λ input. (bytes : List ℕ) × IsOutput input (record { bytes = bytes; status = status })
+      × Appends w w' bytes) r r' c.0 c.2 a.1 (
+        c.1,
+        subst (λ n. IsOutput c.0 (record { bytes = c.1; status = n })) (sym a.0)
+            (strict_output c.0 c.1 (subst (λ n. AnswersAll n c.0 c.1) e a.2)),
+        c.3,
+      )
   | inr a ↦ with_output r w w' c.1 status a.2 a.0 c.3
 ]
 is_strict m (Err f) r r' w w' c e = tt
@@ -181,8 +207,10 @@ is_strict m (Err f) r r' w w' c e = tt
 lenient_or_strict : Lenient ≡ Strict → ⊥
 lenient_or_strict e = cc
 
-pub is_lenient : (m : Manner) (result : Result ℕ TalkError) (r r' w w' : Option (List ℕ)) → Converses m result r r' w w' → m ≡ Lenient
-    → IfOk result (λ status. (status ≡ 0) × IfSome r (λ input. (bytes : List ℕ) × AnswersAll Lenient input bytes × Appends w w' bytes))
+pub is_lenient : (m : Manner) (result : Result ℕ TalkError) (r r' w w' : Option (List ℕ)) → Converses m result r r' w w'
+    → m ≡ Lenient
+    → IfOk result (λ status. (status ≡ 0)
+    × IfSome r (λ input. (bytes : List ℕ) × AnswersAll Lenient input bytes × Appends w w' bytes))
 is_lenient m (Ok status) r r' w w' c e = elim c.4 [
   | inl a ↦ (
     a.0,
@@ -196,13 +224,15 @@ is_lenient m (Err e) r r' w w' c is = tt
 zero_or_two : (n : ℕ) → n ≡ 0 → n ≡ 2 → ⊥
 zero_or_two n z t = let e : 0 ≡ 2 = sym z ∙ t in cc
 
-pub is_at_end : (m : Manner) (result : Result ℕ TalkError) (r r' w w' : Option (List ℕ)) → Converses m result r r' w w' → IfOk result (λ status. status ≡ 0 → IsAtEnd r')
+pub is_at_end : (m : Manner) (result : Result ℕ TalkError) (r r' w w' : Option (List ℕ)) → Converses m result r r' w w'
+    → IfOk result (λ status. status ≡ 0 → IsAtEnd r')
 is_at_end m (Ok status) r r' w w' c = elim c.4 [
   | inl a ↦ λ z. a.1
   | inr a ↦ λ z. absurd (zero_or_two status z a.0)
 ]
 is_at_end m (Err e) r r' w w' c = tt
 
-pub is_fault : (m : Manner) (result : Result ℕ TalkError) (r r' w w' : Option (List ℕ)) → Converses m result r r' w w' → IfErr result (λ e. Leaves m e r r' w w')
+pub is_fault : (m : Manner) (result : Result ℕ TalkError) (r r' w w' : Option (List ℕ)) → Converses m result r r' w w'
+    → IfErr result (λ e. Leaves m e r r' w w')
 is_fault m (Ok status) r r' w w' c = tt
 is_fault m (Err e) r r' w w' c = c

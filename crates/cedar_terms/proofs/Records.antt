@@ -1,5 +1,6 @@
 -- A map with text keys as a record.
-use Rattle.std.proofs.Common.{◌≡◌, ℕ, length, List, [], ◌∷◌, Bool, true, false, cond, refl, sym, ap, ◌∙◌, Option, Some, None, String, string_bytes}
+use Rattle.std.proofs.Common.{◌≡◌, ℕ, length, List, [], ◌∷◌, Bool, true, false, cond, refl, sym, ap, ◌∙◌, Option, Some}
+use Rattle.std.proofs.Common.{None, String, string_bytes}
 use Rattle.std.specs.declared.alloc.Global.{Global}
 use Rattle.std.specs.declared.cmp.Ordering.TheVariants.{Less}
 use Rattle.std.specs.Option.{option_or}
@@ -20,35 +21,54 @@ Entry : Type 0
 Entry = String Global × ValueTree
 
 -- a look-up by bytes reads the record of the entries
-pub field_at-entries : (key : List ℕ) (es : List (String Global × ValueTree)) → field_at key (field_trees es) ≡ lookup (is_at (text_cmp key)) es
+pub field_at-entries : (key : List ℕ) (es : List (String Global × ValueTree))
+    → field_at key (field_trees es) ≡ lookup (is_at (text_cmp key)) es
 field_at-entries key [] = refl
 field_at-entries key (e ∷ es) =
-    λ i. cond ((nat_list_eq_equiv.symm (string_bytes e.0) key ∙ sym (is_eq-slice_cmp key (string_bytes e.0))) i) (Some e.1) (field_at-entries key es i)
+    λ i. cond ((nat_list_eq_equiv.symm (string_bytes e.0) key ∙ sym (is_eq-slice_cmp key (string_bytes e.0))) i)
+    (Some e.1) (field_at-entries key es i)
 
-above : (k : String Global) (es : List (String Global × ValueTree)) → AllByRecursion (λ y. string_cmp k y ≡ Less) (keys_of es) → AllByRecursion (λ y. slice_cmp nat_cmp (string_bytes k) y ≡ Less) (field_keys (field_trees es))
+above : (k : String Global) (es : List (String Global × ValueTree))
+    → AllByRecursion (λ y. string_cmp k y ≡ Less) (keys_of es)
+    → AllByRecursion (λ y. slice_cmp nat_cmp (string_bytes k) y ≡ Less) (field_keys (field_trees es))
 above k [] h = tt
 above k (e ∷ es) h = (h.0, above k es h.1)
 
 -- keys that ascend as texts ascend by their bytes
-pub ascending_entries : (es : List (String Global × ValueTree)) → IsStrictlySortedBy string_cmp (keys_of es) → IsStrictlySortedBy (slice_cmp nat_cmp) (field_keys (field_trees es))
+pub ascending_entries : (es : List (String Global × ValueTree)) → IsStrictlySortedBy string_cmp (keys_of es)
+    → IsStrictlySortedBy (slice_cmp nat_cmp) (field_keys (field_trees es))
 unfolding IsStrictlySortedBy
 ascending_entries [] h = tt
 ascending_entries (e ∷ es) h = (above e.0 es h.0, ascending_entries es h.1)
 
-pick : (o : Option ValueTree) (b : Bool) (v : ValueTree) (old : Option ValueTree) → option_or o (cond b (Some v) old) ≡ option_or (option_or o (cond b (Some v) None)) old
+pick : (o : Option ValueTree) (b : Bool) (v : ValueTree) (old : Option ValueTree)
+    → option_or o (cond b (Some v) old) ≡ option_or (option_or o (cond b (Some v) None)) old
 pick None true v old = refl
 pick None false v old = refl
 pick (Some x) b v old = refl
 
 -- one pair more
-pub one_pair : (key k : List ℕ) (v : ValueTree) (rest : List (List ℕ × ValueTree)) (old new all : Option ValueTree) → new ≡ cond (bytes_eq k key) (Some v) old → option_or (last_at key ((k, v) ∷ rest)) old ≡ all → option_or (last_at key rest) new ≡ all
-one_pair key k v rest old new all e h = ap (option_or (last_at key rest)) e ∙ pick (last_at key rest) (bytes_eq k key) v old ∙ h
+pub one_pair : (key k : List ℕ) (v : ValueTree) (rest : List (List ℕ × ValueTree)) (old new all : Option ValueTree)
+    → new ≡ cond (bytes_eq k key) (Some v) old → option_or (last_at key ((k, v) ∷ rest)) old ≡ all
+    → option_or (last_at key rest) new ≡ all
+one_pair key k v rest old new all e h = ap (option_or (last_at key rest)) e
+    ∙ pick (last_at key rest) (bytes_eq k key) v old ∙ h
 
 -- the record of a map that holds, at each key, what the last pair with it gives
-pub record_made : (pairs : List (List ℕ × ValueTree)) (es : List (String Global × ValueTree)) (v : ValueTree) → v ≡ record_value (field_trees es) → IsStrictlySortedBy string_cmp (keys_of es) → ((key : List ℕ) → lookup (is_at (text_cmp key)) es ≡ last_at key pairs) → IsRecordOf pairs v
-record_made pairs es v e s h = record { fields = field_trees es; is = e; ascending = ascending_entries es s; last = λ key. field_at-entries key es ∙ h key }
+pub record_made : (pairs : List (List ℕ × ValueTree)) (es : List (String Global × ValueTree)) (v : ValueTree)
+    → v ≡ record_value (field_trees es) → IsStrictlySortedBy string_cmp (keys_of es)
+    → ((key : List ℕ) → lookup (is_at (text_cmp key)) es ≡ last_at key pairs) → IsRecordOf pairs v
+record_made pairs es v e s h =
+    record {
+      fields = field_trees es;
+      is = e;
+      ascending = ascending_entries es s;
+      last = λ key. field_at-entries key es
+          ∙ h key;
+    }
 
 -- no pair more
-pub no_more : (key : List ℕ) (rest : List (String Global × ValueTree)) → length rest ≡ 0 → (old all : Option ValueTree) → option_or (last_at key (named_pairs rest)) old ≡ all → old ≡ all
+pub no_more : (key : List ℕ) (rest : List (String Global × ValueTree)) → length rest ≡ 0 → (old all : Option ValueTree)
+    → option_or (last_at key (named_pairs rest)) old ≡ all → old ≡ all
 no_more key [] l old all h = h
 no_more key (p ∷ ps) l old all h = absurd (cc)

@@ -1,9 +1,12 @@
 -- The walk with a stack of expressions that are still to be walked.
 use Rattle.std.proofs.lemmas.List.{map-append}
 use Rattle.std.specs.Borrow.{Bor}
-use Rattle.std.proofs.Common.{◌≡◌, ℕ, ◌+◌, ◌<◌, length, List, [], ◌∷◌, ◌++◌, map, refl, sym, ap, ◌∙◌, append_assoc, arith}
+use Rattle.std.proofs.Common.{◌≡◌, ℕ, ◌+◌, ◌<◌, length, List, [], ◌∷◌, ◌++◌, map, refl, sym, ap, ◌∙◌, append_assoc}
+use Rattle.std.proofs.Common.{arith}
 use mathlib.Core.List.{append-nil}
-use Rattle.cedar_terms.specs.ExprTree.{ExprTree, val_node, var_node, slot_node, unknown_node, set_node, call_node, not_node, binary_node, is_node, ExprTrees, no_exprs, expr_then, expr_trees, expr_size, exprs_size}
+use Rattle.cedar_terms.specs.ExprTree.{ExprTree, val_node, var_node, slot_node, unknown_node, set_node, call_node}
+use Rattle.cedar_terms.specs.ExprTree.{not_node, binary_node, is_node, ExprTrees, no_exprs, expr_then, expr_trees}
+use Rattle.cedar_terms.specs.ExprTree.{expr_size, exprs_size}
 use Rattle.cedar_terms.specs.Walk.{walk, walk_back}
 use Rattle.cedar_terms.specs.laws.Children.{children, expr_list}
 
@@ -81,7 +84,8 @@ abbrev pub contents : List (Bor ExprTree) → List ExprTree
 contents rs = map (λ r. r.now) rs
 
 -- the first step of a walk
-pub walk_begins : (e : Bor ExprTree) (pending met : List (Bor ExprTree)) → pending ≡ e ∷ [] → met ≡ [] → contents met ++ walks (contents pending) ≡ walk e.now
+pub walk_begins : (e : Bor ExprTree) (pending met : List (Bor ExprTree)) → pending ≡ e ∷ [] → met ≡ []
+    → contents met ++ walks (contents pending) ≡ walk e.now
 unfolding walks
 walk_begins e pending met p q = rw (p, q) refl
 
@@ -105,14 +109,19 @@ walk_goes_on e met met' pending pending' more whole p q r h =
 pub fewer_nodes : (e : Bor ExprTree) (pending pending' : List (Bor ExprTree)) (more : List ExprTree)
     → pending ≡ pending' ++ e ∷ [] → more ≡ contents pending' ++ children e.now → nodes more < nodes (contents pending)
 fewer_nodes e pending pending' more p r =
-    let a : nodes more ≡ nodes (contents pending') + nodes (children e.now) = ap nodes r ∙ nodes-append (contents pending') (children e.now) in
-    let b : nodes (contents pending) ≡ nodes (contents pending') + nodes (e.now ∷ []) = ap (λ z. nodes (contents z)) p ∙ ap nodes (map-append (λ (x : Bor ExprTree). x.now) pending' (e ∷ [])) ∙ nodes-append (contents pending') (e.now ∷ []) in
+    let a : nodes more ≡ nodes (contents pending') + nodes (children e.now) = ap nodes r
+    ∙ nodes-append (contents pending') (children e.now) in
+    let b : nodes (contents pending) ≡ nodes (contents pending') + nodes (e.now ∷ []) = ap (λ z. nodes (contents z)) p
+    ∙ ap nodes (map-append (λ (x : Bor ExprTree). x.now) pending' (e ∷ []))
+    ∙ nodes-append (contents pending') (e.now ∷ []) in
     omega (arith, a, b, nodes-one e.now, nodes-children e.now)
 
 -- nothing is left on the stack
-pub walk_ends : (met pending : List (Bor ExprTree)) (whole : List ExprTree) → pending ≡ [] → contents met ++ walks (contents pending) ≡ whole → contents met ≡ whole
+pub walk_ends : (met pending : List (Bor ExprTree)) (whole : List ExprTree) → pending ≡ []
+    → contents met ++ walks (contents pending) ≡ whole → contents met ≡ whole
 unfolding walks
-walk_ends met pending whole p h = sym (append-nil (contents met)) ∙ ap (λ z. contents met ++ walks (contents z)) (sym p) ∙ h
+walk_ends met pending whole p h = sym (append-nil (contents met)) ∙ ap (λ z. contents met ++ walks (contents z)) (sym p)
+    ∙ h
 
 pub none_left : (pending : List (Bor ExprTree)) → length pending ≡ 0 → pending ≡ []
 none_left [] l = refl

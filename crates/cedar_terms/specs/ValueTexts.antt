@@ -60,7 +60,8 @@ abbrev mutual
   -- the same after another one, a comma and a blank before each
   pub more_fields_text : FieldTrees → List ℕ
   more_fields_text no_fields = []
-  more_fields_text (field_then k v fs) = (codes ", " ++ (quoted k ++ (codes ": " ++ value_text v))) ++ more_fields_text fs
+  more_fields_text (field_then k v fs) =
+      (codes ", " ++ (quoted k ++ (codes ": " ++ value_text v))) ++ more_fields_text fs
 
 -- whether all texts in it are ASCII
 abbrev mutual

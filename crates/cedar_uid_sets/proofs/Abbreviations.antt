@@ -1,5 +1,6 @@
 -- What the numbers that abbreviate names and eids tell of their order.
-use Rattle.std.specs.Prelude.{◌≡◌, ◌⊎◌, ℕ, zero, suc, ◌+◌, ◌*◌, ◌^◌, ◌<◌, ◌≤◌, Bool, true, false, ◌&&◌, ◌||◌, cond, List, [], ◌∷◌, ◌++◌, length, nat_le, nat_eq, slice_index, IsTrue}
+use Rattle.std.specs.Prelude.{◌≡◌, ◌⊎◌, ℕ, zero, suc, ◌+◌, ◌*◌, ◌^◌, ◌<◌, ◌≤◌, Bool, true, false, ◌&&◌, ◌||◌, cond}
+use Rattle.std.specs.Prelude.{List, [], ◌∷◌, ◌++◌, length, nat_le, nat_eq, slice_index, IsTrue}
 use Rattle.std.proofs.Common.{ap, sym, refl, subst, ◌∙◌, arith, inl, inr}
 use Rattle.std.proofs.Math.Nat.{mul-le-mul_right, pow-suc}
 use Rattle.std.proofs.Math.Dec.{eqb-suc-zero, eqb-zero-suc, eqb-suc-suc}
@@ -18,7 +19,8 @@ use Rattle.cedar_ids.specs.TextOf.{IsName}
 use Rattle.cedar_ids.specs.UidOf.{uid_parts, uid_order, same_uid}
 use Rattle.cedar_ids.specs.laws.UidOfLaws.{same_uid_decides}
 use Rattle.cedar_ids.specs.declared.entity.EntityUID.{EntityUID}
-use Rattle.cedar_uid_sets.specs.laws.Fronts.{number, AreDigits, front, BeginsWithBytes, is_short, kind, same_numbers, Abbreviate}
+use Rattle.cedar_uid_sets.specs.laws.Fronts.{number, AreDigits, front, BeginsWithBytes, is_short, kind, same_numbers}
+use Rattle.cedar_uid_sets.specs.laws.Fronts.{Abbreviate}
 
 -- ---- numbers by their digits
 
@@ -42,7 +44,8 @@ zeros zero = refl
 zeros (suc n) = omega (arith, zeros n)
 
 -- the first bytes decide, where those of the lesser number are not the greater
-first_decides : (x y a b p : ℕ) (rest : Ordering) → a < p → b < p → x * p + a < y * p + b → (a < b → rest ≡ Less) → ordering_then (nat_cmp x y) rest ≡ Less
+first_decides : (x y a b p : ℕ) (rest : Ordering) → a < p → b < p → x * p + a < y * p + b → (a < b → rest ≡ Less)
+    → ordering_then (nat_cmp x y) rest ≡ Less
 first_decides x y a b p rest k g l on = by (nat_cmp x y) (ranks x y)
   where
     by : (o : Ordering) → MatchOrdering o (x < y) (x ≡ y) (y < x) → ordering_then o rest ≡ Less
@@ -51,18 +54,23 @@ first_decides x y a b p rest k g l on = by (nat_cmp x y) (ranks x y)
     by Greater m = absurd (omega (arith, l, less_by y x b a p m g))
 
 -- a lesser number is that of a lesser text
-below : (n : ℕ) (xs ys : List ℕ) → AreDigits n (slice_index xs) → AreDigits n (slice_index ys) → number n (slice_index xs) < number n (slice_index ys) → slice_cmp nat_cmp xs ys ≡ Less
+below : (n : ℕ) (xs ys : List ℕ) → AreDigits n (slice_index xs) → AreDigits n (slice_index ys)
+    → number n (slice_index xs) < number n (slice_index ys) → slice_cmp nat_cmp xs ys ≡ Less
 below zero xs ys h k l = absurd (omega (arith, l))
 below (suc n) [] [] h k l = absurd (omega (arith, l))
 below (suc n) [] (y ∷ ys) h k l = refl
 below (suc n) (x ∷ xs) [] h k l = absurd (omega (arith, l, zeros n))
-below (suc n) (x ∷ xs) (y ∷ ys) h k l = first_decides x y (number n (slice_index xs)) (number n (slice_index ys)) (256 ^ n) (slice_cmp nat_cmp xs ys) (bound n (slice_index xs) h.1) (bound n (slice_index ys) k.1) l (below n xs ys h.1 k.1)
+below (suc n) (x ∷ xs) (y ∷ ys) h k l =
+    first_decides x y (number n (slice_index xs)) (number n (slice_index ys)) (256 ^ n) (slice_cmp nat_cmp xs ys)
+    (bound n (slice_index xs) h.1) (bound n (slice_index ys) k.1) l (below n xs ys h.1 k.1)
 
 -- fronts that differ stand as the texts do
-pub fronts_decide : (xs ys : List ℕ) → BeginsWithBytes xs → BeginsWithBytes ys → (front xs ≡ front ys → ⊥) → nat_cmp (front xs) (front ys) ≡ slice_cmp nat_cmp xs ys
+pub fronts_decide : (xs ys : List ℕ) → BeginsWithBytes xs → BeginsWithBytes ys → (front xs ≡ front ys → ⊥)
+    → nat_cmp (front xs) (front ys) ≡ slice_cmp nat_cmp xs ys
 fronts_decide xs ys h k n = by (nat_cmp (front xs) (front ys)) (ranks (front xs) (front ys))
   where
-    by : (o : Ordering) → MatchOrdering o (front xs < front ys) (front xs ≡ front ys) (front ys < front xs) → o ≡ slice_cmp nat_cmp xs ys
+    by : (o : Ordering) → MatchOrdering o (front xs < front ys) (front xs ≡ front ys) (front ys < front xs)
+        → o ≡ slice_cmp nat_cmp xs ys
     by Less m = sym (below 8 xs ys h k m)
     by Equal m = absurd (n m)
     by Greater m = sym (nat_list_cmp_total.antisymm xs ys ∙ ap ordering_reverse (below 8 ys xs k h m))
@@ -95,18 +103,21 @@ first_same x y a b p k g e = by (nat_cmp x y) (ranks x y)
     by Equal m = (m, omega (arith, e, ap (λ z. z * p) m))
     by Greater m = absurd (omega (arith, e, less_by y x b a p m g))
 
-told_apart : (n : ℕ) (xs ys : List ℕ) → length xs ≤ n → length ys ≤ n → AreLetters xs → AreLetters ys → number n (slice_index xs) ≡ number n (slice_index ys) → xs ≡ ys
+told_apart : (n : ℕ) (xs ys : List ℕ) → length xs ≤ n → length ys ≤ n → AreLetters xs → AreLetters ys
+    → number n (slice_index xs) ≡ number n (slice_index ys) → xs ≡ ys
 told_apart n [] [] l k h g e = refl
 told_apart zero [] (y ∷ ys) l k h g e = absurd (omega (arith, k))
 told_apart zero (x ∷ xs) ys l k h g e = absurd (omega (arith, l))
 told_apart (suc n) [] (y ∷ ys) l k h g e = absurd (omega (arith, e, zeros n, no_less y n g.0.0, positive n))
 told_apart (suc n) (x ∷ xs) [] l k h g e = absurd (omega (arith, e, zeros n, no_less x n h.0.0, positive n))
 told_apart (suc n) (x ∷ xs) (y ∷ ys) l k h g e =
-    let both = first_same x y (number n (slice_index xs)) (number n (slice_index ys)) (256 ^ n) (bound n (slice_index xs) (digits n xs h.1)) (bound n (slice_index ys) (digits n ys g.1)) e in
+    let both = first_same x y (number n (slice_index xs)) (number n (slice_index ys)) (256 ^ n)
+    (bound n (slice_index xs) (digits n xs h.1)) (bound n (slice_index ys) (digits n ys g.1)) e in
     λ i. both.0 i ∷ told_apart n xs ys (omega (arith, l)) (omega (arith, k)) h.1 g.1 both.1 i
 
 -- texts that begin alike and are no longer are the same where they are of one length
-pub lengths_tell : (n : ℕ) (xs ys : List ℕ) → length xs ≤ n → AreDigits n (slice_index xs) → AreDigits n (slice_index ys)
+pub lengths_tell : (n : ℕ) (xs ys : List ℕ) → length xs ≤ n → AreDigits n (slice_index xs)
+    → AreDigits n (slice_index ys)
     → number n (slice_index xs) ≡ number n (slice_index ys) → nat_eq (length xs) (length ys) ≡ pointwise nat_eq xs ys
 lengths_tell n [] [] l h k e = refl
 lengths_tell n [] (y ∷ ys) l h k e = eqb-zero-suc (length ys)
@@ -137,7 +148,8 @@ start_is_letter b h = by (either (nat_le 65 b && nat_le b 90) _ h)
     lower (inl k) = in_range 97 122 b (omega arith) (omega arith) k
     lower (inr k) = let e : b ≡ 95 = eqb-true b 95 k in (omega (arith, e), omega (arith, e))
 
-    by : ((nat_le 65 b && nat_le b 90) ≡ true) ⊎ (((nat_le 97 b && nat_le b 122) || nat_eq b 95) ≡ true) → (0 < b) × (b < 256)
+    by : ((nat_le 65 b && nat_le b 90) ≡ true) ⊎ (((nat_le 97 b && nat_le b 122) || nat_eq b 95) ≡ true)
+        → (0 < b) × (b < 256)
     by (inl k) = in_range 65 90 b (omega arith) (omega arith) k
     by (inr k) = lower (either (nat_le 97 b && nat_le b 122) _ k)
 
@@ -156,7 +168,8 @@ letters : (id : List ℕ) → IsTrue (is_id id) → AreLetters id
 unfolding is_id
 letters [] h = tt
 letters (b ∷ bs) h =
-    let word : (is_id_start b && list_all is_id_part bs) ≡ true = first_so (is_id_start b && list_all is_id_part bs) _ h in
+    let word : (is_id_start b && list_all is_id_part bs) ≡ true =
+    first_so (is_id_start b && list_all is_id_part bs) _ h in
     (start_is_letter b (first_so _ _ word), parts_are_letters bs (second_so (is_id_start b) _ word))
 
 -- ---- names
@@ -202,7 +215,8 @@ module _ (m n : NameParts) (valid : IsName m) (good : IsName n) (some : kind m �
       let s = short m some in
       let t = short n any in
       let fronts : front m.basename ≡ front n.basename = sym s.kind ∙ e ∙ t.kind in
-      let texts : m.basename ≡ n.basename = told_apart 8 m.basename n.basename s.long t.long (letters m.basename valid.1) (letters n.basename good.1) fronts in
+      let texts : m.basename ≡ n.basename = told_apart 8 m.basename n.basename s.long t.long
+      (letters m.basename valid.1) (letters n.basename good.1) fronts in
       let paths : m.path ≡ n.path = s.path ∙ sym t.path in
       λ i. record { path = paths i; basename = texts i }
 
@@ -213,9 +227,11 @@ module _ (m n : NameParts) (valid : IsName m) (good : IsName n) (some : kind m �
       let t = short n any in
       let fronts : (front m.basename ≡ front n.basename → ⊥) = λ e. differ (s.kind ∙ e ∙ sym t.kind) in
       (λ i. nat_cmp (s.kind i) (t.kind i))
-      ∙ fronts_decide m.basename n.basename (digits 8 m.basename (letters m.basename valid.1)) (digits 8 n.basename (letters n.basename good.1)) fronts
+      ∙ fronts_decide m.basename n.basename (digits 8 m.basename (letters m.basename valid.1))
+      (digits 8 n.basename (letters n.basename good.1)) fronts
       ∙ then_none (slice_cmp nat_cmp m.basename n.basename)
-      ∙ (λ i. ordering_then (slice_cmp nat_cmp m.basename n.basename) (slice_cmp (slice_cmp nat_cmp) (sym s.path i) (sym t.path i)))
+      ∙ (λ i. ordering_then (slice_cmp nat_cmp m.basename n.basename)
+      (slice_cmp (slice_cmp nat_cmp) (sym s.path i) (sym t.path i)))
 
 -- ---- uids
 
@@ -235,7 +251,8 @@ same_names n = self (name_cmp n n) (name_cmp_total.antisymm n n)
     self Equal e = refl
     self Greater e = cc
 
-module _ (k l f g : ℕ) (x y : EntityUID) (a : Abbreviate k f x) (b : Abbreviate l g y) (some : k ≡ 0 → ⊥) (any : l ≡ 0 → ⊥) where
+module _ (k l f g : ℕ) (x y : EntityUID) (a : Abbreviate k f x) (b : Abbreviate l g y) (some : k ≡ 0 → ⊥)
+    (any : l ≡ 0 → ⊥) where
   short_one : kind (uid_parts x).name ≡ 0 → ⊥
   short_one e = some (a.of_name ∙ e)
 
@@ -243,7 +260,8 @@ module _ (k l f g : ℕ) (x y : EntityUID) (a : Abbreviate k f x) (b : Abbreviat
   short_other e = any (b.of_name ∙ e)
 
   names : k ≡ l → (uid_parts x).name ≡ (uid_parts y).name
-  names e = one_name (uid_parts x).name (uid_parts y).name a.name b.name short_one short_other (sym a.of_name ∙ e ∙ b.of_name)
+  names e =
+      one_name (uid_parts x).name (uid_parts y).name a.name b.name short_one short_other (sym a.of_name ∙ e ∙ b.of_name)
 
   -- kinds that differ decide
   pub by_kinds : (k ≡ l → ⊥) → nat_cmp k l ≡ uid_order x y
@@ -251,12 +269,14 @@ module _ (k l f g : ℕ) (x y : EntityUID) (a : Abbreviate k f x) (b : Abbreviat
       differ_decide k l (slice_cmp nat_cmp (uid_parts x).eid (uid_parts y).eid) differ
       ∙ ap (λ o. ordering_then o (slice_cmp nat_cmp (uid_parts x).eid (uid_parts y).eid))
       ((λ i. nat_cmp (a.of_name i) (b.of_name i))
-      ∙ kinds_decide (uid_parts x).name (uid_parts y).name a.name b.name short_one short_other (λ e. differ (a.of_name ∙ e ∙ sym b.of_name)))
+      ∙ kinds_decide (uid_parts x).name (uid_parts y).name a.name b.name short_one short_other
+      (λ e. differ (a.of_name ∙ e ∙ sym b.of_name)))
 
   -- else the eids do
   pub by_eids : k ≡ l → slice_cmp nat_cmp (uid_parts x).eid (uid_parts y).eid ≡ uid_order x y
   by_eids e =
-      let one : name_cmp (uid_parts x).name (uid_parts y).name ≡ Equal = ap (name_cmp (uid_parts x).name) (sym (names e)) ∙ same_names (uid_parts x).name in
+      let one : name_cmp (uid_parts x).name (uid_parts y).name ≡ Equal =
+      ap (name_cmp (uid_parts x).name) (sym (names e)) ∙ same_names (uid_parts x).name in
       sym (ap (λ o. ordering_then o (slice_cmp nat_cmp (uid_parts x).eid (uid_parts y).eid)) one)
 
   -- and their fronts where these differ
@@ -269,18 +289,21 @@ module _ (k l f g : ℕ) (x y : EntityUID) (a : Abbreviate k f x) (b : Abbreviat
   -- uids of one kind are the same where their eids are
   pub same_by_eids : k ≡ l → pointwise nat_eq (uid_parts x).eid (uid_parts y).eid ≡ same_uid x y
   same_by_eids e =
-      let one : name_eq (uid_parts x).name (uid_parts y).name ≡ true = ap (name_eq (uid_parts x).name) (sym (names e)) ∙ name_eq_equiv.refl (uid_parts x).name in
+      let one : name_eq (uid_parts x).name (uid_parts y).name ≡ true = ap (name_eq (uid_parts x).name) (sym (names e))
+      ∙ name_eq_equiv.refl (uid_parts x).name in
       sym (ap (λ b. b && pointwise nat_eq (uid_parts x).eid (uid_parts y).eid) one)
 
 -- uids whose numbers differ are not the same
-pub apart_by_numbers : (k l f g : ℕ) (x y : EntityUID) → Abbreviate k f x → Abbreviate l g y → (f ≡ g → k ≡ l → ⊥) → false ≡ same_uid x y
+pub apart_by_numbers : (k l f g : ℕ) (x y : EntityUID) → Abbreviate k f x → Abbreviate l g y → (f ≡ g → k ≡ l → ⊥)
+    → false ≡ same_uid x y
 apart_by_numbers k l f g x y a b differ = by (same_uid x y) refl
   where
     by : (t : Bool) → same_uid x y ≡ t → false ≡ t
     by false e = refl
     by true e =
         let same = (same_uid_decides x y).0 e in
-        absurd (differ (a.of_eid ∙ ap (λ u. front (uid_parts u).eid) same ∙ sym b.of_eid) (a.of_name ∙ ap (λ u. kind (uid_parts u).name) same ∙ sym b.of_name))
+        absurd (differ (a.of_eid ∙ ap (λ u. front (uid_parts u).eid) same ∙ sym b.of_eid) (a.of_name
+        ∙ ap (λ u. kind (uid_parts u).name) same ∙ sym b.of_name))
 
 -- ---- numbers that are looked for first
 
@@ -299,10 +322,14 @@ same_itself : (u : EntityUID) → same_numbers u u ≡ true
 same_itself u = rw (eq_itself (front (uid_parts u).eid), eq_itself (kind (uid_parts u).name)) refl
 
 -- where none has the numbers of the uid, it is none of them
-pub none_without_numbers : (u : EntityUID) (us : List EntityUID) → list_any (same_numbers u) us ≡ false → is_member same_uid us u ≡ false
+pub none_without_numbers : (u : EntityUID) (us : List EntityUID) → list_any (same_numbers u) us ≡ false
+    → is_member same_uid us u ≡ false
 none_without_numbers u [] h = refl
-none_without_numbers u (v ∷ vs) h = rw (differ (same_uid u v) refl, none_without_numbers u vs (or_second (same_numbers u v) _ h)) refl
+none_without_numbers u (v ∷ vs) h =
+    rw (differ (same_uid u v) refl, none_without_numbers u vs (or_second (same_numbers u v) _ h)) refl
   where
     differ : (b : Bool) → same_uid u v ≡ b → b ≡ false
     differ false e = refl
-    differ true e = absurd (false≢true (sym (or_first (same_numbers u v) _ h) ∙ subst (λ w. same_numbers u w ≡ true) ((same_uid_decides u v).0 e) (same_itself u)))
+    differ true e =
+        absurd (false≢true (sym (or_first (same_numbers u v) _ h)
+        ∙ subst (λ w. same_numbers u w ≡ true) ((same_uid_decides u v).0 e) (same_itself u)))

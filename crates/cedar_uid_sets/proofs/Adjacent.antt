@@ -28,5 +28,7 @@ ascend_answer (u ∷ us) true told = (
 ascend_answer [] false told = absurd (omega (arith, told.1))
 ascend_answer (u ∷ us) false told = (
   λ h. absurd (false≢true h),
-  λ s. absurd (false≢true (told.2 u ∙ ap is_lt (Less-from_sorted uid_order (u ∷ us) told.0 (told.0 + 1) u s (omega arith) told.1))),
+  λ s. absurd
+      (false≢true (told.2 u
+      ∙ ap is_lt (Less-from_sorted uid_order (u ∷ us) told.0 (told.0 + 1) u s (omega arith) told.1))),
 )

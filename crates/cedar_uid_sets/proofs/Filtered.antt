@@ -25,15 +25,20 @@ abbrev pub is_other : UidValues → EntityUID → Bool
 is_other t u = not (set.contains t u)
 
 -- what a test keeps of a set that is listed
-kept : (p : EntityUID → Bool) (us : List EntityUID) (q : EntityUID) → set.contains (set.from_list {R = uid_order} (filter p us)) q ≡ (p q && set.contains (set.from_list {R = uid_order} us) q)
+kept : (p : EntityUID → Bool) (us : List EntityUID) (q : EntityUID)
+    → set.contains (set.from_list {R = uid_order} (filter p us)) q
+    ≡ (p q && set.contains (set.from_list {R = uid_order} us) q)
 kept p us q =
     contains_listed (filter p us) q
     ∙ any-filter_same (same_uid q) p (p q) (λ k h. ap p (sym ((same_uid_decides q k).0 h))) us
     ∙ ap (λ b. p q && b) (sym (contains_listed us q))
 
 -- what is in no other set makes the difference
-pub set_difference : (us : List EntityUID) (t : UidValues) → set.from_list {R = uid_order} (filter (is_other t) us) ≡ set.difference (set.from_list us) t
-set_difference us t = same_members _ _ (λ q. kept (is_other t) us q ∙ and_swap (is_other t q) _ ∙ sym (set.contains-difference uid_order_total (set.from_list us) t q))
+pub set_difference : (us : List EntityUID) (t : UidValues)
+    → set.from_list {R = uid_order} (filter (is_other t) us) ≡ set.difference (set.from_list us) t
+set_difference us t =
+    same_members _ _ (λ q. kept (is_other t) us q ∙ and_swap (is_other t q) _
+    ∙ sym (set.contains-difference uid_order_total (set.from_list us) t q))
 
 out_more : (s a b : Bool) → (not b && (s && not a)) ≡ (s && not (a || b))
 out_more true true true = refl
@@ -44,24 +49,33 @@ out_more false a true = refl
 out_more false a false = refl
 
 -- the difference with one uid more
-pub difference_more : (s : UidValues) (us : List EntityUID) (i : ℕ) (d : EntityUID) → i < length us → set.remove (set.difference s (set.from_list (take i us))) (get_or us i d) ≡ set.difference s (set.from_list (take (i + 1) us))
+pub difference_more : (s : UidValues) (us : List EntityUID) (i : ℕ) (d : EntityUID) → i < length us
+    → set.remove (set.difference s (set.from_list (take i us))) (get_or us i d)
+    ≡ set.difference s (set.from_list (take (i + 1) us))
 difference_more s us i d lt = same_members _ _ (λ q.
     set.contains-remove uid_order_total (set.difference s (set.from_list (take i us))) (get_or us i d) q
-    ∙ ap (λ b. not (eq_by_cmp uid_order q (get_or us i d)) && b) (set.contains-difference uid_order_total s (set.from_list (take i us)) q ∙ ap (λ b. set.contains s q && not b) (contains_listed (take i us) q))
+    ∙ ap (λ b. not (eq_by_cmp uid_order q (get_or us i d)) && b)
+    (set.contains-difference uid_order_total s (set.from_list (take i us)) q
+    ∙ ap (λ b. set.contains s q && not b) (contains_listed (take i us) q))
     ∙ ap (λ f. not (f q (get_or us i d)) && (set.contains s q && not (is_member same_uid (take i us) q))) same_tests
     ∙ out_more (set.contains s q) (is_member same_uid (take i us) q) (same_uid q (get_or us i d))
-    ∙ ap (λ b. set.contains s q && not b) (sym (list_any_more (same_uid q) us i d lt) ∙ sym (contains_listed (take (i + 1) us) q))
+    ∙ ap (λ b. set.contains s q && not b) (sym (list_any_more (same_uid q) us i d lt)
+    ∙ sym (contains_listed (take (i + 1) us) q))
     ∙ sym (set.contains-difference uid_order_total s (set.from_list (take (i + 1) us)) q))
 
 -- nothing out is the set itself
 pub difference_none : (s : UidValues) → s ≡ set.difference s set.empty
-difference_none s = same_members _ _ (λ q. none_out (set.contains s q) ∙ ap (λ b. set.contains s q && not b) (sym (set.contains-empty uid_order q)) ∙ sym (set.contains-difference uid_order_total s set.empty q))
+difference_none s =
+    same_members _ _ (λ q. none_out (set.contains s q)
+    ∙ ap (λ b. set.contains s q && not b) (sym (set.contains-empty uid_order q))
+    ∙ sym (set.contains-difference uid_order_total s set.empty q))
   where
     none_out : (b : Bool) → b ≡ (b && not false)
     none_out true = refl
     none_out false = refl
 
-all_chosen : (P : EntityUID → Type 0) (bs : List Bool) (us : List EntityUID) → AllByRecursion P us → AllByRecursion P (items_where_true bs us)
+all_chosen : (P : EntityUID → Type 0) (bs : List Bool) (us : List EntityUID) → AllByRecursion P us
+    → AllByRecursion P (items_where_true bs us)
 all_chosen P [] us h = tt
 all_chosen P (b ∷ bs) [] h = tt
 all_chosen P (true ∷ bs) (u ∷ us) h = (h.0, all_chosen P bs us h.1)

@@ -14,16 +14,19 @@ abbrev pub Covers : UidValues → List EntityUID → List EntityUID → Type 0
 Covers s rest us = (q : EntityUID) → (set.contains s q || is_member same_uid rest q) ≡ is_member same_uid us q
 
 pub covers_all : (rest us : List EntityUID) → rest ≡ us → Covers set.empty rest us
-covers_all rest us e q = ap (λ b. b || is_member same_uid rest q) (set.contains-empty uid_order q) ∙ ap (λ l. is_member same_uid l q) e
+covers_all rest us e q = ap (λ b. b || is_member same_uid rest q) (set.contains-empty uid_order q)
+    ∙ ap (λ l. is_member same_uid l q) e
 
 swap : (a b c : Bool) → ((a || b) || c) ≡ (b || (a || c))
 swap true true c = refl
 swap true false c = refl
 swap false b c = refl
 
-pub covers_more : (s : UidValues) (k : EntityUID) (old rest us : List EntityUID) → old ≡ k ∷ rest → Covers s old us → Covers (set.insert s k) rest us
+pub covers_more : (s : UidValues) (k : EntityUID) (old rest us : List EntityUID) → old ≡ k ∷ rest → Covers s old us
+    → Covers (set.insert s k) rest us
 covers_more s k old rest us e h q =
-    ap (λ b. b || is_member same_uid rest q) (set.contains-insert uid_order_total s k q ∙ ap (λ f. f q k || set.contains s q) same_tests)
+    ap (λ b. b || is_member same_uid rest q) (set.contains-insert uid_order_total s k q
+    ∙ ap (λ f. f q k || set.contains s q) same_tests)
     ∙ swap (same_uid q k) (set.contains s q) (is_member same_uid rest q)
     ∙ ap (λ l. set.contains s q || is_member same_uid l q) (sym e) ∙ h q
 

@@ -19,11 +19,13 @@ from_less o Equal e = rw e (omega arith)
 from_less o Greater e = rw e (omega arith)
 
 -- a lesser uid compares to a third no higher
-pub rises : (x y u : EntityUID) (r : Ordering) → uid_order y u ≡ r → uid_order x y ≡ Less → ordering_index (uid_order x u) ≤ ordering_index r
+pub rises : (x y u : EntityUID) (r : Ordering) → uid_order y u ≡ r → uid_order x y ≡ Less
+    → ordering_index (uid_order x u) ≤ ordering_index r
 rises x y u Less e l = from_less (uid_order x u) Less (uid_order_total.trans x y u l e)
 rises x y u Equal e l =
     let back : uid_order u x ≡ uid_order y x = sym (uid_order_total.congr y u x e) in
-    from_less (uid_order x u) Equal (uid_order_total.antisymm x u ∙ ap ordering_reverse back ∙ sym (uid_order_total.antisymm x y) ∙ l)
+    from_less (uid_order x u) Equal (uid_order_total.antisymm x u ∙ ap ordering_reverse back
+    ∙ sym (uid_order_total.antisymm x y) ∙ l)
 rises x y u Greater e l = top (uid_order x u)
 
 -- a uid that is less is another

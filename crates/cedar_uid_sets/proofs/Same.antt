@@ -31,16 +31,19 @@ same_itself : (u : EntityUID) → same_uid u u ≡ true
 same_itself u = (same_uid_decides u u).1 refl
 
 -- what holds of all holds of each member
-of_member : (P : EntityUID → Type 0) (us : List EntityUID) (u : EntityUID) → AllByRecursion P us → is_member same_uid us u ≡ true → P u
+of_member : (P : EntityUID → Type 0) (us : List EntityUID) (u : EntityUID) → AllByRecursion P us
+    → is_member same_uid us u ≡ true → P u
 of_member P [] u all h = absurd (false≢true h)
 of_member P (x ∷ us) u all h = by_head (same_uid u x) refl (of_member P us u all.1) h
   where
-    by_head : (b : Bool) → same_uid u x ≡ b → (is_member same_uid us u ≡ true → P u) → (b || is_member same_uid us u) ≡ true → P u
+    by_head : (b : Bool) → same_uid u x ≡ b → (is_member same_uid us u ≡ true → P u)
+        → (b || is_member same_uid us u) ≡ true → P u
     by_head true e later h = subst P (sym ((same_uid_decides u x).0 e)) all.0
     by_head false e later h = later h
 
 -- no member is less than the first
-least_head : (v : EntityUID) (vs : List EntityUID) (u : EntityUID) → Ascend (v ∷ vs) → is_member same_uid (v ∷ vs) u ≡ true → uid_order u v ≡ Less → ⊥
+least_head : (v : EntityUID) (vs : List EntityUID) (u : EntityUID) → Ascend (v ∷ vs)
+    → is_member same_uid (v ∷ vs) u ≡ true → uid_order u v ≡ Less → ⊥
 least_head v vs u s h l = by_head (same_uid u v) refl h
   where
     by_head : (b : Bool) → same_uid u v ≡ b → (b || is_member same_uid vs u) ≡ true → ⊥
@@ -48,8 +51,10 @@ least_head v vs u s h l = by_head (same_uid u v) refl h
     by_head false e h = both_less u v l (of_member (λ y. uid_order v y ≡ Less) vs u (sorted_head uid_order v vs s) h)
 
 -- the first is not among the others
-first_once : (v : EntityUID) (vs : List EntityUID) (b : Bool) → Ascend (v ∷ vs) → is_member same_uid vs v ≡ b → b ≡ false
-first_once v vs true s h = absurd (irreflexive v (of_member (λ y. uid_order v y ≡ Less) vs v (sorted_head uid_order v vs s) h))
+first_once : (v : EntityUID) (vs : List EntityUID) (b : Bool) → Ascend (v ∷ vs) → is_member same_uid vs v ≡ b
+    → b ≡ false
+first_once v vs true s h =
+    absurd (irreflexive v (of_member (λ y. uid_order v y ≡ Less) vs v (sorted_head uid_order v vs s) h))
 first_once v vs false s h = refl
 
 abbrev SameMembers : List EntityUID → List EntityUID → Type 0
@@ -58,7 +63,8 @@ SameMembers us vs = (q : EntityUID) → is_member same_uid us q ≡ is_member sa
 is_there : (u : EntityUID) (us : List EntityUID) → is_member same_uid (u ∷ us) u ≡ true
 is_there u us = ap (λ b. b || is_member same_uid us u) (same_itself u)
 
-same_head : (u v : EntityUID) (us vs : List EntityUID) → Ascend (u ∷ us) → Ascend (v ∷ vs) → SameMembers (u ∷ us) (v ∷ vs) → u ≡ v
+same_head : (u v : EntityUID) (us vs : List EntityUID) → Ascend (u ∷ us) → Ascend (v ∷ vs)
+    → SameMembers (u ∷ us) (v ∷ vs) → u ≡ v
 same_head u v us vs s t h = by_order (uid_order u v) refl
   where
     by_order : (o : Ordering) → uid_order u v ≡ o → u ≡ v
@@ -66,13 +72,15 @@ same_head u v us vs s t h = by_order (uid_order u v) refl
     by_order Equal e = equal_is u v e
     by_order Greater e = absurd (least_head u us v s (h v ∙ is_there v vs) (turned u v e))
 
-same_tails : (u : EntityUID) (us vs : List EntityUID) → Ascend (u ∷ us) → Ascend (u ∷ vs) → SameMembers (u ∷ us) (u ∷ vs) → SameMembers us vs
+same_tails : (u : EntityUID) (us vs : List EntityUID) → Ascend (u ∷ us) → Ascend (u ∷ vs)
+    → SameMembers (u ∷ us) (u ∷ vs) → SameMembers us vs
 same_tails u us vs s t h q = by_head (same_uid q u) refl
   where
     by_head : (b : Bool) → same_uid q u ≡ b → is_member same_uid us q ≡ is_member same_uid vs q
     by_head true e =
         let here : q ≡ u = (same_uid_decides q u).0 e in
-        ap (is_member same_uid us) here ∙ first_once u us _ s refl ∙ sym (ap (is_member same_uid vs) here ∙ first_once u vs _ t refl)
+        ap (is_member same_uid us) here ∙ first_once u us _ s refl
+        ∙ sym (ap (is_member same_uid vs) here ∙ first_once u vs _ t refl)
     by_head false e = ap (λ b. b || is_member same_uid us q) (sym e) ∙ h q ∙ ap (λ b. b || is_member same_uid vs q) e
 
 same_lists : (us vs : List EntityUID) → Ascend us → Ascend vs → SameMembers us vs → us ≡ vs
@@ -83,8 +91,11 @@ same_lists (u ∷ us) (v ∷ vs) s t h =
     let head : u ≡ v = same_head u v us vs s t h in
     let t' : Ascend (u ∷ vs) = subst (λ x. Ascend (x ∷ vs)) (sym head) t in
     let h' : SameMembers (u ∷ us) (u ∷ vs) = subst (λ x. SameMembers (u ∷ us) (x ∷ vs)) (sym head) h in
-    λ i. head i ∷ same_lists us vs (sorted_tail uid_order u us s) (sorted_tail uid_order u vs t') (same_tails u us vs s t' h') i
+    λ i. head i ∷ same_lists us vs (sorted_tail uid_order u us s) (sorted_tail uid_order u vs t')
+    (same_tails u us vs s t' h') i
 
 -- two listings of one set are the same
-pub one_listing : (us vs : List EntityUID) → Ascend us → Ascend vs → set.from_list {R = uid_order} us ≡ set.from_list vs → us ≡ vs
-one_listing us vs s t e = same_lists us vs s t (λ q. sym (contains_listed us q) ∙ ap (λ r. set.contains r q) e ∙ contains_listed vs q)
+pub one_listing : (us vs : List EntityUID) → Ascend us → Ascend vs → set.from_list {R = uid_order} us ≡ set.from_list vs
+    → us ≡ vs
+one_listing us vs s t e =
+    same_lists us vs s t (λ q. sym (contains_listed us q) ∙ ap (λ r. set.contains r q) e ∙ contains_listed vs q)

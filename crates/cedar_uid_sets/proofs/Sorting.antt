@@ -27,14 +27,17 @@ none_ascends : Ascend []
 unfolding IsStrictlySortedBy
 none_ascends = tt
 
-pub ascend_sorted : (us vs : List EntityUID) → IsDistinct same_uid us → IsPermutation us vs → IsSorted uid_order vs → Ascend vs
+pub ascend_sorted : (us vs : List EntityUID) → IsDistinct same_uid us → IsPermutation us vs → IsSorted uid_order vs
+    → Ascend vs
 ascend_sorted us [] once moved up = none_ascends
 ascend_sorted us (v ∷ vs) once moved up =
     sorted_from_all_adjacent uid_order_total (v ∷ vs) v (λ k lt.
     let a : EntityUID = get_or (v ∷ vs) k v in
     let b : EntityUID = get_or (v ∷ vs) (k + 1) v in
-    let two : same_uid a b ≡ false = apart_from_distinct same_uid (v ∷ vs) k (k + 1) v (IsDistinct-IsPermutation same_uid same_uid_equiv.symm us (v ∷ vs) moved once) (omega arith) lt in
-    rising (uid_order a b) (uid_order b a) (uid_order_total.antisymm a b) (sym (uid_order_ties a b) ∙ two) (up k v (omega arith) lt))
+    let two : same_uid a b ≡ false = apart_from_distinct same_uid (v ∷ vs) k (k + 1) v
+    (IsDistinct-IsPermutation same_uid same_uid_equiv.symm us (v ∷ vs) moved once) (omega arith) lt in
+    rising (uid_order a b) (uid_order b a) (uid_order_total.antisymm a b) (sym (uid_order_ties a b) ∙ two)
+    (up k v (omega arith) lt))
 
 -- and make the same set
 pub set_sorted : (us vs : List EntityUID) → IsPermutation us vs → set.from_list {R = uid_order} vs ≡ set.from_list us

@@ -3,7 +3,8 @@ ghost use Rattle.std.specs.Prelude.{◌≡◌, ◌<◌, ◌+◌, ◌*◌, nat_eq
 ghost use Rattle.std.specs.Ordering.{nat_cmp};
 ghost use Rattle.std.specs.Cmp.Lexicographic.{pointwise, slice_cmp};
 ghost use Rattle.cedar_ids.specs.UidOf.{same_uid, uid_order, uid_parts};
-ghost use Rattle.cedar_uid_sets.specs.laws.Fronts.{AreDigits, front, kind, is_short, number, same_numbers, BeginsWithBytes};
+ghost use Rattle.cedar_uid_sets.specs.laws.Fronts.{AreDigits, front, kind, is_short, number, same_numbers};
+ghost use Rattle.cedar_uid_sets.specs.laws.Fronts.{BeginsWithBytes};
 
 use cedar_ids::entity::EntityUID;
 use cedar_ids::name::Name;

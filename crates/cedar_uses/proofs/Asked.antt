@@ -11,6 +11,8 @@ use Rattle.cedar_entities.specs.World.{World, graph}
 use Rattle.cedar_entities.specs.laws.PlainAncestors.{ancestry_plain}
 
 -- whether what is held of a uid has another among its ancestors is whether that is reached
-pub reached_where_held : (W : World) (S : StoreView) (a b : EntityUID) (o : Option EntityView) → finmap.get S.held a ≡ o →
+pub reached_where_held : (W : World) (S : StoreView) (a b : EntityUID) (o : Option EntityView)
+    → finmap.get S.held a ≡ o →
     IsPlainStore W S → (is_ancestor_in o b ≡ true) ↔ Reach (graph W) a b
-reached_where_held W S a b o is plain = subst (λ p. (is_ancestor_in p b ≡ true) ↔ Reach (graph W) a b) is (ancestry_plain W S plain a b)
+reached_where_held W S a b o is plain =
+    subst (λ p. (is_ancestor_in p b ≡ true) ↔ Reach (graph W) a b) is (ancestry_plain W S plain a b)

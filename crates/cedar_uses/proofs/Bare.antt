@@ -29,12 +29,14 @@ pub listed_more : {M : Type 0} (f : M → Given) (es ds : List EntityView) (ms :
     map given_of es ≡ map f ms → AreBare es → ds ≡ es ++ e ∷ [] → given_of e ≡ f m → IsBare e →
     (map given_of ds ≡ map f (ms ++ m ∷ [])) × AreBare ds
 listed_more f es ds ms e m g b h k bare = (
-  ap (map given_of) h ∙ map_push given_of es e ∙ ap (λ gs. gs ++ given_of e ∷ []) g ∙ ap (λ x. map f ms ++ x ∷ []) k ∙ sym (map_push f ms m),
+  ap (map given_of) h ∙ map_push given_of es e ∙ ap (λ gs. gs ++ given_of e ∷ []) g ∙ ap (λ x. map f ms ++ x ∷ []) k
+      ∙ sym (map_push f ms m),
   subst AreBare (sym h) (all_push IsBare es e b bare),
 )
 
 -- a list of one
-pub one_bare : (es : List EntityView) (e : EntityView) (u : EntityUID) (ps : List EntityUID) → es ≡ e ∷ [] → e ≡ child_of u ps →
+pub one_bare : (es : List EntityView) (e : EntityView) (u : EntityUID) (ps : List EntityUID) → es ≡ e ∷ []
+    → e ≡ child_of u ps →
     AreBare es × (map given_of es ≡ given u ps ∷ [])
 one_bare es e u ps h k = (
   subst AreBare (sym h) (is_bare e u ps k, tt),

@@ -8,7 +8,8 @@ use Rattle.cedar_entities.specs.Refusals.{IsOverwritingRefused}
 use Rattle.cedar_entities.specs.World.{World, Given, deleted, overwritten}
 use Rattle.cedar_entity.specs.declared.err.EntitiesError.{EntitiesError}
 
-module _ (S T : StoreView) (L : List Given) (put : (W : World) → IsPlainStore W S → IsPlainStore (overwritten W L) T) where
+module _ (S T : StoreView) (L : List Given)
+    (put : (W : World) → IsPlainStore W S → IsPlainStore (overwritten W L) T) where
   pub taken_out : (r : Result StoreView EntitiesError) (us : List EntityUID) (u : EntityUID) → us ≡ u ∷ [] →
       ((W : World) → IsPlainStore W T → RemovesPlain W us r) →
       IfOk r (λ s. (W : World) → IsPlainStore W S → IsPlainStore (deleted (overwritten W L) (u ∷ [])) s)

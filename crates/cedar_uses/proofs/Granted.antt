@@ -11,7 +11,8 @@ use Rattle.cedar_policy_set.specs.Steps.{Refusal, fitting, link_at, link_step, u
 use Rattle.cedar_policy_set.specs.laws.LinkLaws.{link_undone}
 
 -- what fits leaves nothing unbound and nothing extra
-none_left : (us xs : List SlotId) (o : Option UidParts) (r : Result Board Refusal) (c : Board) → fitting us xs o r ≡ Ok c → (us ≡ []) × (xs ≡ [])
+none_left : (us xs : List SlotId) (o : Option UidParts) (r : Result Board Refusal) (c : Board)
+    → fitting us xs o r ≡ Ok c → (us ≡ []) × (xs ≡ [])
 none_left [] [] None r c h = (refl, refl)
 none_left [] [] (Some u) r c h = absurd (cc)
 none_left [] (x ∷ xs) o r c h = absurd (cc)
@@ -27,7 +28,8 @@ bound_link (Some (Link k t e)) l x h = cc
 
 -- the id of a link is bound to a link of the template that was named, and its slots are those that are bound
 pub granted : (b c : Board) (i l : List ℕ) (e : EnvParts) → link_step b i l e ≡ Ok c →
-    (t : BodyParts) × (bound_at b i ≡ Some (Template t)) × (bound_at c l ≡ Some (Link l t e)) × BindsExactly (body_slots t) e
+    (t : BodyParts) × (bound_at b i ≡ Some (Template t)) × (bound_at c l ≡ Some (Link l t e))
+    × BindsExactly (body_slots t) e
 granted b c i l e step =
     let undone = link_undone b c i l e step in
     let t = undone.0 in

@@ -62,7 +62,8 @@ none_unbound : (slots : List SlotId) (e : EnvParts) → ((s : SlotId) → is_amo
     → unbound slots e ≡ []
 none_unbound [] e f = refl
 none_unbound (x ∷ xs) e f =
-    rw (f x (on_the_left _ _ ((same_slot_decides x x).1 refl))) (none_unbound xs e (λ s p. f s (on_the_right (same_slot s x) _ p)))
+    rw (f x (on_the_left _ _ ((same_slot_decides x x).1 refl)))
+    (none_unbound xs e (λ s p. f s (on_the_right (same_slot s x) _ p)))
 
 not_listed : (a b : Bool) → a ≡ b → (a && not b) ≡ false
 not_listed true true h = refl

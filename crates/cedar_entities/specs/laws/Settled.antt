@@ -53,13 +53,15 @@ less_is Greater h = absurd h
 below_keys : {X : Type 0} (k : EntityUID) (es : List (EntityUID × X)) → T (below_all uid_order k es)
     → AllByRecursion (λ y. uid_order k y ≡ Less) (map (λ e. e.0) es)
 below_keys k [] h = tt
-below_keys k (e ∷ es) h = let p = T_parts (is_lt (uid_order k e.0)) (below_all uid_order k es) h in (less_is (uid_order k e.0) p.0, below_keys k es p.1)
+below_keys k (e ∷ es) h = let p = T_parts (is_lt (uid_order k e.0)) (below_all uid_order k es) h in
+    (less_is (uid_order k e.0) p.0, below_keys k es p.1)
 
 keys_ascend : {X : Type 0} (es : List (EntityUID × X)) → T (is_sorted uid_order es)
     → IsStrictlySortedBy uid_order (map (λ e. e.0) es)
 unfolding IsStrictlySortedBy
 keys_ascend [] h = tt
-keys_ascend (e ∷ es) h = let p = T_parts (below_all uid_order e.0 es) (is_sorted uid_order es) h in (below_keys e.0 es p.0, keys_ascend es p.1)
+keys_ascend (e ∷ es) h = let p = T_parts (below_all uid_order e.0 es) (is_sorted uid_order es) h in
+    (below_keys e.0 es p.0, keys_ascend es p.1)
 
 keyed : EntityUID → EntityUID × Unit {0}
 keyed k = (k, tt)
@@ -75,7 +77,8 @@ ascending ks = map (λ e. e.0) (finmap.entries (finmap.from_entries {R = uid_ord
 
 pub ascending_ascends : (ks : List EntityUID) → IsStrictlySortedBy uid_order (ascending ks)
 unfolding ascending
-ascending_ascends ks = let m = finmap.from_entries {R = uid_order} (map keyed ks) in keys_ascend (finmap.entries m) (finmap.entries_sorted m)
+ascending_ascends ks = let m = finmap.from_entries {R = uid_order} (map keyed ks) in
+    keys_ascend (finmap.entries m) (finmap.entries_sorted m)
 
 -- they are those of the list
 pub ascending_members : (ks : List EntityUID) (q : EntityUID)
@@ -156,11 +159,13 @@ reached_members W u q =
     let N = closure (graph W) (world_keys W) in
     let all = parents_of (finmap.entries W.entities) in
     let is = closure_is same_uid (graph W) (respects (graph W)) (world_keys W) (leaves W) u q in
-    let says = is_member-filter same_uid_equiv (N u) q (λ x e. ap (N u) ((same_uid_decides q x).0 e)) (ascending all) in (
+    let says = is_member-filter same_uid_equiv (N u) q
+    (λ x e. ap (N u) ((same_uid_decides q x).0 e)) (ascending all) in (
       λ h. is.0 (and_parts (is_member same_uid (ascending all) q) (N u q) (sym says ∙ h)).1,
       λ r.
           let c = reached_from (graph W) u q r in
-          let e = parent_held (finmap.entries W.entities) c.0 q (ap (λ o. is_parent_in o q) (sym (finmap.get-entries W.entities c.0)) ∙ c.1) in
+          let e = parent_held (finmap.entries W.entities) c.0 q
+          (ap (λ o. is_parent_in o q) (sym (finmap.get-entries W.entities c.0)) ∙ c.1) in
           says ∙ and_from (is_member same_uid (ascending all) q) (N u q) (ascending_members all q ∙ e) (is.1 r),
     )
 

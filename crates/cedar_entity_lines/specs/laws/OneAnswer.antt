@@ -47,8 +47,10 @@ are_ancestors : (W : World) (u : EntityUID) → AreAncestors W u (reached_list W
 are_ancestors W u = record { ascend = reached_ascend W u; reached = reached_members W u }
 
 shows_so : (W : World) (u : EntityUID) (b : Bool)
-    → (out : List ℕ) × MatchBool b ((uids : List EntityUID) × AreAncestors W u uids × (out ≡ written_line (codes "anc" ++ flat_map field_of uids))) (out ≡ written_line (codes "no entity"))
-shows_so W u true = (written_line (codes "anc" ++ flat_map field_of (reached_list W u)), (reached_list W u, are_ancestors W u, refl))
+    → (out : List ℕ) × MatchBool b ((uids : List EntityUID) × AreAncestors W u uids
+    × (out ≡ written_line (codes "anc" ++ flat_map field_of uids))) (out ≡ written_line (codes "no entity"))
+shows_so W u true =
+    (written_line (codes "anc" ++ flat_map field_of (reached_list W u)), (reached_list W u, are_ancestors W u, refl))
 shows_so W u false = (written_line (codes "no entity"), refl)
 
 shows : (W : World) (u : EntityUID) → (out : List ℕ) × ShowsAncestors W u out
@@ -69,7 +71,8 @@ entity_gives (Remove us) s = (
   count_line (deleted s.world us),
   (refl, (refl, refl)),
 )
-entity_gives (Slice us) s = let p = slice_there s.world us in (record { waiting = s.waiting; world = p.0 }, count_line p.0, (refl, (p.1, refl)))
+entity_gives (Slice us) s = let p = slice_there s.world us in
+    (record { waiting = s.waiting; world = p.0 }, count_line p.0, (refl, (p.1, refl)))
 entity_gives (Anc u) s = let a = shows s.world u in (s, a.0, (refl, a.1))
 
 -- what holds of all of a list holds of a part
@@ -108,7 +111,12 @@ agree_apart W L u f h = f.differs (all_at (Agrees W L) f.before f.at f.after
 
 one_adds : (base : World) (L : List Given) (V W : World) (out out' : List ℕ) → Adds base L V out → Adds base L W out'
     → (V ≡ W) × (out ≡ out')
-one_adds base L V W out out' (inl a) (inl b) = (a.2 ∙ sym b.2, a.3 ∙ ap (λ u. written_line (codes "refused: duplicate " ++ uid_text u)) (one_differs base L a.0 b.0 a.1 b.1) ∙ sym b.3)
+one_adds base L V W out out' (inl a) (inl b) = (
+  a.2 ∙ sym b.2,
+  a.3
+      ∙ ap (λ u. written_line (codes "refused: duplicate " ++ uid_text u)) (one_differs base L a.0 b.0 a.1 b.1)
+      ∙ sym b.3,
+)
 one_adds base L V W out out' (inl a) (inr (inl b)) = absurd (agree_apart base L a.0 a.1 b.0)
 one_adds base L V W out out' (inl a) (inr (inr b)) = absurd (agree_apart base L a.0 a.1 b.0.0)
 one_adds base L V W out out' (inr (inl a)) (inl b) = absurd (agree_apart base L b.0 b.1 a.0)
@@ -185,8 +193,12 @@ same_ascending [] (v ∷ vs) h k f g = absurd (false≢true (g v (here v vs)))
 same_ascending (u ∷ us) [] h k f g = absurd (false≢true (f u (here u us)))
 same_ascending (u ∷ us) (v ∷ vs) h k f g =
     let same : u ≡ v = heads_agree u v us vs h.0 k.0 (f u (here u us)) (g v (here v vs)) in
-    let forth = λ (q : EntityUID) (m : is_member same_uid us q ≡ true). in_tail u q us vs h.0 m (subst (λ x. is_member same_uid (x ∷ vs) q ≡ true) (sym same) (f q (or_right (same_uid q u) _ m))) in
-    let back = λ (q : EntityUID) (m : is_member same_uid vs q ≡ true). in_tail v q vs us k.0 m (subst (λ x. is_member same_uid (x ∷ us) q ≡ true) same (g q (or_right (same_uid q v) _ m))) in
+    let forth = λ (q : EntityUID) (m : is_member same_uid us q ≡ true).
+    in_tail u q us vs h.0 m
+    (subst (λ x. is_member same_uid (x ∷ vs) q ≡ true) (sym same) (f q (or_right (same_uid q u) _ m))) in
+    let back = λ (q : EntityUID) (m : is_member same_uid vs q ≡ true).
+    in_tail v q vs us k.0 m
+    (subst (λ x. is_member same_uid (x ∷ us) q ≡ true) same (g q (or_right (same_uid q v) _ m))) in
     λ i. same i ∷ same_ascending us vs h.1 k.1 forth back i
 
 one_ancestors : (W : World) (u : EntityUID) (us vs : List EntityUID) → AreAncestors W u us → AreAncestors W u vs
@@ -195,10 +207,13 @@ one_ancestors W u us vs a b = same_ascending us vs a.ascend b.ascend (λ q m. (b
     (λ q m. (a.reached q).1 ((b.reached q).0 m))
 
 one_shown : (W : World) (u : EntityUID) (out out' : List ℕ) (b : Bool)
-    → MatchBool b ((uids : List EntityUID) × AreAncestors W u uids × (out ≡ written_line (codes "anc" ++ flat_map field_of uids))) (out ≡ written_line (codes "no entity"))
-    → MatchBool b ((uids : List EntityUID) × AreAncestors W u uids × (out' ≡ written_line (codes "anc" ++ flat_map field_of uids))) (out' ≡ written_line (codes "no entity"))
+    → MatchBool b ((uids : List EntityUID) × AreAncestors W u uids
+    × (out ≡ written_line (codes "anc" ++ flat_map field_of uids))) (out ≡ written_line (codes "no entity"))
+    → MatchBool b ((uids : List EntityUID) × AreAncestors W u uids
+    × (out' ≡ written_line (codes "anc" ++ flat_map field_of uids))) (out' ≡ written_line (codes "no entity"))
     → out ≡ out'
-one_shown W u out out' true h k = h.2 ∙ ap (λ l. written_line (codes "anc" ++ flat_map field_of l)) (one_ancestors W u h.0 k.0 h.1 k.1) ∙ sym k.2
+one_shown W u out out' true h k =
+    h.2 ∙ ap (λ l. written_line (codes "anc" ++ flat_map field_of l)) (one_ancestors W u h.0 k.0 h.1 k.1) ∙ sym k.2
 one_shown W u out out' false h k = h ∙ sym k
 
 -- one list that waits and one world are one state

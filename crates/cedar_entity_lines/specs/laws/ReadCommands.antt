@@ -143,21 +143,28 @@ told_by w ts c h =
     (named_by c, f.1, ap (λ v. command_by v (named_by c)) f.0 ∙ read_back c)
 
 -- the first field tells which command there may be
-not_build : (w v : List ℕ) (ts : List (List ℕ)) (c : EntityCommand) → w ≡ v → bytes_eq v (codes "build") ≡ false → Build ≡ c → IsEntityCommand c (w ∷ ts) → ⊥
+not_build : (w v : List ℕ) (ts : List (List ℕ)) (c : EntityCommand) → w ≡ v → bytes_eq v (codes "build") ≡ false
+    → Build ≡ c → IsEntityCommand c (w ∷ ts) → ⊥
 not_build w v ts c e apart same h =
     let build : IsEntityCommand Build (w ∷ ts) = subst (λ d. IsEntityCommand d (w ∷ ts)) (sym same) h in
     differs v (codes "build") apart refl (sym e ∙ build.0)
 
-ent_told : (w : List ℕ) (ts : List (List ℕ)) (us : List EntityUID) → w ≡ codes "ent" → AreTexts us ts → ((p : EntityUID × List EntityUID) → AreTexts (p.0 ∷ p.1) ts → ⊥) → (c : EntityCommand) → command_by w us ≡ c → IsEntityCommand c (w ∷ ts) → ⊥
+ent_told : (w : List ℕ) (ts : List (List ℕ)) (us : List EntityUID) → w ≡ codes "ent" → AreTexts us ts
+    → ((p : EntityUID × List EntityUID) → AreTexts (p.0 ∷ p.1) ts → ⊥) → (c : EntityCommand) → command_by w us ≡ c
+    → IsEntityCommand c (w ∷ ts) → ⊥
 ent_told w ts [] e k none c same h = not_build w (codes "ent") ts c e refl (ap (λ v. command_by v []) (sym e) ∙ same) h
 ent_told w ts (u ∷ ps) e k none c same h = none (u, ps) k
 
 -- no entity
-pub not_ent : (w : List ℕ) (ts : List (List ℕ)) → w ≡ codes "ent" → ((p : EntityUID × List EntityUID) → AreTexts (p.0 ∷ p.1) ts → ⊥) → (c : EntityCommand) → IsEntityCommand c (w ∷ ts) → ⊥
+pub not_ent : (w : List ℕ) (ts : List (List ℕ)) → w ≡ codes "ent"
+    → ((p : EntityUID × List EntityUID) → AreTexts (p.0 ∷ p.1) ts → ⊥) → (c : EntityCommand)
+    → IsEntityCommand c (w ∷ ts) → ⊥
 not_ent w ts e none c h = let t = told_by w ts c h in ent_told w ts t.0 e t.1 none c t.2 h
 
 -- no removal
-pub not_remove : (w : List ℕ) (ts : List (List ℕ)) → w ≡ codes "remove" → ((us : List EntityUID) → (us ≡ [] → ⊥) × AreTexts us ts → ⊥) → (c : EntityCommand) → IsEntityCommand c (w ∷ ts) → ⊥
+pub not_remove : (w : List ℕ) (ts : List (List ℕ)) → w ≡ codes "remove"
+    → ((us : List EntityUID) → (us ≡ [] → ⊥) × AreTexts us ts → ⊥) → (c : EntityCommand) → IsEntityCommand c (w ∷ ts)
+    → ⊥
 not_remove w ts e none c h =
     let t = told_by w ts c h in
     let same : Remove t.0 ≡ c = ap (λ v. command_by v t.0) (sym e) ∙ t.2 in
@@ -165,14 +172,18 @@ not_remove w ts e none c h =
     none t.0 (r.1, t.1)
 
 -- no slice
-pub not_slice : (w : List ℕ) (ts : List (List ℕ)) → w ≡ codes "slice" → ((us : List EntityUID) → (us ≡ [] → ⊥) × AreTexts us ts → ⊥) → (c : EntityCommand) → IsEntityCommand c (w ∷ ts) → ⊥
+pub not_slice : (w : List ℕ) (ts : List (List ℕ)) → w ≡ codes "slice"
+    → ((us : List EntityUID) → (us ≡ [] → ⊥) × AreTexts us ts → ⊥) → (c : EntityCommand) → IsEntityCommand c (w ∷ ts)
+    → ⊥
 not_slice w ts e none c h =
     let t = told_by w ts c h in
     let same : Slice t.0 ≡ c = ap (λ v. command_by v t.0) (sym e) ∙ t.2 in
     let r : IsEntityCommand (Slice t.0) (w ∷ ts) = subst (λ d. IsEntityCommand d (w ∷ ts)) (sym same) h in
     none t.0 (r.1, t.1)
 
-anc_told : (w : List ℕ) (ts : List (List ℕ)) (us : List EntityUID) → w ≡ codes "anc" → ((u : EntityUID) → AreTexts (u ∷ []) ts → ⊥) → (c : EntityCommand) → command_by w us ≡ c → IsEntityCommand c (w ∷ ts) → ⊥
+anc_told : (w : List ℕ) (ts : List (List ℕ)) (us : List EntityUID) → w ≡ codes "anc"
+    → ((u : EntityUID) → AreTexts (u ∷ []) ts → ⊥) → (c : EntityCommand) → command_by w us ≡ c
+    → IsEntityCommand c (w ∷ ts) → ⊥
 anc_told w ts [] e none c same h = not_build w (codes "anc") ts c e refl (ap (λ v. command_by v []) (sym e) ∙ same) h
 anc_told w ts (u ∷ us) e none c same h =
     let is : Anc u ≡ c = ap (λ v. command_by v (u ∷ us)) (sym e) ∙ same in
@@ -180,7 +191,8 @@ anc_told w ts (u ∷ us) e none c same h =
     none u r.1
 
 -- no ancestors
-pub not_anc : (w : List ℕ) (ts : List (List ℕ)) → w ≡ codes "anc" → ((u : EntityUID) → AreTexts (u ∷ []) ts → ⊥) → (c : EntityCommand) → IsEntityCommand c (w ∷ ts) → ⊥
+pub not_anc : (w : List ℕ) (ts : List (List ℕ)) → w ≡ codes "anc" → ((u : EntityUID) → AreTexts (u ∷ []) ts → ⊥)
+    → (c : EntityCommand) → IsEntityCommand c (w ∷ ts) → ⊥
 not_anc w ts e none c h = let t = told_by w ts c h in anc_told w ts t.0 e none c t.2 h
 
 -- where the fields behind a word are no texts of uids, they are those of no command
@@ -189,7 +201,8 @@ no_uid_texts : (w : List ℕ) (ts : List (List ℕ)) → ((us : List EntityUID) 
 no_uid_texts w ts none c h = let t = told_by w ts c h in none t.0 t.1
 
 -- a word by itself is one of three commands or none
-pub not_word : (w : List ℕ) → (w ≡ codes "build" → ⊥) → (w ≡ codes "add" → ⊥) → (w ≡ codes "upsert" → ⊥) → (c : EntityCommand) → IsEntityCommand c (w ∷ []) → ⊥
+pub not_word : (w : List ℕ) → (w ≡ codes "build" → ⊥) → (w ≡ codes "add" → ⊥) → (w ≡ codes "upsert" → ⊥)
+    → (c : EntityCommand) → IsEntityCommand c (w ∷ []) → ⊥
 not_word w build add upsert (Ent u ps) h = h.1
 not_word w build add upsert Build h = build h.0
 not_word w build add upsert Add h = add h.0
@@ -201,7 +214,8 @@ not_word w build add upsert (Slice (u ∷ us)) h = h.0.1
 not_word w build add upsert (Anc u) h = h.1
 
 -- a word before other fields is that of an entity, of a removal, of a slice or of ancestors
-pub no_such_word : (w t : List ℕ) (ts : List (List ℕ)) → (w ≡ codes "ent" → ⊥) → (w ≡ codes "remove" → ⊥) → (w ≡ codes "slice" → ⊥) → (w ≡ codes "anc" → ⊥) → (c : EntityCommand) → IsEntityCommand c (w ∷ t ∷ ts) → ⊥
+pub no_such_word : (w t : List ℕ) (ts : List (List ℕ)) → (w ≡ codes "ent" → ⊥) → (w ≡ codes "remove" → ⊥)
+    → (w ≡ codes "slice" → ⊥) → (w ≡ codes "anc" → ⊥) → (c : EntityCommand) → IsEntityCommand c (w ∷ t ∷ ts) → ⊥
 no_such_word w t ts ent remove cut anc (Ent u ps) h = ent h.0
 no_such_word w t ts ent remove cut anc Build h = h.1
 no_such_word w t ts ent remove cut anc Add h = h.1
@@ -218,8 +232,11 @@ Found {X} P = ((x : X) × P x) ⊎ ((x : X) → P x → ⊥)
 
 read_so : (t : List ℕ) (r : Result (Option UidParts) ParseErrors) → uid_reading t ≡ r → Found (λ u. Text u t)
 read_so t (Ok (Some u)) e = inl (uids.EntityUID u, uid_found t u e)
-read_so t (Ok None) e = inr (λ v h. let f : Ok None ≡ Ok (Some (uid_parts v)) = sym e ∙ uid_reading-printed (uid_parts v) t h in absurd (cc))
-read_so t (Err x) e = inr (λ v h. let f : Err x ≡ Ok (Some (uid_parts v)) = sym e ∙ uid_reading-printed (uid_parts v) t h in absurd (cc))
+read_so t (Ok None) e =
+    inr (λ v h. let f : Ok None ≡ Ok (Some (uid_parts v)) = sym e ∙ uid_reading-printed (uid_parts v) t h in
+    absurd (cc))
+read_so t (Err x) e =
+    inr (λ v h. let f : Err x ≡ Ok (Some (uid_parts v)) = sym e ∙ uid_reading-printed (uid_parts v) t h in absurd (cc))
 
 -- the uid whose text a field is
 text_found : (t : List ℕ) → Found (λ u. Text u t)
@@ -269,7 +286,8 @@ two_or_none v vs (t ∷ ts) h k = k
 not_empty : (u : EntityUID) (us : List EntityUID) → u ∷ us ≡ [] → ⊥
 not_empty u us e = cc
 
-anc_found : (w t : List ℕ) (ts : List (List ℕ)) (u : EntityUID) (us : List EntityUID) → w ≡ codes "anc" → AreTexts (u ∷ us) (t ∷ ts) → Found (λ c. IsEntityCommand c (w ∷ t ∷ ts))
+anc_found : (w t : List ℕ) (ts : List (List ℕ)) (u : EntityUID) (us : List EntityUID) → w ≡ codes "anc"
+    → AreTexts (u ∷ us) (t ∷ ts) → Found (λ c. IsEntityCommand c (w ∷ t ∷ ts))
 anc_found w t ts u [] e h = inl (Anc u, (e, h))
 anc_found w t ts u (v ∷ vs) e h = inr (not_anc w (t ∷ ts) e (λ x k. two_or_none v vs ts h.1 k.1))
 

@@ -72,7 +72,8 @@ closed_over eq G via r P closed a b c (inl p) h k =
     elim (or_cases (G a b) (edges_by G via a b) h) [
       | inl ab ↦ elim (or_cases (G b c) (edges_by G via b c) k) [
         | inl bc ↦ or_left (G a c) (edges_by G via a c) (closed a b c p ab bc)
-        | inr by ↦ let q = and_parts (G b via) (G via c) by in or_right (G a c) (edges_by G via a c) (and_from _ _ (closed a b via p ab q.0) q.1)
+        | inr by ↦ let q = and_parts (G b via) (G via c) by in
+            or_right (G a c) (edges_by G via a c) (and_from _ _ (closed a b via p ab q.0) q.1)
       ]
       | inr by ↦ let q = and_parts (G a via) (G via b) by in elim (or_cases (G b c) (edges_by G via b c) k) [
         | inl bc ↦ or_right (G a c) (edges_by G via a c) (and_from _ _ q.0 (closed via b c p q.1 bc))

@@ -16,5 +16,6 @@ unfolding eid_of
 eid_found t e h =
     let p = chosen (is_ascii (decode t) && bytes_eq (escaped (decode t)) t) (decode t) e h in
     let a : is_ascii (decode t) ≡ true = first_so (is_ascii (decode t)) (bytes_eq (escaped (decode t)) t) p.0 in
-    let s : escaped (decode t) ≡ t = (bytes_eq-Decides (escaped (decode t)) t).0 (second_so (is_ascii (decode t)) (bytes_eq (escaped (decode t)) t) p.0) in
+    let s : escaped (decode t) ≡ t = (bytes_eq-Decides (escaped (decode t)) t).0
+    (second_so (is_ascii (decode t)) (bytes_eq (escaped (decode t)) t) p.0) in
     (sym (ap is_ascii p.1) ∙ a, sym s ∙ ap escaped p.1)

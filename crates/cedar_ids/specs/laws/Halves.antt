@@ -26,7 +26,8 @@ first_text-none : (p s : List ℕ) → ((i : ℕ) → i ≤ length s → (rest :
     → first_text p s ≡ None
 unfolding first_text
 first_text-none p [] h = refl
-first_text-none p (b ∷ bs) h = rw (starts_not p (b ∷ bs) (h 0 (omega arith)), first_text-none p bs (λ i l rest. h (suc i) (omega arith) rest)) refl
+first_text-none p (b ∷ bs) h =
+    rw (starts_not p (b ∷ bs) (h 0 (omega arith)), first_text-none p bs (λ i l rest. h (suc i) (omega arith) rest)) refl
 
 first_text-at : (p s : List ℕ) (i : ℕ) (rest : List ℕ) → 0 < length p
     → ((k : ℕ) → k < i → (r : List ℕ) → drop k s ≢ p ++ r) → drop i s ≡ p ++ rest
@@ -35,7 +36,11 @@ unfolding first_text
 first_text-at p [] zero rest l h e = absurd (no_front p rest l e)
 first_text-at p [] (suc i) rest l h e = absurd (no_front p rest l e)
 first_text-at p (b ∷ bs) zero rest l h e = rw (starts_so p (b ∷ bs) rest e, front_rest (b ∷ bs) p rest e) refl
-first_text-at p (b ∷ bs) (suc i) rest l h e = rw (starts_not p (b ∷ bs) (h 0 (omega arith)), first_text-at p bs i rest l (λ k m r. h (suc k) (omega arith) r) e) refl
+first_text-at p (b ∷ bs) (suc i) rest l h e =
+    rw (
+      starts_not p (b ∷ bs) (h 0 (omega arith)),
+      first_text-at p bs i rest l (λ k m r. h (suc k) (omega arith) r) e,
+    ) refl
 
 -- what `split_once` says, as `first_text`
 pub split_found : (p s : List ℕ) (r : Option (Bor (List ℕ) × Bor (List ℕ))) → 0 < length p
@@ -47,7 +52,8 @@ split_found p s (Some x) l h = rw (h.3, h.4) (sym (first_text-at p s h.0 (drop h
 before_quote-none : (s : List ℕ) → ((front : List ℕ) → s ≢ front ++ 34 ∷ []) → before_quote s ≡ None
 unfolding before_quote
 before_quote-none [] h = refl
-before_quote-none (b ∷ []) h = elim (eqb_tells b 34) as (λ _. before_quote (b ∷ []) ≡ None) [ inl w ↦ absurd (h [] (ap (λ y. y ∷ []) w.1)) | inr w ↦ rw w.0 refl ]
+before_quote-none (b ∷ []) h = elim (eqb_tells b 34) as (λ _. before_quote (b ∷ []) ≡ None)
+    [ inl w ↦ absurd (h [] (ap (λ y. y ∷ []) w.1)) | inr w ↦ rw w.0 refl ]
 before_quote-none (b ∷ c ∷ bs) h = rw (before_quote-none (c ∷ bs) (λ front e. h (b ∷ front) (ap (λ y. b ∷ y) e))) refl
 
 pub halves_no_quote : (s : List ℕ) → ((front : List ℕ) → s ≢ front ++ 34 ∷ []) → None ≡ uid_halves s

@@ -53,8 +53,12 @@ pub id_parts : (c : List ℕ) → is_id c ≡ true → list_all is_id_part c ≡
 unfolding is_id
 id_parts [] h = refl
 id_parts (b ∷ bs) h =
-    let i : (is_id_start b && list_all is_id_part bs) ≡ true = first_so (is_identifier (b ∷ bs)) (not (is_reserved (b ∷ bs))) h in
-    rw (start_is_part b (first_so (is_id_start b) (list_all is_id_part bs) i), second_so (is_id_start b) (list_all is_id_part bs) i) refl
+    let i : (is_id_start b && list_all is_id_part bs) ≡ true =
+    first_so (is_identifier (b ∷ bs)) (not (is_reserved (b ∷ bs))) h in
+    rw (
+      start_is_part b (first_so (is_id_start b) (list_all is_id_part bs) i),
+      second_so (is_id_start b) (list_all is_id_part bs) i,
+    ) refl
 
 part_first : (b : ℕ) (bs : List ℕ) → list_all is_id_part (b ∷ bs) ≡ true → (b == 58) ≡ false
 part_first b bs h = colon_not b (first_so (is_id_part b) (list_all is_id_part bs) h)

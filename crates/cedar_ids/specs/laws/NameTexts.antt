@@ -64,7 +64,8 @@ split_more false o m e = absurd (cc)
 pub all_push : (p : List (List ℕ)) (c : List ℕ) → list_all is_id p ≡ true → is_id c ≡ true
     → list_all is_id (p ++ c ∷ []) ≡ true
 all_push [] c h k = rw k refl
-all_push (x ∷ xs) c h k = rw (first_so (is_id x) (list_all is_id xs) h, all_push xs c (second_so (is_id x) (list_all is_id xs) h) k) refl
+all_push (x ∷ xs) c h k =
+    rw (first_so (is_id x) (list_all is_id xs) h, all_push xs c (second_so (is_id x) (list_all is_id xs) h) k) refl
 
 marks_push : (p : List (List ℕ)) (c rest : List ℕ) → flat_map before_mark (p ++ c ∷ []) ++ rest
     ≡ flat_map before_mark p ++ (c ++ (58 ∷ 58 ∷ rest))

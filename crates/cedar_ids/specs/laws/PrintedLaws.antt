@@ -48,23 +48,36 @@ and_false false b = refl
 no_start : (b c d : ℕ) (bs : List ℕ) → (34 == d) ≡ false → starts_with nat_eq (b ∷ c ∷ d ∷ bs) (codes "::\"") ≡ false
 no_start b c d bs h = rw h (and_false _ _)
 
-pub first_text-found : (x rest : List ℕ) → list_all no_quote x ≡ true → first_text (codes "::\"") (x ++ (codes "::\"" ++ rest)) ≡ Some (x, rest)
+pub first_text-found : (x rest : List ℕ) → list_all no_quote x ≡ true
+    → first_text (codes "::\"") (x ++ (codes "::\"" ++ rest)) ≡ Some (x, rest)
 unfolding first_text
 first_text-found [] rest h = refl
 first_text-found (b ∷ []) rest h = rw (no_start b 58 58 (34 ∷ rest) refl) refl
-first_text-found (b ∷ c ∷ []) rest h = rw (no_start b c 58 (58 ∷ 34 ∷ rest) refl, first_text-found (c ∷ []) rest (second_so (no_quote b) (list_all no_quote (c ∷ [])) h)) refl
+first_text-found (b ∷ c ∷ []) rest h =
+    rw (
+      no_start b c 58 (58 ∷ 34 ∷ rest) refl,
+      first_text-found (c ∷ []) rest (second_so (no_quote b) (list_all no_quote (c ∷ [])) h),
+    ) refl
 first_text-found (b ∷ c ∷ d ∷ bs) rest h =
     let k : list_all no_quote (c ∷ d ∷ bs) ≡ true = second_so (no_quote b) (list_all no_quote (c ∷ d ∷ bs)) h in
     let m : list_all no_quote (d ∷ bs) ≡ true = second_so (no_quote c) (list_all no_quote (d ∷ bs)) k in
-    rw (no_start b c d (bs ++ (58 ∷ 58 ∷ 34 ∷ rest)) (quote_not d (first_so (no_quote d) (list_all no_quote bs) m)), first_text-found (c ∷ d ∷ bs) rest k) refl
+    rw (
+      no_start b c d (bs ++ (58 ∷ 58 ∷ 34 ∷ rest)) (quote_not d (first_so (no_quote d) (list_all no_quote bs) m)),
+      first_text-found (c ∷ d ∷ bs) rest k,
+    ) refl
 
 part_no_quote : (b : ℕ) → is_id_part b ≡ true → no_quote b ≡ true
 unfolding no_quote
-part_no_quote b h = elim (eqb_tells 34 b) as (λ _. not (34 == b) ≡ true) [ inl w ↦ absurd (false≢true (ap is_id_part w.1 ∙ h)) | inr w ↦ rw w.0 refl ]
+part_no_quote b h = elim (eqb_tells 34 b) as (λ _. not (34 == b) ≡ true)
+    [ inl w ↦ absurd (false≢true (ap is_id_part w.1 ∙ h)) | inr w ↦ rw w.0 refl ]
 
 pub parts_no_quote : (c : List ℕ) → list_all is_id_part c ≡ true → list_all no_quote c ≡ true
 parts_no_quote [] h = refl
-parts_no_quote (b ∷ bs) h = rw (part_no_quote b (first_so (is_id_part b) (list_all is_id_part bs) h), parts_no_quote bs (second_so (is_id_part b) (list_all is_id_part bs) h)) refl
+parts_no_quote (b ∷ bs) h =
+    rw (
+      part_no_quote b (first_so (is_id_part b) (list_all is_id_part bs) h),
+      parts_no_quote bs (second_so (is_id_part b) (list_all is_id_part bs) h),
+    ) refl
 
 pub marks_no_quote : (p : List (List ℕ)) (rest : List ℕ) → list_all is_id p ≡ true → list_all no_quote rest ≡ true
     → list_all no_quote (flat_map before_mark p ++ rest) ≡ true
@@ -81,7 +94,8 @@ marks_no_quote (c ∷ cs) rest h k =
 pub halves-printed : (u : UidParts) → IsName u.name → uid_halves (printed_uid u)
     ≡ Some (printed_name u.name, escaped u.eid)
 halves-printed u h =
-    sym (halves_quote (printed_uid u) (printed_name u.name ++ (codes "::\"" ++ escaped u.eid)) (sym (append_assoc (printed_name u.name) (codes "::\"" ++ escaped u.eid) (34 ∷ []))))
+    sym (halves_quote (printed_uid u) (printed_name u.name ++ (codes "::\"" ++ escaped u.eid))
+    (sym (append_assoc (printed_name u.name) (codes "::\"" ++ escaped u.eid) (34 ∷ []))))
     ∙ first_text-found (printed_name u.name) (escaped u.eid)
     (marks_no_quote u.name.path u.name.basename h.0 (parts_no_quote u.name.basename (id_parts u.name.basename h.1)))
 

@@ -47,7 +47,8 @@ first_text_sound p (b ∷ bs) x y e =
     (option_map (onto_front b) (first_text p bs)) (Some (x, y)) e) as (λ _. b ∷ bs ≡ x ++ (p ++ y)) [
       | inl w ↦
           let q : ◌≡◌ {A = List ℕ × List ℕ} ([], drop (length p) (b ∷ bs)) (x, y) = cc in
-          let f : b ∷ bs ≡ p ++ drop (length p) (b ∷ bs) = (starts_is unsigned_Decides (b ∷ bs) p (starts_with nat_eq (b ∷ bs) p) refl).0 w.0 in
+          let f : b ∷ bs ≡ p ++ drop (length p) (b ∷ bs) =
+          (starts_is unsigned_Decides (b ∷ bs) p (starts_with nat_eq (b ∷ bs) p) refl).0 w.0 in
           f ∙ ap (λ (z : List ℕ × List ℕ). z.0 ++ (p ++ z.1)) q
       | inr w ↦
           let r = onto_some b (first_text p bs) x y w.1 in
@@ -116,7 +117,12 @@ uid_found t u h =
     let d = eid_found q.0.1 r.1 r.3 in
     let s = halves_sound t q.0.0 q.0.1 q.1 in
     let P : UidParts → Type 0 = λ v. IsPrinted v t in
-    subst P r.4 (n.0, d.0, s ∙ ap (λ z. z ++ (codes "::\"" ++ (q.0.1 ++ codes "\""))) n.1 ∙ ap (λ z. printed_name r.0 ++ (codes "::\"" ++ (z ++ codes "\""))) d.1)
+    subst P r.4 (
+      n.0,
+      d.0,
+      s ∙ ap (λ z. z ++ (codes "::\"" ++ (q.0.1 ++ codes "\""))) n.1
+          ∙ ap (λ z. printed_name r.0 ++ (codes "::\"" ++ (z ++ codes "\""))) d.1,
+    )
 
 -- ---- the first mark
 
@@ -179,11 +185,17 @@ split_text t f b h = halves_quote t (f ++ (codes "::\"" ++ b)) (h ∙ sym (appen
 
 -- a text with no halves lacks its marks
 pub no_marks : (t : List ℕ) → uid_halves t ≡ None → HasMarks t → ⊥
-no_marks t e h = first_text_nowhere (codes "::\"") (h.0 ++ (codes "::\"" ++ h.1)) h.0 h.1 (lit< tt) refl (split_text t h.0 h.1 h.2 ∙ e)
+no_marks t e h =
+    first_text_nowhere (codes "::\"") (h.0 ++ (codes "::\"" ++ h.1)) h.0 h.1 (lit< tt) refl (split_text t h.0 h.1 h.2
+    ∙ e)
 
 -- the halves are those at the first mark
 pub first_split : (t n e : List ℕ) → uid_halves t ≡ Some (n, e) → IsFirstSplit n e t
-first_split t n e h = (halves_sound t n e h, λ f b s. first_text_least (codes "::\"") (f ++ (codes "::\"" ++ b)) n e f b (lit< tt) refl (split_text t f b s ∙ h))
+first_split t n e h = (
+  halves_sound t n e h,
+  λ f b s. first_text_least (codes "::\"") (f ++ (codes "::\"" ++ b)) n e f b (lit< tt) refl (split_text t f b s
+      ∙ h),
+)
 
 -- the first half, where it is the text of a name
 pub starts_named : (t m e : List ℕ) (n : NameParts) → uid_halves t ≡ Some (m, e) → IsNameText n m → StartsWithName n t
@@ -196,6 +208,7 @@ pub named_half : (t m e : List ℕ) (n : NameParts) → uid_halves t ≡ Some (m
 named_half t m e n h k =
     let q : ◌≡◌ {A = Option (List ℕ × List ℕ)} (Some (m, e)) (Some (printed_name n, k.1.0)) =
     sym h ∙ sym (split_text t (printed_name n) k.1.0 k.1.1.0)
-    ∙ first_text-found (printed_name n) k.1.0 (marks_no_quote n.path n.basename k.0.0 (parts_no_quote n.basename (id_parts n.basename k.0.1))) in
+    ∙ first_text-found (printed_name n) k.1.0
+    (marks_no_quote n.path n.basename k.0.0 (parts_no_quote n.basename (id_parts n.basename k.0.1))) in
     let r : ◌≡◌ {A = List ℕ × List ℕ} (m, e) (printed_name n, k.1.0) = cc in
     (k.0, ap (λ (z : List ℕ × List ℕ). z.0) r)

@@ -37,7 +37,8 @@ grows_by : (bound : List ℕ → Bool) (m n : ℕ) → m < suc n → bound (numb
     → (m < n → free_below bound m < free_below bound n) → (m < n) ⊎ ((m ≡ n) ⊎ (n < m))
     → free_below bound m < free_below bound (suc n)
 grows_by bound m n l e before (inl k) = let g = before k in let s = more_below bound n in omega arith
-grows_by bound m n l e before (inr (inl same)) = let c = counted bound m e in subst (λ x. free_below bound m < free_below bound (suc x)) same (omega arith)
+grows_by bound m n l e before (inr (inl same)) = let c = counted bound m e in
+    subst (λ x. free_below bound m < free_below bound (suc x)) same (omega arith)
 grows_by bound m n l e before (inr (inr k)) = absurd (omega arith)
 
 -- past the number of a free id there are more
@@ -49,7 +50,8 @@ one_by : (bound : List ℕ → Bool) (k m n : ℕ) → IsFree bound k m → IsFr
     → m ≡ n
 one_by bound k m n f g (inl l) = let h = grows bound m n l f.0 in let a = f.1 in let b = g.1 in absurd (omega arith)
 one_by bound k m n f g (inr (inl e)) = e
-one_by bound k m n f g (inr (inr l)) = let h = grows bound n m l g.0 in let a = f.1 in let b = g.1 in absurd (omega arith)
+one_by bound k m n f g (inr (inr l)) = let h = grows bound n m l g.0 in let a = f.1 in let b = g.1 in
+    absurd (omega arith)
 
 -- the k-th free id is one
 one_free : (bound : List ℕ → Bool) (k m n : ℕ) → IsFree bound k m → IsFree bound k n → m ≡ n
@@ -85,7 +87,8 @@ same_pairs (x ∷ r) (y ∷ s) k v =
 pub one_renaming : (h o : Board) (r s : List (List ℕ × List ℕ)) → IsRenaming h o r → IsRenaming h o s → r ≡ s
 one_renaming h o r s a b =
     let keys = a.0 ∙ sym b.0 in
-    let counts = length-values_of r ∙ sym (length-keys_of r) ∙ ap length keys ∙ length-keys_of s ∙ sym (length-values_of s) in
+    let counts = length-values_of r ∙ sym (length-keys_of r) ∙ ap length keys ∙ length-keys_of s
+    ∙ sym (length-values_of s) in
     same_pairs r s keys (same_lists (is_bound_in_either h o) 0 (values_of r) (values_of s) counts a.1 b.1)
 
 -- ---- some
@@ -126,11 +129,13 @@ paired : (ks vs : List (List ℕ)) → length vs ≡ length ks → (r : List (Li
 paired [] [] e = ([], refl, refl)
 paired [] (v ∷ vs) e = absurd (omega arith)
 paired (k ∷ ks) [] e = absurd (omega arith)
-paired (k ∷ ks) (v ∷ vs) e = let p = paired ks vs (omega arith) in ((k, v) ∷ p.0, ap (λ l. k ∷ l) p.1, ap (λ l. v ∷ l) p.2)
+paired (k ∷ ks) (v ∷ vs) e = let p = paired ks vs (omega arith) in
+    ((k, v) ∷ p.0, ap (λ l. k ∷ l) p.1, ap (λ l. v ∷ l) p.2)
 
 -- there is a renaming of a merge
 pub renaming_of : (h o : Board) → (r : List (List ℕ × List ℕ)) × IsRenaming h o r
 renaming_of h o =
-    let v = free_list (is_bound_in_either h o) (ids_of h ++ ids_of o) (either_among_ids h o) 0 (length (conflicts h o)) in
+    let v = free_list (is_bound_in_either h o) (ids_of h ++ ids_of o) (either_among_ids h o) 0
+    (length (conflicts h o)) in
     let p = paired (conflicts h o) v.0 v.1 in
     (p.0, (p.1, subst (AreFree (is_bound_in_either h o) 0) (sym p.2) v.2))

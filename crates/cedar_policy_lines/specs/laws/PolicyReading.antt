@@ -22,7 +22,8 @@ use Rattle.cedar_policy_lines.specs.declared.field.TemplateSlots.TheVariants.{On
 
 -- the effect of a word
 abbrev pub effect_of : List ℕ → Option Effect
-effect_of w = if same_text w (codes "permit") then Some Permit else if same_text w (codes "forbid") then Some Forbid else None
+effect_of w =
+    if same_text w (codes "permit") then Some Permit else if same_text w (codes "forbid") then Some Forbid else None
 
 -- the slots of a word
 abbrev pub slots_of : List ℕ → Option TemplateSlots
@@ -37,7 +38,8 @@ slots_of w =
 
 -- whether a word asks for renaming
 abbrev pub renaming_of : List ℕ → Option Bool
-renaming_of w = if same_text w (codes "keep") then Some false else if same_text w (codes "rename") then Some true else None
+renaming_of w =
+    if same_text w (codes "keep") then Some false else if same_text w (codes "rename") then Some true else None
 
 -- the uid with an ASCII eid that a text was read as, if it was
 abbrev pub read_uid : Result (Option UidParts) ParseErrors → Option UidParts

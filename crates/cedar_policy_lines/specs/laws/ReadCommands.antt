@@ -103,43 +103,63 @@ word_is : (w v : List ℕ) → same_text w v ≡ true → w ≡ v
 word_is w v = (same_text_decides w v).0
 
 effect_found : (w : List ℕ) (e : Effect) → effect_of w ≡ Some e → w ≡ effect_word e
-effect_found w e h = elim (chosen (same_text w (codes "permit")) (Some Permit) (if same_text w (codes "forbid") then Some Forbid else None) e h) [
-  | inl k ↦ word_is w (codes "permit") k.0 ∙ ap effect_word (some_is k.1)
-  | inr j ↦ elim (chosen (same_text w (codes "forbid")) (Some Forbid) None e j) [
-    | inl k ↦ word_is w (codes "forbid") k.0 ∙ ap effect_word (some_is k.1)
-    | inr k ↦ absurd (not_some k)
-  ]
-]
-
-slots_found : (w : List ℕ) (s : TemplateSlots) → slots_of w ≡ Some s → w ≡ slots_word s
-slots_found w s h = elim (chosen (same_text w (codes "none")) (Some NoSlots) (if same_text w (codes "principal") then Some OnPrincipal else if same_text w (codes "action") then Some OnAction else if same_text w (codes "resource") then Some OnResource else if same_text w (codes "both") then Some OnBoth else if same_text w (codes "all") then Some OnAll else None) s h) [
-  | inl k ↦ word_is w (codes "none") k.0 ∙ ap slots_word (some_is k.1)
-  | inr h2 ↦ elim (chosen (same_text w (codes "principal")) (Some OnPrincipal) (if same_text w (codes "action") then Some OnAction else if same_text w (codes "resource") then Some OnResource else if same_text w (codes "both") then Some OnBoth else if same_text w (codes "all") then Some OnAll else None) s h2) [
-    | inl k ↦ word_is w (codes "principal") k.0 ∙ ap slots_word (some_is k.1)
-    | inr h3 ↦ elim (chosen (same_text w (codes "action")) (Some OnAction) (if same_text w (codes "resource") then Some OnResource else if same_text w (codes "both") then Some OnBoth else if same_text w (codes "all") then Some OnAll else None) s h3) [
-      | inl k ↦ word_is w (codes "action") k.0 ∙ ap slots_word (some_is k.1)
-      | inr h4 ↦ elim (chosen (same_text w (codes "resource")) (Some OnResource) (if same_text w (codes "both") then Some OnBoth else if same_text w (codes "all") then Some OnAll else None) s h4) [
-        | inl k ↦ word_is w (codes "resource") k.0 ∙ ap slots_word (some_is k.1)
-        | inr h5 ↦ elim (chosen (same_text w (codes "both")) (Some OnBoth) (if same_text w (codes "all") then Some OnAll else None) s h5) [
-          | inl k ↦ word_is w (codes "both") k.0 ∙ ap slots_word (some_is k.1)
-          | inr h6 ↦ elim (chosen (same_text w (codes "all")) (Some OnAll) None s h6) [
-            | inl k ↦ word_is w (codes "all") k.0 ∙ ap slots_word (some_is k.1)
-            | inr k ↦ absurd (not_some k)
-          ]
-        ]
+effect_found w e h =
+    elim (chosen (same_text w (codes "permit")) (Some Permit) (if same_text w (codes "forbid") then Some Forbid
+    else None) e h) [
+      | inl k ↦ word_is w (codes "permit") k.0 ∙ ap effect_word (some_is k.1)
+      | inr j ↦ elim (chosen (same_text w (codes "forbid")) (Some Forbid) None e j) [
+        | inl k ↦ word_is w (codes "forbid") k.0 ∙ ap effect_word (some_is k.1)
+        | inr k ↦ absurd (not_some k)
       ]
     ]
-  ]
-]
+
+slots_found : (w : List ℕ) (s : TemplateSlots) → slots_of w ≡ Some s → w ≡ slots_word s
+slots_found w s h =
+    elim (chosen (same_text w (codes "none")) (Some NoSlots) (if same_text w (codes "principal") then Some OnPrincipal
+    else if same_text w (codes "action") then Some OnAction
+    else if same_text w (codes "resource") then Some OnResource else if same_text w (codes "both") then Some OnBoth
+    else if same_text w (codes "all") then Some OnAll else None) s h) [
+      | inl k ↦ word_is w (codes "none") k.0 ∙ ap slots_word (some_is k.1)
+      | inr h2 ↦
+          elim (chosen (same_text w (codes "principal")) (Some OnPrincipal)
+          (if same_text w (codes "action") then Some OnAction else if same_text w (codes "resource") then Some OnResource
+          else if same_text w (codes "both") then Some OnBoth else if same_text w (codes "all") then Some OnAll
+          else None) s h2) [
+            | inl k ↦ word_is w (codes "principal") k.0 ∙ ap slots_word (some_is k.1)
+            | inr h3 ↦
+                elim (chosen (same_text w (codes "action")) (Some OnAction)
+                (if same_text w (codes "resource") then Some OnResource else if same_text w (codes "both") then Some OnBoth
+                else if same_text w (codes "all") then Some OnAll else None) s h3) [
+                  | inl k ↦ word_is w (codes "action") k.0 ∙ ap slots_word (some_is k.1)
+                  | inr h4 ↦
+                      elim (chosen (same_text w (codes "resource")) (Some OnResource)
+                      (if same_text w (codes "both") then Some OnBoth else if same_text w (codes "all") then Some OnAll
+                      else None) s h4) [
+                        | inl k ↦ word_is w (codes "resource") k.0 ∙ ap slots_word (some_is k.1)
+                        | inr h5 ↦
+                            elim (chosen (same_text w (codes "both")) (Some OnBoth) (if same_text w (codes "all") then Some OnAll
+                            else None) s h5) [
+                              | inl k ↦ word_is w (codes "both") k.0 ∙ ap slots_word (some_is k.1)
+                              | inr h6 ↦ elim (chosen (same_text w (codes "all")) (Some OnAll) None s h6) [
+                                | inl k ↦ word_is w (codes "all") k.0 ∙ ap slots_word (some_is k.1)
+                                | inr k ↦ absurd (not_some k)
+                              ]
+                            ]
+                      ]
+                ]
+          ]
+    ]
 
 renaming_found : (w : List ℕ) (r : Bool) → renaming_of w ≡ Some r → w ≡ renaming_word r
-renaming_found w r h = elim (chosen (same_text w (codes "keep")) (Some false) (if same_text w (codes "rename") then Some true else None) r h) [
-  | inl k ↦ word_is w (codes "keep") k.0 ∙ ap renaming_word (some_is k.1)
-  | inr j ↦ elim (chosen (same_text w (codes "rename")) (Some true) None r j) [
-    | inl k ↦ word_is w (codes "rename") k.0 ∙ ap renaming_word (some_is k.1)
-    | inr k ↦ absurd (not_some k)
-  ]
-]
+renaming_found w r h =
+    elim (chosen (same_text w (codes "keep")) (Some false) (if same_text w (codes "rename") then Some true
+    else None) r h) [
+      | inl k ↦ word_is w (codes "keep") k.0 ∙ ap renaming_word (some_is k.1)
+      | inr j ↦ elim (chosen (same_text w (codes "rename")) (Some true) None r j) [
+        | inl k ↦ word_is w (codes "rename") k.0 ∙ ap renaming_word (some_is k.1)
+        | inr k ↦ absurd (not_some k)
+      ]
+    ]
 
 behind_found : (mark f t : List ℕ) → behind mark f ≡ Some t → f ≡ mark ++ t
 behind_found mark f t h = elim (chosen (starts_with nat_eq f mark) (Some (drop (length mark) f)) None t h) [
@@ -198,19 +218,23 @@ only_is [] w h = absurd (not_some h)
 only_is (f ∷ []) w h = ap (λ x. x ∷ []) (some_is h)
 only_is (f ∷ g ∷ fs) w h = absurd (not_some h)
 
-static_found : (fs : List (List ℕ)) (c : PolicyCommand) → static_of fs ≡ Some c → IsPolicyCommand c (codes "static" ∷ fs)
+static_found : (fs : List (List ℕ)) (c : PolicyCommand) → static_of fs ≡ Some c
+    → IsPolicyCommand c (codes "static" ∷ fs)
 static_found [] c h = absurd (not_some h)
 static_found (i ∷ fs) c h =
     let m = mapped (Static i) (option_and_then effect_of (only fs)) c h in
     let n = gone_on effect_of (only fs) m.0 m.1 in
-    subst (λ d. IsPolicyCommand d (codes "static" ∷ i ∷ fs)) m.2 (ap (λ l. codes "static" ∷ i ∷ l) (only_is fs n.0 n.1 ∙ ap (λ w. w ∷ []) (effect_found n.0 m.0 n.2)))
+    subst (λ d. IsPolicyCommand d (codes "static" ∷ i ∷ fs)) m.2
+    (ap (λ l. codes "static" ∷ i ∷ l) (only_is fs n.0 n.1 ∙ ap (λ w. w ∷ []) (effect_found n.0 m.0 n.2)))
 
-template_found : (fs : List (List ℕ)) (c : PolicyCommand) → template_of fs ≡ Some c → IsPolicyCommand c (codes "template" ∷ fs)
+template_found : (fs : List (List ℕ)) (c : PolicyCommand) → template_of fs ≡ Some c
+    → IsPolicyCommand c (codes "template" ∷ fs)
 template_found [] c h = absurd (not_some h)
 template_found (i ∷ fs) c h =
     let m = mapped (Template i) (option_and_then slots_of (only fs)) c h in
     let n = gone_on slots_of (only fs) m.0 m.1 in
-    subst (λ d. IsPolicyCommand d (codes "template" ∷ i ∷ fs)) m.2 (ap (λ l. codes "template" ∷ i ∷ l) (only_is fs n.0 n.1 ∙ ap (λ w. w ∷ []) (slots_found n.0 m.0 n.2)))
+    subst (λ d. IsPolicyCommand d (codes "template" ∷ i ∷ fs)) m.2
+    (ap (λ l. codes "template" ∷ i ∷ l) (only_is fs n.0 n.1 ∙ ap (λ w. w ∷ []) (slots_found n.0 m.0 n.2)))
 
 link_found : (fs : List (List ℕ)) (c : PolicyCommand) → link_of fs ≡ Some c → IsPolicyCommand c (codes "link" ∷ fs)
 link_found [] c h = absurd (not_some h)
@@ -219,7 +243,8 @@ link_found (t ∷ l ∷ fs) c h =
     let m = mapped (Link t l) (bindings_of fs) c h in
     subst (λ d. IsPolicyCommand d (codes "link" ∷ t ∷ l ∷ fs)) m.2 (fs, bindings_found fs m.0 m.1, refl)
 
-unlink_found : (fs : List (List ℕ)) (c : PolicyCommand) → unlink_of fs ≡ Some c → IsPolicyCommand c (codes "unlink" ∷ fs)
+unlink_found : (fs : List (List ℕ)) (c : PolicyCommand) → unlink_of fs ≡ Some c
+    → IsPolicyCommand c (codes "unlink" ∷ fs)
 unlink_found fs c h =
     let m = mapped Unlink (only fs) c h in
     subst (λ d. IsPolicyCommand d (codes "unlink" ∷ fs)) m.2 (ap (λ l. codes "unlink" ∷ l) (only_is fs m.0 m.1))
@@ -228,7 +253,8 @@ merge_found : (fs : List (List ℕ)) (c : PolicyCommand) → merge_of fs ≡ Som
 merge_found fs c h =
     let m = mapped Merge (option_and_then renaming_of (only fs)) c h in
     let n = gone_on renaming_of (only fs) m.0 m.1 in
-    subst (λ d. IsPolicyCommand d (codes "merge" ∷ fs)) m.2 (ap (λ l. codes "merge" ∷ l) (only_is fs n.0 n.1 ∙ ap (λ w. w ∷ []) (renaming_found n.0 m.0 n.2)))
+    subst (λ d. IsPolicyCommand d (codes "merge" ∷ fs)) m.2
+    (ap (λ l. codes "merge" ∷ l) (only_is fs n.0 n.1 ∙ ap (λ w. w ∷ []) (renaming_found n.0 m.0 n.2)))
 
 bare_found : (w : List ℕ) (d : PolicyCommand) (fs : List (List ℕ)) (c : PolicyCommand) → IsPolicyCommand d (w ∷ [])
     → bare_of d fs ≡ Some c → IsPolicyCommand c (w ∷ fs)

@@ -30,7 +30,8 @@ body_id t = t.id
 apart : (ts : List BodyParts) (i j : List ℕ) (t : BodyParts) → find (is_body_at i) ts ≡ Some t
     → list_any (is_body_at j) ts ≡ false → (v : Bool) → same_text i j ≡ v → v ≡ false
 apart ts i j t f n true e =
-    let none : find (is_body_at i) ts ≡ None = find-unless (is_body_at i) ts (ap (λ k. list_any (is_body_at k) ts) ((same_text_decides i j).0 e) ∙ n) in
+    let none : find (is_body_at i) ts ≡ None =
+    find-unless (is_body_at i) ts (ap (λ k. list_any (is_body_at k) ts) ((same_text_decides i j).0 e) ∙ n) in
     absurd (cc (none, f))
 apart ts i j t f n false e = refl
 
@@ -240,7 +241,9 @@ linked_by : (o : Option (List ℕ)) (b : Board) (i : List ℕ) (p q : PolicyPart
     → (is_some o && same_text i p.template.id) ≡ v → v ≡ false
 linked_by None b i p q f h v e = sym e
 linked_by (Some l) b i p q f h true e =
-    let none : find (is_policy_at i) b.policies ≡ None = find-unless (is_policy_at i) b.policies (ap (λ k. list_any (is_policy_at k) b.policies) ((same_text_decides i p.template.id).0 e) ∙ h.2) in
+    let none : find (is_policy_at i) b.policies ≡ None =
+    find-unless (is_policy_at i) b.policies
+    (ap (λ k. list_any (is_policy_at k) b.policies) ((same_text_decides i p.template.id).0 e) ∙ h.2) in
     absurd (cc (none, f))
 linked_by (Some l) b i p q f h false e = refl
 
@@ -259,8 +262,10 @@ policy_has_no_links b i q h f = none_linked b i q b.policies f h.held
 pub undone : (b : Board) (p : PolicyParts) → is_bound b (policy_id p) ≡ false
     → without_id (with_policy b p) (policy_id p) ≡ b
 undone b p n =
-    let ts : filter (λ t. not (is_body_at (policy_id p) t)) b.bodies ≡ b.bodies = filter_none (is_body_at (policy_id p)) b.bodies (no_body_at b (policy_id p) n) in
-    let last : filter (λ q. not (is_policy_at (policy_id p) q)) (p ∷ []) ≡ [] = ap (λ v. cond (not v) (p ∷ []) []) (is_itself (policy_id p)) in
+    let ts : filter (λ t. not (is_body_at (policy_id p) t)) b.bodies ≡ b.bodies =
+    filter_none (is_body_at (policy_id p)) b.bodies (no_body_at b (policy_id p) n) in
+    let last : filter (λ q. not (is_policy_at (policy_id p) q)) (p ∷ []) ≡ [] =
+    ap (λ v. cond (not v) (p ∷ []) []) (is_itself (policy_id p)) in
     let ps : filter (λ q. not (is_policy_at (policy_id p) q)) (b.policies ++ p ∷ []) ≡ b.policies =
     filter-append (λ q. not (is_policy_at (policy_id p) q)) b.policies (p ∷ [])
     ∙ (λ i. filter_none (is_policy_at (policy_id p)) b.policies (no_policy_at b (policy_id p) n) i ++ last i)

@@ -102,7 +102,9 @@ module _ {V : Type 0} where
   all_last es [] h = sym (append-nil es)
   all_last es (f ∷ fs) h =
       let more : (es ++ f ∷ []) ++ fs ≡ es ++ f ∷ fs = append_assoc es (f ∷ []) fs in
-      let new : list_any (same_text f.0) (keys_of es) ≡ false = absent_before (keys_of es) f.0 (keys_of fs) (subst (AreOnce (λ (i : List ℕ). i)) (keys-append es (f ∷ fs)) h) in
+      let new : list_any (same_text f.0) (keys_of es) ≡ false =
+      absent_before (keys_of es) f.0 (keys_of fs)
+      (subst (AreOnce (λ (i : List ℕ). i)) (keys-append es (f ∷ fs)) h) in
       ap (λ gs. maps.insert_all same_text gs fs) (inserted_last es f.0 f.1 new)
       ∙ all_last (es ++ f ∷ []) fs (subst HaveOwnKeys (sym more) h) ∙ more
 

@@ -132,7 +132,8 @@ module _ {T P : Type 0} (tid : T → List ℕ) (pid on : P → List ℕ) where
       ((tid t, ids_on (tid t) ps) ∷ with_listed (on p) (pid p) (under_each ts ps))
       ≡ under_each (t ∷ ts) (ps ++ p ∷ [])
   join_at true t ts ps p e n o ih =
-      let one : insert_key same_text (ids_on (tid t) ps) (pid p) ≡ ids_on (tid t) (ps ++ p ∷ []) = pushed_on (pid p) (tid t) ps n ∙ sym (joined_on (tid t) ps p (same_text_equiv.symm (tid t) (on p) ∙ e)) in
+      let one : insert_key same_text (ids_on (tid t) ps) (pid p) ≡ ids_on (tid t) (ps ++ p ∷ []) =
+      pushed_on (pid p) (tid t) ps n ∙ sym (joined_on (tid t) ps p (same_text_equiv.symm (tid t) (on p) ∙ e)) in
       λ j. (tid t, one j) ∷ sym (not_joined ts ps p (o refl)) j
   join_at false t ts ps p e n o ih =
       λ j. (tid t, sym (not_joined_on (tid t) ps p (same_text_equiv.symm (tid t) (on p) ∙ e)) j) ∷ ih j
@@ -156,7 +157,8 @@ module _ {T P : Type 0} (tid : T → List ℕ) (pid on : P → List ℕ) where
       under_each (ts ++ t ∷ []) (ps ++ p ∷ []) ≡ under_each ts ps ++ (tid t, pid p ∷ []) ∷ []
   both_listed ts ps t p e f n =
       let own : same_text (tid t) (on p) ≡ true = ap (same_text (tid t)) e ∙ same_text_equiv.refl (tid t) in
-      let ks : ids_on (tid t) (ps ++ p ∷ []) ≡ pid p ∷ [] = joined_on (tid t) ps p own ∙ ap (λ x. x ++ pid p ∷ []) (none_on (tid t) ps n) in
+      let ks : ids_on (tid t) (ps ++ p ∷ []) ≡ pid p ∷ [] = joined_on (tid t) ps p own
+      ∙ ap (λ x. x ++ pid p ∷ []) (none_on (tid t) ps n) in
       map-append (λ t. (tid t, ids_on (tid t) (ps ++ p ∷ []))) ts (t ∷ [])
       ∙ (λ j. not_joined ts ps p (ap (λ i. list_any (is_at tid i) ts) e ∙ f) j ++ (tid t, ks j) ∷ [])
 

@@ -277,7 +277,9 @@ template_agrees : (m : Maps) (t : BodyParts) → DoAgree m → is_bound (board_i
 template_agrees m t h n =
     let b = board_in m in
     let ts = last_value m.bodies t.id t in
-    let now : board_in (record { bodies = m.bodies ++ (t.id, t) ∷ []; policies = m.policies; listed = m.listed ++ (t.id, []) ∷ [] }) ≡ with_template b t = λ j. record { bodies = ts j; policies = b.policies } in (
+    let now : board_in
+    (record { bodies = m.bodies ++ (t.id, t) ∷ []; policies = m.policies; listed = m.listed ++ (t.id, []) ∷ [] })
+    ≡ with_template b t = λ j. record { bodies = ts j; policies = b.policies } in (
       record {
         board = subst IsBoard (sym now) (template_joins b t h.board n);
         bodies_by_id = keyed_last body_id m.bodies t.id t h.bodies_by_id refl;
@@ -310,7 +312,13 @@ policy_agrees m p h c =
     let b = board_in m in
     let ps = last_value m.policies (policy_id p) p in
     let free = free_link p.link b p refl c in
-    let now : board_in (record { bodies = m.bodies; policies = m.policies ++ (policy_id p, p) ∷ []; listed = with_listed p.template.id (policy_id p) m.listed }) ≡ with_policy b p = λ j. record { bodies = b.bodies; policies = ps j } in (
+    let now : board_in
+    (record {
+      bodies = m.bodies;
+      policies = m.policies ++ (policy_id p, p) ∷ [];
+      listed = with_listed p.template.id (policy_id p) m.listed;
+    }) ≡ with_policy b p =
+    λ j. record { bodies = b.bodies; policies = ps j } in (
       record {
         board = subst IsBoard (sym now) (link_joins b p h.board c);
         bodies_by_id = h.bodies_by_id;
@@ -346,10 +354,16 @@ static_agrees m p h c e =
     let ts = last_value m.bodies t.id t in
     let ps = last_value m.policies (policy_id p) p in
     let own : policy_id p ≡ t.id = ap (λ o. unwrap_or o t.id) e in
-    let none : list_any (is_body_at (policy_id p)) b.bodies ≡ false = ap (λ i. list_any (is_body_at i) b.bodies) own ∙ no_body_at b t.id c.0 in
+    let none : list_any (is_body_at (policy_id p)) b.bodies ≡ false = ap (λ i. list_any (is_body_at i) b.bodies) own
+    ∙ no_body_at b t.id c.0 in
     let there : list_any (is_policy_at t.id) (b.policies ++ p ∷ []) ≡ true =
-    list_any-append (is_policy_at t.id) b.policies (p ∷ []) ∙ or_true _ _ (ap (λ i. same_text t.id i || false) own ∙ ap (λ v. v || false) (same_text_equiv.refl t.id)) in
-    let now : board_in (record { bodies = m.bodies ++ (t.id, t) ∷ []; policies = m.policies ++ (policy_id p, p) ∷ []; listed = m.listed }) ≡ with_both b t p = λ j. record { bodies = ts j; policies = ps j } in (
+    list_any-append (is_policy_at t.id) b.policies (p ∷ [])
+    ∙ or_true _ _ (ap (λ i. same_text t.id i || false) own ∙ ap (λ v. v || false) (same_text_equiv.refl t.id)) in
+    let now : board_in (record {
+      bodies = m.bodies ++ (t.id, t) ∷ [];
+      policies = m.policies ++ (policy_id p, p) ∷ [];
+      listed = m.listed;
+    }) ≡ with_both b t p = λ j. record { bodies = ts j; policies = ps j } in (
       record {
         board = subst IsBoard (sym now) (both_join b p h.board c);
         bodies_by_id = keyed_last body_id m.bodies t.id t h.bodies_by_id refl;
@@ -393,10 +407,16 @@ link_agrees m p h c l =
     let ts = last_value m.bodies t.id t in
     let ps = last_value m.policies (policy_id p) p in
     let free = no_body_at b t.id c.0 in
-    let none : list_any (is_body_at (policy_id p)) b.bodies ≡ false = no_body_at b (policy_id p) (both_free p.link b p refl c.0 c.1) in
+    let none : list_any (is_body_at (policy_id p)) b.bodies ≡ false =
+    no_body_at b (policy_id p) (both_free p.link b p refl c.0 c.1) in
     let unused : list_any (is_policy_at t.id) (b.policies ++ p ∷ []) ≡ false =
-    list_any-append (is_policy_at t.id) b.policies (p ∷ []) ∙ neither _ _ (no_policy_at b t.id c.0) (neither _ _ (link_apart p.link b p refl l c.1) refl) in
-    let now : board_in (record { bodies = m.bodies ++ (t.id, t) ∷ []; policies = m.policies ++ (policy_id p, p) ∷ []; listed = m.listed ++ (t.id, policy_id p ∷ []) ∷ [] })
+    list_any-append (is_policy_at t.id) b.policies (p ∷ [])
+    ∙ neither _ _ (no_policy_at b t.id c.0) (neither _ _ (link_apart p.link b p refl l c.1) refl) in
+    let now : board_in (record {
+      bodies = m.bodies ++ (t.id, t) ∷ [];
+      policies = m.policies ++ (policy_id p, p) ∷ [];
+      listed = m.listed ++ (t.id, policy_id p ∷ []) ∷ [];
+    })
     ≡ with_both b t p = λ j. record { bodies = ts j; policies = ps j } in (
       record {
         board = subst IsBoard (sym now) (both_join b p h.board c);
@@ -447,7 +467,11 @@ taken_agrees m i o h n e =
     let ps = values_removed policy_id i m.policies h.policies_by_id h.board.policies_once in
     let templates = templates_in b.policies b.bodies in
     let once : AreOnce body_id templates = templates_once b.bodies b.policies h.board.bodies_once in
-    let now : board_in (record { bodies = remove_entry (same_text i) m.bodies; policies = remove_entry (same_text i) m.policies; listed = unlisted o i (remove_entry (same_text i) m.listed) })
+    let now : board_in (record {
+      bodies = remove_entry (same_text i) m.bodies;
+      policies = remove_entry (same_text i) m.policies;
+      listed = unlisted o i (remove_entry (same_text i) m.listed);
+    })
     ≡ without_id b i = λ j. record { bodies = ts j; policies = ps j } in (
       record {
         board = subst IsBoard (sym now) (taken_out b i h.board n);

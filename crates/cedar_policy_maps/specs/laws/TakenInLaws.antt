@@ -109,7 +109,13 @@ taken_in_agrees m stand bs qs h k f g =
     let b = board_in m in
     let ts = values-append m.bodies bs in
     let ps = values-append m.policies qs in
-    let now : board_in (record { bodies = m.bodies ++ bs; policies = m.policies ++ qs; listed = grown_by m.listed (ids_by_body (templates_in (values_of m.policies) stand) (values_of qs)) ++ ids_by_body (templates_in (values_of qs) (values_of bs)) (values_of qs) })
+    let now : board_in
+    (record {
+      bodies = m.bodies ++ bs;
+      policies = m.policies ++ qs;
+      listed = grown_by m.listed (ids_by_body (templates_in (values_of m.policies) stand) (values_of qs))
+          ++ ids_by_body (templates_in (values_of qs) (values_of bs)) (values_of qs);
+    })
     ≡ taken_in b (values_of bs) (values_of qs) = λ j. record { bodies = ts j; policies = ps j } in (
       record {
         board = subst IsBoard (sym now) k.board;

@@ -45,7 +45,8 @@ pub templates_beside : (ts : List BodyParts) (ps qs : List PolicyParts) → AreF
     → templates_in (ps ++ qs) ts ≡ templates_in ps ts
 templates_beside [] ps qs h = refl
 templates_beside (t ∷ ts) ps qs h =
-    let e : list_any (is_policy_at t.id) (ps ++ qs) ≡ list_any (is_policy_at t.id) ps = list_any-append (is_policy_at t.id) ps qs ∙ or_first _ _ h.0 in
+    let e : list_any (is_policy_at t.id) (ps ++ qs) ≡ list_any (is_policy_at t.id) ps =
+    list_any-append (is_policy_at t.id) ps qs ∙ or_first _ _ h.0 in
     λ j. cond (not (e j)) (t ∷ templates_beside ts ps qs h.1 j) (templates_beside ts ps qs h.1 j)
 
 -- bodies of which no policy before has the id
@@ -53,7 +54,8 @@ pub templates_behind : (ts : List BodyParts) (ps qs : List PolicyParts) → AreF
     → templates_in (ps ++ qs) ts ≡ templates_in qs ts
 templates_behind [] ps qs h = refl
 templates_behind (t ∷ ts) ps qs h =
-    let e : list_any (is_policy_at t.id) (ps ++ qs) ≡ list_any (is_policy_at t.id) qs = list_any-append (is_policy_at t.id) ps qs ∙ or_second _ _ h.0 in
+    let e : list_any (is_policy_at t.id) (ps ++ qs) ≡ list_any (is_policy_at t.id) qs =
+    list_any-append (is_policy_at t.id) ps qs ∙ or_second _ _ h.0 in
     λ j. cond (not (e j)) (t ∷ templates_behind ts ps qs h.1 j) (templates_behind ts ps qs h.1 j)
 
 -- both

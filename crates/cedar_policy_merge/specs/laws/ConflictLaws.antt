@@ -55,7 +55,8 @@ shape_held : (o : Option (List ℕ)) (b : Board) (i : List ℕ) (x : Binding) (p
 shape_held None b i x p t l s r h e =
     inl (p.template, ap Some h.0, sym r ∙ ap (λ j. find (is_body_at j) b.bodies) s ∙ h.2, told e)
 shape_held (Some k) b i x p t l s r h e =
-    let none : find (is_body_at i) b.bodies ≡ None = ap (λ j. find (is_body_at j) b.bodies) s ∙ find-unless (is_body_at k) b.bodies h.0 in
+    let none : find (is_body_at i) b.bodies ≡ None = ap (λ j. find (is_body_at j) b.bodies) s
+    ∙ find-unless (is_body_at k) b.bodies h.0 in
     inr (inl (
       k,
       p.template,

@@ -63,7 +63,8 @@ another : (x : List ℕ) (m n : ℕ) → m < n → same_text (numbered n) x ≡ 
     → w ≡ false
 another x m n k e false q = refl
 another x m n k e true q =
-    let p : numbered m ≡ numbered n = (same_text_decides (numbered m) x).0 q ∙ sym ((same_text_decides (numbered n) x).0 e) in
+    let p : numbered m ≡ numbered n = (same_text_decides (numbered m) x).0 q
+    ∙ sym ((same_text_decides (numbered n) x).0 e) in
     let r : m ≡ n = numbered_is m n p in
     absurd (omega arith)
 
@@ -71,7 +72,8 @@ once_more_below : (x : List ℕ) (n : ℕ) → (v : Bool) → same_text (numbere
     bound_below (λ i. same_text i x) n ≤ 1 → bound_below (λ i. same_text i x) n + (if v then 1 else 0) ≤ 1
 once_more_below x n false e l = omega arith
 once_more_below x n true e l =
-    let z : bound_below (λ i. same_text i x) n ≡ 0 = none_below (λ i. same_text i x) n (λ m k. another x m n k e (same_text (numbered m) x) refl) in
+    let z : bound_below (λ i. same_text i x) n ≡ 0 =
+    none_below (λ i. same_text i x) n (λ m k. another x m n k e (same_text (numbered m) x) refl) in
     omega arith
 
 -- an id is that of one number at most
@@ -84,7 +86,8 @@ once_below x (suc n) = once_more_below x n (same_text (numbered n) x) refl (once
 ids_below : (xs : List (List ℕ)) (n : ℕ) → bound_below (λ i. list_any (same_text i) xs) n ≤ length xs
 ids_below [] n = omega (arith, none_below (λ i. false) n (λ m k. refl))
 ids_below (x ∷ xs) n =
-    let a = either_below (λ i. same_text i x) (λ i. list_any (same_text i) xs) (λ i. list_any (same_text i) (x ∷ xs)) n (λ i e. e) in
+    let a = either_below (λ i. same_text i x) (λ i. list_any (same_text i) xs) (λ i. list_any (same_text i) (x ∷ xs)) n
+    (λ i e. e) in
     omega (arith, once_below x n, ids_below xs n, a)
 
 alike_below : (s t : List ℕ → Bool) (n : ℕ) → ((i : List ℕ) → s i ≡ t i) → bound_below s n ≡ bound_below t n
@@ -126,7 +129,14 @@ length_ids b = length-append (policy_ids b) (body_ids b)
 -- a number is at most the number of free ids below it and the count of ids
 pub number_within : (here other : Board) (n : ℕ) → n ≤ free_below (is_bound_in_either here other) n + count here other
 number_within here other n =
-    omega (arith, free_within (is_bound_in_either here other) (ids_of here ++ ids_of other) n (either_among_ids here other), length-append (ids_of here) (ids_of other), length_ids here, length_ids other)
+    omega (
+      arith,
+      free_within (is_bound_in_either here other) (ids_of here ++ ids_of other) n
+          (either_among_ids here other),
+      length-append (ids_of here) (ids_of other),
+      length_ids here,
+      length_ids other,
+    )
 
 -- past the number of a bound id as many ids are free
 pub passed : (bound : List ℕ → Bool) (n : ℕ) → bound (numbered n) ≡ true → free_below bound (suc n) ≡ free_below bound n
@@ -175,7 +185,8 @@ pub before_once : (ks : List (List ℕ)) (i : List ℕ) (rest : List (List ℕ))
     → AreOnce (λ (j : List ℕ). j) (ks ++ i ∷ rest) → list_any (same_text i) ks ≡ false
 before_once [] i rest h = refl
 before_once (k ∷ ks) i rest h =
-    let n = or_parts (list_any (same_text k) ks) (list_any (same_text k) (i ∷ rest)) (sym (list_any-append (same_text k) ks (i ∷ rest)) ∙ h.0) in
+    let n = or_parts (list_any (same_text k) ks) (list_any (same_text k) (i ∷ rest))
+    (sym (list_any-append (same_text k) ks (i ∷ rest)) ∙ h.0) in
     alike_or _ _ _ _ (same_text_equiv.symm i k ∙ (or_parts (same_text k i) _ n.1).0) (before_once ks i rest h.1)
 
 -- one more id and the free one that it goes to
@@ -186,8 +197,10 @@ pub fresh_more : (bound : List ℕ → Bool) (es fs : List (List ℕ
     → IsFree bound (free_below bound start) n →
     (keys_of fs ++ rest ≡ ids) × AreFree bound 0 (values_of fs) × (free_below bound (n + 1) ≡ length (values_of fs))
 fresh_more bound es fs i v rest ids start n g k a c q f =
-    let ks : keys_of fs ≡ keys_of es ++ i ∷ [] = ap keys_of g ∙ map-append (λ (e : List ℕ × List ℕ). e.0) es ((i, v) ∷ []) in
-    let vs : values_of fs ≡ values_of es ++ numbered n ∷ [] = ap values_of g ∙ map-append (λ (e : List ℕ × List ℕ). e.1) es ((i, v) ∷ []) ∙ ap (λ w. values_of es ++ w ∷ []) q in
+    let ks : keys_of fs ≡ keys_of es ++ i ∷ [] = ap keys_of g
+    ∙ map-append (λ (e : List ℕ × List ℕ). e.0) es ((i, v) ∷ []) in
+    let vs : values_of fs ≡ values_of es ++ numbered n ∷ [] = ap values_of g
+    ∙ map-append (λ (e : List ℕ × List ℕ). e.1) es ((i, v) ∷ []) ∙ ap (λ w. values_of es ++ w ∷ []) q in
     let one : n + 1 ≡ suc n = omega arith in
     let place : free_below bound start ≡ 0 + length (values_of es) = c ∙ omega arith in (
       ap (λ x. x ++ rest) ks ∙ append_assoc (keys_of es) (i ∷ []) rest ∙ k,

@@ -91,15 +91,18 @@ conflicts_in_groups h o =
     && not (is_same_at h o i)) one (policy_ids o)
     (λ i e. kept_so (not (has_body h i && has_body o i)) (has_policy h i) (not (is_same_at h o i)) e)
     (λ i t e n.
-    let both = both_so (has_body h i) (has_body o i) (only_so (has_body h i && has_body o i) (has_policy h i) (not (is_same_at h o i)) e n) in
-    among_bodies h o i both.0 (any-map (λ (t : BodyParts). t.id) (same_text i) o.bodies ∙ both.1) (differs (has_policy h i) (is_same_at h o i) e)) in
+    let both = both_so (has_body h i) (has_body o i)
+    (only_so (has_body h i && has_body o i) (has_policy h i) (not (is_same_at h o i)) e n) in
+    among_bodies h o i both.0 (any-map (λ (t : BodyParts). t.id) (same_text i) o.bodies ∙ both.1)
+    (differs (has_policy h i) (is_same_at h o i) e)) in
     let links : gathered two (conflicting h o (looked_at Links h o) (body_ids o)) ≡ three =
     left_out (λ i. has_policy h i && not (is_same_at h o i)) (λ i. looked_at Links h o i
     && not (is_same_at h o i)) two (body_ids o)
     (λ i e. kept_so (not (has_body h i)) (has_policy h i) (not (is_same_at h o i)) e)
     (λ i t e n.
     still_there i one b
-    (among_bodies h o i (only_so (has_body h i) (has_policy h i) (not (is_same_at h o i)) e n) t (differs (has_policy h i) (is_same_at h o i) e))) in
+    (among_bodies h o i (only_so (has_body h i) (has_policy h i) (not (is_same_at h o i)) e n) t
+    (differs (has_policy h i) (is_same_at h o i) e))) in
     let templates : gathered three (conflicting h o (looked_at Templates h o) (policy_ids o)) ≡ gathered three d =
     left_out (λ i. has_body h i && not (is_same_at h o i)) (λ i. looked_at Templates h o i
     && not (is_same_at h o i)) three (policy_ids o)
@@ -107,7 +110,9 @@ conflicts_in_groups h o =
     (λ i t e n.
     still_there i two c
     (gathers i one b
-    (in_conflicting h o (has_policy h) (policy_ids o) i (only_so (has_policy h i) (has_body h i) (not (is_same_at h o i)) e n) (differs (has_body h i) (is_same_at h o i) e) t))) in
+    (in_conflicting h o (has_policy h) (policy_ids o) i
+    (only_so (has_policy h i) (has_body h i) (not (is_same_at h o i)) e n)
+    (differs (has_body h i) (is_same_at h o i) e) t))) in
     ap (λ z. gathered (gathered z (conflicting h o (looked_at Links h o) (body_ids o)))
     (conflicting h o (looked_at Templates h o) (policy_ids o))) policies
     ∙ ap (λ z. gathered z (conflicting h o (looked_at Templates h o) (policy_ids o))) links

@@ -343,7 +343,8 @@ template_joins_by false h o c t r f n e = (
 template_joins_by true h o c t r f n e =
     let k = r.kept t.id (body_bound o t.id t f) e in
     let b : is_bound h t.id ≡ true = ap (is_bound h) (sym k.0) ∙ e in
-    let here : find (is_body_at t.id) (merged h o c).bodies ≡ Some t = find_here (is_body_at t.id) h.bodies (joined_bodies h c o.bodies) t (same_bodies_at h o t.id k.1 ∙ f) in (
+    let here : find (is_body_at t.id) (merged h o c).bodies ≡ Some t =
+    find_here (is_body_at t.id) h.bodies (joined_bodies h c o.bodies) t (same_bodies_at h o t.id k.1 ∙ f) in (
       ap (λ i. find (is_body_at i) (merged h o c).bodies) k.0 ∙ here
           ∙ ap (λ i. Some (record {
             id = i;

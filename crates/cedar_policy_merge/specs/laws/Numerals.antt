@@ -49,7 +49,8 @@ same_by j k n acc f g e (no z) = more_digits (suc j) n acc z ∙ e ∙ sym (more
 same_digits : (j k n : ℕ) (acc : List ℕ) → Fits j n → Fits k n
     → digits_onto (suc j) 10 false n acc ≡ digits_onto (suc k) 10 false n acc
 same_digits zero k n acc f g = let z : n / 10 ≡ 0 = omega arith in last_digit zero n acc z ∙ sym (last_digit k n acc z)
-same_digits (suc j) zero n acc f g = let z : n / 10 ≡ 0 = omega arith in last_digit (suc j) n acc z ∙ sym (last_digit zero n acc z)
+same_digits (suc j) zero n acc f g = let z : n / 10 ≡ 0 = omega arith in
+    last_digit (suc j) n acc z ∙ sym (last_digit zero n acc z)
 same_digits (suc j) (suc k) n acc f g =
     same_by j k n acc f g (same_digits j k (n / 10) (digit_glyph false (n % 10) ∷ acc) f g) (is_zero (n / 10))
 

@@ -44,7 +44,8 @@ joined None b c i l e h = absurd (cc)
 joined (Some (Static t)) b c i l e h = absurd (cc)
 joined (Some (Link k t v)) b c i l e h = absurd (cc)
 joined (Some (Template t)) b c i l e h =
-    let f = freed (is_bound b l) b c l (link_of t l e) (fitted (unbound (body_slots t) e) (extra (body_slots t) e) (wrong_action e) _ c h) in
+    let f = freed (is_bound b l) b c l (link_of t l e)
+    (fitted (unbound (body_slots t) e) (extra (body_slots t) e) (wrong_action e) _ c h) in
     (t, refl, f.0, f.1)
 
 found_at : (v : Bool) (q : PolicyParts → Bool) (x p : PolicyParts) (ps : List PolicyParts)
@@ -62,7 +63,9 @@ found_last q (x ∷ ps) p n t = found_at (q x) q x p ps n (λ m. found_last q ps
 unlinked : (b : Board) (t : BodyParts) (l : List ℕ) (e : EnvParts) → is_bound b l ≡ false
     → unlink_step (with_policy b (link_of t l e)) l ≡ Ok (Link l t e)
 unlinked b t l e n =
-    let f = found_last (is_policy_at l) b.policies (link_of t l e) (or_parts (list_any (is_policy_at l) b.policies) (list_any (is_body_at l) b.bodies) n).0 (same_text_equiv.refl l) in
+    let f = found_last (is_policy_at l) b.policies (link_of t l e)
+    (or_parts (list_any (is_policy_at l) b.policies) (list_any (is_body_at l) b.bodies) n).0
+    (same_text_equiv.refl l) in
     ap (λ o. unlinked_at (bound_among o (find (is_body_at l) b.bodies)) l) f
 
 -- to take a link out that joined leaves the former board

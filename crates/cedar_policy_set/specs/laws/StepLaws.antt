@@ -63,7 +63,8 @@ pub unfit_is_refused : (d : LinkingError) (slots : List SlotId) (e : EnvParts) (
 unfit_is_refused (links.ArityError u x) slots e r h =
     unfit (unbound slots e) (extra slots e) (wrong_action e) r (λ p q. h.0 (fits slots e p q))
     ∙ (λ i. Err (arity (sym h.1 i) (sym h.2 i)))
-unfit_is_refused (links.NotAnAction u) slots e r h = let n = nothing_left_over slots e h.0 in (λ i. fitting (n.0 i) (n.1 i) (h.1 i) r)
+unfit_is_refused (links.NotAnAction u) slots e r h = let n = nothing_left_over slots e h.0 in
+    (λ i. fitting (n.0 i) (n.1 i) (h.1 i) r)
 unfit_is_refused (links.NoSuchTemplate i) slots e r h = absurd h
 unfit_is_refused (links.PolicyIdConflict i) slots e r h = absurd h
 unfit_is_refused links.Memory slots e r h = tt

@@ -38,7 +38,8 @@ found_in test (x ∷ xs) h = elim (or_cases (test x) (list_any test xs) h) [
     passes =
         t;
   }
-  | inr r ↦ let f = found_in test xs r in record { at = f.at; member = or_right (same_uid f.at x) (is_member same_uid xs f.at) f.member; passes = f.passes }
+  | inr r ↦ let f = found_in test xs r in
+      record { at = f.at; member = or_right (same_uid f.at x) (is_member same_uid xs f.at) f.member; passes = f.passes }
 ]
 
 -- an asked uid is wanted

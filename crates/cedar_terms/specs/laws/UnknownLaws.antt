@@ -24,7 +24,8 @@ pub same_unknown_decides : (x y : UnknownParts) → Decides (same_unknown x y) (
 same_unknown_decides x y = (
   λ e.
       let n : x.name ≡ y.name = (bytes_decides x.name y.name).0 (first_so _ _ e) in
-      let a : x.annotation ≡ y.annotation = same_annotation x.annotation y.annotation (second_so (pointwise nat_eq x.name y.name) _ e) in
+      let a : x.annotation ≡ y.annotation = same_annotation x.annotation y.annotation
+      (second_so (pointwise nat_eq x.name y.name) _ e) in
       λ i. record { name = n i; annotation = a i },
   λ e. sym (ap (same_unknown x) e) ∙ same_unknown_equiv.refl x,
 )

@@ -4,4 +4,5 @@ use Rattle.cedar_ids.specs.UidOf.{uid_parts}
 use Rattle.cedar_action.proofs.action.shared.Given as goal
 
 abbrev pub invariant-loop-euid : goal.invariant-loop-euid
-invariant-loop-euid l = map (λ u. uid_parts u.value) l.all.items ++ map uid_parts (into_iter_items l.euid-iterator) ≡ map uid_parts l.fn.euids.items
+invariant-loop-euid l = map (λ u. uid_parts u.value) l.all.items ++ map uid_parts (into_iter_items l.euid-iterator)
+    ≡ map uid_parts l.fn.euids.items

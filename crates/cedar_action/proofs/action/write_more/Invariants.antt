@@ -9,4 +9,5 @@ use Rattle.cedar_action.proofs.action.write_more.Given as goal
 abbrev pub invariant-loop-euid : goal.invariant-loop-euid
 invariant-loop-euid g l =
     list_all (λ u. is_ascii_uid (uid_parts u.value)) l.euids ≡ true → IsPlainFormatter l.initial.f →
-    HasWritten g.W.Write.write_str_gives l.initial.f (flat_map (λ u. after_comma (uid_parts u.value)) (take l.euid-index l.euids)) l.f
+    HasWritten g.W.Write.write_str_gives l.initial.f
+    (flat_map (λ u. after_comma (uid_parts u.value)) (take l.euid-index l.euids)) l.f

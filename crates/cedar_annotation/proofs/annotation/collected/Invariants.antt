@@ -9,4 +9,5 @@ use Rattle.cedar_annotation.proofs.annotation.collected.Given as goal
 abbrev pub invariant-loop-key : goal.invariant-loop-key
 invariant-loop-key l =
     IsOrdered text_order l.all ×
-    ((key : List ℕ) → option_or (last_value_at key (into_iter_items l.key-iterator)) (get text_order l.all key) ≡ last_value_at key l.fn.pairs.items)
+    ((key : List ℕ) → option_or (last_value_at key (into_iter_items l.key-iterator)) (get text_order l.all key)
+    ≡ last_value_at key l.fn.pairs.items)

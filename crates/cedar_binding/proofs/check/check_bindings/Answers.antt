@@ -10,7 +10,12 @@ pub returns-then-not-are_empty : goal.returns-then-not-are_empty
 returns-then-not-are_empty c = (
   λ f.
       let none = nothing_left_over c.args.slots.now (env_of c.args.values.now) f in
-      false≢true ((rw c.if-not-are_empty.true at c.are_empty.ensures).1 (c.deref.ensures.value ∙ c.in_ok-unbound_values.ensures ∙ none.0, c.deref-2.ensures.value ∙ c.in_ok-extra_values.ensures ∙ none.1)),
+      false≢true ((rw c.if-not-are_empty.true at c.are_empty.ensures).1 (
+        c.deref.ensures.value
+            ∙ c.in_ok-unbound_values.ensures ∙ none.0,
+        c.deref-2.ensures.value ∙ c.in_ok-extra_values.ensures
+            ∙ none.1,
+      )),
   c.in_ok-unbound_values.ensures,
   c.in_ok-extra_values.ensures,
 )

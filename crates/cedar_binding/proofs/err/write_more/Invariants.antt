@@ -6,4 +6,5 @@ use Rattle.cedar_binding.proofs.err.write_more.Given as goal
 
 abbrev pub invariant-loop-slot : goal.invariant-loop-slot
 invariant-loop-slot g l =
-    IsPlainFormatter l.initial.f → HasWritten g.W.Write.write_str_gives l.initial.f (flat_map slot_after_comma (take l.slot-index l.slots)) l.f
+    IsPlainFormatter l.initial.f
+    → HasWritten g.W.Write.write_str_gives l.initial.f (flat_map slot_after_comma (take l.slot-index l.slots)) l.f

@@ -9,5 +9,7 @@ use Rattle.cedar_binding.proofs.slot_env.copy_of_bindings.Goals as goal
 
 pub returns : goal.returns
 returns c =
-    let same = entries_from_clone _ _ (λ s t h. h) uid_copied c.args.values.now.entries c.in_ok-copy.copy.entries c.in_ok-copy.ensures.cases in
+    let same =
+    entries_from_clone _ _ (λ s t h. h) uid_copied c.args.values.now.entries c.in_ok-copy.copy.entries
+    c.in_ok-copy.ensures.cases in
     ap (λ es s. option_map uid_parts (lookup (same_slot s) es)) same

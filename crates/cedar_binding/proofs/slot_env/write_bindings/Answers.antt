@@ -11,6 +11,7 @@ loop-id-preserved g c all plain =
     let e = env_of c.args.values.now in
     let within : c.loop-id.id-index < length c.args.ids.now = omega arith in
     let before = c.loop-id.invariant all plain in
-    written_more g.W.Write.write_str_gives (λ s. is_ascii_bound (bound_to e s)) (λ s. bound_text s (bound_before e s) (bound_to e s)) c.args.ids.now c.loop-id.id-index Principal
+    written_more g.W.Write.write_str_gives (λ s. is_ascii_bound (bound_to e s))
+    (λ s. bound_text s (bound_before e s) (bound_to e s)) c.args.ids.now c.loop-id.id-index Principal
     c.args.f.now c.loop-id.f c.write_bound.new.f within all before
     (λ ascii. c.write_bound.ensures ascii before.plain (subst IsOk (sym c.in_ok-write_bound.was) refl))

@@ -7,8 +7,10 @@ use Rattle.cedar_c.proofs.policies.cedar_policies_new.Goals as goal
 
 pub returns-clause-new : goal.returns-clause-new
 returns-clause-new c zero =
-    holds (λ (k : Kept). k.set ≡ empty_board) c.new.result c.args.handle.now.held.value c.fill.new.handle.held.value c.fill.result c.new.ensures.set c.fill.ensures zero
+    holds (λ (k : Kept). k.set ≡ empty_board) c.new.result c.args.handle.now.held.value c.fill.new.handle.held.value
+    c.fill.result c.new.ensures.set c.fill.ensures zero
 
 pub returns-clause-untold : goal.returns-clause-untold
 returns-clause-untold c zero =
-    holds (λ (k : Kept). IsUntold k) c.new.result c.args.handle.now.held.value c.fill.new.handle.held.value c.fill.result (c.new.ensures.answer, c.new.ensures.refusal) c.fill.ensures zero
+    holds (λ (k : Kept). IsUntold k) c.new.result c.args.handle.now.held.value c.fill.new.handle.held.value
+    c.fill.result (c.new.ensures.answer, c.new.ensures.refusal) c.fill.ensures zero

@@ -5,5 +5,7 @@ use Rattle.cedar_c.proofs.store.cedar_store_ancestors.Goals as goal
 
 pub returns : goal.returns
 returns c =
-    changed (Listing has_ancestor IsAbove c.args.uid.now) c.args.handle.now.held.value c.opened.result.held.value c.in-Some.inner.value c.deref_mut.result.now c.ancestors-answer.new.self c.ancestors-answer.result c.status_of.result
+    changed (Listing has_ancestor IsAbove c.args.uid.now) c.args.handle.now.held.value c.opened.result.held.value
+    c.in-Some.inner.value c.deref_mut.result.now c.ancestors-answer.new.self c.ancestors-answer.result
+    c.status_of.result
     c.in-Some.ensures.value c.deref_mut.ensures.value c.opened.ensures c.status_of.ensures c.ancestors-answer.ensures

@@ -5,4 +5,5 @@ use Rattle.cedar_c_lists.proofs.reading.uids_of.Goals as goal
 pub loop-span-preserved : goal.loop-span-preserved
 loop-span-preserved c =
     rw c.in_ok-push.ensures.items
-    (read_more_uids c.args.text.now c.loop-span.uids.items c.args.spans.now c.loop-span.span-index _ c.in_ok-uid_at.field-0 (omega arith) c.loop-span.invariant c.in_ok-uid_at.ensures)
+    (read_more_uids c.args.text.now c.loop-span.uids.items c.args.spans.now c.loop-span.span-index _
+    c.in_ok-uid_at.field-0 (omega arith) c.loop-span.invariant c.in_ok-uid_at.ensures)

@@ -7,5 +7,6 @@ use Rattle.cedar_c_sets.proofs.making.bind.Goals as goal
 
 pub returns : goal.returns
 returns c =
-    let at : (s : SlotId) → env_of c.insert.new.self s ≡ bound_more (env_of c.args.values.now) c.args.slot (uid_parts c.args.uid) s = λ s. search rules in
+    let at : (s : SlotId) → env_of c.insert.new.self s
+    ≡ bound_more (env_of c.args.values.now) c.args.slot (uid_parts c.args.uid) s = λ s. search rules in
     λ i s. at s i

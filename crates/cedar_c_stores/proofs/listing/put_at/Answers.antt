@@ -7,5 +7,6 @@ returns-clause-ok c =
     let one = c.in-Some.one.now in
     let at = c.in-Some.ensures.item.3 in (
       at.0,
-      put_in c.args.listed.now.items c.args.place one c.add.new.self c.args.parent at.0 (sym (at.1 one)) c.in_ok-add.ensures,
+      put_in c.args.listed.now.items c.args.place one c.add.new.self c.args.parent at.0
+          (sym (at.1 one)) c.in_ok-add.ensures,
     )

@@ -6,4 +6,5 @@ use Rattle.cedar_c_stores.proofs.listing.put_edges.Given as goal
 abbrev pub invariant-loop-edge : goal.invariant-loop-edge
 invariant-loop-edge l =
     (length l.listed.items ≡ length l.initial.listed.items)
-    × ((us : List EntityUID) → l.initial.listed.items ≡ listed_from l.uids [] 0 us → l.listed.items ≡ listed_from l.uids (take l.edge-index l.edges) 0 us)
+    × ((us : List EntityUID) → l.initial.listed.items ≡ listed_from l.uids [] 0 us
+    → l.listed.items ≡ listed_from l.uids (take l.edge-index l.edges) 0 us)

@@ -9,18 +9,22 @@ use Rattle.cedar_children.proofs.walk.see_all.Goals as goal
 pub loop-uid-init : goal.loop-uid-init
 loop-uid-init g c = record {
   seen = λ q. sym (or_off (contains same_uid c.args.seen.now q));
-  todo = λ q. sym (ap (λ b. is_member same_uid c.args.todo.now.items q || b) (and_off (not (contains same_uid c.args.seen.now q))) ∙ or_off (is_member same_uid c.args.todo.now.items q));
+  todo =
+      λ q. sym (ap (λ b. is_member same_uid c.args.todo.now.items q || b)
+      (and_off (not (contains same_uid c.args.seen.now q))) ∙ or_off (is_member same_uid c.args.todo.now.items q));
   count = refl;
 }
 
 pub loop-uid-preserved : goal.loop-uid-preserved
 loop-uid-preserved g c =
     let within : c.loop-uid.uid-index < length c.args.uids.now = omega arith in
-    let more = λ (q : EntityUID). member_more c.args.uids.now c.loop-uid.uid-index c.uid-item.result q within c.uid-item.is in
+    let more =
+    λ (q : EntityUID). member_more c.args.uids.now c.loop-uid.uid-index c.uid-item.result q within c.uid-item.is in
     let before = λ (q : EntityUID). is_member same_uid (take c.loop-uid.uid-index c.args.uids.now) q in
     let first = contains same_uid c.args.seen.now in
     let todo = is_member same_uid c.args.todo.now.items in
-    let before-count : hash_set_len c.loop-uid.seen + length c.args.todo.now.items ≡ hash_set_len c.args.seen.now + length c.loop-uid.todo.items = c.loop-uid.invariant.count in
+    let before-count : hash_set_len c.loop-uid.seen + length c.args.todo.now.items
+    ≡ hash_set_len c.args.seen.now + length c.loop-uid.todo.items = c.loop-uid.invariant.count in
     let step = c.in_ok-see.ensures.count in
     record {
       seen = λ q. c.in_ok-see.ensures.seen q
@@ -28,8 +32,10 @@ loop-uid-preserved g c =
           ∙ or_step (first q) (before q) (same_uid c.uid-item.result q)
           ∙ ap (λ b. first q || b) (sym (more q));
       todo = λ q. c.in_ok-see.ensures.todo q
-          ∙ ap (λ b. b || (not (contains same_uid c.loop-uid.seen q) && same_uid c.uid-item.result q)) (c.loop-uid.invariant.todo q)
-          ∙ ap (λ b. (todo q || (not (first q) && before q)) || (not b && same_uid c.uid-item.result q)) (c.loop-uid.invariant.seen q)
+          ∙ ap (λ b. b || (not (contains same_uid c.loop-uid.seen q) && same_uid c.uid-item.result q))
+          (c.loop-uid.invariant.todo q)
+          ∙ ap (λ b. (todo q || (not (first q) && before q)) || (not b && same_uid c.uid-item.result q))
+          (c.loop-uid.invariant.seen q)
           ∙ todo_step (todo q) (first q) (before q) (same_uid c.uid-item.result q)
           ∙ ap (λ b. todo q || (not (first q) && b)) (sym (more q));
       count = omega arith;

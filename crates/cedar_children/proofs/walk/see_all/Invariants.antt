@@ -7,7 +7,10 @@ use Rattle.cedar_children.proofs.walk.see_all.Given as goal
 
 abbrev pub invariant-loop-uid : goal.invariant-loop-uid
 invariant-loop-uid g l = record {
-  seen : (q : EntityUID) → contains same_uid l.seen q ≡ (contains same_uid l.initial.seen q || is_member same_uid (take l.uid-index l.uids) q);
-  todo : (q : EntityUID) → is_member same_uid l.todo.items q ≡ (is_member same_uid l.initial.todo.items q || (not (contains same_uid l.initial.seen q) && is_member same_uid (take l.uid-index l.uids) q));
+  seen : (q : EntityUID) → contains same_uid l.seen q
+      ≡ (contains same_uid l.initial.seen q || is_member same_uid (take l.uid-index l.uids) q);
+  todo : (q : EntityUID) → is_member same_uid l.todo.items q
+      ≡ (is_member same_uid l.initial.todo.items q
+      || (not (contains same_uid l.initial.seen q) && is_member same_uid (take l.uid-index l.uids) q));
   count : hash_set_len l.seen + length l.initial.todo.items ≡ hash_set_len l.initial.seen + length l.todo.items;
 }

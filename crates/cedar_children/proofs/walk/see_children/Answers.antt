@@ -14,12 +14,19 @@ use Rattle.cedar_children.proofs.walk.see_children.Goals as goal
 
 pub returns-in-Some-clause-seen : goal.returns-in-Some-clause-seen
 returns-in-Some-clause-seen g c =
-    let found : get same_uid c.args.sets.now c.args.uid.now ≡ Some c.in-Some.set.now = sym c.get.ensures.value ∙ ap option_copied c.in-Some.is in
-    let all = λ (q : EntityUID). sym (contains_listed c.pointers.result.now q) ∙ ap (λ (s : UidValues). set.contains s q) c.pointers.ensures.all ∙ sym (ap (λ o. is_in o q) found) in
-    on_ok_weaker c.see_all.result (λ h q. h q ∙ ap (λ b. contains same_uid c.args.seen.now q || b) (all q)) c.see_all.ensures.seen
+    let found : get same_uid c.args.sets.now c.args.uid.now ≡ Some c.in-Some.set.now = sym c.get.ensures.value
+    ∙ ap option_copied c.in-Some.is in
+    let all = λ (q : EntityUID). sym (contains_listed c.pointers.result.now q)
+    ∙ ap (λ (s : UidValues). set.contains s q) c.pointers.ensures.all ∙ sym (ap (λ o. is_in o q) found) in
+    on_ok_weaker c.see_all.result (λ h q. h q
+    ∙ ap (λ b. contains same_uid c.args.seen.now q || b) (all q)) c.see_all.ensures.seen
 
 pub returns-in-Some-clause-todo : goal.returns-in-Some-clause-todo
 returns-in-Some-clause-todo g c =
-    let found : get same_uid c.args.sets.now c.args.uid.now ≡ Some c.in-Some.set.now = sym c.get.ensures.value ∙ ap option_copied c.in-Some.is in
-    let all = λ (q : EntityUID). sym (contains_listed c.pointers.result.now q) ∙ ap (λ (s : UidValues). set.contains s q) c.pointers.ensures.all ∙ sym (ap (λ o. is_in o q) found) in
-    on_ok_weaker c.see_all.result (λ h q. h q ∙ ap (λ b. is_member same_uid c.args.todo.now.items q || (not (contains same_uid c.args.seen.now q) && b)) (all q)) c.see_all.ensures.todo
+    let found : get same_uid c.args.sets.now c.args.uid.now ≡ Some c.in-Some.set.now = sym c.get.ensures.value
+    ∙ ap option_copied c.in-Some.is in
+    let all = λ (q : EntityUID). sym (contains_listed c.pointers.result.now q)
+    ∙ ap (λ (s : UidValues). set.contains s q) c.pointers.ensures.all ∙ sym (ap (λ o. is_in o q) found) in
+    on_ok_weaker c.see_all.result (λ h q. h q
+    ∙ ap (λ b. is_member same_uid c.args.todo.now.items q || (not (contains same_uid c.args.seen.now q) && b))
+    (all q)) c.see_all.ensures.todo

@@ -63,10 +63,15 @@ returns-clause-children g c =
     let put = put_in m n D L refl c.in_ok-put_all.ensures.ok in
     let fresh = c.in_ok-fresh.fresh.items in
     let all : fresh ≡ filter (λ u. not (is_some (held m u))) (uids_of L) =
-    c.in_ok-fresh.ensures ∙ ap (filter (λ u. not (is_some (held m u)))) (c.in_ok-uids.ensures ∙ ap uids_of c.deref.ensures.value) in
+    c.in_ok-fresh.ensures
+    ∙ ap (filter (λ u. not (is_some (held m u)))) (c.in_ok-uids.ensures ∙ ap uids_of c.deref.ensures.value) in
     let A = c.deref-2.result.now in
-    let same : (q : EntityUID) → is_member same_uid A q ≡ is_member same_uid (inserted_in D L) q = λ q. ap (λ l. is_member same_uid l q) (c.deref-2.ensures.value ∙ c.in_ok-joining.ensures) ∙ c.in_ok-note_all.ensures.ok q ∙ ap (λ ks. is_member same_uid ks q || is_member same_uid fresh q) c.with_hasher-inserted.ensures.empty
-    ∙ ap (λ us. is_member same_uid us q) (all ∙ ap (λ h. filter (λ u. not (is_some (h u))) (uids_of L)) (stored m D refl)) in
+    let same : (q : EntityUID) → is_member same_uid A q ≡ is_member same_uid (inserted_in D L) q =
+    λ q. ap (λ l. is_member same_uid l q) (c.deref-2.ensures.value ∙ c.in_ok-joining.ensures)
+    ∙ c.in_ok-note_all.ensures.ok q ∙ ap
+    (λ ks. is_member same_uid ks q || is_member same_uid fresh q) c.with_hasher-inserted.ensures.empty
+    ∙ ap (λ us. is_member same_uid us q) (all
+    ∙ ap (λ h. filter (λ u. not (is_some (h u))) (uids_of L)) (stored m D refl)) in
     on_ok_weaker c.settle_touched.result
     (λ s. children_back c.settle_touched.new.entities N c.join.new.index.children refl
     (if_some _ _ c.join.new.index.children

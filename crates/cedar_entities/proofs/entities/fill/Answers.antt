@@ -16,7 +16,8 @@ returns-in_err-put_all-clause-adds g c =
     let e = c.in_err-put_all.field-0.0 in
     adds_unmatched c.args.entities.now c.args.tc_computation L c.from_residual-in_err-put_all.result _
     e c.from_residual-in_err-put_all.ensures.1
-    (subst (λ f. MatchRefusal e (FirstMismatch f L) (λ _. ⊥)) (λ i q. c.make_room.ensures.held q i) c.in_err-put_all.ensures.err)
+    (subst (λ f. MatchRefusal e (FirstMismatch f L) (λ _. ⊥))
+    (λ i q. c.make_room.ensures.held q i) c.in_err-put_all.ensures.err)
 
 pub returns-clause-adds : goal.returns-clause-adds
 returns-clause-adds g c =
@@ -25,7 +26,8 @@ returns-clause-adds g c =
     let L = c.args.list.items in
     let touched = is_touched (held_map m) (inserted_in (held_map m) L) in
     let same : held c.make_room.new.entities ≡ held m = λ i q. c.make_room.ensures.held q i in
-    let put = subst (λ f. (q : EntityUID) → held n q ≡ option_or (f q) (first_entity L q)) same c.in_ok-put_all.ensures.ok in
+    let put =
+    subst (λ f. (q : EntityUID) → held n q ≡ option_or (f q) (first_entity L q)) same c.in_ok-put_all.ensures.ok in
     let all = all_inserted m n L c.requires.empty put in
     adds_settled m c.args.tc_computation L n (held_map c.settle_whole.new.entities) c.settle_whole.result
     (subst (λ f. AllMatch f L) same c.in_ok-put_all.ensures.agree) put

@@ -10,11 +10,18 @@ use Rattle.cedar_entities.proofs.entities.overwrite_all.Goals as goal
 pub loop-entity-preserved : goal.loop-entity-preserved
 loop-entity-preserved g c = record {
   keys = c.in_ok-put_over.ensures.keys;
-  holds = over_push (held c.args.entities.now) (held c.loop-entity.entities) (held c.put_over.new.entities) c.loop-entity.yielded c.in-Some.entity c.loop-entity.invariant.holds c.in_ok-put_over.ensures.ok;
+  holds =
+      over_push (held c.args.entities.now) (held c.loop-entity.entities)
+      (held c.put_over.new.entities) c.loop-entity.yielded c.in-Some.entity c.loop-entity.invariant.holds
+      c.in_ok-put_over.ensures.ok;
 }
 
 pub returns-clause-ok : goal.returns-clause-ok
 returns-clause-ok g c q =
     let gives = c.into_iter-entity-iterator.ensures.into_iter_gives in
-    let whole = sym (map_same c.loop-entity.yielded) ∙ (YieldsList-end (YieldsList-from_vec {s = c.into_iter-entity-iterator.result} c.args.list.items gives.0 (gives.1 ∙ c.args.list.ok.0)) c.loop-entity.yielded c.loop-entity.entity-iterator c.loop-entity.yielded_by c.next.result c.next.new.self c.in-None.is c.next.ensures.steps).0 in
+    let whole = sym (map_same c.loop-entity.yielded)
+    ∙ (YieldsList-end
+    (YieldsList-from_vec {s = c.into_iter-entity-iterator.result} c.args.list.items gives.0 (gives.1
+    ∙ c.args.list.ok.0)) c.loop-entity.yielded c.loop-entity.entity-iterator c.loop-entity.yielded_by
+    c.next.result c.next.new.self c.in-None.is c.next.ensures.steps).0 in
     c.loop-entity.invariant.holds q ∙ ap (λ l. option_or (last_entity l q) (held c.args.entities.now q)) whole

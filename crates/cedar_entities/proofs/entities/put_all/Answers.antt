@@ -57,11 +57,20 @@ returns-clause-keys g c = c.loop-entity.invariant.keys
 pub returns-clause-agree : goal.returns-clause-agree
 returns-clause-agree g c =
     let gives = c.into_iter-entity-iterator.ensures.into_iter_gives in
-    let whole = sym (map_same c.loop-entity.yielded) ∙ (YieldsList-end (YieldsList-from_vec {s = c.into_iter-entity-iterator.result} c.args.list.items gives.0 (gives.1 ∙ c.args.list.ok.0)) c.loop-entity.yielded c.loop-entity.entity-iterator c.loop-entity.yielded_by c.next.result c.next.new.self c.in-None.is c.next.ensures.steps).0 in
-    subst (λ l. AllByRecursion (MatchesPresent (held c.args.entities.now) c.args.list.items) l) whole c.loop-entity.invariant.agree
+    let whole = sym (map_same c.loop-entity.yielded)
+    ∙ (YieldsList-end
+    (YieldsList-from_vec {s = c.into_iter-entity-iterator.result} c.args.list.items gives.0 (gives.1
+    ∙ c.args.list.ok.0)) c.loop-entity.yielded c.loop-entity.entity-iterator c.loop-entity.yielded_by
+    c.next.result c.next.new.self c.in-None.is c.next.ensures.steps).0 in
+    subst (λ l. AllByRecursion (MatchesPresent (held c.args.entities.now) c.args.list.items) l) whole
+    c.loop-entity.invariant.agree
 
 pub returns-clause-ok : goal.returns-clause-ok
 returns-clause-ok g c q =
     let gives = c.into_iter-entity-iterator.ensures.into_iter_gives in
-    let whole = sym (map_same c.loop-entity.yielded) ∙ (YieldsList-end (YieldsList-from_vec {s = c.into_iter-entity-iterator.result} c.args.list.items gives.0 (gives.1 ∙ c.args.list.ok.0)) c.loop-entity.yielded c.loop-entity.entity-iterator c.loop-entity.yielded_by c.next.result c.next.new.self c.in-None.is c.next.ensures.steps).0 in
+    let whole = sym (map_same c.loop-entity.yielded)
+    ∙ (YieldsList-end
+    (YieldsList-from_vec {s = c.into_iter-entity-iterator.result} c.args.list.items gives.0 (gives.1
+    ∙ c.args.list.ok.0)) c.loop-entity.yielded c.loop-entity.entity-iterator c.loop-entity.yielded_by
+    c.next.result c.next.new.self c.in-None.is c.next.ensures.steps).0 in
     c.loop-entity.invariant.holds q ∙ ap (λ l. option_or (held c.args.entities.now q) (first_entity l q)) whole

@@ -19,10 +19,12 @@ returns-else-deep_eq-clause-differs g c =
       ap (held c.args.entities.now) (sym uid_is)
           ∙ ap (option_map shared) (sym c.in_ok-place.ensures.value ∙ ap entry_value c.in-Occupied.is ∙ c.get.ensures),
       λ d. false≢true (sym c.if-deep_eq.false ∙ c.deep_eq.ensures.equal.1
-          (subst (λ (v : EntityView). IsDeepEqual v c.deref-in-Occupied.result.now) (sym c.deref.ensures) (subst (IsDeepEqual (shared present)) (sym entity) d))),
+          (subst (λ (v : EntityView). IsDeepEqual v c.deref-in-Occupied.result.now) (sym c.deref.ensures)
+          (subst (IsDeepEqual (shared present)) (sym entity) d))),
     )
 
 pub returns-in-Vacant-clause-keys : goal.returns-in-Vacant-clause-keys
 returns-in-Vacant-clause-keys g c q =
     subst (λ o. IfSome o (λ w. same_uid q (shared w).uid ≡ true)) (sym (search rules))
-    (put_key c.args.entities.now c.coming.inside.uid (record { 0 = c.coming.inside.entity }) q (same_uid c.coming.inside.uid q) refl c.coming.invariant c.requires)
+    (put_key c.args.entities.now c.coming.inside.uid (record { 0 = c.coming.inside.entity }) q
+    (same_uid c.coming.inside.uid q) refl c.coming.invariant c.requires)

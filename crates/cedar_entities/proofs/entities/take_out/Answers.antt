@@ -9,13 +9,21 @@ use Rattle.cedar_entities.proofs.Editing.{out_push, left_match}
 use Rattle.cedar_entities.proofs.entities.take_out.Goals as goal
 
 pub loop-uid-preserved : goal.loop-uid-preserved
-loop-uid-preserved g c q = out_push (held c.args.entities.now q) (held c.loop-uid.entities q) (held c.take_at.new.entities q) c.loop-uid.yielded c.in-Some.uid q (c.loop-uid.invariant q) (c.take_at.ensures q)
+loop-uid-preserved g c q =
+    out_push (held c.args.entities.now q) (held c.loop-uid.entities q)
+    (held c.take_at.new.entities q) c.loop-uid.yielded c.in-Some.uid q (c.loop-uid.invariant q) (c.take_at.ensures q)
 
 pub returns-clause-left : goal.returns-clause-left
 returns-clause-left g c q =
     let gives = c.into_iter-uid-iterator.ensures.into_iter_gives in
-    let whole = sym (map_same c.loop-uid.yielded) ∙ (YieldsList-end (YieldsList-from_vec {s = c.into_iter-uid-iterator.result} c.args.gone.items gives.0 (gives.1 ∙ c.args.gone.ok.0)) c.loop-uid.yielded c.loop-uid.uid-iterator c.loop-uid.yielded_by c.next.result c.next.new.self c.in-None.is c.next.ensures.steps).0 in
+    let whole = sym (map_same c.loop-uid.yielded)
+    ∙ (YieldsList-end
+    (YieldsList-from_vec {s = c.into_iter-uid-iterator.result} c.args.gone.items gives.0 (gives.1
+    ∙ c.args.gone.ok.0)) c.loop-uid.yielded c.loop-uid.uid-iterator c.loop-uid.yielded_by c.next.result
+    c.next.new.self c.in-None.is c.next.ensures.steps).0 in
     c.loop-uid.invariant q ∙ ap (λ l. cond (is_member same_uid l q) None (held c.args.entities.now q)) whole
 
 pub returns-clause-keys : goal.returns-clause-keys
-returns-clause-keys g c = left_match c.args.entities.now c.loop-uid.entities (is_member same_uid c.args.gone.items) (returns-clause-left g c) c.requires
+returns-clause-keys g c =
+    left_match c.args.entities.now c.loop-uid.entities (is_member same_uid c.args.gone.items)
+    (returns-clause-left g c) c.requires

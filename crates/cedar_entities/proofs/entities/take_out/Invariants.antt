@@ -6,4 +6,5 @@ use Rattle.cedar_entities.specs.laws.Held.{held}
 use Rattle.cedar_entities.proofs.entities.take_out.Given as goal
 
 abbrev pub invariant-loop-uid : goal.invariant-loop-uid
-invariant-loop-uid g l = (q : EntityUID) → held l.entities q ≡ cond (is_member same_uid l.yielded q) None (held l.initial.entities q)
+invariant-loop-uid g l = (q : EntityUID)
+    → held l.entities q ≡ cond (is_member same_uid l.yielded q) None (held l.initial.entities q)

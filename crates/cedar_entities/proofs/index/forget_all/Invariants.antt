@@ -6,4 +6,6 @@ use Rattle.cedar_children.specs.Children.{is_child}
 use Rattle.cedar_entities.proofs.index.forget_all.Given as goal
 
 abbrev pub invariant-loop-uid : goal.invariant-loop-uid
-invariant-loop-uid g l = (p q : EntityUID) → is_child l.children p q ≡ (not (is_member same_uid (take l.uid-index l.uids) p) && is_child l.initial.children p q)
+invariant-loop-uid g l = (p q : EntityUID)
+    → is_child l.children p q
+    ≡ (not (is_member same_uid (take l.uid-index l.uids) p) && is_child l.initial.children p q)

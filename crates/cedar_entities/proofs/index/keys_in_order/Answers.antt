@@ -21,13 +21,16 @@ loop-key-preserved g c q =
     ∙ ap (λ u. is_member same_uid c.loop-key.keys.items q || same_uid u q) c.in_ok-clone.ensures.cases
     ∙ ap (λ b. b || same_uid c.in-Some.key.now q) (c.loop-key.invariant q)
     ∙ sym (seen_key (map deref_pair c.loop-key.yielded) c.in-Some.key.now c.in-Some.field-0-1.now q)
-    ∙ ap (λ l. is_some (lookup (same_uid q) l)) (sym (map_append_one deref_pair c.loop-key.yielded (c.in-Some.key, c.in-Some.field-0-1)))
+    ∙ ap (λ l. is_some (lookup (same_uid q) l))
+    (sym (map_append_one deref_pair c.loop-key.yielded (c.in-Some.key, c.in-Some.field-0-1)))
 
 pub returns : goal.returns
 returns g c q =
     let m = c.args.entities.now in
     let gives = c.into_iter-key-iterator.ensures.into_iter_gives in
-    let whole = (iter_end deref_pair m.entries c.loop-key.yielded c.into_iter-key-iterator.result c.loop-key.key-iterator c.next.new.self c.next.result gives.0 c.loop-key.yielded_by c.in-None.is c.next.ensures.steps).0 in
+    let whole =
+    (iter_end deref_pair m.entries c.loop-key.yielded c.into_iter-key-iterator.result c.loop-key.key-iterator
+    c.next.new.self c.next.result gives.0 c.loop-key.yielded_by c.in-None.is c.next.ensures.steps).0 in
     sym (contains_listed c.into_pointers.result.items q)
     ∙ ap (λ (s : UidValues). set.contains s q) (c.into_pointers.ensures.all ∙ c.in_ok-set.ensures)
     ∙ contains_listed c.loop-key.keys.items q

@@ -7,4 +7,5 @@ use Rattle.cedar_ids.specs.declared.entity.EntityUID.{EntityUID}
 use Rattle.cedar_entities.proofs.index.keys_in_order.Given as goal
 
 abbrev pub invariant-loop-key : goal.invariant-loop-key
-invariant-loop-key g l = (q : EntityUID) → is_member same_uid l.keys.items q ≡ is_some (lookup (same_uid q) (map deref_pair l.yielded))
+invariant-loop-key g l = (q : EntityUID)
+    → is_member same_uid l.keys.items q ≡ is_some (lookup (same_uid q) (map deref_pair l.yielded))

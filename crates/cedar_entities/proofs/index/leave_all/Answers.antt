@@ -13,7 +13,8 @@ pub loop-uid-preserved : goal.loop-uid-preserved
 loop-uid-preserved g c p q =
     let within : c.loop-uid.uid-index < length c.args.uids.now = omega arith in
     let before = λ (u : EntityUID). is_member same_uid (take c.loop-uid.uid-index c.args.uids.now) u in
-    let more = λ (u : EntityUID). member_more c.args.uids.now c.loop-uid.uid-index c.uid-item.result u within c.uid-item.is in
+    let more =
+    λ (u : EntityUID). member_more c.args.uids.now c.loop-uid.uid-index c.uid-item.result u within c.uid-item.is in
     let old = is_child c.args.children.now p q in
     let x = is_parent_at (held c.args.entities.now q) p in
     c.leave_at.ensures p q

@@ -13,5 +13,7 @@ returns-clause-index g c =
     record {
       plain = c.requires.plain;
       children = subst (λ o. IfSome o (HasChildren (parentage (finmap.get (held_map m))))) (sym c.ok.ensures.value)
-          (if_ok (HasChildren (parentage (finmap.get (held_map m)))) c.children_of.result (subst (λ f. IfOk c.children_of.result (HasChildren (parentage f))) (stored m (held_map m) refl) c.children_of.ensures));
+          (if_ok (HasChildren (parentage (finmap.get (held_map m)))) c.children_of.result
+          (subst (λ f. IfOk c.children_of.result (HasChildren (parentage f)))
+          (stored m (held_map m) refl) c.children_of.ensures));
     }

@@ -15,6 +15,8 @@ returns-clause-ok g c q =
     c.in_ok-note_all-2.ensures.ok q
     ∙ ap (λ b. contains same_uid c.note_all.new.noted q || b) (c.in_ok-by.ensures q)
     ∙ ap (λ b. b || list_any (is_ancestor_in (held m q)) A)
-    (c.in_ok-note_all.ensures.ok q ∙ ap (λ ks. is_member same_uid ks q || is_member same_uid c.in_ok-listed.field-0.items q) c.with_hasher-touched.ensures.empty
+    (c.in_ok-note_all.ensures.ok q
+    ∙ ap (λ ks. is_member same_uid ks q || is_member same_uid c.in_ok-listed.field-0.items q)
+    c.with_hasher-touched.ensures.empty
     ∙ ap (λ l. is_member same_uid l q) c.in_ok-listed.ensures)
     ∙ ap (λ f. is_member same_uid A q || list_any (is_ancestor_in (f q)) A) (stored m (held_map m) refl)

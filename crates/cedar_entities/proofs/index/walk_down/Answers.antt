@@ -11,4 +11,5 @@ use Rattle.cedar_entities.proofs.index.walk_down.Goals as goal
 pub returns-in_ok-below-in-Some : goal.returns-in_ok-below-in-Some
 returns-in_ok-below-in-Some g c D ix =
     let has = subst (λ o. IfSome o (HasChildren (parentage (finmap.get D)))) c.in-Some.is ix.children in
-    below_touched D (ix.plain c.if-not-index.false) (is_child c.in-Some.children) has c.args.uids.now.keys (contains same_uid c.in_ok-below-in-Some.field-0) c.in_ok-below-in-Some.ensures
+    below_touched D (ix.plain c.if-not-index.false) (is_child c.in-Some.children) has c.args.uids.now.keys
+    (contains same_uid c.in_ok-below-in-Some.field-0) c.in_ok-below-in-Some.ensures

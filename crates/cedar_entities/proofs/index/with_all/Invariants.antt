@@ -8,4 +8,7 @@ use Rattle.cedar_entities.specs.laws.Indexes.{is_parent_at}
 use Rattle.cedar_entities.proofs.index.with_all.Given as goal
 
 abbrev pub invariant-loop-uid : goal.invariant-loop-uid
-invariant-loop-uid g l = (p q : EntityUID) → is_child l.all p q ≡ (is_child l.initial.all p q || (is_member same_uid (take l.uid-index l.uids) q && is_parent_at (held l.entities q) p))
+invariant-loop-uid g l = (p q : EntityUID)
+    → is_child l.all p q
+    ≡ (is_child l.initial.all p q
+    || (is_member same_uid (take l.uid-index l.uids) q && is_parent_at (held l.entities q) p))

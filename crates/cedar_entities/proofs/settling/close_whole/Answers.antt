@@ -1,5 +1,6 @@
 use Rattle.std.proofs.Common.{◌≡◌, refl, Bool, true, is_some}
-use Rattle.cedar_entities.proofs.Closures.{refused_as, refused_so, repair_of_whole, whole_told, whole_named, named_for, acyclic_whole}
+use Rattle.cedar_entities.proofs.Closures.{refused_as, refused_so, repair_of_whole, whole_told, whole_named, named_for}
+use Rattle.cedar_entities.proofs.Closures.{acyclic_whole}
 use Rattle.cedar_ids.specs.declared.entity.EntityUID.{EntityUID}
 use Rattle.cedar_entities.specs.Refusals.{NamesOneOf}
 use Rattle.cedar_entities.specs.laws.Held.{held}

@@ -1,6 +1,7 @@
 use Rattle.std.specs.HashSet.{contains}
 use Rattle.cedar_ids.specs.UidOf.{same_uid}
-use Rattle.cedar_entities.proofs.Closures.{acyclic_of, cycle_told, cycle_named, named_for, refused_as, refused_so, repair_of}
+use Rattle.cedar_entities.proofs.Closures.{acyclic_of, cycle_told, cycle_named, named_for, refused_as, refused_so}
+use Rattle.cedar_entities.proofs.Closures.{repair_of}
 use Rattle.cedar_entities.specs.Refusals.{NamesOneOf}
 use Rattle.cedar_entities.proofs.settling.repair_touched.Goals as goal
 

@@ -23,7 +23,11 @@ pub returns : goal.returns
 returns g c q =
     let us = c.shared_ancestors-uid-items.result in
     let keys = c.args.uids.now.keys in
-    let whole = (YieldsList-end (YieldsList-from_first (λ x. x.now) (λ l. l) {s = c.into_iter-uid-iterator.result} us c.into_iter-uid-iterator.ensures.into_iter_gives) c.loop-uid.yielded c.loop-uid.uid-iterator c.loop-uid.yielded_by c.next.result c.next.new.self c.in-None.is c.next.ensures.steps).0 in
+    let whole =
+    (YieldsList-end (YieldsList-from_first (λ x. x.now)
+    (λ l. l) {s = c.into_iter-uid-iterator.result} us c.into_iter-uid-iterator.ensures.into_iter_gives)
+    c.loop-uid.yielded c.loop-uid.uid-iterator c.loop-uid.yielded_by c.next.result c.next.new.self c.in-None.is
+    c.next.ensures.steps).0 in
     c.loop-uid.invariant q ∙ ap (λ l. is_member same_uid l q && is_member same_uid keys q) whole
     ∙ and_both (is_member same_uid us q) (is_member same_uid keys q)
     ∙ ap (λ b. is_member same_uid keys q && b) (c.shared_ancestors-uid-items.ensures q)

@@ -5,4 +5,6 @@ use Rattle.cedar_ids.specs.declared.entity.EntityUID.{EntityUID}
 use Rattle.cedar_entities.proofs.sought.hits_by_ancestor.Given as goal
 
 abbrev pub invariant-loop-uid : goal.invariant-loop-uid
-invariant-loop-uid g l = (q : EntityUID) → is_member same_uid l.hits.items q ≡ (is_member same_uid (map (λ x. x.now) l.yielded) q && is_member same_uid l.uids.keys q)
+invariant-loop-uid g l = (q : EntityUID)
+    → is_member same_uid l.hits.items q
+    ≡ (is_member same_uid (map (λ x. x.now) l.yielded) q && is_member same_uid l.uids.keys q)

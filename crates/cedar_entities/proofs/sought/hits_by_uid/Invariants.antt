@@ -6,4 +6,5 @@ use Rattle.cedar_entity.specs.View.{has_ancestor}
 use Rattle.cedar_entities.proofs.sought.hits_by_uid.Given as goal
 
 abbrev pub invariant-loop-uid : goal.invariant-loop-uid
-invariant-loop-uid l = (q : EntityUID) → is_member same_uid l.hits.items q ≡ (is_member same_uid (take l.uid-index l.uids) q && has_ancestor l.entity q)
+invariant-loop-uid l = (q : EntityUID) → is_member same_uid l.hits.items q
+    ≡ (is_member same_uid (take l.uid-index l.uids) q && has_ancestor l.entity q)

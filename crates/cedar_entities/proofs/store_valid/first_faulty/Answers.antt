@@ -12,15 +12,25 @@ pub loop-uid-preserved : goal.loop-uid-preserved
 loop-uid-preserved g c =
     let m = c.args.entities.now in
     let gives = c.into_iter-uid-iterator.ensures.into_iter_gives in
-    let found = (hash_map_turn deref_pair c.loop-uid.yielded c.into_iter-uid-iterator.result c.loop-uid._uid-iterator c.next.new.self c.next.result (c.in-Some._uid, c.in-Some.node) c.loop-uid.yielded_by c.in-Some.is c.next.ensures.steps same_uid_equiv m gives.0 gives.4).1 in
-    first_step (held m) (λ p. shared p.1.now) c.loop-uid.yielded (c.in-Some._uid, c.in-Some.node) (option_copied c.loop-uid.least) (option_copied c.lesser_faulty-least.result)
+    let found =
+    (hash_map_turn deref_pair c.loop-uid.yielded c.into_iter-uid-iterator.result c.loop-uid._uid-iterator
+    c.next.new.self c.next.result (
+      c.in-Some._uid,
+      c.in-Some.node,
+    ) c.loop-uid.yielded_by c.in-Some.is c.next.ensures.steps same_uid_equiv m gives.0
+    gives.4).1 in
+    first_step (held m) (λ p. shared p.1.now) c.loop-uid.yielded (c.in-Some._uid, c.in-Some.node)
+    (option_copied c.loop-uid.least) (option_copied c.lesser_faulty-least.result)
     (at_own_uid m c.requires c.in-Some._uid.now c.in-Some.node.now found)
-    (subst (λ e. TakesFaulty e (option_copied c.loop-uid.least) (option_copied c.lesser_faulty-least.result)) c.deref.ensures c.lesser_faulty-least.ensures)
+    (subst (λ e. TakesFaulty e (option_copied c.loop-uid.least) (option_copied c.lesser_faulty-least.result))
+    c.deref.ensures c.lesser_faulty-least.ensures)
     c.loop-uid.invariant
 
 pub returns : goal.returns
 returns g c =
     let m = c.args.entities.now in
     let gives = c.into_iter-uid-iterator.ensures.into_iter_gives in
-    let whole = (iter_end deref_pair m.entries c.loop-uid.yielded c.into_iter-uid-iterator.result c.loop-uid._uid-iterator c.next.new.self c.next.result gives.0 c.loop-uid.yielded_by c.in-None.is c.next.ensures.steps).0 in
+    let whole =
+    (iter_end deref_pair m.entries c.loop-uid.yielded c.into_iter-uid-iterator.result c.loop-uid._uid-iterator
+    c.next.new.self c.next.result gives.0 c.loop-uid.yielded_by c.in-None.is c.next.ensures.steps).0 in
     first_of_all m c.requires c.loop-uid.yielded whole (option_copied c.loop-uid.least) c.loop-uid.invariant

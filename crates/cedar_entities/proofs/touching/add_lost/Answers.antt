@@ -7,4 +7,6 @@ use Rattle.cedar_ids.specs.declared.entity.EntityUID.{EntityUID}
 use Rattle.cedar_entities.proofs.touching.add_lost.Goals as goal
 
 pub returns : goal.returns
-returns g c = on_ok_weaker c.insert_all.result (λ h w. h w ∙ ap (λ b. contains same_uid c.args.lost.now w || b) (c.in_ok-lost_with.ensures w)) c.insert_all.ensures
+returns g c =
+    on_ok_weaker c.insert_all.result (λ h w. h w
+    ∙ ap (λ b. contains same_uid c.args.lost.now w || b) (c.in_ok-lost_with.ensures w)) c.insert_all.ensures

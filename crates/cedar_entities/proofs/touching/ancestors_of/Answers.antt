@@ -15,12 +15,18 @@ loop-ancestor-preserved c q =
     ∙ member_push all c.in_ok-clone.field-0 q
     ∙ ap (λ k. is_member same_uid all q || same_uid k q) c.in_ok-clone.ensures.cases
     ∙ ap (λ b. b || same_uid c.in-Some.ancestor.now q) (c.loop-ancestor.invariant q)
-    ∙ sym (member_push done c.in-Some.ancestor.now q) ∙ ap (λ l. is_member same_uid l q) (sym (map_append_one (λ x. x.now) c.loop-ancestor.yielded c.in-Some.ancestor))
+    ∙ sym (member_push done c.in-Some.ancestor.now q)
+    ∙ ap (λ l. is_member same_uid l q)
+    (sym (map_append_one (λ x. x.now) c.loop-ancestor.yielded c.in-Some.ancestor))
 
 pub returns : goal.returns
 returns c q =
     let gives = c.into_iter-ancestor-iterator.ensures.into_iter_gives in
-    let whole = sym (map_same c.loop-ancestor.yielded) ∙ (YieldsList-end (YieldsList-from_vec {s = c.into_iter-ancestor-iterator.result} c.in_ok-ancestors.ancestors.items gives.0 (gives.1 ∙ c.in_ok-ancestors.ancestors.ok.0)) c.loop-ancestor.yielded c.loop-ancestor.ancestor-iterator c.loop-ancestor.yielded_by c.next.result c.next.new.self c.in-None.is c.next.ensures.steps).0 in
+    let whole = sym (map_same c.loop-ancestor.yielded)
+    ∙ (YieldsList-end
+    (YieldsList-from_vec {s = c.into_iter-ancestor-iterator.result} c.in_ok-ancestors.ancestors.items gives.0
+    (gives.1 ∙ c.in_ok-ancestors.ancestors.ok.0)) c.loop-ancestor.yielded c.loop-ancestor.ancestor-iterator
+    c.loop-ancestor.yielded_by c.next.result c.next.new.self c.in-None.is c.next.ensures.steps).0 in
     c.loop-ancestor.invariant q
     ∙ ap (λ l. is_member same_uid (map (λ x. x.now) l) q) whole
     ∙ c.in_ok-ancestors.ensures q

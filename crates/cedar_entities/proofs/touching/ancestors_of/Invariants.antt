@@ -5,4 +5,5 @@ use Rattle.cedar_ids.specs.declared.entity.EntityUID.{EntityUID}
 use Rattle.cedar_entities.proofs.touching.ancestors_of.Given as goal
 
 abbrev pub invariant-loop-ancestor : goal.invariant-loop-ancestor
-invariant-loop-ancestor l = (q : EntityUID) → is_member same_uid l.all.items q ≡ is_member same_uid (map (λ x. x.now) l.yielded) q
+invariant-loop-ancestor l = (q : EntityUID)
+    → is_member same_uid l.all.items q ≡ is_member same_uid (map (λ x. x.now) l.yielded) q

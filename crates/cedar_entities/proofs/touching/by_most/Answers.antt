@@ -23,7 +23,12 @@ pub returns : goal.returns
 returns g c q =
     let gives = c.into_iter-entry-iterator.ensures.into_iter_gives in
     let all = c.sort_unstable_by.new.self in
-    let whole = sym (map_same c.loop-entry.yielded) ∙ (YieldsList-end (YieldsList-from_vec {s = c.into_iter-entry-iterator.result} all.items gives.0 (gives.1 ∙ all.ok.0)) c.loop-entry.yielded c.loop-entry.entry-iterator c.loop-entry.yielded_by c.next.result c.next.new.self c.in-None.is c.next.ensures.steps).0 in
+    let whole = sym (map_same c.loop-entry.yielded)
+    ∙ (YieldsList-end
+    (YieldsList-from_vec {s = c.into_iter-entry-iterator.result} all.items gives.0 (gives.1 ∙ all.ok.0))
+    c.loop-entry.yielded c.loop-entry.entry-iterator c.loop-entry.yielded_by c.next.result c.next.new.self
+    c.in-None.is c.next.ensures.steps).0 in
     c.loop-entry.invariant q ∙ ap (λ l. counts l q) whole
-    ∙ sym (list_any-IsPermutation (λ (a : Counted). same_uid q a.uid) c.in_ok-all.all.items all.items c.sort_unstable_by.ensures.permutation)
+    ∙ sym (list_any-IsPermutation (λ (a : Counted). same_uid q a.uid) c.in_ok-all.all.items all.items
+    c.sort_unstable_by.ensures.permutation)
     ∙ c.in_ok-all.ensures q

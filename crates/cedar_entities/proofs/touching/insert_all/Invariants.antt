@@ -6,4 +6,5 @@ use Rattle.cedar_ids.specs.declared.entity.EntityUID.{EntityUID}
 use Rattle.cedar_entities.proofs.touching.insert_all.Given as goal
 
 abbrev pub invariant-loop-uid : goal.invariant-loop-uid
-invariant-loop-uid g l = (q : EntityUID) → contains same_uid l.all q ≡ (contains same_uid l.initial.all q || is_member same_uid l.yielded q)
+invariant-loop-uid g l = (q : EntityUID)
+    → contains same_uid l.all q ≡ (contains same_uid l.initial.all q || is_member same_uid l.yielded q)

@@ -9,4 +9,5 @@ use Rattle.cedar_entities.proofs.touching.loss_of.Goals as goal
 pub returns-clause-lost : goal.returns-clause-lost
 returns-clause-lost g c w =
     c.in_ok-lost.ensures w ∙ ap (list_any (λ u. takes (held c.args.entities.now) u w)) c.deref.ensures.value
-    ∙ any_hit (has_ancestor c.args.entity.now) (λ u. takes (held c.args.entities.now) u w) c.in_ok-hits.hits.items c.args.uids.now c.in_ok-hits.ensures
+    ∙ any_hit (has_ancestor c.args.entity.now)
+    (λ u. takes (held c.args.entities.now) u w) c.in_ok-hits.hits.items c.args.uids.now c.in_ok-hits.ensures

@@ -25,11 +25,16 @@ loop-key-preserved g c =
     record {
       who = λ q.
           c.in_ok-note_loss_at.ensures.who q
-          ∙ ap (λ us. loses old q || (same_uid key q && is_stripped us key (is_ancestor_in (held m key)))) c.in_ok-sought.ensures
+          ∙ ap (λ us. loses old q || (same_uid key q && is_stripped us key (is_ancestor_in (held m key))))
+          c.in_ok-sought.ensures
           ∙ ap (λ b. b || (same_uid key q && F key)) (c.loop-key.invariant.who q)
-          ∙ key_case (is_member same_uid (map (λ x. x.now) c.loop-key.yielded) q) (F q) (same_uid key q) (F key) (λ t. ap F ((same_uid_decides key q).0 t))
+          ∙ key_case (is_member same_uid (map (λ x. x.now) c.loop-key.yielded) q) (F q) (same_uid key q) (F key)
+          (λ t. ap F ((same_uid_decides key q).0 t))
           ∙ ap (λ b. b && F q) (sym (member_next c.loop-key.yielded c.in-Some.key q));
-      lost = subst (λ us. AllByRecursion (IsLossOf (held m) us) old → AllByRecursion (IsLossOf (held m) us) c.note_loss_at.new.losses.items) c.in_ok-sought.ensures c.in_ok-note_loss_at.ensures.lost c.loop-key.invariant.lost;
+      lost =
+          subst (λ us. AllByRecursion (IsLossOf (held m) us) old
+          → AllByRecursion (IsLossOf (held m) us) c.note_loss_at.new.losses.items) c.in_ok-sought.ensures
+          c.in_ok-note_loss_at.ensures.lost c.loop-key.invariant.lost;
     }
 
 pub returns-clause-who : goal.returns-clause-who
@@ -37,9 +42,13 @@ returns-clause-who g c q =
     let m = c.args.entities.now in
     let A = c.args.uids.now.keys in
     let gives = c.into_iter-key-iterator.ensures.into_iter_gives in
-    let whole = (iter_end deref c.args.touched.now.keys c.loop-key.yielded c.into_iter-key-iterator.result c.loop-key.key-iterator c.next.new.self c.next.result gives.0 c.loop-key.yielded_by c.in-None.is c.next.ensures.steps).0 in
+    let whole =
+    (iter_end deref c.args.touched.now.keys c.loop-key.yielded c.into_iter-key-iterator.result
+    c.loop-key.key-iterator c.next.new.self c.next.result gives.0 c.loop-key.yielded_by c.in-None.is
+    c.next.ensures.steps).0 in
     c.loop-key.invariant.who q
     ∙ ap (λ l. is_member same_uid l q && is_stripped A q (is_ancestor_in (held m q))) whole
     ∙ ap (λ b. b && is_stripped A q (is_ancestor_in (held m q))) (c.requires.touched q)
-    ∙ ap (λ f. (is_member same_uid A q || list_any (is_ancestor_in (f q)) A) && is_stripped A q (is_ancestor_in (held m q))) (sym (stored m (held_map m) refl))
+    ∙ ap (λ f. (is_member same_uid A q || list_any (is_ancestor_in (f q)) A)
+    && is_stripped A q (is_ancestor_in (held m q))) (sym (stored m (held_map m) refl))
     ∙ stripped_touched (is_member same_uid A q) (list_any (is_ancestor_in (held m q)) A)

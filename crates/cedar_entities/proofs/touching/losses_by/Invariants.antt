@@ -10,6 +10,8 @@ use Rattle.cedar_entities.proofs.touching.losses_by.Given as goal
 
 abbrev pub invariant-loop-key : goal.invariant-loop-key
 invariant-loop-key g l = record {
-  who : (q : EntityUID) → loses l.losses.items q ≡ (is_member same_uid (map (λ x. x.now) l.yielded) q && is_stripped l.uids.keys q (is_ancestor_in (held l.entities q)));
+  who : (q : EntityUID) → loses l.losses.items q
+      ≡ (is_member same_uid (map (λ x. x.now) l.yielded) q
+      && is_stripped l.uids.keys q (is_ancestor_in (held l.entities q)));
   lost : AllByRecursion (IsLossOf (held l.entities) l.uids.keys) l.losses.items;
 }

@@ -11,11 +11,13 @@ pub add_lost-requires : goal.add_lost-requires
 add_lost-requires g c is has w goes =
     let before = take c.loop-uid.uid-index c.args.uids.now in
     let f = held c.args.entities.now in
-    c.loop-uid.invariant w ∙ covered f (c.requires is) before c.uid-item.result w (sym (c.loop-uid.invariant c.uid-item.result) ∙ has) goes
+    c.loop-uid.invariant w
+    ∙ covered f (c.requires is) before c.uid-item.result w (sym (c.loop-uid.invariant c.uid-item.result) ∙ has) goes
 
 pub loop-uid-preserved : goal.loop-uid-preserved
 loop-uid-preserved g c w =
     let within : c.loop-uid.uid-index < length c.args.uids.now = omega arith in
     c.in_ok-add_lost.ensures w
     ∙ ap (λ b. b || takes (held c.args.entities.now) c.uid-item.result w) (c.loop-uid.invariant w)
-    ∙ sym (any_more (λ (u : EntityUID). takes (held c.args.entities.now) u w) c.args.uids.now c.loop-uid.uid-index c.uid-item.result within c.uid-item.is)
+    ∙ sym (any_more (λ (u : EntityUID). takes (held c.args.entities.now) u w) c.args.uids.now c.loop-uid.uid-index
+    c.uid-item.result within c.uid-item.is)

@@ -8,4 +8,5 @@ use Rattle.cedar_entities.specs.laws.Losses.{takes}
 use Rattle.cedar_entities.proofs.touching.lost_by.Given as goal
 
 abbrev pub invariant-loop-uid : goal.invariant-loop-uid
-invariant-loop-uid g l = (w : EntityUID) → contains same_uid l.lost w ≡ list_any (λ u. takes (held l.entities) u w) (take l.uid-index l.uids)
+invariant-loop-uid g l = (w : EntityUID)
+    → contains same_uid l.lost w ≡ list_any (λ u. takes (held l.entities) u w) (take l.uid-index l.uids)

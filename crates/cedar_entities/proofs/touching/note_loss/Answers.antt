@@ -11,12 +11,15 @@ use Rattle.cedar_entities.proofs.touching.note_loss.Goals as goal
 
 pub returns-then-not-is_hit-clause-who : goal.returns-then-not-is_hit-clause-who
 returns-then-not-is_hit-clause-who g c q =
-    unlisted_loss (loses c.args.losses.now.items q) (same_uid c.args.key.now q) (is_stripped c.args.uids.now c.args.key.now (has_ancestor c.args.entity.now)) (sym c.is_hit.ensures ∙ c.if-not-is_hit.true)
+    unlisted_loss (loses c.args.losses.now.items q) (same_uid c.args.key.now q)
+    (is_stripped c.args.uids.now c.args.key.now (has_ancestor c.args.entity.now)) (sym c.is_hit.ensures
+    ∙ c.if-not-is_hit.true)
 
 pub returns-clause-who : goal.returns-clause-who
 returns-clause-who g c q =
     ap (λ l. loses l q) c.in_ok-push.ensures.items
-    ∙ listed_loss c.args.losses.now.items c.in_ok-loss_of.field-0 c.args.key.now q (is_stripped c.args.uids.now c.args.key.now (has_ancestor c.args.entity.now))
+    ∙ listed_loss c.args.losses.now.items c.in_ok-loss_of.field-0 c.args.key.now q
+    (is_stripped c.args.uids.now c.args.key.now (has_ancestor c.args.entity.now))
     c.in_ok-loss_of.ensures.uid (sym c.is_hit.ensures ∙ c.if-not-is_hit.false)
 
 pub returns-clause-lost : goal.returns-clause-lost
@@ -25,4 +28,5 @@ returns-clause-lost g c is all =
     let keys = c.args.uids.now in
     subst (AllByRecursion (IsLossOf f keys)) (sym c.in_ok-push.ensures.items)
     (all_push (IsLossOf f keys) c.args.losses.now.items c.in_ok-loss_of.field-0 all (λ w.
-    c.in_ok-loss_of.ensures.lost w ∙ ap (λ o. list_any (λ u. is_ancestor_in o u && takes f u w) keys) (sym (ap f c.in_ok-loss_of.ensures.uid ∙ is))))
+    c.in_ok-loss_of.ensures.lost w ∙ ap (λ o. list_any (λ u. is_ancestor_in o u && takes f u w) keys)
+    (sym (ap f c.in_ok-loss_of.ensures.uid ∙ is))))

@@ -8,4 +8,7 @@ use Rattle.cedar_entities.specs.laws.Losses.{loses, loses_uid}
 use Rattle.cedar_entities.proofs.touching.strip_each.Given as goal
 
 abbrev pub invariant-loop-loss : goal.invariant-loop-loss
-invariant-loop-loss g l = (q : EntityUID) → held l.entities q ≡ option_map (stripped (λ p. loses l.yielded q && set.contains l.gone p) (loses_uid l.yielded q)) (held l.initial.entities q)
+invariant-loop-loss g l = (q : EntityUID)
+    → held l.entities q
+    ≡ option_map (stripped (λ p. loses l.yielded q && set.contains l.gone p) (loses_uid l.yielded q))
+    (held l.initial.entities q)

@@ -7,7 +7,8 @@ use Rattle.cedar_entities.proofs.touching.strip_once.Goals as goal
 pub returns : goal.returns
 returns c =
     c.remove_parents_of.ensures
-    ∙ ap (λ (e : EntityView). record e { parents = set.difference e.parents c.args.gone.now }) c.remove_ancestors_of.ensures
+    ∙ ap (λ (e : EntityView). record e { parents = set.difference e.parents c.args.gone.now })
+    c.remove_ancestors_of.ensures
     ∙ λ i. record c.args.entity.now {
       parents = difference_kept c.args.entity.now.parents c.args.gone.now i;
       indirect = difference_kept c.args.entity.now.indirect c.args.lost.now i;

@@ -21,31 +21,59 @@ loop-key-preserved-in_ok-push g c q =
     let m = c.args.entities.now in
     let u = c.args.uids.now in
     let gives = c.into_iter-key-iterator.ensures.into_iter_gives in
-    let found = (hash_map_turn deref_pair c.loop-key.yielded c.into_iter-key-iterator.result c.loop-key.key-iterator c.next.new.self c.next.result (c.in-Some.key, c.in-Some.node) c.loop-key.yielded_by c.in-Some.is c.next.ensures.steps same_uid_equiv m gives.0 gives.4).1 in
-    let hits : list_any (is_ancestor_in (held m c.in-Some.key.now)) u.keys ≡ true = ap (λ o. list_any (is_ancestor_in (option_map shared o)) u.keys) found ∙ sym (ap (λ e. list_any (has_ancestor e) u.keys) c.deref.ensures) ∙ ap (list_any (has_ancestor c.deref.result.now)) (sym c.in_ok-sought.ensures) ∙ sym c.has_any.ensures ∙ c.if-has_any.true in
-    listed_key (λ x. list_any (is_ancestor_in (held m x)) u.keys) (map deref_pair c.loop-key.yielded) c.in-Some.key.now c.in-Some.node.now q (is_member same_uid c.loop-key.copies.items q) (c.loop-key.invariant q)
+    let found =
+    (hash_map_turn deref_pair c.loop-key.yielded c.into_iter-key-iterator.result c.loop-key.key-iterator
+    c.next.new.self c.next.result (
+      c.in-Some.key,
+      c.in-Some.node,
+    ) c.loop-key.yielded_by c.in-Some.is c.next.ensures.steps same_uid_equiv m gives.0
+    gives.4).1 in
+    let hits : list_any (is_ancestor_in (held m c.in-Some.key.now)) u.keys ≡ true =
+    ap (λ o. list_any (is_ancestor_in (option_map shared o)) u.keys) found
+    ∙ sym (ap (λ e. list_any (has_ancestor e) u.keys) c.deref.ensures)
+    ∙ ap (list_any (has_ancestor c.deref.result.now)) (sym c.in_ok-sought.ensures) ∙ sym c.has_any.ensures
+    ∙ c.if-has_any.true in
+    listed_key (λ x. list_any (is_ancestor_in (held m x)) u.keys)
+    (map deref_pair c.loop-key.yielded) c.in-Some.key.now c.in-Some.node.now q
+    (is_member same_uid c.loop-key.copies.items q) (c.loop-key.invariant q)
     (is_member same_uid c.push.new.self.items q)
     (ap (λ l. is_member same_uid l q) c.in_ok-push.ensures.items
     ∙ member_push c.loop-key.copies.items c.in_ok-clone.field-0 q
     ∙ ap (λ k. is_member same_uid c.loop-key.copies.items q || same_uid k q) c.in_ok-clone.ensures.cases)
-    hits ∙ ap (λ l. is_some (lookup (same_uid q) l) && list_any (is_ancestor_in (held m q)) u.keys) (sym (map_append_one deref_pair c.loop-key.yielded (c.in-Some.key, c.in-Some.node)))
+    hits ∙ ap (λ l. is_some (lookup (same_uid q) l) && list_any (is_ancestor_in (held m q)) u.keys)
+    (sym (map_append_one deref_pair c.loop-key.yielded (c.in-Some.key, c.in-Some.node)))
 
 pub loop-key-preserved : goal.loop-key-preserved
 loop-key-preserved g c q =
     let m = c.args.entities.now in
     let u = c.args.uids.now in
     let gives = c.into_iter-key-iterator.ensures.into_iter_gives in
-    let found = (hash_map_turn deref_pair c.loop-key.yielded c.into_iter-key-iterator.result c.loop-key.key-iterator c.next.new.self c.next.result (c.in-Some.key, c.in-Some.node) c.loop-key.yielded_by c.in-Some.is c.next.ensures.steps same_uid_equiv m gives.0 gives.4).1 in
-    let out : list_any (is_ancestor_in (held m c.in-Some.key.now)) u.keys ≡ false = ap (λ o. list_any (is_ancestor_in (option_map shared o)) u.keys) found ∙ sym (ap (λ e. list_any (has_ancestor e) u.keys) c.deref.ensures) ∙ ap (list_any (has_ancestor c.deref.result.now)) (sym c.in_ok-sought.ensures) ∙ sym c.has_any.ensures ∙ c.if-has_any.false in
-    unlisted_key (λ x. list_any (is_ancestor_in (held m x)) u.keys) (map deref_pair c.loop-key.yielded) c.in-Some.key.now c.in-Some.node.now q (is_member same_uid c.loop-key.copies.items q) (c.loop-key.invariant q)
-    out ∙ ap (λ l. is_some (lookup (same_uid q) l) && list_any (is_ancestor_in (held m q)) u.keys) (sym (map_append_one deref_pair c.loop-key.yielded (c.in-Some.key, c.in-Some.node)))
+    let found =
+    (hash_map_turn deref_pair c.loop-key.yielded c.into_iter-key-iterator.result c.loop-key.key-iterator
+    c.next.new.self c.next.result (
+      c.in-Some.key,
+      c.in-Some.node,
+    ) c.loop-key.yielded_by c.in-Some.is c.next.ensures.steps same_uid_equiv m gives.0
+    gives.4).1 in
+    let out : list_any (is_ancestor_in (held m c.in-Some.key.now)) u.keys ≡ false =
+    ap (λ o. list_any (is_ancestor_in (option_map shared o)) u.keys) found
+    ∙ sym (ap (λ e. list_any (has_ancestor e) u.keys) c.deref.ensures)
+    ∙ ap (list_any (has_ancestor c.deref.result.now)) (sym c.in_ok-sought.ensures) ∙ sym c.has_any.ensures
+    ∙ c.if-has_any.false in
+    unlisted_key (λ x. list_any (is_ancestor_in (held m x)) u.keys)
+    (map deref_pair c.loop-key.yielded) c.in-Some.key.now c.in-Some.node.now q
+    (is_member same_uid c.loop-key.copies.items q) (c.loop-key.invariant q)
+    out ∙ ap (λ l. is_some (lookup (same_uid q) l) && list_any (is_ancestor_in (held m q)) u.keys)
+    (sym (map_append_one deref_pair c.loop-key.yielded (c.in-Some.key, c.in-Some.node)))
 
 pub returns : goal.returns
 returns g c q =
     let m = c.args.entities.now in
     let u = c.args.uids.now in
     let gives = c.into_iter-key-iterator.ensures.into_iter_gives in
-    let whole = (iter_end deref_pair m.entries c.loop-key.yielded c.into_iter-key-iterator.result c.loop-key.key-iterator c.next.new.self c.next.result gives.0 c.loop-key.yielded_by c.in-None.is c.next.ensures.steps).0 in
+    let whole =
+    (iter_end deref_pair m.entries c.loop-key.yielded c.into_iter-key-iterator.result c.loop-key.key-iterator
+    c.next.new.self c.next.result gives.0 c.loop-key.yielded_by c.in-None.is c.next.ensures.steps).0 in
     c.loop-key.invariant q
     ∙ ap (λ l. is_some (lookup (same_uid q) l) && list_any (is_ancestor_in (held m q)) u.keys) whole
     ∙ there_only_any (get same_uid m q) u.keys

@@ -11,4 +11,5 @@ use Rattle.cedar_entities.proofs.touching.touched_by_any.Given as goal
 
 abbrev pub invariant-loop-key : goal.invariant-loop-key
 invariant-loop-key g l = (q : EntityUID) → is_member same_uid l.copies.items q
-    ≡ (is_some (lookup (same_uid q) (map deref_pair l.yielded)) && list_any (is_ancestor_in (held l.entities q)) l.uids.keys)
+    ≡ (is_some (lookup (same_uid q) (map deref_pair l.yielded))
+    && list_any (is_ancestor_in (held l.entities q)) l.uids.keys)

@@ -9,4 +9,5 @@ use Rattle.cedar_entity.proofs.entity.fields.Given as goal
 abbrev pub invariant-loop-key : goal.invariant-loop-key
 invariant-loop-key l =
     IsOrdered string_cmp l.fields ×
-    ((key : List ℕ) → option_or (last_at key (fields_of (into_iter_items l.key-iterator))) (get_by_text l.fields key) ≡ last_at key (fields_of l.fn.pairs.items))
+    ((key : List ℕ) → option_or (last_at key (fields_of (into_iter_items l.key-iterator))) (get_by_text l.fields key)
+    ≡ last_at key (fields_of l.fn.pairs.items))

@@ -13,11 +13,18 @@ use Rattle.cedar_entity.proofs.least.least_non_action.Goals as goal
 
 pub returns-in-Some : goal.returns-in-Some
 returns-in-Some c =
-    let members : (q : EntityUID) → is_member same_uid c.pointers.result.now q ≡ set.contains c.args.uids.now q = λ q. sym (contains_listed c.pointers.result.now q) ∙ ap (λ (s : UidValues). set.contains s q) c.pointers.ensures.all in
-    let least = first_least_of (λ q. not (is_action q)) c.args.uids.now c.pointers.result.now (Some c.in-Some.shared.now) members c.pointers.ensures.ascending c.in-Some.ensures in
-    subst (λ (u : EntityUID). IsLeast (λ (q : EntityUID). set.contains c.args.uids.now q && not (is_action q)) u) (sym c.uid.ensures) least
+    let members : (q : EntityUID) → is_member same_uid c.pointers.result.now q ≡ set.contains c.args.uids.now q =
+    λ q. sym (contains_listed c.pointers.result.now q)
+    ∙ ap (λ (s : UidValues). set.contains s q) c.pointers.ensures.all in
+    let least = first_least_of (λ q. not (is_action q)) c.args.uids.now c.pointers.result.now
+    (Some c.in-Some.shared.now) members c.pointers.ensures.ascending c.in-Some.ensures in
+    subst (λ (u : EntityUID). IsLeast (λ (q : EntityUID). set.contains c.args.uids.now q && not (is_action q)) u)
+    (sym c.uid.ensures) least
 
 pub returns-in-None : goal.returns-in-None
 returns-in-None c =
-    let members : (q : EntityUID) → is_member same_uid c.pointers.result.now q ≡ set.contains c.args.uids.now q = λ q. sym (contains_listed c.pointers.result.now q) ∙ ap (λ (s : UidValues). set.contains s q) c.pointers.ensures.all in
-    first_least_of (λ q. not (is_action q)) c.args.uids.now c.pointers.result.now None members c.pointers.ensures.ascending c.in-None.ensures
+    let members : (q : EntityUID) → is_member same_uid c.pointers.result.now q ≡ set.contains c.args.uids.now q =
+    λ q. sym (contains_listed c.pointers.result.now q)
+    ∙ ap (λ (s : UidValues). set.contains s q) c.pointers.ensures.all in
+    first_least_of (λ q. not (is_action q)) c.args.uids.now c.pointers.result.now None members
+    c.pointers.ensures.ascending c.in-None.ensures

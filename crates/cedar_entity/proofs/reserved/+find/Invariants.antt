@@ -16,7 +16,8 @@ decreases-in_record l = 3 * fields_size (field_trees l.fields.now.entries) + 2
 abbrev pub invariant-in_elements-loop-element : goal.invariant-in_elements-loop-element
 invariant-in_elements-loop-element l =
     (values_size (value_trees (drop l.element-index l.element-items)) ≤ values_size (value_trees l.elements.items)) ×
-    (reserved_in_all (value_trees (drop l.element-index l.element-items)) ≡ reserved_in_all (value_trees l.elements.items))
+    (reserved_in_all (value_trees (drop l.element-index l.element-items))
+    ≡ reserved_in_all (value_trees l.elements.items))
 
 abbrev pub invariant-in_record-loop-key : goal.invariant-in_record-loop-key
 invariant-in_record-loop-key l =

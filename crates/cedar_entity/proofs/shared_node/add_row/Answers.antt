@@ -12,10 +12,18 @@ pub returns-clause-ok : goal.returns-clause-ok
 returns-clause-ok c =
     on_ok_weaker c.add_shared_ancestors.result (λ e q.
     ap (λ (n : EntityView). has_ancestor n q) e ∙ ancestors_with_row c.args.entity.now c.taken-keys.result.items q
-    ∙ ap (λ (ks : List EntityUID). has_ancestor c.args.entity.now q || is_member same_uid ks q) c.taken-keys.ensures) c.add_shared_ancestors.ensures.ok
+    ∙ ap (λ (ks : List EntityUID). has_ancestor c.args.entity.now q || is_member same_uid ks q) c.taken-keys.ensures)
+    c.add_shared_ancestors.ensures.ok
 
 pub returns-clause-grows : goal.returns-clause-grows
-returns-clause-grows c = subst (λ (ks : List EntityUID). Grows (has_ancestor c.args.entity.now) (has_ancestor c.add_shared_ancestors.new.self) (is_member same_uid ks)) c.taken-keys.ensures (grows_by_row c.add_shared_ancestors.result c.args.entity.now c.add_shared_ancestors.new.self c.taken-keys.result.items c.add_shared_ancestors.ensures.ok c.add_shared_ancestors.ensures.err)
+returns-clause-grows c =
+    subst (λ (ks : List EntityUID). Grows (has_ancestor c.args.entity.now)
+    (has_ancestor c.add_shared_ancestors.new.self) (is_member same_uid ks)) c.taken-keys.ensures
+    (grows_by_row c.add_shared_ancestors.result c.args.entity.now c.add_shared_ancestors.new.self
+    c.taken-keys.result.items c.add_shared_ancestors.ensures.ok c.add_shared_ancestors.ensures.err)
 
 pub returns-clause-kept : goal.returns-clause-kept
-returns-clause-kept c = same_after_row kept (λ e ks. ap (λ s. (e.uid, (rest e, s))) (overlap_with_row e ks)) c.add_shared_ancestors.result c.args.entity.now c.add_shared_ancestors.new.self c.taken-keys.result.items c.add_shared_ancestors.ensures.ok c.add_shared_ancestors.ensures.err
+returns-clause-kept c =
+    same_after_row kept (λ e ks. ap (λ s. (e.uid, (rest e, s))) (overlap_with_row e ks)) c.add_shared_ancestors.result
+    c.args.entity.now c.add_shared_ancestors.new.self c.taken-keys.result.items c.add_shared_ancestors.ensures.ok
+    c.add_shared_ancestors.ensures.err

@@ -29,7 +29,8 @@ loop-key-preserved g c =
       count = i.count;
       only = λ j k got. elim (e.fresh j k got) [
         | inl old ↦ i.only j k old
-        | inr same ↦ sym (i.all k) ∙ member_at eq refs c.loop-key.key-index key k (omega arith) c.key-item.is (laws.symm k key.now ∙ same)
+        | inr same ↦ sym (i.all k)
+            ∙ member_at eq refs c.loop-key.key-index key k (omega arith) c.key-item.is (laws.symm k key.now ∙ same)
       ];
     }
 

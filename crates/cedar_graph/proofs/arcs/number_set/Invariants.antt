@@ -10,7 +10,8 @@ invariant-loop-key g l =
     let eq = g.K.PartialEq.eq in
     record {
       unique : IsUnique eq l.keys;
-      done : (q : g.row.K.Denot) → is_member eq (map (λ x. x.now) (take l.key-index l.key-items)) q ≡ true → HasNumber eq l.keys.keys q;
+      done : (q : g.row.K.Denot) → is_member eq (map (λ x. x.now) (take l.key-index l.key-items)) q ≡ true
+          → HasNumber eq l.keys.keys q;
       all : (q : g.row.K.Denot) → is_member eq (map (λ x. x.now) l.key-items) q ≡ contains eq l.fix q;
       len : length l.keys.keys ≤ l.key-index;
       count : length l.key-items ≡ hash_set_len l.fix;

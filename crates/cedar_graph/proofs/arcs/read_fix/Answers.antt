@@ -4,7 +4,8 @@ use Rattle.std.proofs.lemmas.Option.{slice_get_within}
 use Rattle.cedar_graph.specs.Graph.{graph_of}
 use Rattle.cedar_graph.specs.laws.Arcs.{IsPrefix}
 use Rattle.cedar_graph.proofs.Reaches.{graph_from, and_parts, and_from}
-use Rattle.cedar_graph.proofs.Keyed.{got_some, prefix_got, prefix_back, prefix_length, prefix_trans, prefix_take, number_same, got_of_member, member_of_got, member_alike}
+use Rattle.cedar_graph.proofs.Keyed.{got_some, prefix_got, prefix_back, prefix_length, prefix_trans, prefix_take}
+use Rattle.cedar_graph.proofs.Keyed.{number_same, got_of_member, member_of_got, member_alike}
 use Rattle.cedar_graph.proofs.arcs.read_fix.Goals as goal
 
 pub returns : goal.returns

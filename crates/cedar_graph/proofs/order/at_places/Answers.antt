@@ -6,11 +6,13 @@ use Rattle.cedar_graph.proofs.order.at_places.Goals as goal
 
 pub offset_bounds-numbers-place : goal.offset_bounds-numbers-place
 offset_bounds-numbers-place c =
-    let inside = order_inside (length c.args.numbers.now) c.args.places.now c.requires c.loop-place.place-index (omega arith) in
+    let inside = order_inside (length c.args.numbers.now) c.args.places.now c.requires c.loop-place.place-index
+    (omega arith) in
     omega (arith, inside)
 
 pub bounds-numbers-place : goal.bounds-numbers-place
-bounds-numbers-place c = order_inside (length c.args.numbers.now) c.args.places.now c.requires c.loop-place.place-index (omega arith)
+bounds-numbers-place c =
+    order_inside (length c.args.numbers.now) c.args.places.now c.requires c.loop-place.place-index (omega arith)
 
 pub returns : goal.returns
 returns c =

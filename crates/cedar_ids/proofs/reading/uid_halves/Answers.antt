@@ -7,9 +7,12 @@ use Rattle.cedar_ids.proofs.reading.uid_halves.Goals as goal
 
 pub returns-in_err-strip_suffix : goal.returns-in_err-strip_suffix
 returns-in_err-strip_suffix c =
-    rw c.from_residual.ensures (halves_no_quote c.args.text.now (strip_suffix_char 34 c.args.text.now None c.in_err-strip_suffix.ensures.cases (lit< tt)))
+    rw c.from_residual.ensures (halves_no_quote c.args.text.now
+    (strip_suffix_char 34 c.args.text.now None c.in_err-strip_suffix.ensures.cases (lit< tt)))
 
 pub returns : goal.returns
 returns c =
     split_found _ _ _ (lit< tt) c.split_once.ensures.cases
-    ∙ halves_quote c.args.text.now c.in_ok-strip_suffix.field-0.now (strip_suffix_char 34 c.args.text.now (Some c.in_ok-strip_suffix.field-0) c.in_ok-strip_suffix.ensures.cases (lit< tt))
+    ∙ halves_quote c.args.text.now c.in_ok-strip_suffix.field-0.now
+    (strip_suffix_char 34 c.args.text.now (Some c.in_ok-strip_suffix.field-0) c.in_ok-strip_suffix.ensures.cases
+    (lit< tt))

@@ -7,7 +7,8 @@ use Rattle.cedar_keyed_hash.proofs.KeyedHasherHasher.write.Goals as goal
 
 pub returns-then-length-lt8 : goal.returns-then-length-lt8
 unfolding keyed
-returns-then-length-lt8 c = rw (c.mixed-self.ensures, c.short.ensures, lt-ltb (length c.args.bytes.now) 8 c.if-length-lt8.true)
+returns-then-length-lt8 c =
+    rw (c.mixed-self.ensures, c.short.ensures, lt-ltb (length c.args.bytes.now) 8 c.if-length-lt8.true)
 
 pub loop-at-init : goal.loop-at-init
 unfolding after_words
@@ -28,5 +29,6 @@ pub returns : goal.returns
 unfolding keyed
 returns c =
     let n : ℕ = length c.args.bytes.now in
-    let count : (n - 1) / 8 ≡ c.loop-at.at / 8 = omega (arith, c.loop-at.invariant.0, c.loop-at.invariant.1, c.loop-at-test.false) in
+    let count : (n - 1) / 8 ≡ c.loop-at.at / 8 =
+    omega (arith, c.loop-at.invariant.0, c.loop-at.invariant.1, c.loop-at-test.false) in
     rw (le-ltb n 8 c.if-length-lt8.false, count, ← c.loop-at.invariant.2, c.mixed-self-2.ensures, c.word_at-2.ensures)

@@ -4,7 +4,8 @@ use Rattle.cedar_keyed_hash.proofs.KeyedHasherHasher.write.Given as goal
 
 -- the words before `at` were taken in
 abbrev pub invariant-loop-at : goal.invariant-loop-at
-invariant-loop-at l = (l.at % 8 ≡ 0) × (l.at < l.length) × (l.state ≡ after_words l.bytes l.self.key l.initial.state (l.at / 8))
+invariant-loop-at l = (l.at % 8 ≡ 0) × (l.at < l.length)
+    × (l.state ≡ after_words l.bytes l.self.key l.initial.state (l.at / 8))
 
 abbrev pub decreases-loop-at : goal.decreases-loop-at
 decreases-loop-at l = l.length - l.at

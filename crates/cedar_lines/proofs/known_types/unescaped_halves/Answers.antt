@@ -6,8 +6,12 @@ use Rattle.cedar_lines.proofs.known_types.unescaped_halves.Goals as goal
 pub returns-then-is_own_escape-clause-split : goal.returns-then-is_own_escape-clause-split
 returns-then-is_own_escape-clause-split c =
     let front = c.in_ok-strip_suffix.field-0.now in
-    let whole : c.args.text.now ≡ front ++ 34 ∷ [] = strip_suffix_char 34 c.args.text.now (Some c.in_ok-strip_suffix.field-0) c.in_ok-strip_suffix.ensures.cases (lit< tt) in
+    let whole : c.args.text.now ≡ front ++ 34 ∷ [] =
+    strip_suffix_char 34 c.args.text.now (Some c.in_ok-strip_suffix.field-0) c.in_ok-strip_suffix.ensures.cases
+    (lit< tt) in
     let h = c.in_ok-name.ensures.cases in
     let parts : front ≡ c.in_ok-name.name.now ++ 58 ∷ 58 ∷ 34 ∷ c.in_ok-name.eid.now =
-    sym (take-append-drop h.0 front) ∙ ap (λ z. take h.0 front ++ z) h.2.1.split ∙ (λ i. sym h.3 i ++ 58 ∷ 58 ∷ 34 ∷ sym h.4 i) in
-    whole ∙ ap (λ z. z ++ 34 ∷ []) parts ∙ append_assoc c.in_ok-name.name.now (58 ∷ 58 ∷ 34 ∷ c.in_ok-name.eid.now) (34 ∷ [])
+    sym (take-append-drop h.0 front) ∙ ap (λ z. take h.0 front ++ z) h.2.1.split
+    ∙ (λ i. sym h.3 i ++ 58 ∷ 58 ∷ 34 ∷ sym h.4 i) in
+    whole ∙ ap (λ z. z ++ 34 ∷ []) parts
+    ∙ append_assoc c.in_ok-name.name.now (58 ∷ 58 ∷ 34 ∷ c.in_ok-name.eid.now) (34 ∷ [])

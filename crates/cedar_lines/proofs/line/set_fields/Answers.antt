@@ -6,5 +6,7 @@ use Rattle.cedar_lines.proofs.line.set_fields.Goals as goal
 
 pub returns : goal.returns
 returns c = fact_from_extend (λ x. x.now) c.extend.result c.extend.ensures.ran
-    (λ it b. YieldsList-at b (YieldsList-from_str_split 9 c.args.line.now (lit< tt) c.split.ensures.text c.split.ensures.has_more c.split.ensures.pattern))
+    (λ it b.
+    YieldsList-at b (YieldsList-from_str_split 9 c.args.line.now
+    (lit< tt) c.split.ensures.text c.split.ensures.has_more c.split.ensures.pattern))
     (λ xs e p. ap (map (λ x. x.now)) (p.0 ∙ ap (λ z. z ++ xs) c.clear.ensures.items) ∙ e)

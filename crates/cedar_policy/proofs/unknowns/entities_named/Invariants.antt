@@ -8,4 +8,6 @@ use Rattle.cedar_policy.proofs.unknowns.entities_named.Given as goal
 
 abbrev pub invariant-loop-unknown : goal.invariant-loop-unknown
 invariant-loop-unknown g l =
-    (u : EntityUID) → is_ascii (uid_parts u).eid ≡ true → contains same_uid l.uids u ≡ is_unknown_entity (uid_parts u) (map (λ x. x.now) (take l.unknown-index l.unknowns))
+    (u : EntityUID) → is_ascii (uid_parts u).eid ≡ true
+    → contains same_uid l.uids u ≡ is_unknown_entity (uid_parts u)
+    (map (λ x. x.now) (take l.unknown-index l.unknowns))

@@ -8,6 +8,8 @@ use Rattle.cedar_policy_lines.proofs.writing.id_text.Goals as goal
 pub returns-then-is_ascii : goal.returns-then-is_ascii
 returns-then-is_ascii c =
     let i = c.args.id.now in
-    let ascii : is_ascii i ≡ true = ap is_ascii (sym c.as_ref.ensures) ∙ sym (is_ascii-from_cases _ _ c.is_ascii.ensures.cases) ∙ c.if-is_ascii.true in
+    let ascii : is_ascii i ≡ true = ap is_ascii (sym c.as_ref.ensures)
+    ∙ sym (is_ascii-from_cases _ _ c.is_ascii.ensures.cases) ∙ c.if-is_ascii.true in
     let known : escaped_output i ≡ Some (escaped i) = ap (λ (b : Bool). if b then Some (escaped i) else None) ascii in
-    IfOk-weaker c.to_string.result _ _ (λ s k. (rw known at k) ∙ sym (ap (λ o. unwrap_or o []) known)) c.to_string.ensures.ok
+    IfOk-weaker c.to_string.result _ _ (λ s k. (rw known at k)
+    ∙ sym (ap (λ o. unwrap_or o []) known)) c.to_string.ensures.ok

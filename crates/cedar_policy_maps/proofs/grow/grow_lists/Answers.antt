@@ -14,12 +14,15 @@ loop-body-preserved g c =
     let i = c.in-Some.body in
     let before = c.loop-body.invariant in
     let once : HaveOwnKeys ((i, c.in-Some.more) ∷ rest) = subst HaveOwnKeys c.in-Some.ensures.steps before.once in
-    let room : HaveRoom old (lists_of ((i, c.in-Some.more) ∷ rest)) = subst (λ es. HaveRoom old (lists_of es)) c.in-Some.ensures.steps before.room in
+    let room : HaveRoom old (lists_of ((i, c.in-Some.more) ∷ rest)) =
+    subst (λ es. HaveRoom old (lists_of es)) c.in-Some.ensures.steps before.room in
     record {
       lists =
           ap (λ ls. grown_by ls (lists_of rest)) c.grow_list.ensures.lists
           ∙ ap (λ es. grown_by (lists_of old) (lists_of es)) (sym c.in-Some.ensures.steps) ∙ before.lists;
-      room = room_elsewhere old new (lists_of rest) i (ap (list_any (same_text i)) (listed_keys rest) ∙ once.0) c.grow_list.ensures.others room.1;
+      room =
+          room_elsewhere old new (lists_of rest) i (ap (list_any (same_text i)) (listed_keys rest)
+          ∙ once.0) c.grow_list.ensures.others room.1;
       once = once.1;
       spared = omega (arith, before.spared, c.grow_list.ensures.room);
     }

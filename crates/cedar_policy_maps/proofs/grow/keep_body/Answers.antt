@@ -8,4 +8,5 @@ pub returns-in-Some : goal.returns-in-Some
 returns-in-Some g c =
     let w = c.take_body.new.stands in
     ap shared_of (c.get_mut.follows.holds w).0
-    ∙ alike_written (λ t. t.value) (same_text c.id.result.now) c.args.templates.now.entries c.in-Some.stands.now w (sym c.in-Some.ensures.value) c.take_body.ensures
+    ∙ alike_written (λ t. t.value) (same_text c.id.result.now) c.args.templates.now.entries c.in-Some.stands.now w
+    (sym c.in-Some.ensures.value) c.take_body.ensures

@@ -7,4 +7,5 @@ pub returns-in-Some : goal.returns-in-Some
 returns-in-Some g c =
     let w = c.take_policy.new.stands in
     (c.get_mut.follows.holds w).0
-    ∙ same_written (same_text c.id.result.now) c.args.links.now.entries c.in-Some.stands.now w (sym c.in-Some.ensures.value) c.take_policy.ensures
+    ∙ same_written (same_text c.id.result.now) c.args.links.now.entries c.in-Some.stands.now w
+    (sym c.in-Some.ensures.value) c.take_policy.ensures

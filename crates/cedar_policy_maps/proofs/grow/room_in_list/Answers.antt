@@ -8,4 +8,5 @@ pub returns-in-Some-clause-lists : goal.returns-in-Some-clause-lists
 returns-in-Some-clause-lists g c =
     let w = c.room_in_set.new.ids in
     ap lists_of (c.get_mut.follows.holds w).0
-    ∙ rewritten (same_text c.args.body.now) c.args.map.now.entries c.in-Some.ids.now w (sym c.in-Some.ensures.value) c.room_in_set.ensures.keys
+    ∙ rewritten (same_text c.args.body.now) c.args.map.now.entries c.in-Some.ids.now w
+    (sym c.in-Some.ensures.value) c.room_in_set.ensures.keys

@@ -17,7 +17,8 @@ loop-body-preserved g c =
     record {
       lists = c.in_ok-room_in_list.ensures.lists ∙ before.lists;
       done = before.done ++ (i, ks) ∷ [];
-      is_part = append_assoc before.done ((i, ks) ∷ []) (lists_of c.next.new.self) ∙ ap (λ es. before.done ++ lists_of es) (sym c.in-Some.ensures.steps) ∙ before.is_part;
+      is_part = append_assoc before.done ((i, ks) ∷ []) (lists_of c.next.new.self)
+          ∙ ap (λ es. before.done ++ lists_of es) (sym c.in-Some.ensures.steps) ∙ before.is_part;
       room =
           room_more new before.done i ks (room_kept old new before.done c.in_ok-room_in_list.ensures.kept before.room)
           (subst (HasRoom (lookup (same_text i) new)) c.len.ensures.len c.in_ok-room_in_list.ensures.room);

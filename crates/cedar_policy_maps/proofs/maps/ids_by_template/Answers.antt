@@ -10,4 +10,5 @@ pub returns : goal.returns
 returns g c =
     let known = values_of c.args.known.now.entries in
     c.in_ok-list_ids.ensures ∙ ap (λ ls. all_listed ls c.args.policies.now) c.in_ok-map.ensures
-    ∙ listed_all (templates_in known (bodies_of c.args.bodies.now)) c.args.policies.now (templates_once (bodies_of c.args.bodies.now) known c.requires.bodies) c.requires.policies
+    ∙ listed_all (templates_in known (bodies_of c.args.bodies.now)) c.args.policies.now
+    (templates_once (bodies_of c.args.bodies.now) known c.requires.bodies) c.requires.policies

@@ -5,4 +5,6 @@ use Rattle.indexmap.specs.IndexMap.{get}
 use Rattle.cedar_policy_maps.proofs.maps.keep_templates.Goals as goal
 
 pub returns : goal.returns
-returns g c = filter_same_pairs _ (λ e. not (is_some (get same_text c.args.links.now e.0))) _ (λ k v b w f' call. search rules) _ _ c.retain.ensures.filtered
+returns g c =
+    filter_same_pairs _ (λ e. not (is_some (get same_text c.args.links.now e.0))) _
+    (λ k v b w f' call. search rules) _ _ c.retain.ensures.filtered

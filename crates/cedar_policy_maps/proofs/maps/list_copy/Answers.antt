@@ -9,12 +9,14 @@ use Rattle.cedar_policy_maps.proofs.maps.list_copy.Goals as goal
 pub returns-in-None : goal.returns-in-None
 returns-in-None g c =
     ap (λ m. lists_of m.entries) c.get_mut.follows.holds-at-none
-    ∙ unwritten (same_text c.args.body.now) (λ ks. insert_key same_text ks c.args.id.now) c.args.map.now.entries (sym c.in-None.ensures.value)
+    ∙ unwritten (same_text c.args.body.now)
+    (λ ks. insert_key same_text ks c.args.id.now) c.args.map.now.entries (sym c.in-None.ensures.value)
 
 pub returns-in-Some : goal.returns-in-Some
 returns-in-Some g c =
     let w = c.put_copy.new.ids in
     on_ok_weaker c.put_copy.result
     (λ k. ap lists_of (c.get_mut.follows.holds w).0
-    ∙ written (same_text c.args.body.now) (λ ks. insert_key same_text ks c.args.id.now) c.args.map.now.entries c.in-Some.ids.now w (sym c.in-Some.ensures.value) k)
+    ∙ written (same_text c.args.body.now) (λ ks. insert_key same_text ks c.args.id.now) c.args.map.now.entries
+    c.in-Some.ids.now w (sym c.in-Some.ensures.value) k)
     c.put_copy.ensures

@@ -9,14 +9,16 @@ use Rattle.cedar_policy_maps.proofs.maps.list_id.Goals as goal
 pub returns-in-None-clause-ok : goal.returns-in-None-clause-ok
 returns-in-None-clause-ok g c =
     ap (λ m. lists_of m.entries) c.get_mut.follows.holds-at-none
-    ∙ unwritten (same_text c.args.body.now) (λ ks. insert_key same_text ks c.args.id) c.args.map.now.entries (sym c.in-None.ensures.value)
+    ∙ unwritten (same_text c.args.body.now)
+    (λ ks. insert_key same_text ks c.args.id) c.args.map.now.entries (sym c.in-None.ensures.value)
 
 pub returns-in-Some-clause-ok : goal.returns-in-Some-clause-ok
 returns-in-Some-clause-ok g c =
     let w = c.put_id.new.ids in
     on_ok_weaker c.put_id.result
     (λ k. ap lists_of (c.get_mut.follows.holds w).0
-    ∙ written (same_text c.args.body.now) (λ ks. insert_key same_text ks c.args.id) c.args.map.now.entries c.in-Some.ids.now w (sym c.in-Some.ensures.value) k)
+    ∙ written (same_text c.args.body.now) (λ ks. insert_key same_text ks c.args.id) c.args.map.now.entries
+    c.in-Some.ids.now w (sym c.in-Some.ensures.value) k)
     c.put_id.ensures.ok
 
 pub returns-in-Some-clause-err : goal.returns-in-Some-clause-err

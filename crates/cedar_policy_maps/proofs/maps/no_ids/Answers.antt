@@ -5,10 +5,14 @@ use Rattle.cedar_policy_maps.proofs.maps.no_ids.Goals as goal
 
 pub put_no_ids-requires-clause-absent : goal.put_no_ids-requires-clause-absent
 put_no_ids-requires-clause-absent g c =
-    no_ids_absent c.args.bodies.now c.loop-template.template-index c.template-item.result (values_of c.args.known.now.entries) c.loop-template.map.entries _ c.requires.bodies (omega arith) c.template-item.is
+    no_ids_absent c.args.bodies.now c.loop-template.template-index c.template-item.result
+    (values_of c.args.known.now.entries) c.loop-template.map.entries _ c.requires.bodies
+    (omega arith) c.template-item.is
     c.loop-template.invariant refl
 
 pub loop-template-preserved : goal.loop-template-preserved
 loop-template-preserved g c =
-    no_ids_more c.args.bodies.now c.loop-template.template-index c.template-item.result (values_of c.args.known.now.entries) c.loop-template.map.entries c.put_no_ids.new.map.entries (omega arith) c.template-item.is
+    no_ids_more c.args.bodies.now c.loop-template.template-index c.template-item.result
+    (values_of c.args.known.now.entries) c.loop-template.map.entries c.put_no_ids.new.map.entries
+    (omega arith) c.template-item.is
     c.loop-template.invariant c.in_ok-put_no_ids.ensures

@@ -8,13 +8,18 @@ pub put_body-requires : goal.put_body-requires
 put_body-requires g c =
     let es = c.loop-template.templates.entries in
     let t = c.in-Some.template in
-    let e : values_of es ++ t ∷ c.next.new.self.rest.items ≡ c.args.bodies.items = ap (λ x. values_of es ++ x) (sym c.in-Some.ensures.steps.0) ∙ c.loop-template.invariant.values in
-    next_absent shared_id es t.value.id t c.next.new.self.rest.items c.args.bodies.items (shared_once c.args.bodies.items c.requires.once) c.loop-template.invariant.keyed e refl
+    let e : values_of es ++ t ∷ c.next.new.self.rest.items ≡ c.args.bodies.items =
+    ap (λ x. values_of es ++ x) (sym c.in-Some.ensures.steps.0) ∙ c.loop-template.invariant.values in
+    next_absent shared_id es t.value.id t c.next.new.self.rest.items c.args.bodies.items
+    (shared_once c.args.bodies.items c.requires.once) c.loop-template.invariant.keyed e refl
 
 pub loop-template-preserved : goal.loop-template-preserved
 loop-template-preserved g c =
     let es = c.loop-template.templates.entries in
     let t = c.in-Some.template in
-    let e : values_of es ++ t ∷ c.next.new.self.rest.items ≡ c.args.bodies.items = ap (λ x. values_of es ++ x) (sym c.in-Some.ensures.steps.0) ∙ c.loop-template.invariant.values in
-    let r = next_put shared_id es c.put_body.new.templates.entries t.value.id t c.next.new.self.rest.items c.args.bodies.items c.loop-template.invariant.keyed e refl c.in_ok-put_body.ensures in
+    let e : values_of es ++ t ∷ c.next.new.self.rest.items ≡ c.args.bodies.items =
+    ap (λ x. values_of es ++ x) (sym c.in-Some.ensures.steps.0) ∙ c.loop-template.invariant.values in
+    let r =
+    next_put shared_id es c.put_body.new.templates.entries t.value.id t c.next.new.self.rest.items
+    c.args.bodies.items c.loop-template.invariant.keyed e refl c.in_ok-put_body.ensures in
     record { keyed = r.0; values = r.1 }

@@ -4,4 +4,5 @@ use Rattle.indexmap.proofs.CallerLemmas.{insert_entry-new}
 use Rattle.cedar_policy_maps.proofs.maps.put_last.Goals as goal
 
 pub returns : goal.returns
-returns g c = (rw c.unwrap.ensures at c.insert.ensures.entries) ∙ insert_entry-new same_text c.args.map.now c.args.key c.args.value c.requires.absent
+returns g c = (rw c.unwrap.ensures at c.insert.ensures.entries)
+    ∙ insert_entry-new same_text c.args.map.now c.args.key c.args.value c.requires.absent

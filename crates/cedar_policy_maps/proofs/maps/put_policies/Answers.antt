@@ -9,13 +9,18 @@ pub put_policy-requires : goal.put_policy-requires
 put_policy-requires g c =
     let es = c.loop-policy.links.entries in
     let p = c.in-Some.policy in
-    let e : values_of es ++ p ∷ c.next.new.self.rest.items ≡ c.args.policies.items = ap (λ x. values_of es ++ x) (sym c.in-Some.ensures.steps.0) ∙ c.loop-policy.invariant.values in
-    next_absent policy_id es (policy_id p) p c.next.new.self.rest.items c.args.policies.items c.requires.once c.loop-policy.invariant.keyed e refl
+    let e : values_of es ++ p ∷ c.next.new.self.rest.items ≡ c.args.policies.items =
+    ap (λ x. values_of es ++ x) (sym c.in-Some.ensures.steps.0) ∙ c.loop-policy.invariant.values in
+    next_absent policy_id es (policy_id p) p c.next.new.self.rest.items c.args.policies.items c.requires.once
+    c.loop-policy.invariant.keyed e refl
 
 pub loop-policy-preserved : goal.loop-policy-preserved
 loop-policy-preserved g c =
     let es = c.loop-policy.links.entries in
     let p = c.in-Some.policy in
-    let e : values_of es ++ p ∷ c.next.new.self.rest.items ≡ c.args.policies.items = ap (λ x. values_of es ++ x) (sym c.in-Some.ensures.steps.0) ∙ c.loop-policy.invariant.values in
-    let r = next_put policy_id es c.put_policy.new.links.entries (policy_id p) p c.next.new.self.rest.items c.args.policies.items c.loop-policy.invariant.keyed e refl c.in_ok-put_policy.ensures in
+    let e : values_of es ++ p ∷ c.next.new.self.rest.items ≡ c.args.policies.items =
+    ap (λ x. values_of es ++ x) (sym c.in-Some.ensures.steps.0) ∙ c.loop-policy.invariant.values in
+    let r = next_put policy_id es c.put_policy.new.links.entries
+    (policy_id p) p c.next.new.self.rest.items c.args.policies.items c.loop-policy.invariant.keyed e refl
+    c.in_ok-put_policy.ensures in
     record { keyed = r.0; values = r.1 }

@@ -7,10 +7,13 @@ use Rattle.cedar_policy_maps.proofs.maps.unlist_id.Goals as goal
 
 pub returns-in-None : goal.returns-in-None
 returns-in-None g c =
-    ap (λ m. lists_of m.entries) c.get_mut.follows.holds-at-none ∙ unwritten (same_text c.args.body.now) (remove_key (same_text c.args.id.now)) c.args.map.now.entries (sym c.in-None.ensures.value)
+    ap (λ m. lists_of m.entries) c.get_mut.follows.holds-at-none
+    ∙ unwritten (same_text c.args.body.now) (remove_key (same_text c.args.id.now)) c.args.map.now.entries
+    (sym c.in-None.ensures.value)
 
 pub returns-in-Some : goal.returns-in-Some
 returns-in-Some g c =
     let w = c.drop_id.new.ids in
     ap lists_of (c.get_mut.follows.holds w).0
-    ∙ written (same_text c.args.body.now) (remove_key (same_text c.args.id.now)) c.args.map.now.entries c.in-Some.ids.now w (sym c.in-Some.ensures.value) c.drop_id.ensures
+    ∙ written (same_text c.args.body.now) (remove_key (same_text c.args.id.now)) c.args.map.now.entries
+    c.in-Some.ids.now w (sym c.in-Some.ensures.value) c.drop_id.ensures

@@ -6,7 +6,8 @@ use Rattle.cedar_policy_merge.proofs.fresh.next_free.Given as goal
 abbrev pub invariant-loop-id : goal.invariant-loop-id
 invariant-loop-id g l = record {
   within : l.number ≤ free_below (is_bound_in_either l.here l.other) l.start + count l.here l.other;
-  none : free_below (is_bound_in_either l.here l.other) l.number ≡ free_below (is_bound_in_either l.here l.other) l.start;
+  none : free_below (is_bound_in_either l.here l.other) l.number
+      ≡ free_below (is_bound_in_either l.here l.other) l.start;
 }
 
 abbrev pub decreases-loop-id : goal.decreases-loop-id

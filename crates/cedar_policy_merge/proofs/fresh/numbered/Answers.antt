@@ -4,4 +4,5 @@ use Rattle.cedar_policy_merge.proofs.fresh.numbered.Goals as goal
 
 pub returns : goal.returns
 returns c =
-    c.from_smolstr.ensures ∙ c.in_ok-text.ensures.ok ∙ ap (λ d. codes "policy" ++ d) (sym (numeral_decimal c.args.number (omega (arith, c.ranges.number.fits))))
+    c.from_smolstr.ensures ∙ c.in_ok-text.ensures.ok
+    ∙ ap (λ d. codes "policy" ++ d) (sym (numeral_decimal c.args.number (omega (arith, c.ranges.number.fits))))

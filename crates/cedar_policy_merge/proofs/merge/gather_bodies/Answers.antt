@@ -12,7 +12,9 @@ loop-template-preserved g c =
     let st = looked_at c.args.group h o in
     let seen = c.loop-template.ids.keys in
     let rest = map (λ (t : BodyParts). t.id) c.next.new.self in
-    ap (λ ks. gathered ks (conflicting h o st rest)) (c.in_ok-gather_one.ensures ∙ ap (λ i. gathered seen (conflicting h o st (i ∷ []))) c.id.ensures)
+    ap (λ ks. gathered ks (conflicting h o st rest)) (c.in_ok-gather_one.ensures
+    ∙ ap (λ i. gathered seen (conflicting h o st (i ∷ []))) c.id.ensures)
     ∙ gathered_first h o st seen rest c.in-Some.template.now.id
-    ∙ ap (λ (ts : List BodyParts). gathered seen (conflicting h o st (map (λ (t : BodyParts). t.id) ts))) (sym c.in-Some.ensures.steps)
+    ∙ ap (λ (ts : List BodyParts). gathered seen (conflicting h o st (map (λ (t : BodyParts). t.id) ts)))
+    (sym c.in-Some.ensures.steps)
     ∙ c.loop-template.invariant

@@ -12,7 +12,9 @@ loop-policy-preserved g c =
     let st = looked_at c.args.group h o in
     let seen = c.loop-policy.ids.keys in
     let rest = map (policy_id) c.next.new.self in
-    ap (λ ks. gathered ks (conflicting h o st rest)) (c.in_ok-gather_one.ensures ∙ ap (λ i. gathered seen (conflicting h o st (i ∷ []))) c.id.ensures)
+    ap (λ ks. gathered ks (conflicting h o st rest)) (c.in_ok-gather_one.ensures
+    ∙ ap (λ i. gathered seen (conflicting h o st (i ∷ []))) c.id.ensures)
     ∙ gathered_first h o st seen rest (policy_id c.in-Some.policy.now)
-    ∙ ap (λ (ts : List PolicyParts). gathered seen (conflicting h o st (map (policy_id) ts))) (sym c.in-Some.ensures.steps)
+    ∙ ap (λ (ts : List PolicyParts). gathered seen (conflicting h o st (map (policy_id) ts)))
+    (sym c.in-Some.ensures.steps)
     ∙ c.loop-policy.invariant

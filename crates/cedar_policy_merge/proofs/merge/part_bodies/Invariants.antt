@@ -6,6 +6,8 @@ use Rattle.cedar_policy_merge.proofs.merge.part_bodies.Given as goal
 
 abbrev pub invariant-loop-template : goal.invariant-loop-template
 invariant-loop-template g l = record {
-  stand : bodies_of l.parted.stand.items ≡ bodies_of l.initial.parted.stand.items ++ standing_bodies l.here (new_id l.renaming.entries) (bodies_of (take l.template-index l.theirs));
-  join : bodies_of l.parted.join.items ≡ bodies_of l.initial.parted.join.items ++ joined_bodies l.here (new_id l.renaming.entries) (bodies_of (take l.template-index l.theirs));
+  stand : bodies_of l.parted.stand.items ≡ bodies_of l.initial.parted.stand.items
+      ++ standing_bodies l.here (new_id l.renaming.entries) (bodies_of (take l.template-index l.theirs));
+  join : bodies_of l.parted.join.items ≡ bodies_of l.initial.parted.join.items
+      ++ joined_bodies l.here (new_id l.renaming.entries) (bodies_of (take l.template-index l.theirs));
 }

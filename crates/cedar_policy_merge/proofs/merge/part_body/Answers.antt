@@ -15,11 +15,16 @@ returns-clause-stand g c =
     let own2 : c.id-2.result.now ≡ t.id = c.id-2.ensures ∙ ap (λ (b : BodyParts). b.id) c.deref-2.ensures in
     let looked = rw own at c.get-new.ensures.value in
     let given : unwrap_or (option_copied c.get-new.result) t.id ≡ N = ap (λ o. unwrap_or o t.id) looked in
-    let named : c.new_or.result.now ≡ N = c.new_or.ensures ∙ ap (unwrap_or (option_copied c.get-new.result)) own2 ∙ given in
-    let bound : c.is_bound-stands.result ≡ is_bound c.args.here.now N = c.is_bound-stands.ensures ∙ ap (is_bound c.args.here.now) named in
-    let made : c.in_ok-renamed_body.field-0.value ≡ renamed_body (new_id c.args.renaming.now.entries) t = c.in_ok-renamed_body.ensures ∙ ap (λ i. with_id i t) given in
+    let named : c.new_or.result.now ≡ N = c.new_or.ensures ∙ ap (unwrap_or (option_copied c.get-new.result)) own2
+    ∙ given in
+    let bound : c.is_bound-stands.result ≡ is_bound c.args.here.now N = c.is_bound-stands.ensures
+    ∙ ap (is_bound c.args.here.now) named in
+    let made : c.in_ok-renamed_body.field-0.value ≡ renamed_body (new_id c.args.renaming.now.entries) t =
+    c.in_ok-renamed_body.ensures ∙ ap (λ i. with_id i t) given in
     on_ok_weaker c.part.result
-    (λ e. body_parted c.is_bound-stands.result (is_bound c.args.here.now N) c.args.parted.now.stand.items c.part.new.parted.stand.items c.in_ok-renamed_body.field-0 (renamed_body (new_id c.args.renaming.now.entries) t) bound e made)
+    (λ e. body_parted c.is_bound-stands.result
+    (is_bound c.args.here.now N) c.args.parted.now.stand.items c.part.new.parted.stand.items
+    c.in_ok-renamed_body.field-0 (renamed_body (new_id c.args.renaming.now.entries) t) bound e made)
     c.part.ensures.stand
 
 pub returns-clause-join : goal.returns-clause-join
@@ -30,9 +35,14 @@ returns-clause-join g c =
     let own2 : c.id-2.result.now ≡ t.id = c.id-2.ensures ∙ ap (λ (b : BodyParts). b.id) c.deref-2.ensures in
     let looked = rw own at c.get-new.ensures.value in
     let given : unwrap_or (option_copied c.get-new.result) t.id ≡ N = ap (λ o. unwrap_or o t.id) looked in
-    let named : c.new_or.result.now ≡ N = c.new_or.ensures ∙ ap (unwrap_or (option_copied c.get-new.result)) own2 ∙ given in
-    let bound : c.is_bound-stands.result ≡ is_bound c.args.here.now N = c.is_bound-stands.ensures ∙ ap (is_bound c.args.here.now) named in
-    let made : c.in_ok-renamed_body.field-0.value ≡ renamed_body (new_id c.args.renaming.now.entries) t = c.in_ok-renamed_body.ensures ∙ ap (λ i. with_id i t) given in
+    let named : c.new_or.result.now ≡ N = c.new_or.ensures ∙ ap (unwrap_or (option_copied c.get-new.result)) own2
+    ∙ given in
+    let bound : c.is_bound-stands.result ≡ is_bound c.args.here.now N = c.is_bound-stands.ensures
+    ∙ ap (is_bound c.args.here.now) named in
+    let made : c.in_ok-renamed_body.field-0.value ≡ renamed_body (new_id c.args.renaming.now.entries) t =
+    c.in_ok-renamed_body.ensures ∙ ap (λ i. with_id i t) given in
     on_ok_weaker c.part.result
-    (λ e. body_parted (not c.is_bound-stands.result) (not (is_bound c.args.here.now N)) c.args.parted.now.join.items c.part.new.parted.join.items c.in_ok-renamed_body.field-0 (renamed_body (new_id c.args.renaming.now.entries) t) (ap not bound) e made)
+    (λ e. body_parted (not c.is_bound-stands.result)
+    (not (is_bound c.args.here.now N)) c.args.parted.now.join.items c.part.new.parted.join.items
+    c.in_ok-renamed_body.field-0 (renamed_body (new_id c.args.renaming.now.entries) t) (ap not bound) e made)
     c.part.ensures.join

@@ -12,9 +12,12 @@ returns g c =
     let p = c.args.policy.now in
     let renaming = new_id c.args.renaming.now.entries in
     let looked = rw c.id.ensures at c.get-new.ensures.value in
-    let given : unwrap_or (option_copied c.get-new.result) (policy_id p) ≡ renaming (policy_id p) = ap (λ o. unwrap_or o (policy_id p)) looked in
-    let named : c.new_or.result.now ≡ renaming (policy_id p) = c.new_or.ensures ∙ ap (unwrap_or (option_copied c.get-new.result)) c.id-2.ensures ∙ given in
-    let bound : c.is_bound-stands.result ≡ is_bound c.args.here.now (policy_id (renamed_policy renaming p)) = c.is_bound-stands.ensures ∙ ap (is_bound c.args.here.now) (named ∙ sym (policy_new renaming p)) in
+    let given : unwrap_or (option_copied c.get-new.result) (policy_id p) ≡ renaming (policy_id p) =
+    ap (λ o. unwrap_or o (policy_id p)) looked in
+    let named : c.new_or.result.now ≡ renaming (policy_id p) = c.new_or.ensures
+    ∙ ap (unwrap_or (option_copied c.get-new.result)) c.id-2.ensures ∙ given in
+    let bound : c.is_bound-stands.result ≡ is_bound c.args.here.now (policy_id (renamed_policy renaming p)) =
+    c.is_bound-stands.ensures ∙ ap (is_bound c.args.here.now) (named ∙ sym (policy_new renaming p)) in
     on_ok_weaker c.part.result
     (λ e. e ∙ (λ j. c.args.parted.now.join.items ++ cond (not (bound j)) (c.in_ok-renamed_policy.ensures j ∷ []) []))
     c.part.ensures.join

@@ -4,5 +4,6 @@ use Rattle.cedar_policy_set.proofs.text.write_parted.Goals as goal
 
 pub returns : goal.returns
 returns g c = λ k plain ok.
-    body_then g.W.Write.write_str_gives c.args.first.now c.args.rest.now c.args.f.now c.write_body.new.f c.write_body_lines.new.f (λ a b. c.in_ok-write_body.ensures a b refl)
+    body_then g.W.Write.write_str_gives c.args.first.now c.args.rest.now c.args.f.now c.write_body.new.f
+    c.write_body_lines.new.f (λ a b. c.in_ok-write_body.ensures a b refl)
     (λ a b. c.write_body_lines.ensures a b ok) k plain

@@ -12,7 +12,8 @@ returns-in-Err-clause-err g c =
     let i = c.loop-call.invariant in
     let done = c.loop-call.yielded in
     let place = i.place ∙ ap (λ l. done ++ l) c.in-Some.ensures.steps.0 in
-    stops call_of c.args.calls.items done c.in-Some.call _ c.loop-call.done c.in-Err.error place i.count i.passed (c.in-Err.ensures.err _ i.plain)
+    stops call_of c.args.calls.items done c.in-Some.call _ c.loop-call.done c.in-Err.error place i.count i.passed
+    (c.in-Err.ensures.err _ i.plain)
 
 pub loop-call-preserved : goal.loop-call-preserved
 loop-call-preserved g c =
@@ -22,8 +23,13 @@ loop-call-preserved g c =
     let place = i.place ∙ ap (λ l. done ++ l) c.in-Some.ensures.steps.0 in
     let more = map-append call_of done (call ∷ []) in
     record {
-      plain = subst (λ (W : World). IsPlainStore W c.in-Ok.next) (sym (ap (all_made empty_world) more ∙ made_push empty_world (map call_of done) (call_of call))) (c.in-Ok.ensures.ok _ i.plain);
-      passed = subst (AllPass empty_world) (sym more) (pass_push empty_world (map call_of done) (call_of call) i.passed (c.in-Ok.ensures.passes _ i.plain));
+      plain =
+          subst (λ (W : World). IsPlainStore W c.in-Ok.next)
+          (sym (ap (all_made empty_world) more ∙ made_push empty_world (map call_of done) (call_of call)))
+          (c.in-Ok.ensures.ok _ i.plain);
+      passed =
+          subst (AllPass empty_world) (sym more)
+          (pass_push empty_world (map call_of done) (call_of call) i.passed (c.in-Ok.ensures.passes _ i.plain));
       count = longer done call ∙ ap (λ n. n + 1) i.count;
       place = place ∙ sym (append_assoc done (call ∷ []) _);
     }

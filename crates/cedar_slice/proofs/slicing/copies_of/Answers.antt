@@ -15,5 +15,7 @@ loop-uid-preserved g c =
           ∙ ap (λ l. l ++ option_to_list (held c.in-Some.uid.now)) c.loop-uid.invariant.0
           ∙ sym (found_push held done c.in-Some.uid.now)
           ∙ ap (filter_map held) more,
-      subst (AreKeyed c.args.store.now.held) more (all_push (λ k. IfSome (held k) (λ e. e.uid ≡ k)) done c.in-Some.uid.now c.loop-uid.invariant.1 (c.in_ok-copy_held.ensures.keyed c.in-Some.uid.now)),
+      subst (AreKeyed c.args.store.now.held) more
+          (all_push (λ k. IfSome (held k) (λ e. e.uid ≡ k)) done c.in-Some.uid.now c.loop-uid.invariant.1
+          (c.in_ok-copy_held.ensures.keyed c.in-Some.uid.now)),
     )

@@ -7,5 +7,6 @@ use Rattle.cedar_slice.proofs.slicing.note_above.Goals as goal
 
 pub returns-in-Some : goal.returns-in-Some
 returns-in-Some g c = on_ok_weaker c.note_all.result
-    (λ h q. h q ∙ ap (λ b. contains same_uid c.args.noted.now q || b) (c.shared_ancestors.ensures q ∙ ap (λ o. is_ancestor_in o q) c.in-Some.ensures.value))
+    (λ h q. h q ∙ ap (λ b. contains same_uid c.args.noted.now q || b) (c.shared_ancestors.ensures q
+    ∙ ap (λ o. is_ancestor_in o q) c.in-Some.ensures.value))
     c.note_all.ensures

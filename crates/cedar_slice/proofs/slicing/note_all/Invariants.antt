@@ -6,4 +6,6 @@ use Rattle.cedar_ids.specs.declared.entity.EntityUID.{EntityUID}
 use Rattle.cedar_slice.proofs.slicing.note_all.Given as goal
 
 abbrev pub invariant-loop-uid : goal.invariant-loop-uid
-invariant-loop-uid g l = (q : EntityUID) → contains same_uid l.noted q ≡ (contains same_uid l.initial.noted q || is_member same_uid (map (λ x. x.now) l.yielded) q)
+invariant-loop-uid g l = (q : EntityUID)
+    → contains same_uid l.noted q
+    ≡ (contains same_uid l.initial.noted q || is_member same_uid (map (λ x. x.now) l.yielded) q)

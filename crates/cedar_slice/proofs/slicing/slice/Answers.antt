@@ -8,7 +8,9 @@ use Rattle.cedar_slice.proofs.Sliced.{asked_stays, holds_slice, only_memory}
 use Rattle.cedar_slice.proofs.slicing.slice.Goals as goal
 
 pub returns-clause-held : goal.returns-clause-held
-returns-clause-held g c = holds_slice c.args.store.now.held c.in_ok-wanted.wanted.keys c.in_ok-list.ensures.keyed c.in_ok-list.list.items c.in_ok-list.ensures.copies c.args.uids.now c.in_ok-wanted.ensures c.from_entities_with_hasher.result
+returns-clause-held g c =
+    holds_slice c.args.store.now.held c.in_ok-wanted.wanted.keys c.in_ok-list.ensures.keyed c.in_ok-list.list.items
+    c.in_ok-list.ensures.copies c.args.uids.now c.in_ok-wanted.ensures c.from_entities_with_hasher.result
     c.from_entities_with_hasher.ensures.partial c.from_entities_with_hasher.ensures.adds.ok
 
 pub returns-clause-asked : goal.returns-clause-asked
@@ -23,8 +25,11 @@ returns-clause-plain g c = IfOk-weaker c.from_entities_with_hasher.result _ _
 
 pub returns-clause-least : goal.returns-clause-least
 returns-clause-least g c = IfOk-weaker c.from_entities_with_hasher.result _ _
-    (λ s h W p V has q k. least_part W c.args.store.now p c.args.uids.now V has q (sym (ap (λ (x : StoreView). finmap.contains_key x.held q) h) ∙ k))
+    (λ s h W p V has q k. least_part W c.args.store.now p c.args.uids.now V has q
+    (sym (ap (λ (x : StoreView). finmap.contains_key x.held q) h) ∙ k))
     (returns-clause-held g c)
 
 pub returns-clause-err : goal.returns-clause-err
-returns-clause-err g c = only_memory c.args.store.now.held c.in_ok-wanted.wanted.keys c.in_ok-list.ensures.keyed c.in_ok-list.list.items c.in_ok-list.ensures.copies c.from_entities_with_hasher.result c.from_entities_with_hasher.ensures.adds.err
+returns-clause-err g c =
+    only_memory c.args.store.now.held c.in_ok-wanted.wanted.keys c.in_ok-list.ensures.keyed c.in_ok-list.list.items
+    c.in_ok-list.ensures.copies c.from_entities_with_hasher.result c.from_entities_with_hasher.ensures.adds.err

@@ -9,6 +9,7 @@ returns-in-None-clause-lines c = only_line c.args.input.now (λ k m. fails _ (c.
 
 pub returns-in-Some-split_first-clause-lines : goal.returns-in-Some-split_first-clause-lines
 returns-in-Some-split_first-clause-lines c =
-    ends_before c.args.input.now c.in-Some-split_first.rest.now c.in-Some.i c.in-Some-split_first._feed.now (sym c.split_at.ensures.back ∙ c.in-Some-split_first.ensures.cases.0)
+    ends_before c.args.input.now c.in-Some-split_first.rest.now c.in-Some.i c.in-Some-split_first._feed.now
+    (sym c.split_at.ensures.back ∙ c.in-Some-split_first.ensures.cases.0)
     (λ k m. fails _ (c.in-Some.ensures.0.before k (omega arith) m)) c.in-Some.ensures.1
     ∙ ap (λ line. line ∷ slice_split (λ b. b == 10) c.in-Some-split_first.rest.now) (sym c.split_at.ensures.front)

@@ -3,4 +3,5 @@ use Rattle.std.specs.Io.KnownBytes.{Consumes}
 use Rattle.cedar_store.proofs.program.read_all.Given as goal
 
 abbrev pub invariant-loop : goal.invariant-loop
-invariant-loop g l = Consumes (g.R.Read.remaining l.initial.reader) (g.R.Read.remaining l.reader) l.input.items × (length l.buffer ≡ 4096)
+invariant-loop g l = Consumes (g.R.Read.remaining l.initial.reader) (g.R.Read.remaining l.reader) l.input.items
+    × (length l.buffer ≡ 4096)

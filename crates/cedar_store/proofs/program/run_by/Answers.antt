@@ -15,14 +15,19 @@ kept P Q (Err e) m x h v p is = absurd (cc (ap is_ok is, v))
 
 pub returns-clause-written : goal.returns-clause-written
 returns-clause-written g c =
-    let out = kept (λ r. IsOutput c.deref.result.now (record { bytes = r.0.items; status = r.1 })) _ c.answer.result c.map_err.result
-    (c.in_ok-out.out, c.in_ok-out.status, c.in_ok-out.session) c.map_err.ensures.cases c.map_err.ensures.variant c.answer.ensures c.in_ok-out.was
+    let out =
+    kept (λ r. IsOutput c.deref.result.now (record { bytes = r.0.items; status = r.1 })) _ c.answer.result
+    c.map_err.result
+    (c.in_ok-out.out, c.in_ok-out.status, c.in_ok-out.session) c.map_err.ensures.cases c.map_err.ensures.variant
+    c.answer.ensures c.in_ok-out.was
     in
     IfSome_then (g.R.Read.remaining c.args.reader.now) c.in_ok-input.ensures.bytes
     (λ xs e. (
       c.in_ok-out.out.items,
-      subst (λ d. IsOutput d (record { bytes = c.in_ok-out.out.items; status = c.in_ok-out.status })) (c.deref.ensures.value ∙ e) out,
-      subst (Appends (g.W.Write.contents c.args.writer.now) (g.W.Write.contents c.send.new.writer)) c.deref-2.ensures.value c.in_ok-send.ensures.sent,
+      subst (λ d. IsOutput d (record { bytes = c.in_ok-out.out.items; status = c.in_ok-out.status }))
+          (c.deref.ensures.value ∙ e) out,
+      subst (Appends (g.W.Write.contents c.args.writer.now) (g.W.Write.contents c.send.new.writer))
+          c.deref-2.ensures.value c.in_ok-send.ensures.sent,
     ))
 
 pub returns-in_err-send-clause-err : goal.returns-in_err-send-clause-err

@@ -9,12 +9,18 @@ use Rattle.cedar_talk.proofs.conversation.answer.Goals as goal
 pub returns-then-branch : goal.returns-then-branch
 returns-then-branch g c s h =
     let known = rw c.if-branch.true at c.in_ok-take_line.ensures.takes in
-    taken_answers c.args.manner c.args.number s c.args.line.now c.take_line.new.self c.args.out.now.items c.take_line.new.out.items (known s h)
+    taken_answers c.args.manner c.args.number s c.args.line.now c.take_line.new.self c.args.out.now.items
+    c.take_line.new.out.items (known s h)
 
 pub returns : goal.returns
 returns g c =
     let known = rw c.if-branch.false at c.in_ok-take_line.ensures.takes in
-    IfOk-weaker c.refuse.result (λ on. IsRefused on c.args.manner c.args.number c.args.line.now c.take_line.new.out.items c.refuse.new.out.items)
-    (λ on. (s : State) → StandsAt c.args.session.now s → IsAnswered on c.args.manner c.args.number s c.args.line.now c.take_line.new.self c.args.out.now.items c.refuse.new.out.items)
-    (λ on r s h. refused_answers on c.args.manner c.args.number s c.args.line.now c.take_line.new.self c.args.out.now.items c.take_line.new.out.items c.refuse.new.out.items (known s h) r)
+    IfOk-weaker c.refuse.result
+    (λ on. IsRefused on c.args.manner c.args.number c.args.line.now c.take_line.new.out.items
+    c.refuse.new.out.items)
+    (λ on. (s : State) → StandsAt c.args.session.now s
+    → IsAnswered on c.args.manner c.args.number s c.args.line.now c.take_line.new.self c.args.out.now.items
+    c.refuse.new.out.items)
+    (λ on r s h. refused_answers on c.args.manner c.args.number s c.args.line.now c.take_line.new.self
+    c.args.out.now.items c.take_line.new.out.items c.refuse.new.out.items (known s h) r)
     c.refuse.ensures

@@ -13,4 +13,5 @@ decreases-same_lists l = 2 * exprs_size (expr_trees l.a.now.items) + 2
 abbrev pub invariant-same_lists-loop-x : goal.invariant-same_lists-loop-x
 invariant-same_lists-loop-x l =
     (exprs_size (expr_trees (drop l.x-index l.x-items)) ≤ exprs_size (expr_trees l.a.items)) ×
-    (same_exprs (expr_trees (drop l.x-index l.x-items)) (expr_trees (iter_rest l.others)) ≡ same_exprs (expr_trees l.a.items) (expr_trees l.b.items))
+    (same_exprs (expr_trees (drop l.x-index l.x-items)) (expr_trees (iter_rest l.others))
+    ≡ same_exprs (expr_trees l.a.items) (expr_trees l.b.items))

@@ -18,5 +18,8 @@ abbrev pub invariant-show_all-loop-expr : goal.invariant-show_all-loop-expr
 invariant-show_all-loop-expr g l =
     (exprs_size (expr_trees (drop l.expr-index l.expr-items)) ≤ exprs_size (expr_trees l.exprs.items)) ×
     (l.before ≡ mark_after (take l.expr-index l.expr-items)) ×
-    (are_ascii_exprs (expr_trees l.exprs.items) ≡ true → are_ascii_exprs (expr_trees (drop l.expr-index l.expr-items)) ≡ true) ×
-    (are_ascii_exprs (expr_trees l.exprs.items) ≡ true → IsPlainFormatter l.initial.f → HasWritten g.W.Write.write_str_gives l.initial.f (exprs_text (expr_trees (take l.expr-index l.expr-items))) l.f)
+    (are_ascii_exprs (expr_trees l.exprs.items) ≡ true
+    → are_ascii_exprs (expr_trees (drop l.expr-index l.expr-items)) ≡ true) ×
+    (are_ascii_exprs (expr_trees l.exprs.items) ≡ true → IsPlainFormatter l.initial.f
+    → HasWritten g.W.Write.write_str_gives l.initial.f
+    (exprs_text (expr_trees (take l.expr-index l.expr-items))) l.f)

@@ -19,9 +19,11 @@ decreases-compare_fields l = 3 * fields_size (field_trees l.a.now.entries) + 3
 abbrev pub invariant-compare_elements-loop-value : goal.invariant-compare_elements-loop-value
 invariant-compare_elements-loop-value l =
     (values_size (value_trees (drop l.value-index l.value-items)) ≤ values_size (value_trees l.a.items)) ×
-    (values_cmp (value_trees (drop l.value-index l.value-items)) (value_trees (iter_rest l.others)) ≡ values_cmp (value_trees l.a.items) (value_trees l.b.items))
+    (values_cmp (value_trees (drop l.value-index l.value-items)) (value_trees (iter_rest l.others))
+    ≡ values_cmp (value_trees l.a.items) (value_trees l.b.items))
 
 abbrev pub invariant-compare_fields-loop-key : goal.invariant-compare_fields-loop-key
 invariant-compare_fields-loop-key l =
     (fields_size (field_trees l.key-iterator) ≤ fields_size (field_trees l.a.entries)) ×
-    (fields_cmp (field_trees l.key-iterator) (field_trees l.others) ≡ fields_cmp (field_trees l.a.entries) (field_trees l.b.entries))
+    (fields_cmp (field_trees l.key-iterator) (field_trees l.others)
+    ≡ fields_cmp (field_trees l.a.entries) (field_trees l.b.entries))

@@ -20,8 +20,11 @@ abbrev pub invariant-show_elements-loop-element : goal.invariant-show_elements-l
 invariant-show_elements-loop-element g l =
     (values_size (value_trees (drop l.element-index l.element-items)) ≤ values_size (value_trees l.elements.items)) ×
     (l.before ≡ mark_after (take l.element-index l.element-items)) ×
-    (are_ascii_values (value_trees l.elements.items) ≡ true → are_ascii_values (value_trees (drop l.element-index l.element-items)) ≡ true) ×
-    (are_ascii_values (value_trees l.elements.items) ≡ true → IsPlainFormatter l.initial.f → HasWritten g.W.Write.write_str_gives l.initial.f (values_text (value_trees (take l.element-index l.element-items))) l.f)
+    (are_ascii_values (value_trees l.elements.items) ≡ true
+    → are_ascii_values (value_trees (drop l.element-index l.element-items)) ≡ true) ×
+    (are_ascii_values (value_trees l.elements.items) ≡ true → IsPlainFormatter l.initial.f
+    → HasWritten g.W.Write.write_str_gives l.initial.f
+    (values_text (value_trees (take l.element-index l.element-items))) l.f)
 
 abbrev pub invariant-show_fields-loop-key : goal.invariant-show_fields-loop-key
 invariant-show_fields-loop-key g l =
@@ -30,4 +33,5 @@ invariant-show_fields-loop-key g l =
     (fields_size (field_trees l.key-iterator) ≤ fields_size (field_trees l.fields.entries)) ×
     (l.before ≡ mark_after done) ×
     (are_ascii_fields (field_trees l.fields.entries) ≡ true → are_ascii_fields (field_trees l.key-iterator) ≡ true) ×
-    (are_ascii_fields (field_trees l.fields.entries) ≡ true → IsPlainFormatter l.initial.f → HasWritten g.W.Write.write_str_gives l.initial.f (fields_text (field_trees done)) l.f)
+    (are_ascii_fields (field_trees l.fields.entries) ≡ true → IsPlainFormatter l.initial.f
+    → HasWritten g.W.Write.write_str_gives l.initial.f (fields_text (field_trees done)) l.f)

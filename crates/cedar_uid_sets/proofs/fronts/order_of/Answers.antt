@@ -14,7 +14,8 @@ returns-then-one-other c =
 pub returns-then-one-other-2 : goal.returns-then-one-other-2
 returns-then-one-other-2 c =
     c.cmp-then-one-other-2.ensures
-    ∙ by_fronts _ _ _ _ _ _ c.one.invariant c.other.invariant c.if-one-eq0.false c.if-other-eq0.false c.if-one-other.false c.if-one-other-2.true
+    ∙ by_fronts _ _ _ _ _ _ c.one.invariant c.other.invariant c.if-one-eq0.false c.if-other-eq0.false
+    c.if-one-other.false c.if-one-other-2.true
     ∙ λ i. uid_order (c.one.view_is i) (c.other.view_is i)
 
 -- the eids decide

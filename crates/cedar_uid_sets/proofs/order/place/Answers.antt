@@ -7,5 +7,6 @@ use Rattle.cedar_uid_sets.proofs.order.place.Goals as goal
 -- the closure compares what is shared with the uid
 pub returns : goal.returns
 returns c =
-    let by_uid = c.binary_search_by.ensures.position (λ y. uid_order y c.args.uid.now) (always_returns_same _ _ _ (λ a r f k. (search rules, search rules))) in
+    let by_uid = c.binary_search_by.ensures.position
+    (λ y. uid_order y c.args.uid.now) (always_returns_same _ _ _ (λ a r f k. (search rules, search rules))) in
     searched c.args.uids.now c.args.uid.now c.requires c.binary_search_by.result c.binary_search_by.ensures.bound by_uid

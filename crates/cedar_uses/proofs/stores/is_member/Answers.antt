@@ -11,7 +11,13 @@ use Rattle.cedar_uses.proofs.stores.is_member.Goals as goal
 pub loop-uid-preserved : goal.loop-uid-preserved
 loop-uid-preserved c =
     let made = c.in_ok-with_shared_parents.ensures in
-    let more = listed_more (λ m. given m.0 m.1.items) c.loop-uid.entities.items c.push.new.self.items c.loop-uid.yielded c.in_ok-with_shared_parents.field-0 (c.in-Some.uid, c.in-Some.groups) c.loop-uid.invariant.given c.loop-uid.invariant.bare c.in_ok-push.ensures.items (ap given_of made) (is_bare _ _ _ made) in
+    let more =
+    listed_more (λ m. given m.0 m.1.items) c.loop-uid.entities.items c.push.new.self.items c.loop-uid.yielded
+    c.in_ok-with_shared_parents.field-0 (
+      c.in-Some.uid,
+      c.in-Some.groups,
+    ) c.loop-uid.invariant.given c.loop-uid.invariant.bare c.in_ok-push.ensures.items
+    (ap given_of made) (is_bare _ _ _ made) in
     record { given = more.0; bare = more.1 }
 
 pub returns-in_err-store-clause-err : goal.returns-in_err-store-clause-err
@@ -29,7 +35,11 @@ returns-in_err-store-clause-err c =
 pub returns-clause-ok : goal.returns-clause-ok
 returns-clause-ok c =
     let gives = c.into_iter-uid-iterator.ensures.into_iter_gives in
-    let whole = sym (map_same c.loop-uid.yielded) ∙ (YieldsList-end (YieldsList-from_vec {s = c.into_iter-uid-iterator.result} c.args.members.items gives.0 (gives.1 ∙ c.args.members.ok.0)) c.loop-uid.yielded c.loop-uid.uid-iterator c.loop-uid.yielded_by c.next.result c.next.new.self c.in-None.is c.next.ensures.steps).0 in
+    let whole = sym (map_same c.loop-uid.yielded)
+    ∙ (YieldsList-end
+    (YieldsList-from_vec {s = c.into_iter-uid-iterator.result} c.args.members.items gives.0 (gives.1
+    ∙ c.args.members.ok.0)) c.loop-uid.yielded c.loop-uid.uid-iterator c.loop-uid.yielded_by c.next.result
+    c.next.new.self c.in-None.is c.next.ensures.steps).0 in
     let all = c.loop-uid.invariant.given ∙ ap (map (λ m. given m.0 m.1.items)) whole in
     let plain = subst (λ l. IsPlainStore (added empty_world l) c.in_ok-store.store) all
     (c.in_ok-store.ensures.plain c.loop-uid.invariant.bare).ok in

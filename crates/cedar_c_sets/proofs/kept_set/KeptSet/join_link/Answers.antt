@@ -8,12 +8,15 @@ use Rattle.cedar_c_sets.proofs.kept_set.KeptSet.join_link.Goals as goal
 pub returns-in-Err-clause-makes : goal.returns-in-Err-clause-makes
 returns-in-Err-clause-makes g c = (
   c.refuse.ensures.set ∙ c.in-Err.ensures.0,
-  told_step (told_by_linking c.in-Err.error) (link_step c.args.self.now.set c.args.template c.args.id (env_of c.args.values)) c.by_linking.result c.refuse.result c.args.self.now.refusal.items c.refuse.new.self.refusal.items
+  told_step (told_by_linking c.in-Err.error)
+      (link_step c.args.self.now.set c.args.template c.args.id (env_of c.args.values)) c.by_linking.result
+      c.refuse.result c.args.self.now.refusal.items c.refuse.new.self.refusal.items
       c.in-Err.ensures.1 c.by_linking.ensures c.refuse.ensures.told,
 )
 
 pub returns-in-Err-clause-texts : goal.returns-in-Err-clause-texts
 returns-in-Err-clause-texts g c = (
   c.refuse.ensures.answer,
-  kept_before (told_by_linking c.in-Err.error) c.by_linking.result c.refuse.result c.args.self.now.refusal.items c.refuse.new.self.refusal.items c.by_linking.ensures c.refuse.ensures.told,
+  kept_before (told_by_linking c.in-Err.error) c.by_linking.result c.refuse.result c.args.self.now.refusal.items
+      c.refuse.new.self.refusal.items c.by_linking.ensures c.refuse.ensures.told,
 )

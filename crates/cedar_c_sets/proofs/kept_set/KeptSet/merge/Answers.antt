@@ -8,8 +8,11 @@ pub returns-in-Err : goal.returns-in-Err
 returns-in-Err g c = (
   c.refuse.ensures.set,
   c.refuse.ensures.answer,
-  kept_before (told_by_set c.in-Err.error) c.by_set.result c.refuse.result c.args.self.now.refusal.items c.refuse.new.self.refusal.items c.by_set.ensures c.refuse.ensures.told,
-  told_merging (λ r. r.entries) c.merge_policyset.result c.in-Err.error c.in_ok-set.set c.args.self.now.set c.args.other.now.set c.args.rename _ c.by_set.result c.refuse.result c.args.self.now.refusal.items c.refuse.new.self.refusal.items
+  kept_before (told_by_set c.in-Err.error) c.by_set.result c.refuse.result c.args.self.now.refusal.items
+      c.refuse.new.self.refusal.items c.by_set.ensures c.refuse.ensures.told,
+  told_merging (λ r. r.entries) c.merge_policyset.result c.in-Err.error c.in_ok-set.set c.args.self.now.set
+      c.args.other.now.set c.args.rename _ c.by_set.result c.refuse.result c.args.self.now.refusal.items
+      c.refuse.new.self.refusal.items
       c.in-Err.is c.in_ok-set.ensures.cases c.merge_policyset.ensures.merges c.by_set.ensures c.refuse.ensures.told,
 )
 

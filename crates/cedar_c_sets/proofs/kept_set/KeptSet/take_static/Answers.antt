@@ -7,12 +7,15 @@ use Rattle.cedar_c_sets.proofs.kept_set.KeptSet.take_static.Goals as goal
 pub returns-in-Err-clause-makes : goal.returns-in-Err-clause-makes
 returns-in-Err-clause-makes g c = (
   c.refuse.ensures.set ∙ c.in-Err.ensures.taken.0,
-  told_taking (told_by_removal c.in-Err.error) (remove_static_step c.args.self.now.set c.args.id.now) c.args.self.now.set c.args.id.now c.by_removal.result c.refuse.result c.args.self.now.refusal.items c.refuse.new.self.refusal.items
+  told_taking (told_by_removal c.in-Err.error)
+      (remove_static_step c.args.self.now.set c.args.id.now) c.args.self.now.set c.args.id.now c.by_removal.result
+      c.refuse.result c.args.self.now.refusal.items c.refuse.new.self.refusal.items
       c.in-Err.ensures.taken.1 c.by_removal.ensures c.refuse.ensures.told,
 )
 
 pub returns-in-Err-clause-texts : goal.returns-in-Err-clause-texts
 returns-in-Err-clause-texts g c = (
   c.refuse.ensures.answer,
-  kept_before (told_by_removal c.in-Err.error) c.by_removal.result c.refuse.result c.args.self.now.refusal.items c.refuse.new.self.refusal.items c.by_removal.ensures c.refuse.ensures.told,
+  kept_before (told_by_removal c.in-Err.error) c.by_removal.result c.refuse.result c.args.self.now.refusal.items
+      c.refuse.new.self.refusal.items c.by_removal.ensures c.refuse.ensures.told,
 )

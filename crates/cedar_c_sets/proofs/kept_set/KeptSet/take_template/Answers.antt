@@ -7,12 +7,15 @@ use Rattle.cedar_c_sets.proofs.kept_set.KeptSet.take_template.Goals as goal
 pub returns-in-Err-clause-makes : goal.returns-in-Err-clause-makes
 returns-in-Err-clause-makes g c = (
   c.refuse.ensures.set ∙ c.in-Err.ensures.0,
-  told_taking (told_by_template_removal c.in-Err.error) (remove_template_step c.args.self.now.set c.args.id.now) c.args.self.now.set c.args.id.now c.by_template_removal.result c.refuse.result c.args.self.now.refusal.items c.refuse.new.self.refusal.items
+  told_taking (told_by_template_removal c.in-Err.error)
+      (remove_template_step c.args.self.now.set c.args.id.now) c.args.self.now.set c.args.id.now
+      c.by_template_removal.result c.refuse.result c.args.self.now.refusal.items c.refuse.new.self.refusal.items
       c.in-Err.ensures.1 c.by_template_removal.ensures c.refuse.ensures.told,
 )
 
 pub returns-in-Err-clause-texts : goal.returns-in-Err-clause-texts
 returns-in-Err-clause-texts g c = (
   c.refuse.ensures.answer,
-  kept_before (told_by_template_removal c.in-Err.error) c.by_template_removal.result c.refuse.result c.args.self.now.refusal.items c.refuse.new.self.refusal.items c.by_template_removal.ensures c.refuse.ensures.told,
+  kept_before (told_by_template_removal c.in-Err.error) c.by_template_removal.result c.refuse.result
+      c.args.self.now.refusal.items c.refuse.new.self.refusal.items c.by_template_removal.ensures c.refuse.ensures.told,
 )

@@ -20,7 +20,9 @@ returns g c =
           uids = c.ancestors_in_order.result;
           ascend = c.ancestors_in_order.ensures.ascending;
           members = members;
-          plain = λ W p q. subst (λ (b : Bool). (b ≡ true) ↔ IsAbove W u q) (sym (members q)) (above_held c.args.self.now.store u q x (sym c.in-Some.ensures.value) W p);
+          plain =
+              λ W p q. subst (λ (b : Bool). (b ≡ true) ↔ IsAbove W u q) (sym (members q))
+              (above_held c.args.self.now.store u q x (sym c.in-Some.ensures.value) W p);
           are_texts = c.in_ok-answer-in-Some.ensures;
         },
       ),

@@ -19,6 +19,7 @@ returns g c =
         held = sym c.in-Some.ensures.value;
         told = c.is_descendant_of.ensures;
         plain = λ W p.
-            subst (λ (b : Bool). (b ≡ true) ↔ Reach (graph W) u v) (sym c.is_descendant_of.ensures) (above_held c.args.self.now.store u v x (sym c.in-Some.ensures.value) W p);
+            subst (λ (b : Bool). (b ≡ true) ↔ Reach (graph W) u v) (sym c.is_descendant_of.ensures)
+            (above_held c.args.self.now.store u v x (sym c.in-Some.ensures.value) W p);
       },
     )

@@ -17,6 +17,7 @@ returns-in-Some g c =
     let t = c.insert.new.self in
     let value : Some s ≡ get same_uid m parent = c.in-Some.ensures.value in
     let updates = ((c.get_mut.follows.holds t).3 (subst (λ o. IsSome o) value refl)).0 in
-    on_ok_weaker c.insert.result (λ h. added_at (get same_uid m) (get same_uid (c.get_mut.follows.lender t)) parent child t updates
+    on_ok_weaker c.insert.result
+    (λ h. added_at (get same_uid m) (get same_uid (c.get_mut.follows.lender t)) parent child t updates
     (λ q. ap (λ (v : UidValues). set.contains v q) (h ∙ ap (set.insert s) c.in_ok-clone.ensures.cases)
     ∙ inserted s child q ∙ ap (λ o. is_in o q || same_uid child q) value)) c.insert.ensures.ok

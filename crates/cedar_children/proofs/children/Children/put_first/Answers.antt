@@ -13,6 +13,9 @@ returns g c =
     let child = c.args.child.now in
     let t = c.insert.new.self in
     added_at (get same_uid m) (get same_uid c.insert-2.new.self) parent child t
-    (λ p. c.in_ok-insert-2.ensures.updates.0 p ∙ ap (λ u. cond (same_uid u p) (Some t) (get same_uid m p)) c.in_ok-clone-2.ensures.cases)
-    (λ q. ap (λ (s : UidValues). set.contains s q) (c.in_ok-insert.ensures.ok ∙ (λ i. set.insert (c.new-set.ensures i) (c.in_ok-clone.ensures.cases i)))
-    ∙ inserted set.empty child q ∙ ap (λ b. b || same_uid child q) (set.contains-empty uid_order q ∙ sym (c.requires q)))
+    (λ p. c.in_ok-insert-2.ensures.updates.0 p
+    ∙ ap (λ u. cond (same_uid u p) (Some t) (get same_uid m p)) c.in_ok-clone-2.ensures.cases)
+    (λ q. ap (λ (s : UidValues). set.contains s q) (c.in_ok-insert.ensures.ok
+    ∙ (λ i. set.insert (c.new-set.ensures i) (c.in_ok-clone.ensures.cases i)))
+    ∙ inserted set.empty child q
+    ∙ ap (λ b. b || same_uid child q) (set.contains-empty uid_order q ∙ sym (c.requires q)))

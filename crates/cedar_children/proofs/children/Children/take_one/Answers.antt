@@ -18,7 +18,8 @@ returns-in-Some-clause-taken g c =
     let value : Some s ≡ get same_uid m parent = c.in-Some.ensures.value in
     let updates = ((c.get_mut.follows.holds t).3 (subst (λ o. IsSome o) value refl)).0 in
     taken_at (get same_uid m) (get same_uid (c.get_mut.follows.lender t)) parent child t updates
-    (λ q. ap (λ (v : UidValues). set.contains v q) c.remove_shared.ensures ∙ removed s child q ∙ ap (λ o. is_in o q && not (same_uid child q)) value)
+    (λ q. ap (λ (v : UidValues). set.contains v q) c.remove_shared.ensures ∙ removed s child q
+    ∙ ap (λ o. is_in o q && not (same_uid child q)) value)
 
 pub returns-in-Some-clause-none : goal.returns-in-Some-clause-none
 returns-in-Some-clause-none g c e q =
@@ -28,5 +29,6 @@ returns-in-Some-clause-none g c e q =
     let t = c.remove_shared.new.self in
     let value : Some s ≡ get same_uid m parent = c.in-Some.ensures.value in
     let updates = ((c.get_mut.follows.holds t).3 (subst (λ o. IsSome o) value refl)).0 in
-    ap (λ o. is_in o q) (updates parent ∙ ap (λ b. cond b (Some t) (get same_uid m parent)) ((same_uid_decides parent parent).1 refl))
+    ap (λ o. is_in o q) (updates parent ∙ ap
+    (λ b. cond b (Some t) (get same_uid m parent)) ((same_uid_decides parent parent).1 refl))
     ∙ ap (λ (v : UidValues). set.contains v q) (c.is_empty.ensures.0 e) ∙ set.contains-empty uid_order q

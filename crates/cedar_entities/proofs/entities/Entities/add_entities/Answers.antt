@@ -61,6 +61,8 @@ invariant_of-result g c =
             plain_in (held_map m) (c.self.invariant.1.plain (sym c.add_all.ensures.plain ∙ p.0))
             c.in_ok-coming.coming.items (subst AreBare c.deref.ensures.value stays.1) c.args.tc_computation stays.0
             (held_map n) c.in_ok-add_all.ensures.adds.ok;
-        children = c.plain_if.ensures.children _ (children_seen n c.add_all.new.index.children c.in_ok-add_all.ensures.children);
+        children =
+            c.plain_if.ensures.children _
+            (children_seen n c.add_all.new.index.children c.in_ok-add_all.ensures.children);
       },
     )

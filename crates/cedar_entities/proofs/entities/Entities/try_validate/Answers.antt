@@ -10,7 +10,8 @@ pub returns-in_err-check_each-clause-err : goal.returns-in_err-check_each-clause
 returns-in_err-check_each-clause-err g c =
     let is = ap (λ (s : StoreView). s.held) c.self.view_is in
     let p = err_from_is_err_and c.from_residual-in_err-check_each.result c.from_residual-in_err-check_each.ensures.1 in
-    rw (p.1, p.2) (subst (λ D. IsStoreFault D c.in_err-check_each.field-0.0) is (told_of_first _ c.in_err-check_each.field-0.0 c.in_ok-check.ensures.ok c.in_err-check_each.ensures.err))
+    rw (p.1, p.2) (subst (λ D. IsStoreFault D c.in_err-check_each.field-0.0) is
+    (told_of_first _ c.in_err-check_each.field-0.0 c.in_ok-check.ensures.ok c.in_err-check_each.ensures.err))
 
 pub returns-clause-ok : goal.returns-clause-ok
 returns-clause-ok g c =

@@ -17,7 +17,8 @@ use Rattle.cedar_entities.proofs.Adds.{stored}
 use Rattle.cedar_entities.proofs.Changing.{none_came, strips_plain}
 use Rattle.cedar_entities.proofs.Changing.{upserts_nothing, upserts_plain, upserts_refused, upserts_settled}
 use Rattle.cedar_entities.proofs.Editing.{changed_match}
-use Rattle.cedar_entities.proofs.Indexes.{children_back, children_over, if_some, plain_over, plain_transitive, settled_kept}
+use Rattle.cedar_entities.proofs.Indexes.{children_back, children_over, if_some, plain_over, plain_transitive}
+use Rattle.cedar_entities.proofs.Indexes.{settled_kept}
 use Rattle.cedar_entities.specs.Plain.{AreBare}
 use Rattle.cedar_entities.specs.laws.Edits.{stripped}
 use Rattle.cedar_entities.specs.laws.Indexes.{IsPlainHeld, is_parent_at}
@@ -146,7 +147,8 @@ returns-in_err-overwrite_all-clause-plain g c =
 
 pub overwrite_all-requires : goal.overwrite_all-requires
 overwrite_all-requires g c = changed_match c.self.inside.entities c.strip_each.new.entities
-    (λ q. stripped (λ p. loses c.in_ok-losses.losses.items q && set.contains c.new-none.result p) (loses_uid c.in_ok-losses.losses.items q)) (λ q e. refl) c.in_ok-strip_each.ensures.ok c.self.invariant.0
+    (λ q. stripped (λ p. loses c.in_ok-losses.losses.items q && set.contains c.new-none.result p)
+    (loses_uid c.in_ok-losses.losses.items q)) (λ q e. refl) c.in_ok-strip_each.ensures.ok c.self.invariant.0
 
 pub invariant_of-result : goal.invariant_of-result
 invariant_of-result g c =
@@ -156,16 +158,27 @@ invariant_of-result g c =
     let D = c.args.self.held in
     let L = map (λ r. r.value) c.args.list.items in
     let is = ap (λ (s : StoreView). s.held) c.self.view_is in
-    let same : (q : EntityUID) → is_member same_uid c.note_all.new.noted.keys q ≡ is_member same_uid (uids_of L) q = λ q. c.in_ok-note_all.ensures.ok q ∙ ap (λ ks. is_member same_uid ks q || is_member same_uid c.in_ok-uids.uids.items q) c.with_hasher-applied.ensures.empty
-    ∙ ap (λ us. is_member same_uid us q) (c.in_ok-uids.ensures ∙ ap uids_of (c.deref.ensures.value ∙ c.in_ok-coming.ensures)) in
-    let laid = laid_over m c.strip_each.new.entities n D L c.note_all.new.noted.keys c.new-none.result c.in_ok-losses.losses.items is same c.new-none.ensures
-    c.in_ok-losses.ensures.who c.in_ok-losses.ensures.lost c.in_ok-strip_each.ensures.ok (λ q. c.in_ok-overwrite_all.ensures.ok q ∙ ap (λ l. option_or (last_entity l q) (held c.strip_each.new.entities q)) c.in_ok-coming.ensures) in
+    let same : (q : EntityUID) → is_member same_uid c.note_all.new.noted.keys q ≡ is_member same_uid (uids_of L) q =
+    λ q. c.in_ok-note_all.ensures.ok q ∙ ap
+    (λ ks. is_member same_uid ks q || is_member same_uid c.in_ok-uids.uids.items q)
+    c.with_hasher-applied.ensures.empty
+    ∙ ap (λ us. is_member same_uid us q) (c.in_ok-uids.ensures
+    ∙ ap uids_of (c.deref.ensures.value ∙ c.in_ok-coming.ensures)) in
+    let laid =
+    laid_over m c.strip_each.new.entities n D L c.note_all.new.noted.keys c.new-none.result
+    c.in_ok-losses.losses.items is same c.new-none.ensures
+    c.in_ok-losses.ensures.who c.in_ok-losses.ensures.lost c.in_ok-strip_each.ensures.ok
+    (λ q. c.in_ok-overwrite_all.ensures.ok q
+    ∙ ap (λ l. option_or (last_entity l q) (held c.strip_each.new.entities q)) c.in_ok-coming.ensures) in
     let left = c.deref-2.result.now in
     let joined = c.deref-4.result.now in
     let once : left ≡ joined = c.deref-2.ensures.value ∙ sym c.deref-4.ensures.value in
     let A = joined in
-    let listed : (q : EntityUID) → is_member same_uid A q ≡ is_member same_uid (uids_of L) q = λ q. ap (λ l. is_member same_uid l q) (c.deref-4.ensures.value ∙ c.in_ok-joining.ensures) ∙ same q in
-    let touched = known_touched (held_map c.self.inside.entities) c.args.self.held c.note_all.new.noted.keys (uids_of L) (contains same_uid c.in_ok-touched.touched) is same
+    let listed : (q : EntityUID) → is_member same_uid A q ≡ is_member same_uid (uids_of L) q =
+    λ q. ap (λ l. is_member same_uid l q) (c.deref-4.ensures.value ∙ c.in_ok-joining.ensures) ∙ same q in
+    let touched =
+    known_touched (held_map c.self.inside.entities) c.args.self.held c.note_all.new.noted.keys (uids_of L)
+    (contains same_uid c.in_ok-touched.touched) is same
     (c.in_ok-touched.ensures.ok (held_map c.self.inside.entities) c.list_if_it_pays.ensures.index (λ q. refl)) in
     let ok = subst (λ f. IsSettled c.args.tc_computation f (put_over c.args.self.held L)
     (held_map c.settle_touched.new.entities)) touched
@@ -177,16 +190,25 @@ invariant_of-result g c =
         plain = λ t.
             let p = c.plain_if.ensures.plain t in
             let stays = c.stays_plain-stays.ensures p.1 in
-            plain_over D (subst IsPlainHeld is (c.self.invariant.1.plain (sym c.list_if_it_pays.ensures.plain ∙ sym c.leave.ensures.plain ∙ sym c.join.ensures.plain ∙ p.0))) L
-            (subst AreBare (c.deref-3.ensures.value ∙ c.in_ok-coming.ensures) stays.1) c.args.tc_computation stays.0 N ok;
+            plain_over D
+            (subst IsPlainHeld is (c.self.invariant.1.plain (sym c.list_if_it_pays.ensures.plain
+            ∙ sym c.leave.ensures.plain ∙ sym c.join.ensures.plain ∙ p.0))) L
+            (subst AreBare (c.deref-3.ensures.value ∙ c.in_ok-coming.ensures) stays.1) c.args.tc_computation stays.0 N
+            ok;
         children = c.plain_if.ensures.children _ (if_some _ _ c.join.new.index.children
             (λ ch h p q. h p q
-            ∙ ap (λ l. (not (is_member same_uid l q) && is_parent_at (held m q) p) || (is_member same_uid joined q && is_parent_at (held n q) p)) once
-            ∙ ap (λ f. (not (is_member same_uid joined q) && is_parent_at (f q) p) || (is_member same_uid joined q && is_parent_at (held n q) p)) (stored m D is)
+            ∙ ap (λ l. (not (is_member same_uid l q) && is_parent_at (held m q) p)
+            || (is_member same_uid joined q && is_parent_at (held n q) p)) once
+            ∙ ap (λ f. (not (is_member same_uid joined q) && is_parent_at (f q) p)
+            || (is_member same_uid joined q && is_parent_at (held n q) p)) (stored m D is)
             ∙ children_over D N L A (held n) listed (λ x. ap (λ f. f x) (stored n (put_over D L) laid)) keeps p q)
-            (c.join.ensures.children _ (c.leave.ensures.children (children_back m (held_map m) c.list_if_it_pays.new.index.children refl c.list_if_it_pays.ensures.index.children))));
+            (c.join.ensures.children _
+            (c.leave.ensures.children (children_back m
+            (held_map m) c.list_if_it_pays.new.index.children refl
+            c.list_if_it_pays.ensures.index.children))));
       },
     )
 
 pub losses_by-requires-clause-transitive : goal.losses_by-requires-clause-transitive
-losses_by-requires-clause-transitive g c is = plain_transitive c.self.inside.entities (c.list_if_it_pays.ensures.index.plain is)
+losses_by-requires-clause-transitive g c is =
+    plain_transitive c.self.inside.entities (c.list_if_it_pays.ensures.index.plain is)

@@ -9,14 +9,21 @@ use Rattle.cedar_entities.proofs.PlainStores.{plain_empty}
 use Rattle.cedar_entities.proofs.entities.Entities.with_hasher.Goals as goal
 
 pub returns-clause-value : goal.returns-clause-value
-returns-clause-value g c = λ i. record { held = seen_empty c.with_hasher.result c.with_hasher.ensures.empty i; partial = false }
+returns-clause-value g c =
+    λ i. record { held = seen_empty c.with_hasher.result c.with_hasher.ensures.empty i; partial = false }
 
 pub returns-clause-plain : goal.returns-clause-plain
-returns-clause-plain g c = subst (λ (h : Held). IsPlainStore empty_world (record { held = h; partial = false })) (sym (seen_empty c.with_hasher.result c.with_hasher.ensures.empty)) plain_empty
+returns-clause-plain g c =
+    subst (λ (h : Held). IsPlainStore empty_world (record { held = h; partial = false }))
+    (sym (seen_empty c.with_hasher.result c.with_hasher.ensures.empty)) plain_empty
 
 pub invariant_of-result : goal.invariant_of-result
 invariant_of-result g c = (
   search rules,
   subst (λ x. IsIndexOf x (held_map c.with_hasher.result)) (sym c.unlisted.ensures)
-      (record { plain = λ _. plain_held empty_world (record { held = held_map c.with_hasher.result; partial = false }) (returns-clause-plain g c); children = tt }),
+      (record {
+        plain = λ _. plain_held empty_world (record { held = held_map c.with_hasher.result; partial = false })
+            (returns-clause-plain g c);
+        children = tt;
+      }),
 )

@@ -7,5 +7,8 @@ pub invariant_of-result : goal.invariant_of-result
 invariant_of-result g c = (
   c.in_ok-copy_of_map.ensures.keys,
   subst (λ x. IsIndexOf x (held_map c.in_ok-copy_of_map.field-0)) (sym c.unlisted.ensures)
-      (record { plain = λ t. subst IsPlainHeld (sym c.in_ok-copy_of_map.ensures.held) (c.self.invariant.1.plain t); children = tt }),
+      (record {
+        plain = λ t. subst IsPlainHeld (sym c.in_ok-copy_of_map.ensures.held) (c.self.invariant.1.plain t);
+        children = tt;
+      }),
 )

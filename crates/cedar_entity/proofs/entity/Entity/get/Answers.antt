@@ -5,4 +5,5 @@ use Rattle.cedar_entity.proofs.FieldLists.{field_at-entries}
 use Rattle.cedar_entity.proofs.entity.Entity.get.Goals as goal
 
 pub returns : goal.returns
-returns c = c.get.ensures.value ∙ sym (field_at-entries c.args.key.now c.self.inside.attrs.entries) ∙ ap (λ (e : EntityView). field_at c.args.key.now e.attrs) c.self.view_is
+returns c = c.get.ensures.value ∙ sym (field_at-entries c.args.key.now c.self.inside.attrs.entries)
+    ∙ ap (λ (e : EntityView). field_at c.args.key.now e.attrs) c.self.view_is

@@ -12,6 +12,8 @@ returns c =
     let us : List EntityUID = c.ancestors_in_order.result in
     let vs : List EntityUID = c.ancestors_in_order-2.result in
     let d = slice_eq-Decides same_uid_decides us vs c.give_same.result c.give_same.ensures in (
-      λ t q. sym (c.ancestors_in_order.ensures.members q) ∙ ap (λ (l : List EntityUID). is_member same_uid l q) (d.0 t) ∙ c.ancestors_in_order-2.ensures.members q,
-      λ h. d.1 (same_ascending us vs c.ancestors_in_order.ensures.ascending c.ancestors_in_order-2.ensures.ascending (λ q. c.ancestors_in_order.ensures.members q ∙ h q ∙ sym (c.ancestors_in_order-2.ensures.members q))),
+      λ t q. sym (c.ancestors_in_order.ensures.members q) ∙ ap (λ (l : List EntityUID). is_member same_uid l q) (d.0 t)
+          ∙ c.ancestors_in_order-2.ensures.members q,
+      λ h. d.1 (same_ascending us vs c.ancestors_in_order.ensures.ascending c.ancestors_in_order-2.ensures.ascending
+          (λ q. c.ancestors_in_order.ensures.members q ∙ h q ∙ sym (c.ancestors_in_order-2.ensures.members q))),
     )

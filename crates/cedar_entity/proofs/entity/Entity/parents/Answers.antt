@@ -5,4 +5,6 @@ use Rattle.cedar_entity.proofs.UidSteps.{lists_ascending}
 use Rattle.cedar_entity.proofs.entity.Entity.parents.Goals as goal
 
 pub returns-clause-lists : goal.returns-clause-lists
-returns-clause-lists c = lists_ascending c.args.self.now.parents c.iter.result (λ q. c.iter.ensures.members q ∙ ap (λ (e : EntityView). set.contains e.parents q) c.self.view_is) c.iter.ensures.ascending
+returns-clause-lists c =
+    lists_ascending c.args.self.now.parents c.iter.result (λ q. c.iter.ensures.members q
+    ∙ ap (λ (e : EntityView). set.contains e.parents q) c.self.view_is) c.iter.ensures.ascending

@@ -9,5 +9,6 @@ use Rattle.cedar_entity.proofs.entity.Entity.shared_ancestors.Goals as goal
 pub returns : goal.returns
 returns c q =
     ap (λ (us : List EntityUID). is_member same_uid us q) c.of.ensures
-    ∙ both_listed c.pointers.result.now c.pointers-2.result.now c.self.inside.parents c.self.inside.indirect_ancestors c.pointers.ensures.all c.pointers-2.ensures.all q
+    ∙ both_listed c.pointers.result.now c.pointers-2.result.now c.self.inside.parents c.self.inside.indirect_ancestors
+    c.pointers.ensures.all c.pointers-2.ensures.all q
     ∙ ap (λ (e : EntityView). has_ancestor e q) c.self.view_is

@@ -5,7 +5,12 @@ use Rattle.cedar_entity.proofs.AncestorSets.{ancestors_with, overlap_with, same_
 use Rattle.cedar_entity.proofs.shared_node.EntityTCNodeSharedUid.add_edge_to.Goals as goal
 
 pub returns-clause-ok : goal.returns-clause-ok
-returns-clause-ok c = on_ok_weaker c.add_shared_ancestor.result (λ e q. ap (λ (n : EntityView). has_ancestor n q) e ∙ ancestors_with c.args.self.now c.args.k q) c.add_shared_ancestor.ensures.ok
+returns-clause-ok c =
+    on_ok_weaker c.add_shared_ancestor.result (λ e q. ap (λ (n : EntityView). has_ancestor n q) e
+    ∙ ancestors_with c.args.self.now c.args.k q) c.add_shared_ancestor.ensures.ok
 
 pub returns-clause-kept : goal.returns-clause-kept
-returns-clause-kept c = same_after kept (λ e k. ap (λ s. (e.uid, (rest e, s))) (overlap_with e k)) c.add_shared_ancestor.result c.args.self.now c.add_shared_ancestor.new.self c.args.k c.add_shared_ancestor.ensures.ok c.add_shared_ancestor.ensures.err
+returns-clause-kept c =
+    same_after kept (λ e k. ap (λ s. (e.uid, (rest e, s))) (overlap_with e k)) c.add_shared_ancestor.result
+    c.args.self.now c.add_shared_ancestor.new.self c.args.k c.add_shared_ancestor.ensures.ok
+    c.add_shared_ancestor.ensures.err

@@ -6,4 +6,9 @@ use Rattle.cedar_ids.specs.declared.entity.EntityUID.{EntityUID}
 use Rattle.cedar_entity.proofs.shared_node.EntityTCNodeSharedUid.direct_edges.Goals as goal
 
 pub returns : goal.returns
-returns c = record { exact = IfOk-weaker c.listed_pointers.result _ _ (λ v h q. ap (λ (l : List EntityUID). is_member same_uid l q) h ∙ c.shared_parents.ensures q) c.listed_pointers.ensures }
+returns c =
+    record {
+      exact = IfOk-weaker c.listed_pointers.result _ _
+          (λ v h q. ap (λ (l : List EntityUID). is_member same_uid l q) h
+          ∙ c.shared_parents.ensures q) c.listed_pointers.ensures;
+    }

@@ -6,4 +6,6 @@ use Rattle.cedar_ids.specs.declared.entity.EntityUID.{EntityUID}
 use Rattle.cedar_entity.proofs.shared_node.EntityTCNodeSharedUid.list_edges.Goals as goal
 
 pub returns : goal.returns
-returns c = on_ok_weaker c.relist.result (λ e q. ap (λ (l : List EntityUID). is_member same_uid l q) e ∙ c.shared_ancestors.ensures q) c.relist.ensures
+returns c =
+    on_ok_weaker c.relist.result (λ e q. ap (λ (l : List EntityUID). is_member same_uid l q) e
+    ∙ c.shared_ancestors.ensures q) c.relist.ensures

@@ -10,7 +10,10 @@ use Rattle.std.proofs.lemmas.List.{map-append}
 
 pub returns : goal.returns
 returns g c s h ascii out =
-    let old : StoreAndWaiting = record { waiting = entities_in c.self.inside.waiting.items; store = c.self.inside.store } in
+    let old : StoreAndWaiting = record {
+      waiting = entities_in c.self.inside.waiting.items;
+      store = c.self.inside.store;
+    } in
     let entity : set.FinSet uid_order → EntityView = λ p. record {
       uid = c.args.uid;
       attrs = [];

@@ -9,7 +9,10 @@ use Rattle.cedar_entity_lines.proofs.machine.LineStore.upsert.Goals as goal
 
 pub returns : goal.returns
 returns g c =
-    let old : StoreAndWaiting = record { waiting = entities_in c.self.inside.waiting.items; store = c.self.inside.store } in
+    let old : StoreAndWaiting = record {
+      waiting = entities_in c.self.inside.waiting.items;
+      store = c.self.inside.store;
+    } in
     on_ok_weaker c.keep_and_tell.result
     (λ k s h. upsert_takes old c.keep_and_tell.new.self s (entities_in c.replace-list.result.items)
     c.replace-store.result c.upsert_entities-given.result c.args.out.now.items c.keep_and_tell.new.out.items

@@ -9,17 +9,23 @@ use Rattle.cedar_ids.specs.declared.entity.EntityUID.{EntityUID}
 use Rattle.cedar_entity.specs.View.{EntityView}
 use Rattle.cedar_entity_tests.proofs.tests.nodes.put.Goals as goal
 
-module _ {V S : Type 0} (key : V → EntityUID) (m n : HashMap EntityUID V S) (k : EntityUID) (v : V) (same : key v ≡ k) where
-  at_key : (q : EntityUID) (b : Bool) → same_uid k q ≡ b → KeysMatch same_uid key m → IfSome (cond b (Some v) (get same_uid m q)) (λ w. same_uid q (key w) ≡ true)
+module _ {V S : Type 0} (key : V → EntityUID) (m n : HashMap EntityUID V S) (k : EntityUID) (v : V)
+    (same : key v ≡ k) where
+  at_key : (q : EntityUID) (b : Bool) → same_uid k q ≡ b → KeysMatch same_uid key m
+      → IfSome (cond b (Some v) (get same_uid m q)) (λ w. same_uid q (key w) ≡ true)
   at_key q true s h = (same_uid_decides q (key v)).1 (sym ((same_uid_decides k q).0 s) ∙ sym same)
   at_key q false s h = h q
 
   -- a node put at its key leaves each key its node's
-  put_keys : ((q : EntityUID) → get same_uid n q ≡ cond (same_uid k q) (Some v) (get same_uid m q)) → KeysMatch same_uid key m → KeysMatch same_uid key n
-  put_keys step h q = subst (λ o. IfSome o (λ w. same_uid q (key w) ≡ true)) (sym (step q)) (at_key q (same_uid k q) refl h)
+  put_keys : ((q : EntityUID) → get same_uid n q ≡ cond (same_uid k q) (Some v) (get same_uid m q))
+      → KeysMatch same_uid key m → KeysMatch same_uid key n
+  put_keys step h q =
+      subst (λ o. IfSome o (λ w. same_uid q (key w) ≡ true)) (sym (step q)) (at_key q (same_uid k q) refl h)
 
 pub returns : goal.returns
 returns c =
-    put_keys (λ n. n.0.value.uid) c.args.nodes.now c.insert.new.self c.in_ok-key.key (record { 0 = c.in_ok-shared.shared })
-    (ap (λ (e : EntityView). e.uid) c.in_ok-shared.ensures.ok ∙ (same_uid_decides c.args.entity.uid c.in_ok-key.key).0 c.in_ok-key.ensures)
+    put_keys (λ n. n.0.value.uid) c.args.nodes.now c.insert.new.self c.in_ok-key.key
+    (record { 0 = c.in_ok-shared.shared })
+    (ap (λ (e : EntityView). e.uid) c.in_ok-shared.ensures.ok
+    ∙ (same_uid_decides c.args.entity.uid c.in_ok-key.key).0 c.in_ok-key.ensures)
     c.in_ok-insert.ensures.updates.0 c.requires

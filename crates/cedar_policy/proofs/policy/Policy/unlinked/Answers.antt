@@ -6,5 +6,6 @@ use Rattle.cedar_policy.proofs.policy.Policy.unlinked.Goals as goal
 
 pub of-requires : goal.of-requires
 of-requires c =
-    subst (λ e. IsPolicy (record { template = c.args.template.value; link = None; env = e })) (sym c.no_bindings.ensures)
+    subst (λ e. IsPolicy (record { template = c.args.template.value; link = None; env = e }))
+    (sym c.no_bindings.ensures)
     (record { total = fits_nothing (body_slots c.args.template.value) c.requires; unlinked = λ _. c.requires })

@@ -8,4 +8,5 @@ pub unlinked-requires : goal.unlinked-requires
 unlinked-requires c =
     let fits = rw c.in_ok-check_binding.was at c.check_binding.ensures in
     ap body_slots (sym c.deref.ensures)
-    ∙ no_slot_fits (body_slots c.deref.result.now) (subst (BindsExactly (body_slots c.deref.result.now)) c.no_bindings-nothing.ensures fits.exactly)
+    ∙ no_slot_fits (body_slots c.deref.result.now)
+    (subst (BindsExactly (body_slots c.deref.result.now)) c.no_bindings-nothing.ensures fits.exactly)

@@ -12,7 +12,9 @@ returns g c =
     let now = c.merge_policyset-answer.new.self in
     let before = c.args.out.now.items in
     let after = c.push_by_merging.new.out.items in
-    subst (λ (b : Boards). OnOk c.push_by_merging.result (PolicyWrites (merge_command c.args.rename) b (with_current old now) before after)) c.self.view_is
+    subst (λ (b : Boards). OnOk c.push_by_merging.result
+    (PolicyWrites (merge_command c.args.rename) b (with_current old now) before after)) c.self.view_is
     (on_ok_weaker c.push_by_merging.result
-    (merge_writes (λ r. r.entries) c.merge_policyset-answer.result c.args.rename old now before after c.merge_policyset-answer.ensures.merges)
+    (merge_writes (λ r. r.entries) c.merge_policyset-answer.result c.args.rename old now before after
+    c.merge_policyset-answer.ensures.merges)
     c.push_by_merging.ensures)

@@ -7,5 +7,8 @@ use Rattle.cedar_policy_maps.proofs.policy_maps.PolicyMaps.has_policy.Goals as g
 
 pub returns : goal.returns
 returns g c =
-    let m : Maps = maps_of c.self.inside.templates.entries c.self.inside.links.entries c.self.inside.template_to_links_map.entries in
-    c.contains_key.ensures ∙ policy_known m c.args.id.now c.self.invariant ∙ ap (λ (b : Board). list_any (is_policy_at c.args.id.now) b.policies) c.self.view_is
+    let m : Maps =
+    maps_of c.self.inside.templates.entries c.self.inside.links.entries
+    c.self.inside.template_to_links_map.entries in
+    c.contains_key.ensures ∙ policy_known m c.args.id.now c.self.invariant
+    ∙ ap (λ (b : Board). list_any (is_policy_at c.args.id.now) b.policies) c.self.view_is

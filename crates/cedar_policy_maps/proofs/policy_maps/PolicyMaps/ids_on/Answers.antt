@@ -9,18 +9,23 @@ use Rattle.cedar_policy_maps.proofs.policy_maps.PolicyMaps.ids_on.Goals as goal
 pub returns-in-None-links_of : goal.returns-in-None-links_of
 returns-in-None-links_of g c =
     let b = c.args.self.now in
-    c.in-None-links_of.ensures ∙ ap (option_map (λ t. ids_in t.id b.policies)) (on_template b c.args.id.now (sym c.in-None.ensures))
+    c.in-None-links_of.ensures
+    ∙ ap (option_map (λ t. ids_in t.id b.policies)) (on_template b c.args.id.now (sym c.in-None.ensures))
 
 pub returns-in-Some-links_of : goal.returns-in-Some-links_of
 returns-in-Some-links_of g c =
     let b = c.args.self.now in
-    ap Some c.as_slice.ensures.keys ∙ c.in-Some-links_of.ensures ∙ ap (option_map (λ t. ids_in t.id b.policies)) (on_template b c.args.id.now (sym c.in-None.ensures))
+    ap Some c.as_slice.ensures.keys ∙ c.in-Some-links_of.ensures
+    ∙ ap (option_map (λ t. ids_in t.id b.policies)) (on_template b c.args.id.now (sym c.in-None.ensures))
 
 pub returns-then-is_link : goal.returns-then-is_link
 returns-then-is_link g c =
-    link_ids c.args.self.now c.args.id.now c.in-Some.policy.now (subst IsBoard c.self.view_is c.self.invariant.board) (sym c.in-Some.ensures) (sym c.is_link.ensures ∙ c.if-is_link.true)
+    link_ids c.args.self.now c.args.id.now c.in-Some.policy.now (subst IsBoard c.self.view_is c.self.invariant.board)
+    (sym c.in-Some.ensures) (sym c.is_link.ensures ∙ c.if-is_link.true)
 
 pub returns-else-is_link : goal.returns-else-is_link
 returns-else-is_link g c =
     ap Some (c.from_ref.ensures.value ∙ ap (λ i. i ∷ []) c.id.ensures)
-    ∙ static_ids c.args.self.now c.args.id.now c.in-Some.policy.now (subst IsBoard c.self.view_is c.self.invariant.board) (sym c.in-Some.ensures) (sym c.is_link.ensures ∙ c.if-is_link.false)
+    ∙ static_ids c.args.self.now c.args.id.now c.in-Some.policy.now
+    (subst IsBoard c.self.view_is c.self.invariant.board) (sym c.in-Some.ensures) (sym c.is_link.ensures
+    ∙ c.if-is_link.false)

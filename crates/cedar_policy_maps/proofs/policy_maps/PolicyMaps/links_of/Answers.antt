@@ -9,6 +9,10 @@ use Rattle.cedar_policy_maps.proofs.policy_maps.PolicyMaps.links_of.Goals as goa
 
 pub returns : goal.returns
 returns g c =
-    let m : Maps = maps_of c.self.inside.templates.entries c.self.inside.links.entries c.self.inside.template_to_links_map.entries in
-    ids_lent m c.self.inside.template_to_links_map.entries c.args.id.now c.get.result c.self.invariant refl c.get.ensures.value
-    ∙ ap (λ (b : Board). option_map (λ t. ids_in t.id b.policies) (find (is_body_at c.args.id.now) (templates_in b.policies b.bodies))) c.self.view_is
+    let m : Maps =
+    maps_of c.self.inside.templates.entries c.self.inside.links.entries
+    c.self.inside.template_to_links_map.entries in
+    ids_lent m c.self.inside.template_to_links_map.entries c.args.id.now c.get.result c.self.invariant refl
+    c.get.ensures.value
+    ∙ ap (λ (b : Board). option_map (λ t. ids_in t.id b.policies)
+    (find (is_body_at c.args.id.now) (templates_in b.policies b.bodies))) c.self.view_is

@@ -7,5 +7,8 @@ use Rattle.cedar_policy_maps.proofs.policy_maps.PolicyMaps.policy_at.Goals as go
 
 pub returns : goal.returns
 returns g c =
-    let m : Maps = maps_of c.self.inside.templates.entries c.self.inside.links.entries c.self.inside.template_to_links_map.entries in
-    c.get.ensures.value ∙ policy_read m c.args.id.now c.self.invariant ∙ ap (λ (b : Board). find (is_policy_at c.args.id.now) b.policies) c.self.view_is
+    let m : Maps =
+    maps_of c.self.inside.templates.entries c.self.inside.links.entries
+    c.self.inside.template_to_links_map.entries in
+    c.get.ensures.value ∙ policy_read m c.args.id.now c.self.invariant
+    ∙ ap (λ (b : Board). find (is_policy_at c.args.id.now) b.policies) c.self.view_is

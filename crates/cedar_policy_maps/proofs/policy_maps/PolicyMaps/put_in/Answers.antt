@@ -11,32 +11,49 @@ use Rattle.cedar_policy_maps.proofs.policy_maps.PolicyMaps.put_in.Goals as goal
 
 pub put_all_last-requires-clause-new : goal.put_all_last-requires-clause-new
 put_all_last-requires-clause-new g c =
-    let m : Maps = maps_of c.self.inside.templates.entries c.self.inside.links.entries c.self.inside.template_to_links_map.entries in
+    let m : Maps =
+    maps_of c.self.inside.templates.entries c.self.inside.links.entries
+    c.self.inside.template_to_links_map.entries in
     let es = c.args.entering.templates.entries in
     let fs = c.args.entering.links.entries in
-    let k : CanTakeIn (board_in m) (bodies_of c.args.bodies.items) (bodies_of (values_of es)) (values_of fs) = subst (λ b. CanTakeIn b (bodies_of c.args.bodies.items) (bodies_of (values_of es)) (values_of fs)) (sym c.self.view_is) c.requires.can in
-    rw c.make_room.ensures.bodies (bodies_new m (bodies_of c.args.bodies.items) c.self.inside.templates.entries es fs c.self.invariant refl k c.requires.bodies)
+    let k : CanTakeIn (board_in m) (bodies_of c.args.bodies.items) (bodies_of (values_of es)) (values_of fs) =
+    subst (λ b. CanTakeIn b (bodies_of c.args.bodies.items) (bodies_of (values_of es)) (values_of fs))
+    (sym c.self.view_is) c.requires.can in
+    rw c.make_room.ensures.bodies (bodies_new m
+    (bodies_of c.args.bodies.items) c.self.inside.templates.entries es fs c.self.invariant refl k
+    c.requires.bodies)
 
 pub put_all_last-requires-2-clause-new : goal.put_all_last-requires-2-clause-new
 put_all_last-requires-2-clause-new g c =
-    let m : Maps = maps_of c.self.inside.templates.entries c.self.inside.links.entries c.self.inside.template_to_links_map.entries in
+    let m : Maps =
+    maps_of c.self.inside.templates.entries c.self.inside.links.entries
+    c.self.inside.template_to_links_map.entries in
     let es = c.args.entering.templates.entries in
     let fs = c.args.entering.links.entries in
-    let k : CanTakeIn (board_in m) (bodies_of c.args.bodies.items) (bodies_of (values_of es)) (values_of fs) = subst (λ b. CanTakeIn b (bodies_of c.args.bodies.items) (bodies_of (values_of es)) (values_of fs)) (sym c.self.view_is) c.requires.can in
-    rw c.make_room.ensures.policies (policies_new m (bodies_of c.args.bodies.items) (bodies_of (values_of es)) fs c.self.invariant k c.requires.policies)
+    let k : CanTakeIn (board_in m) (bodies_of c.args.bodies.items) (bodies_of (values_of es)) (values_of fs) =
+    subst (λ b. CanTakeIn b (bodies_of c.args.bodies.items) (bodies_of (values_of es)) (values_of fs))
+    (sym c.self.view_is) c.requires.can in
+    rw c.make_room.ensures.policies (policies_new m (bodies_of c.args.bodies.items)
+    (bodies_of (values_of es)) fs c.self.invariant k c.requires.policies)
 
 pub grow_lists-requires-clause-once : goal.grow_lists-requires-clause-once
 grow_lists-requires-clause-once g c =
-    grown_once (bodies_of c.args.bodies.items) c.args.self.now.policies (values_of c.args.entering.links.entries) c.args.entering.grown.entries c.requires.can.once c.requires.grown
+    grown_once (bodies_of c.args.bodies.items) c.args.self.now.policies
+    (values_of c.args.entering.links.entries) c.args.entering.grown.entries c.requires.can.once c.requires.grown
 
 pub put_all_last-requires-3-clause-new : goal.put_all_last-requires-3-clause-new
 put_all_last-requires-3-clause-new g c =
-    let m : Maps = maps_of c.self.inside.templates.entries c.self.inside.links.entries c.self.inside.template_to_links_map.entries in
+    let m : Maps =
+    maps_of c.self.inside.templates.entries c.self.inside.links.entries
+    c.self.inside.template_to_links_map.entries in
     let es = c.args.entering.templates.entries in
     let fs = c.args.entering.links.entries in
     let gs = c.args.entering.grown.entries in
-    let k : CanTakeIn (board_in m) (bodies_of c.args.bodies.items) (bodies_of (values_of es)) (values_of fs) = subst (λ b. CanTakeIn b (bodies_of c.args.bodies.items) (bodies_of (values_of es)) (values_of fs)) (sym c.self.view_is) c.requires.can in
-    lists_new m (bodies_of c.args.bodies.items) (bodies_of (values_of es)) (values_of fs) c.grow_lists.new.map.entries c.args.entering.listed.entries (lists_of gs) c.self.invariant k
+    let k : CanTakeIn (board_in m) (bodies_of c.args.bodies.items) (bodies_of (values_of es)) (values_of fs) =
+    subst (λ b. CanTakeIn b (bodies_of c.args.bodies.items) (bodies_of (values_of es)) (values_of fs))
+    (sym c.self.view_is) c.requires.can in
+    lists_new m (bodies_of c.args.bodies.items) (bodies_of (values_of es))
+    (values_of fs) c.grow_lists.new.map.entries c.args.entering.listed.entries (lists_of gs) c.self.invariant k
     (c.grow_lists.ensures.lists ∙ ap (λ ls. grown_by ls (lists_of gs)) c.make_room.ensures.lists) c.requires.listed
 
 pub invariant_of-self-2 : goal.invariant_of-self-2
@@ -47,11 +64,18 @@ invariant_of-self-2 g c =
     let es = c.args.entering.templates.entries in
     let fs = c.args.entering.links.entries in
     let gs = c.args.entering.grown.entries in
-    let grown : lists_of gs ≡ ids_by_body (templates_in (values_of ps) (bodies_of c.args.bodies.items)) (values_of fs) = subst (λ (b : Board). lists_of gs ≡ ids_by_body (templates_in b.policies (bodies_of c.args.bodies.items)) (values_of fs)) (sym c.self.view_is) c.requires.grown in
-    let k : CanTakeIn (board_in (maps_of ts ps ls)) (bodies_of c.args.bodies.items) (bodies_of (values_of es)) (values_of fs) = subst (λ b. CanTakeIn b (bodies_of c.args.bodies.items) (bodies_of (values_of es)) (values_of fs)) (sym c.self.view_is) c.requires.can in
-    (entered ts es c.keep_bodies.new.templates.entries ps fs c.keep_policies.new.links.entries ls gs c.grow_lists.new.map.entries c.args.entering.listed.entries c.put_all_last-3.new.map.entries
+    let grown : lists_of gs ≡ ids_by_body (templates_in (values_of ps) (bodies_of c.args.bodies.items)) (values_of fs) =
+    subst (λ (b : Board). lists_of gs ≡ ids_by_body (templates_in b.policies (bodies_of c.args.bodies.items))
+    (values_of fs)) (sym c.self.view_is) c.requires.grown in
+    let k : CanTakeIn (board_in (maps_of ts ps ls)) (bodies_of c.args.bodies.items) (bodies_of (values_of es))
+    (values_of fs) =
+    subst (λ b. CanTakeIn b (bodies_of c.args.bodies.items) (bodies_of (values_of es)) (values_of fs))
+    (sym c.self.view_is) c.requires.can in
+    (entered ts es c.keep_bodies.new.templates.entries ps fs c.keep_policies.new.links.entries ls gs
+    c.grow_lists.new.map.entries c.args.entering.listed.entries c.put_all_last-3.new.map.entries
     (bodies_of c.args.bodies.items) c.self.invariant k c.requires.bodies c.requires.policies c.requires.listed grown
-    (c.keep_bodies.ensures ∙ ap shared_of c.put_all_last.ensures ∙ ap (λ us. shared_of (us ++ es)) c.make_room.ensures.bodies)
+    (c.keep_bodies.ensures ∙ ap shared_of c.put_all_last.ensures
+    ∙ ap (λ us. shared_of (us ++ es)) c.make_room.ensures.bodies)
     (c.keep_policies.ensures ∙ c.put_all_last-2.ensures ∙ ap (λ qs. qs ++ fs) c.make_room.ensures.policies)
     (c.grow_lists.ensures.lists ∙ ap (λ ls. grown_by ls (lists_of gs)) c.make_room.ensures.lists)
     c.put_all_last-3.ensures).0
@@ -64,11 +88,18 @@ returns-clause-ok g c =
     let es = c.args.entering.templates.entries in
     let fs = c.args.entering.links.entries in
     let gs = c.args.entering.grown.entries in
-    let grown : lists_of gs ≡ ids_by_body (templates_in (values_of ps) (bodies_of c.args.bodies.items)) (values_of fs) = subst (λ (b : Board). lists_of gs ≡ ids_by_body (templates_in b.policies (bodies_of c.args.bodies.items)) (values_of fs)) (sym c.self.view_is) c.requires.grown in
-    let k : CanTakeIn (board_in (maps_of ts ps ls)) (bodies_of c.args.bodies.items) (bodies_of (values_of es)) (values_of fs) = subst (λ b. CanTakeIn b (bodies_of c.args.bodies.items) (bodies_of (values_of es)) (values_of fs)) (sym c.self.view_is) c.requires.can in
-    (entered ts es c.keep_bodies.new.templates.entries ps fs c.keep_policies.new.links.entries ls gs c.grow_lists.new.map.entries c.args.entering.listed.entries c.put_all_last-3.new.map.entries
+    let grown : lists_of gs ≡ ids_by_body (templates_in (values_of ps) (bodies_of c.args.bodies.items)) (values_of fs) =
+    subst (λ (b : Board). lists_of gs ≡ ids_by_body (templates_in b.policies (bodies_of c.args.bodies.items))
+    (values_of fs)) (sym c.self.view_is) c.requires.grown in
+    let k : CanTakeIn (board_in (maps_of ts ps ls)) (bodies_of c.args.bodies.items) (bodies_of (values_of es))
+    (values_of fs) =
+    subst (λ b. CanTakeIn b (bodies_of c.args.bodies.items) (bodies_of (values_of es)) (values_of fs))
+    (sym c.self.view_is) c.requires.can in
+    (entered ts es c.keep_bodies.new.templates.entries ps fs c.keep_policies.new.links.entries ls gs
+    c.grow_lists.new.map.entries c.args.entering.listed.entries c.put_all_last-3.new.map.entries
     (bodies_of c.args.bodies.items) c.self.invariant k c.requires.bodies c.requires.policies c.requires.listed grown
-    (c.keep_bodies.ensures ∙ ap shared_of c.put_all_last.ensures ∙ ap (λ us. shared_of (us ++ es)) c.make_room.ensures.bodies)
+    (c.keep_bodies.ensures ∙ ap shared_of c.put_all_last.ensures
+    ∙ ap (λ us. shared_of (us ++ es)) c.make_room.ensures.bodies)
     (c.keep_policies.ensures ∙ c.put_all_last-2.ensures ∙ ap (λ qs. qs ++ fs) c.make_room.ensures.policies)
     (c.grow_lists.ensures.lists ∙ ap (λ ls. grown_by ls (lists_of gs)) c.make_room.ensures.lists)
     c.put_all_last-3.ensures).1

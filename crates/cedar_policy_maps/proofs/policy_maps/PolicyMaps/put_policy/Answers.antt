@@ -10,15 +10,20 @@ use Rattle.cedar_policy_maps.proofs.policy_maps.PolicyMaps.put_policy.Goals as g
 
 pub put_last-requires-clause-absent : goal.put_last-requires-clause-absent
 put_last-requires-clause-absent g c =
-    let m : Maps = maps_of c.self.inside.templates.entries c.self.inside.links.entries c.self.inside.template_to_links_map.entries in
+    let m : Maps =
+    maps_of c.self.inside.templates.entries c.self.inside.links.entries
+    c.self.inside.template_to_links_map.entries in
     let p = c.args.policy in
     let j : CanJoin (board_in m) p = subst (λ b. CanJoin b p) (sym c.self.view_is) c.requires in
     let k : c.in_ok-id.id ≡ policy_id p = c.in_ok-id.ensures.id in
-    rw (k, c.list_policy.ensures.policies) (absent_policy m (policy_id p) c.self.invariant (free_link p.link (board_in m) p refl j))
+    rw (k, c.list_policy.ensures.policies)
+    (absent_policy m (policy_id p) c.self.invariant (free_link p.link (board_in m) p refl j))
 
 pub invariant_of-self-2 : goal.invariant_of-self-2
 invariant_of-self-2 g c =
-    let m : Maps = maps_of c.self.inside.templates.entries c.self.inside.links.entries c.self.inside.template_to_links_map.entries in
+    let m : Maps =
+    maps_of c.self.inside.templates.entries c.self.inside.links.entries
+    c.self.inside.template_to_links_map.entries in
     let p = c.args.policy in
     let j : CanJoin (board_in m) p = subst (λ b. CanJoin b p) (sym c.self.view_is) c.requires in
     let k : c.in_ok-id.id ≡ policy_id p = c.in_ok-id.ensures.id in

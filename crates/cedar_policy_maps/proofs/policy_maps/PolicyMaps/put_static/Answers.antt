@@ -10,27 +10,37 @@ use Rattle.cedar_policy_maps.proofs.policy_maps.PolicyMaps.put_static.Goals as g
 
 pub put_last-requires-clause-absent : goal.put_last-requires-clause-absent
 put_last-requires-clause-absent g c =
-    let m : Maps = maps_of c.self.inside.templates.entries c.self.inside.links.entries c.self.inside.template_to_links_map.entries in
+    let m : Maps =
+    maps_of c.self.inside.templates.entries c.self.inside.links.entries
+    c.self.inside.template_to_links_map.entries in
     let p = c.args.policy in
     let j : CanJoinBoth (board_in m) p = subst (λ b. CanJoinBoth b p) (sym c.self.view_is) c.requires.joins in
     let k : c.in_ok-joining.joining.body_id ≡ p.template.id = c.in_ok-joining.ensures.body_id in
-    rw (k, c.room_for_both.ensures.bodies) (absent_body m c.self.inside.templates.entries p.template.id c.self.invariant refl j.0)
+    rw (k, c.room_for_both.ensures.bodies)
+    (absent_body m c.self.inside.templates.entries p.template.id c.self.invariant refl j.0)
 
 pub put_last-requires-2-clause-absent : goal.put_last-requires-2-clause-absent
 put_last-requires-2-clause-absent g c =
-    let m : Maps = maps_of c.self.inside.templates.entries c.self.inside.links.entries c.self.inside.template_to_links_map.entries in
+    let m : Maps =
+    maps_of c.self.inside.templates.entries c.self.inside.links.entries
+    c.self.inside.template_to_links_map.entries in
     let p = c.args.policy in
     let j : CanJoinBoth (board_in m) p = subst (λ b. CanJoinBoth b p) (sym c.self.view_is) c.requires.joins in
     let k : c.in_ok-joining.joining.policy_id ≡ policy_id p = c.in_ok-joining.ensures.policy_id in
-    rw (k, c.room_for_both.ensures.policies) (absent_policy m (policy_id p) c.self.invariant (both_free p.link (board_in m) p refl j.0 j.1))
+    rw (k, c.room_for_both.ensures.policies)
+    (absent_policy m (policy_id p) c.self.invariant (both_free p.link (board_in m) p refl j.0 j.1))
 
 pub invariant_of-self-2 : goal.invariant_of-self-2
 invariant_of-self-2 g c =
-    let m : Maps = maps_of c.self.inside.templates.entries c.self.inside.links.entries c.self.inside.template_to_links_map.entries in
+    let m : Maps =
+    maps_of c.self.inside.templates.entries c.self.inside.links.entries
+    c.self.inside.template_to_links_map.entries in
     let p = c.args.policy in
     let j : CanJoinBoth (board_in m) p = subst (λ b. CanJoinBoth b p) (sym c.self.view_is) c.requires.joins in
     let k : c.in_ok-joining.joining.body_id ≡ p.template.id = c.in_ok-joining.ensures.body_id in
     let n : c.in_ok-joining.joining.policy_id ≡ policy_id p = c.in_ok-joining.ensures.policy_id in
     (static_kept m p _ _ c.self.invariant j c.requires.no_link
-    (read_last (λ v. v.value) c.self.inside.templates.entries c.room_for_both.new.templates.entries c.put_last.new.map.entries _ p.template.id c.in_ok-joining.joining.body p.template c.room_for_both.ensures.bodies c.put_last.ensures k c.in_ok-joining.ensures.body)
+    (read_last (λ v. v.value) c.self.inside.templates.entries c.room_for_both.new.templates.entries
+    c.put_last.new.map.entries _ p.template.id c.in_ok-joining.joining.body p.template
+    c.room_for_both.ensures.bodies c.put_last.ensures k c.in_ok-joining.ensures.body)
     (c.put_last-2.ensures ∙ (λ i. c.room_for_both.ensures.policies i ++ (n i, p) ∷ []))).0

@@ -9,25 +9,40 @@ use Rattle.cedar_policy_maps.proofs.policy_maps.PolicyMaps.put_template.Goals as
 
 pub put_last-requires-clause-absent : goal.put_last-requires-clause-absent
 put_last-requires-clause-absent g c =
-    let m : Maps = maps_of c.self.inside.templates.entries c.self.inside.links.entries c.self.inside.template_to_links_map.entries in
-    let n : is_bound (board_in m) c.args.template.value.id ≡ false = ap (λ (b : Board). is_bound b c.args.template.value.id) c.self.view_is ∙ c.requires in
-    let k : c.in_ok-id.id ≡ c.args.template.value.id = c.in_ok-id.ensures.ids.0 ∙ ap (λ (t : BodyParts). t.id) c.deref.ensures in
-    rw (k, c.room_for_body.ensures.bodies) (absent_body m c.self.inside.templates.entries c.args.template.value.id c.self.invariant refl n)
+    let m : Maps =
+    maps_of c.self.inside.templates.entries c.self.inside.links.entries
+    c.self.inside.template_to_links_map.entries in
+    let n : is_bound (board_in m) c.args.template.value.id ≡ false =
+    ap (λ (b : Board). is_bound b c.args.template.value.id) c.self.view_is ∙ c.requires in
+    let k : c.in_ok-id.id ≡ c.args.template.value.id = c.in_ok-id.ensures.ids.0
+    ∙ ap (λ (t : BodyParts). t.id) c.deref.ensures in
+    rw (k, c.room_for_body.ensures.bodies)
+    (absent_body m c.self.inside.templates.entries c.args.template.value.id c.self.invariant refl n)
 
 pub put_last-requires-2-clause-absent : goal.put_last-requires-2-clause-absent
 put_last-requires-2-clause-absent g c =
-    let m : Maps = maps_of c.self.inside.templates.entries c.self.inside.links.entries c.self.inside.template_to_links_map.entries in
-    let n : is_bound (board_in m) c.args.template.value.id ≡ false = ap (λ (b : Board). is_bound b c.args.template.value.id) c.self.view_is ∙ c.requires in
-    let k : c.in_ok-id.listed ≡ c.args.template.value.id = c.in_ok-id.ensures.ids.1 ∙ ap (λ (t : BodyParts). t.id) c.deref.ensures in
-    rw (k, c.room_for_body.ensures.lists) (absent_list m c.self.inside.template_to_links_map.entries c.args.template.value.id c.self.invariant refl n)
+    let m : Maps =
+    maps_of c.self.inside.templates.entries c.self.inside.links.entries
+    c.self.inside.template_to_links_map.entries in
+    let n : is_bound (board_in m) c.args.template.value.id ≡ false =
+    ap (λ (b : Board). is_bound b c.args.template.value.id) c.self.view_is ∙ c.requires in
+    let k : c.in_ok-id.listed ≡ c.args.template.value.id = c.in_ok-id.ensures.ids.1
+    ∙ ap (λ (t : BodyParts). t.id) c.deref.ensures in
+    rw (k, c.room_for_body.ensures.lists)
+    (absent_list m c.self.inside.template_to_links_map.entries c.args.template.value.id c.self.invariant refl n)
 
 pub invariant_of-self-2 : goal.invariant_of-self-2
 invariant_of-self-2 g c =
-    let m : Maps = maps_of c.self.inside.templates.entries c.self.inside.links.entries c.self.inside.template_to_links_map.entries in
+    let m : Maps =
+    maps_of c.self.inside.templates.entries c.self.inside.links.entries
+    c.self.inside.template_to_links_map.entries in
     let t = c.args.template.value in
     let n : is_bound (board_in m) t.id ≡ false = ap (λ (b : Board). is_bound b t.id) c.self.view_is ∙ c.requires in
     let k : c.in_ok-id.id ≡ t.id = c.in_ok-id.ensures.ids.0 ∙ ap (λ (t : BodyParts). t.id) c.deref.ensures in
     let l : c.in_ok-id.listed ≡ t.id = c.in_ok-id.ensures.ids.1 ∙ ap (λ (t : BodyParts). t.id) c.deref.ensures in
     (template_kept m t _ _ c.self.invariant n
-    (read_last (λ v. v.value) c.self.inside.templates.entries c.room_for_body.new.templates.entries c.put_last.new.map.entries _ t.id c.args.template t c.room_for_body.ensures.bodies c.put_last.ensures k refl)
-    (read_last (λ v. v.keys) c.self.inside.template_to_links_map.entries c.room_for_body.new.map.entries c.put_last-2.new.map.entries _ t.id c.with_hasher-ids.result [] c.room_for_body.ensures.lists c.put_last-2.ensures l c.with_hasher-ids.ensures.empty)).0
+    (read_last (λ v. v.value) c.self.inside.templates.entries c.room_for_body.new.templates.entries
+    c.put_last.new.map.entries _ t.id c.args.template t c.room_for_body.ensures.bodies c.put_last.ensures k refl)
+    (read_last (λ v. v.keys) c.self.inside.template_to_links_map.entries c.room_for_body.new.map.entries
+    c.put_last-2.new.map.entries _ t.id c.with_hasher-ids.result [] c.room_for_body.ensures.lists
+    c.put_last-2.ensures l c.with_hasher-ids.ensures.empty)).0

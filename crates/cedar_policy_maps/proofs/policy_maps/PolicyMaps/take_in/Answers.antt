@@ -7,10 +7,14 @@ use Rattle.cedar_policy_maps.proofs.Entered.{once_after}
 use Rattle.cedar_policy_maps.proofs.policy_maps.PolicyMaps.take_in.Goals as goal
 
 pub what_enters-requires-clause-stand : goal.what_enters-requires-clause-stand
-what_enters-requires-clause-stand g c = subst (λ ts. AreOnce (λ (t : BodyParts). t.id) (bodies_of ts)) (sym c.deref.ensures.value) c.requires.once
+what_enters-requires-clause-stand g c =
+    subst (λ ts. AreOnce (λ (t : BodyParts). t.id) (bodies_of ts)) (sym c.deref.ensures.value) c.requires.once
 
 pub what_enters-requires-clause-bodies : goal.what_enters-requires-clause-bodies
-what_enters-requires-clause-bodies g c = once_after (λ (t : BodyParts). t.id) c.args.self.now.bodies (bodies_of c.args.bodies.join.items) c.requires.board.bodies_once
+what_enters-requires-clause-bodies g c =
+    once_after (λ (t : BodyParts). t.id) c.args.self.now.bodies
+    (bodies_of c.args.bodies.join.items) c.requires.board.bodies_once
 
 pub what_enters-requires-clause-policies : goal.what_enters-requires-clause-policies
-what_enters-requires-clause-policies g c = once_after policy_id c.args.self.now.policies c.args.policies.join.items c.requires.board.policies_once
+what_enters-requires-clause-policies g c =
+    once_after policy_id c.args.self.now.policies c.args.policies.join.items c.requires.board.policies_once

@@ -12,15 +12,20 @@ use Rattle.cedar_policy_set.proofs.policy_set.PolicySet.add_with_template.Goals.
 
 pub put_both-requires : goal.put_both-requires
 put_both-requires g c =
-    let theirs : c.id-2.result.now ≡ c.args.policy.template.id = c.id-2.ensures ∙ ap (λ (t : BodyParts). t.id) c.template.ensures in
+    let theirs : c.id-2.result.now ≡ c.args.policy.template.id = c.id-2.ensures
+    ∙ ap (λ (t : BodyParts). t.id) c.template.ensures in
     let can : CanJoinBoth c.args.self.now c.args.policy = elim c.if-eq.branch [
       | then-eq w ↦ absurd (false≢true (sym c.if-is_taken.false ∙ w.is_taken-is ∙ w.if-eq.true))
       | else-eq w ↦
-          let other : same_text (policy_id c.args.policy) c.args.policy.template.id ≡ false = (λ i. same_text (sym c.id.ensures i) (sym theirs i)) ∙ sym c.eq.ensures ∙ w.if-eq.false in
+          let other : same_text (policy_id c.args.policy) c.args.policy.template.id ≡ false =
+          (λ i. same_text (sym c.id.ensures i) (sym theirs i)) ∙ sym c.eq.ensures ∙ w.if-eq.false in
           let free : is_bound c.args.self.now (policy_id c.args.policy) ≡ false =
-          ap (is_bound c.args.self.now) (sym w.id-else-eq.ensures) ∙ ap (λ (b : Board). is_bound b w.id-else-eq.result.now) (sym c.self.view_is) ∙ sym w.is_bound-is_taken.ensures ∙ sym w.is_taken-is ∙ c.if-is_taken.false in (
+          ap (is_bound c.args.self.now) (sym w.id-else-eq.ensures)
+          ∙ ap (λ (b : Board). is_bound b w.id-else-eq.result.now) (sym c.self.view_is)
+          ∙ sym w.is_bound-is_taken.ensures ∙ sym w.is_taken-is ∙ c.if-is_taken.false in (
             none_bound c.args.self.now c.args.policy.template.id c.requires.missing,
-            can_join_both c.args.policy.link c.args.self.now c.args.policy refl c.requires.link free other (record { exactly = c.env-total.ensures.total; action = c.env-total.ensures.action }),
+            can_join_both c.args.policy.link c.args.self.now c.args.policy refl c.requires.link free other
+                (record { exactly = c.env-total.ensures.total; action = c.env-total.ensures.action }),
           )
     ] in
     subst (λ b. CanJoinBoth b c.args.policy) (sym c.self.view_is) can

@@ -11,10 +11,17 @@ use Rattle.cedar_policy_set.proofs.policy_set.PolicySet.join_link.Goals as goal
 pub link_template-requires : goal.link_template-requires
 link_template-requires g c =
     stands c.args.self.now c.args.template_id c.in-Some.template.value
-    (subst (λ o. MatchOption o (HasNoTemplate (bound_at c.args.self.now c.args.template_id)) (λ t. bound_at c.args.self.now c.args.template_id ≡ Some (Template t.value))) c.in-Some.is c.in_ok-template.ensures)
+    (subst
+    (λ o. MatchOption o (HasNoTemplate (bound_at c.args.self.now c.args.template_id))
+    (λ t. bound_at c.args.self.now c.args.template_id ≡ Some (Template t.value))) c.in-Some.is
+    c.in_ok-template.ensures)
 
 pub returns-in-Some-clause-there : goal.returns-in-Some-clause-there
 returns-in-Some-clause-there g c =
-    link_of_there c.link_template.result c.args.self.now c.link_template.new.self c.args.template_id c.args.new_id (env_of c.args.values) c.in-Some.template.value
-    (subst (λ o. MatchOption o (HasNoTemplate (bound_at c.args.self.now c.args.template_id)) (λ t. bound_at c.args.self.now c.args.template_id ≡ Some (Template t.value))) c.in-Some.is c.in_ok-template.ensures)
+    link_of_there c.link_template.result c.args.self.now c.link_template.new.self c.args.template_id c.args.new_id
+    (env_of c.args.values) c.in-Some.template.value
+    (subst
+    (λ o. MatchOption o (HasNoTemplate (bound_at c.args.self.now c.args.template_id))
+    (λ t. bound_at c.args.self.now c.args.template_id ≡ Some (Template t.value))) c.in-Some.is
+    c.in_ok-template.ensures)
     c.link_template.ensures

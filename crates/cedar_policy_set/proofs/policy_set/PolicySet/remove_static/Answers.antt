@@ -8,4 +8,5 @@ use Rattle.cedar_policy_set.proofs.policy_set.PolicySet.remove_static.Goals as g
 pub take-body-requires : goal.take-body-requires
 take-body-requires g c =
     bound_policy_unlinked c.self.inside.maps c.args.id.now c.in-Some-Policy.policy.now c.is_empty-board.ensures.board
-    (subst (λ x. Some (found_binding x) ≡ bound_at c.self.inside.maps c.args.id.now) c.in-Some-Policy.field-0-is c.in-Some-Policy.ensures)
+    (subst (λ x. Some (found_binding x) ≡ bound_at c.self.inside.maps c.args.id.now) c.in-Some-Policy.field-0-is
+    c.in-Some-Policy.ensures)

@@ -6,7 +6,8 @@ use Rattle.cedar_policy_set_tests.proofs.tests.apart.links_of.Goals as goal
 
 pub loop-policy-init : goal.loop-policy-init
 loop-policy-init g c =
-    (λ j. fold (put_next policy_id (λ p. p)) (c.with_hasher-links.ensures.empty j) ((c.into_iter-policy-iterator.ensures.into_iter_gives ∙ c.policies-policy-items.ensures) j))
+    (λ j. fold (put_next policy_id (λ p. p)) (c.with_hasher-links.ensures.empty j)
+    ((c.into_iter-policy-iterator.ensures.into_iter_gives ∙ c.policies-policy-items.ensures) j))
     ∙ all_laid policy_id (λ p. p) c.args.set.now.policies c.requires
 
 pub loop-policy-preserved : goal.loop-policy-preserved

@@ -9,7 +9,8 @@ use Rattle.cedar_policy_set_tests.proofs.tests.apart.lists_in.Goals as goal
 pub loop-template-init : goal.loop-template-init
 loop-template-init g c =
     let f : BodyParts → List (List ℕ) = λ t. ids_in t.id c.args.set.now.policies in
-    (λ j. fold (put_next body_id f) (lists_of (c.with_hasher-lists.ensures.empty j)) ((c.into_iter-template-iterator.ensures.into_iter_gives ∙ c.all_templates-template-items.ensures) j))
+    (λ j. fold (put_next body_id f) (lists_of (c.with_hasher-lists.ensures.empty j))
+    ((c.into_iter-template-iterator.ensures.into_iter_gives ∙ c.all_templates-template-items.ensures) j))
     ∙ all_laid body_id f c.args.set.now.bodies c.requires.bodies
 
 pub loop-template-preserved : goal.loop-template-preserved

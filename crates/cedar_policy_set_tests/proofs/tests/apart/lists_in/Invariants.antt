@@ -7,5 +7,6 @@ use Rattle.cedar_policy_set_tests.proofs.tests.apart.lists_in.Given as goal
 
 abbrev pub invariant-loop-template : goal.invariant-loop-template
 invariant-loop-template g l =
-    fold (put_next body_id (λ (t : BodyParts). ids_in t.id l.set.policies)) (lists_of l.lists.entries) l.template-iterator
+    fold (put_next body_id (λ (t : BodyParts). ids_in t.id l.set.policies))
+    (lists_of l.lists.entries) l.template-iterator
     ≡ ids_by_body l.set.bodies l.set.policies

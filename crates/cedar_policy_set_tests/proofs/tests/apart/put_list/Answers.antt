@@ -11,4 +11,5 @@ returns g c =
     let es = c.args.lists.now.entries in
     ap lists_of c.in_ok-put.ensures
     ∙ read_put (λ s. s.keys) es c.in_ok-id_of.field-0 c.in_ok-ids_on.field-0
-    ∙ (λ j. insert_entry same_text (lists_of es) (c.in_ok-id_of.ensures j) ((c.in_ok-ids_on.ensures ∙ ap (λ i. ids_in i c.args.set.now.policies) c.id.ensures) j))
+    ∙ (λ j. insert_entry same_text (lists_of es) (c.in_ok-id_of.ensures j)
+    ((c.in_ok-ids_on.ensures ∙ ap (λ i. ids_in i c.args.set.now.policies) c.id.ensures) j))

@@ -6,7 +6,8 @@ use Rattle.cedar_policy_set_tests.proofs.tests.apart.templates_of.Goals as goal
 
 pub loop-template-init : goal.loop-template-init
 loop-template-init g c =
-    (λ j. fold (put_next body_id (λ t. t)) (shared_of (c.with_hasher-templates.ensures.empty j)) ((c.into_iter-template-iterator.ensures.into_iter_gives ∙ c.all_templates-template-items.ensures) j))
+    (λ j. fold (put_next body_id (λ t. t)) (shared_of (c.with_hasher-templates.ensures.empty j))
+    ((c.into_iter-template-iterator.ensures.into_iter_gives ∙ c.all_templates-template-items.ensures) j))
     ∙ all_laid body_id (λ t. t) c.args.set.now.bodies c.requires
 
 pub loop-template-preserved : goal.loop-template-preserved

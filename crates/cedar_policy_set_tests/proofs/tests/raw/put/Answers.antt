@@ -7,5 +7,6 @@ use Rattle.cedar_policy_set_tests.proofs.tests.raw.put.Goals as goal
 pub returns : goal.returns
 returns g c =
     (rw c.unwrap.ensures at c.insert.ensures.entries)
-    ∙ insert_entry-new same_text c.reserve.new.self c.args.key c.args.value (ap (lookup (same_text c.args.key)) c.in_ok-reserve.ensures.entries ∙ c.requires)
+    ∙ insert_entry-new same_text c.reserve.new.self c.args.key c.args.value
+    (ap (lookup (same_text c.args.key)) c.in_ok-reserve.ensures.entries ∙ c.requires)
     ∙ ap (λ es. es ++ (c.args.key, c.args.value) ∷ []) c.in_ok-reserve.ensures.entries

@@ -8,7 +8,16 @@ use Rattle.cedar_policy_set_tests.proofs.tests.raw.raw_one.Goals as goal
 pub from_raw_components-requires : goal.from_raw_components-requires
 from_raw_components-requires g c =
     let p = c.args.policy in
-    let now : Maps = maps_of c.in_ok-templates.templates.entries c.in_ok-links.links.entries c.in_ok-lists.lists.entries in
-    let want : Maps = record { bodies = (p.template.id, p.template) ∷ []; policies = (policy_id p, p) ∷ []; listed = (p.template.id, policy_id p ∷ []) ∷ [] } in
-    let same : now ≡ want = λ j. record { bodies = c.in_ok-templates.ensures j; policies = c.in_ok-links.ensures j; listed = c.in_ok-lists.ensures j } in
+    let now : Maps =
+    maps_of c.in_ok-templates.templates.entries c.in_ok-links.links.entries c.in_ok-lists.lists.entries in
+    let want : Maps = record {
+      bodies = (p.template.id, p.template) ∷ [];
+      policies = (policy_id p, p) ∷ [];
+      listed = (p.template.id, policy_id p ∷ []) ∷ [];
+    } in
+    let same : now ≡ want = λ j. record {
+      bodies = c.in_ok-templates.ensures j;
+      policies = c.in_ok-links.ensures j;
+      listed = c.in_ok-lists.ensures j;
+    } in
     subst CanMakeSet (sym same) (one_makes p c.requires)

@@ -15,35 +15,48 @@ returns-then-waits g c s h =
     let new : SessionView = record { entities = c.take_ent.new.self; boards = i.sets; is_lost = i.is_lost } in
     let text : c.in_ok-is_text.is_text ≡ true = c.if-not-is_text.false in
     let readable : list_all is_line_byte c.args.line.now ≡ true = sym c.in_ok-is_text.ensures.readable ∙ text in
-    let same : map (λ f. f.now) c.deref.result.now ≡ slice_split (λ b. b == 9) c.args.line.now = ap (map (λ f. f.now)) c.deref.ensures.value ∙ c.in_ok-is_text.ensures.fields text in
+    let same : map (λ f. f.now) c.deref.result.now ≡ slice_split (λ b. b == 9) c.args.line.now =
+    ap (map (λ f. f.now)) c.deref.ensures.value ∙ c.in_ok-is_text.ensures.fields text in
     let took = rw c.if-waits.true at c.in_ok-waits.ensures in
     let is = subst (λ v. StandsAt v s) (sym c.self.view_is) h in
-    line_taken Entity c.args.line.now (map (λ f. f.now) c.deref.result.now) s new c.args.out.now.items c.args.out.now.items readable same
-    (Ent took.0 took.1, took.2, entity_takes old new s (Ent took.0 took.1) c.args.out.now.items c.args.out.now.items is refl refl (took.3 s.entities is.entities c.args.out.now.items))
+    line_taken Entity c.args.line.now (map (λ f. f.now) c.deref.result.now) s new c.args.out.now.items
+    c.args.out.now.items readable same (
+      Ent took.0 took.1,
+      took.2,
+      entity_takes old new s (Ent took.0 took.1) c.args.out.now.items c.args.out.now.items is refl refl
+          (took.3 s.entities is.entities c.args.out.now.items),
+    )
 
 pub returns-then-on_store : goal.returns-then-on_store
 returns-then-on_store g c s h =
     let i = c.self.inside in
     let text : c.in_ok-is_text.is_text ≡ true = c.if-not-is_text.false in
     let readable : list_all is_line_byte c.args.line.now ≡ true = sym c.in_ok-is_text.ensures.readable ∙ text in
-    let same : map (λ f. f.now) c.deref-2.result.now ≡ slice_split (λ b. b == 9) c.args.line.now = ap (map (λ f. f.now)) c.deref-2.ensures.value ∙ c.in_ok-is_text.ensures.fields text in
+    let same : map (λ f. f.now) c.deref-2.result.now ≡ slice_split (λ b. b == 9) c.args.line.now =
+    ap (map (λ f. f.now)) c.deref-2.ensures.value ∙ c.in_ok-is_text.ensures.fields text in
     let left = (rw c.if-waits.false at c.in_ok-waits.ensures).1 in
-    let is = subst (λ m. StandsAt (record { entities = m; boards = i.sets; is_lost = i.is_lost }) s) (sym left) (subst (λ v. StandsAt v s) (sym c.self.view_is) h) in
+    let is = subst (λ m. StandsAt (record { entities = m; boards = i.sets; is_lost = i.is_lost }) s) (sym left)
+    (subst (λ v. StandsAt v s) (sym c.self.view_is) h) in
     let took = rw c.if-on_store.true at (c.in_ok-on_store.ensures s is) in
-    line_taken Entity c.args.line.now (map (λ f. f.now) c.deref-2.result.now) s _ c.args.out.now.items _ readable same took
+    line_taken Entity c.args.line.now (map (λ f. f.now) c.deref-2.result.now) s _ c.args.out.now.items _ readable same
+    took
 
 pub returns-then-on_sets : goal.returns-then-on_sets
 returns-then-on_sets g c s h =
     let i = c.self.inside in
     let text : c.in_ok-is_text.is_text ≡ true = c.if-not-is_text.false in
     let readable : list_all is_line_byte c.args.line.now ≡ true = sym c.in_ok-is_text.ensures.readable ∙ text in
-    let same : map (λ f. f.now) c.deref-3.result.now ≡ slice_split (λ b. b == 9) c.args.line.now = ap (map (λ f. f.now)) c.deref-3.ensures.value ∙ c.in_ok-is_text.ensures.fields text in
+    let same : map (λ f. f.now) c.deref-3.result.now ≡ slice_split (λ b. b == 9) c.args.line.now =
+    ap (map (λ f. f.now)) c.deref-3.ensures.value ∙ c.in_ok-is_text.ensures.fields text in
     let left = (rw c.if-waits.false at c.in_ok-waits.ensures).1 in
-    let is = subst (λ m. StandsAt (record { entities = m; boards = i.sets; is_lost = i.is_lost }) s) (sym left) (subst (λ v. StandsAt v s) (sym c.self.view_is) h) in
+    let is = subst (λ m. StandsAt (record { entities = m; boards = i.sets; is_lost = i.is_lost }) s) (sym left)
+    (subst (λ v. StandsAt v s) (sym c.self.view_is) h) in
     let none = rw c.if-on_store.false at (c.in_ok-on_store.ensures s is) in
     let took = rw c.if-on_sets.true at (c.in_ok-on_sets.ensures s none.1) in
     line_taken Policy c.args.line.now (map (λ f. f.now) c.deref-3.result.now) s _ c.args.out.now.items _ readable same
-    (subst (λ o. TakesKind Policy true (map (λ f. f.now) c.deref-3.result.now) s c.take_on_sets.new.self o c.take_on_sets.new.out.items) none.2 took)
+    (subst
+    (λ o. TakesKind Policy true (map (λ f. f.now) c.deref-3.result.now) s c.take_on_sets.new.self o
+    c.take_on_sets.new.out.items) none.2 took)
 
 pub returns : goal.returns
 returns g c s h =
@@ -51,14 +64,19 @@ returns g c s h =
     let text : c.in_ok-is_text.is_text ≡ true = c.if-not-is_text.false in
     let line = c.args.line.now in
     let readable : list_all is_line_byte line ≡ true = sym c.in_ok-is_text.ensures.readable ∙ text in
-    let same-2 : map (λ f. f.now) c.deref-2.result.now ≡ slice_split (λ b. b == 9) line = ap (map (λ f. f.now)) c.deref-2.ensures.value ∙ c.in_ok-is_text.ensures.fields text in
-    let same-3 : map (λ f. f.now) c.deref-3.result.now ≡ slice_split (λ b. b == 9) line = ap (map (λ f. f.now)) c.deref-3.ensures.value ∙ c.in_ok-is_text.ensures.fields text in
-    let same : map (λ f. f.now) c.deref-4.result.now ≡ slice_split (λ b. b == 9) line = ap (map (λ f. f.now)) c.deref-4.ensures.value ∙ c.in_ok-is_text.ensures.fields text in
+    let same-2 : map (λ f. f.now) c.deref-2.result.now ≡ slice_split (λ b. b == 9) line =
+    ap (map (λ f. f.now)) c.deref-2.ensures.value ∙ c.in_ok-is_text.ensures.fields text in
+    let same-3 : map (λ f. f.now) c.deref-3.result.now ≡ slice_split (λ b. b == 9) line =
+    ap (map (λ f. f.now)) c.deref-3.ensures.value ∙ c.in_ok-is_text.ensures.fields text in
+    let same : map (λ f. f.now) c.deref-4.result.now ≡ slice_split (λ b. b == 9) line =
+    ap (map (λ f. f.now)) c.deref-4.ensures.value ∙ c.in_ok-is_text.ensures.fields text in
     let left = (rw c.if-waits.false at c.in_ok-waits.ensures).1 in
-    let is = subst (λ m. StandsAt (record { entities = m; boards = i.sets; is_lost = i.is_lost }) s) (sym left) (subst (λ v. StandsAt v s) (sym c.self.view_is) h) in
+    let is = subst (λ m. StandsAt (record { entities = m; boards = i.sets; is_lost = i.is_lost }) s) (sym left)
+    (subst (λ v. StandsAt v s) (sym c.self.view_is) h) in
     let none = rw c.if-on_store.false at (c.in_ok-on_store.ensures s is) in
     let more = rw c.if-on_sets.false at (c.in_ok-on_sets.ensures s none.1) in
-    line_left c.is_nothing.result line (map (λ f. f.now) c.deref-4.result.now) s _ c.args.out.now.items _ readable same c.is_nothing.ensures
+    line_left c.is_nothing.result line (map (λ f. f.now) c.deref-4.result.now) s _ c.args.out.now.items _ readable same
+    c.is_nothing.ensures
     (none_of_line Entity line (map (λ f. f.now) c.deref-2.result.now) same-2 none.0)
     (none_of_line Policy line (map (λ f. f.now) c.deref-3.result.now) same-3 more.0)
     more.1 (more.2 ∙ none.2)

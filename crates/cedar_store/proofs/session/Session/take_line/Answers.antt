@@ -7,8 +7,12 @@ pub returns-clause-takes : goal.returns-clause-takes
 returns-clause-takes g c =
     let i = c.self-2.inside in
     let new : SessionView = record { entities = i.entities; boards = i.sets; is_lost = c.is_err-self-inside.result } in
-    takes_kept c.take_fields_of-known.result (StandsAt c.args.self.now) c.args.line.now c.take_fields_of-known.new.self new c.args.out.now.items c.take_fields_of-known.new.out.items
-    (ap (λ v. v.entities) c.self-2.view_is) (ap (λ v. v.boards) c.self-2.view_is) c.is_err-self-inside.ensures.value c.take_fields_of-known.ensures
+    takes_kept c.take_fields_of-known.result
+    (StandsAt c.args.self.now) c.args.line.now c.take_fields_of-known.new.self new c.args.out.now.items
+    c.take_fields_of-known.new.out.items
+    (ap (λ v. v.entities) c.self-2.view_is)
+    (ap (λ v. v.boards) c.self-2.view_is) c.is_err-self-inside.ensures.value c.take_fields_of-known.ensures
 
 pub returns-clause-lost : goal.returns-clause-lost
-returns-clause-lost g c = lost_where_refused c.take_fields_of-known.result c.is_err-self-inside.result c.is_err-self-inside.ensures.value
+returns-clause-lost g c =
+    lost_where_refused c.take_fields_of-known.result c.is_err-self-inside.result c.is_err-self-inside.ensures.value

@@ -10,4 +10,5 @@ use Rattle.cedar_terms.proofs.value.Value.record.Given as goal
 abbrev pub invariant-loop-key : goal.invariant-loop-key
 invariant-loop-key l =
     IsOrdered string_cmp l.fields ×
-    ((key : List ℕ) → option_or (last_at key (named_pairs (into_iter_items l.key-iterator))) (get_by_text l.fields key) ≡ last_at key (named_pairs l.fn.pairs.items))
+    ((key : List ℕ) → option_or (last_at key (named_pairs (into_iter_items l.key-iterator))) (get_by_text l.fields key)
+    ≡ last_at key (named_pairs l.fn.pairs.items))

@@ -12,7 +12,10 @@ returns-then-is_empty-2-clause-ok c = union_with_none c.args.self.now c.args.uid
 
 -- both were merged
 pub invariant_of-self-2 : goal.invariant_of-self-2
-invariant_of-self-2 c = rw (c.merge.ensures, c.replace-before.ensures.value) (ascend_merged _ _ c.requires c.self.invariant)
+invariant_of-self-2 c =
+    rw (c.merge.ensures, c.replace-before.ensures.value) (ascend_merged _ _ c.requires c.self.invariant)
 
 pub returns-clause-ok : goal.returns-clause-ok
-returns-clause-ok c = rw (c.merge.ensures, c.replace-before.ensures.value, ← c.self.view_is) (set_merged c.args.uids.items c.self.inside.uids.items)
+returns-clause-ok c =
+    rw (c.merge.ensures, c.replace-before.ensures.value, ← c.self.view_is)
+    (set_merged c.args.uids.items c.self.inside.uids.items)

@@ -6,11 +6,15 @@ use Rattle.cedar_uid_sets.proofs.uid_set.UidSet.from_set.Goals as goal
 -- no two were equal, and they are sorted
 pub from_ascending-requires : goal.from_ascending-requires
 from_ascending-requires g c =
-    let moved = subst (λ us. IsPermutation us c.sort.new.self.items) c.in_ok-ascending.ensures.uids c.in_ok-sort.ensures.permutation in
+    let moved =
+    subst (λ us. IsPermutation us c.sort.new.self.items) c.in_ok-ascending.ensures.uids
+    c.in_ok-sort.ensures.permutation in
     ascend_sorted c.args.uids.keys _ c.shared.ensures.once moved c.in_ok-sort.ensures.sorted
 
 -- a sort keeps the set
 pub returns : goal.returns
 returns g c =
-    let moved = subst (λ us. IsPermutation us c.sort.new.self.items) c.in_ok-ascending.ensures.uids c.in_ok-sort.ensures.permutation in
+    let moved =
+    subst (λ us. IsPermutation us c.sort.new.self.items) c.in_ok-ascending.ensures.uids
+    c.in_ok-sort.ensures.permutation in
     c.from_ascending.ensures ∙ set_sorted c.args.uids.keys _ moved

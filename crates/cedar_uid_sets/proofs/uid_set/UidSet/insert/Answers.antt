@@ -3,7 +3,9 @@ use Rattle.cedar_uid_sets.proofs.uid_set.UidSet.insert.Goals as goal
 
 -- it was there
 pub returns-in-Ok-clause-ok : goal.returns-in-Ok-clause-ok
-returns-in-Ok-clause-ok c = set_insert_present _ _ (rw (← c.self.view_is, ← c.deref.ensures.value, ← c.key.ensures) (present _ _ _ c.in-Ok.ensures))
+returns-in-Ok-clause-ok c =
+    set_insert_present _ _
+    (rw (← c.self.view_is, ← c.deref.ensures.value, ← c.key.ensures) (present _ _ _ c.in-Ok.ensures))
 
 -- it went into its gap
 pub invariant_of-self-in-Err : goal.invariant_of-self-in-Err

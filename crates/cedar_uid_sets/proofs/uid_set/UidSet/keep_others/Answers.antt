@@ -14,6 +14,7 @@ invariant_of-self c =
 
 pub returns : goal.returns
 returns c =
-    ap (λ us. set.from_list us) (filter_same _ (is_other c.args.others.now) _ (λ x b f' k. search rules) _ _ c.retain.ensures.filtered)
+    ap (λ us. set.from_list us) (filter_same _ (is_other c.args.others.now) _
+    (λ x b f' k. search rules) _ _ c.retain.ensures.filtered)
     ∙ set_difference c.self.inside.uids.items c.args.others.now
     ∙ ap (λ s. set.difference s c.args.others.now) c.self.view_is

@@ -8,8 +8,10 @@ invariant_of-self c = rw c.remove.ensures.items (sorted_remove _ _ c.self.invari
 pub returns-in-Ok : goal.returns-in-Ok
 returns-in-Ok c =
     rw (c.remove.ensures.items, ← c.self.view_is)
-    (set_remove (c.self.inside.uids.items) c.in-Ok.at c.args.uid.now c.self.invariant (rw (← c.deref.ensures.value) c.in-Ok.ensures))
+    (set_remove (c.self.inside.uids.items) c.in-Ok.at c.args.uid.now c.self.invariant
+    (rw (← c.deref.ensures.value) c.in-Ok.ensures))
 
 -- it was not there
 pub returns-in_default : goal.returns-in_default
-returns-in_default c = set_remove_absent _ _ (rw (← c.self.view_is, ← c.deref.ensures.value) (absent _ _ _ c.in_default.ensures))
+returns-in_default c =
+    set_remove_absent _ _ (rw (← c.self.view_is, ← c.deref.ensures.value) (absent _ _ _ c.in_default.ensures))

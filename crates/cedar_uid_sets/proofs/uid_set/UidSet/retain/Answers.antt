@@ -4,7 +4,8 @@ use Rattle.cedar_uid_sets.proofs.uid_set.UidSet.retain.Goals as goal
 
 -- what stays was chosen from uids that ascend
 pub invariant_of-self : goal.invariant_of-self
-invariant_of-self g c = rw c.retain.ensures.filtered.4 (ascend_chosen c.retain.ensures.filtered.0 c.self.inside.uids.items c.self.invariant)
+invariant_of-self g c =
+    rw c.retain.ensures.filtered.4 (ascend_chosen c.retain.ensures.filtered.0 c.self.inside.uids.items c.self.invariant)
 
 pub returns : goal.returns
 returns g c = record {

@@ -11,7 +11,8 @@ use Rattle.cedar_uid_sets.proofs.uid_set.UidSetPartialEq.eq.Goals as goal
 -- the lists are the same where the sets are
 pub returns : goal.returns
 returns c =
-    let lists = slice_eq-Decides same_uid_decides c.self.inside.uids.items c.other.inside.uids.items c.eq.result c.eq.ensures in
+    let lists =
+    slice_eq-Decides same_uid_decides c.self.inside.uids.items c.other.inside.uids.items c.eq.result c.eq.ensures in
     let sets : Decides c.eq.result (c.args.self.now ≡ c.args.other.now) = (
       λ h. sym c.self.view_is ∙ ap (λ us. set.from_list us) (lists.0 h) ∙ c.other.view_is,
       λ e. lists.1 (one_listing _ _ c.self.invariant c.other.invariant (c.self.view_is ∙ e ∙ sym c.other.view_is)),

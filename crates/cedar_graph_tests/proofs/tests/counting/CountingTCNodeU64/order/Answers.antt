@@ -8,5 +8,7 @@ pub returns : goal.returns
 returns c =
     let n = length c.args.keys.now in
     let numbers = c.in_ok-numbers.numbers in
-    let listed : numbers.items ≡ range_with_len 0 n = items_from_collect {E = Unit {0}} (Ok numbers) c.in_ok-numbers.ensures.ran (YieldsList-from_range 0 n n refl (omega arith)) in
+    let listed : numbers.items ≡ range_with_len 0 n =
+    items_from_collect {E = Unit {0}} (Ok numbers) c.in_ok-numbers.ensures.ran
+    (YieldsList-from_range 0 n n refl (omega arith)) in
     subst (λ v. IsPermutation v c.sort_by.new.self.items) listed c.in_ok-sort_by.ensures.permutation
