@@ -1,3 +1,4 @@
 pub mod Machines
+pub mod Made
 pub mod OneAnswer
 pub mod ReadCommands

@@ -51,7 +51,7 @@ fn uid_fields(
 }
 
 // The uid of the first field and those of the others, if each is the text of one.
-pub(crate) fn ent_fields(
+fn ent_fields(
     alloc: Global,
     known: &mut KnownUids,
     fields: &[&str],

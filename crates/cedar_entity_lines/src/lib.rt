@@ -7,6 +7,7 @@
 #![tactic(auto, using(cedar_ids::specs::laws::UidOfLaws::same_uid_decides))]
 
 mod command;
+mod given;
 mod machine;
 mod parent_fields;
 

@@ -10,7 +10,8 @@ ghost use Rattle.cedar_entity_lines.specs.Holding.{Holds, EntityWrites, TakesEnt
 ghost use Rattle.cedar_entity_lines.specs.Holding.{HasAsciiUids};
 ghost use Rattle.cedar_entity_lines.specs.laws.Machines.{IsTold, Refused, KeepsAndTells};
 
-use crate::command::{EntityCommand, ent_fields};
+use crate::command::EntityCommand;
+use crate::given::{entity_of_fields, shared_entity};
 use crate::parent_fields::KnownUids;
 use cedar_entities::{Entities, EntitiesError, Entity, TCComputation};
 use cedar_graph::TcError;
@@ -149,7 +150,7 @@ impl<S: BuildHasher + Copy> LineStore<S> {
             (out : List ℕ) → EntityWrites (Ent uid parents.items) s self.new out out) }
     {
         let parents = UidSet::from_pointers(parents)?;
-        let entity = Rc::new(alloc, Entity::with_parent_set(alloc, uid, parents))?;
+        let entity = shared_entity(alloc, uid, parents)?;
         self.waiting.push(entity)?;
         Ok(())
     }
@@ -272,10 +273,10 @@ impl<S: BuildHasher + Copy> LineStore<S> {
             return Ok(false);
         };
         if *word == "ent" {
-            let Some((uid, parents)) = ent_fields(alloc, known, rest)? else {
+            let Some(entity) = entity_of_fields(alloc, known, rest)? else {
                 return Ok(false);
             };
-            self.ent(alloc, uid, parents)?;
+            self.waiting.push(entity)?;
             return Ok(true);
         }
         Ok(false)

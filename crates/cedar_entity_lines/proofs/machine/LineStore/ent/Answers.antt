@@ -1,8 +1,5 @@
 use Rattle.std.proofs.Common.{[], ◌∷◌, ap, refl, sym, subst, ◌∙◌}
-use Rattle.std.specs.FinSet as set
-use Rattle.cedar_ids.specs.UidOf.{uid_order}
-use Rattle.cedar_entity.specs.View.{EntityView}
-use Rattle.cedar_entities.specs.Plain.{IsBare, entities_in, given_of}
+use Rattle.cedar_entities.specs.Plain.{entities_in}
 use Rattle.cedar_entity_lines.specs.Holding.{StoreAndWaiting, Holds}
 use Rattle.cedar_entity_lines.proofs.Steps.{ent_takes}
 use Rattle.cedar_entity_lines.proofs.machine.LineStore.ent.Goals as goal
@@ -14,16 +11,9 @@ returns g c s h ascii out =
       waiting = entities_in c.self.inside.waiting.items;
       store = c.self.inside.store;
     } in
-    let entity : set.FinSet uid_order → EntityView = λ p. record {
-      uid = c.args.uid;
-      attrs = [];
-      tags = [];
-      parents = p;
-      indirect = set.empty;
-    } in
-    let made = c.in_ok-entity.ensures.ok ∙ c.with_parent_set.ensures ∙ ap entity c.in_ok-parents.ensures in
+    let made = c.in_ok-entity.ensures c.args.parents.items c.in_ok-parents.ensures in
     ent_takes old _ s c.args.uid c.args.parents.items c.in_ok-entity.entity.value out
     (subst (λ m. Holds m s) (sym c.self.view_is) h)
     (ap entities_in c.in_ok-push.ensures.items
     ∙ map-append (λ r. r.value) c.self.inside.waiting.items (c.in_ok-entity.entity ∷ [])) refl
-    (ap given_of made) (subst IsBare (sym made) (λ q. set.contains-empty uid_order q)) ascii
+    made.0 made.1 ascii

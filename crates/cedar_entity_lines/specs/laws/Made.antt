@@ -1,0 +1,10 @@
+-- The entity that a line makes.
+use Rattle.std.specs.Prelude.{◌≡◌, List}
+use Rattle.cedar_ids.specs.declared.entity.EntityUID.{EntityUID}
+use Rattle.cedar_entity.specs.View.{EntityView}
+use Rattle.cedar_entities.specs.Plain.{IsBare, given_of}
+use Rattle.cedar_entities.specs.World.{given}
+
+-- the entity has this uid and these parents, and nothing else
+abbrev pub IsMade : EntityView → EntityUID → List EntityUID → Type 0
+IsMade e u ps = (given_of e ≡ given u ps) × IsBare e
