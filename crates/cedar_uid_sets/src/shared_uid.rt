@@ -42,7 +42,10 @@ impl SharedUid {
     pub fn new(alloc: Global, uid: EntityUID) -> Result<SharedUid, AllocError>
         ensures { IfOk result (λ s. s ≡ uid) }
     {
-        Ok(SharedUid(Rc::new(alloc, Fronted::new(uid))?))
+        match Rc::new(alloc, Fronted::new(uid)) {
+            Ok(shared) => Ok(SharedUid(shared)),
+            Err(_refused) => Err(AllocError),
+        }
     }
 
     /// A copy of the uid, to be shared. It takes memory, and is refused only where that is.
@@ -50,7 +53,7 @@ impl SharedUid {
         ensures { IfOk result (λ s. s ≡ uid.now) }
     {
         let copy = uid.clone()?;
-        Ok(SharedUid::new(alloc, copy)?)
+        SharedUid::new(alloc, copy)
     }
 
     /// The uid. It takes no memory.
