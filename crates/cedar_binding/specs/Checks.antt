@@ -7,8 +7,7 @@ use Rattle.cedar_binding.specs.declared.err.LinkingError.{LinkingError}
 use Rattle.cedar_binding.specs.declared.err.LinkingError.TheVariants as errors
 
 -- the refusal of bindings that don't fit: that the ids are others, with exactly the two lists, or else that the
--- action's
--- slot is bound to no action; want of memory says nothing of them
+-- action's slot is bound to no action; want of memory says nothing of them
 abbrev pub IsUnfit : LinkingError → List SlotId → EnvParts → Type 0
 IsUnfit (errors.ArityError u x) slots e =
     (BindsExactly slots e → ⊥) × (u.items ≡ unbound slots e) × (x.items ≡ extra slots e)

@@ -70,8 +70,7 @@ ChangesBy P None (Some i) n new = (n ≡ closed) × (new ≡ Some i)
 ChangesBy P (Some o) (Some i) n new = Changes (P o.kept.set) (Some i) n new
 
 -- the bytes of the texts of the last answer, the places of those texts, and the text of the last refusal are copied
--- out; a closed
--- handle has none
+-- out; a closed handle has none
 abbrev pub CopiesAnswer : Option Inner → ℕ → List ℕ → ℕ → List ℕ → Type 0
 CopiesAnswer None from old told new = (told ≡ 0) × (new ≡ old)
 CopiesAnswer (Some i) from old told new = CopiesOut (concat i.kept.answer) from old told new

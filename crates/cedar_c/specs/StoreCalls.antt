@@ -75,8 +75,7 @@ Compares (Some i) None n old new = (n ≡ closed) × (new ≡ old)
 Compares (Some i) (Some j) n old new = (n ≡ ok) × (IsTrue new ↔ AreDeepEqual i.kept.store j.kept.store)
 
 -- the bytes of the texts of the last answer, the places of those texts, and the text of the last refusal are copied
--- out; a closed
--- handle has none
+-- out; a closed handle has none
 abbrev pub CopiesAnswer : Option Inner → ℕ → List ℕ → ℕ → List ℕ → Type 0
 CopiesAnswer None from old told new = (told ≡ 0) × (new ≡ old)
 CopiesAnswer (Some i) from old told new = CopiesOut (concat i.kept.answer) from old told new

@@ -15,8 +15,7 @@ use Rattle.cedar_c_lists.specs.declared.reason.Reason.{Reason}
 use Rattle.cedar_c_lists.specs.declared.reason.Reason.TheVariants.{NoMemory, BadArgument, NotAUid, NotUtf8}
 
 -- u is read of the text: with an ASCII eid it is written so; where a uid with an ASCII eid is written so, it is that
--- one; and the
--- text has its marks, and the name of its type before the first `::"`
+-- one; and the text has its marks, and the name of its type before the first `::"`
 pub record IsReadOf (u : EntityUID) (text : List ℕ) : Type 0 where
   pub printed : IsTrue (is_ascii (uid_parts u).eid) → IsPrinted (uid_parts u) text
   pub exact : (v : EntityUID) → IsPrinted (uid_parts v) text → u ≡ v

@@ -198,8 +198,8 @@ abbrev pub renaming_texts : List (List ℕ × List ℕ) → List (List ℕ)
 renaming_texts r = flat_map pair_of r
 
 -- another set is merged into this one, and the answer is the renaming; or the first id that conflicts is told, where
--- ids keep
--- theirs, or memory was refused, and the set is as it was, as the text of the last refusal is where memory was refused
+-- ids keep theirs, or memory was refused, and the set is as it was, as the text of the last refusal is where memory was
+-- refused
 abbrev pub MergesSet : {A B H : Type 0} → Board → Bool → Result A Reason → KeptSet B H → KeptSet B H → Type 0
 MergesSet other rename (Ok a) i j =
     (r : List (List ℕ × List ℕ)) × IsRenaming i.set other r × (rename ≡ false → conflicts i.set other ≡ [])

@@ -187,8 +187,7 @@ AsksFor S text (Ok b) = (u : EntityUID) × IsReadOf u text × (b ≡ finmap.cont
 AsksFor S text (Err w) = IsUnread text w
 
 -- the uids ascend, and are those that pass a test of the entity: over the plain store of a world those in a relation;
--- the texts
--- are theirs
+-- the texts are theirs
 pub record ListsThose (test : EntityView → EntityUID → Bool) (Related : World → EntityUID → EntityUID
     → Type 0) (S : StoreView) (u : EntityUID) (texts : List (List ℕ)) : Type 0 where
   pub entity : EntityView
@@ -221,8 +220,7 @@ abbrev pub IsParent : World → EntityUID → EntityUID → Type 0
 IsParent W u q = graph W u q ≡ true
 
 -- the store is valid, and all is as it was; or its first fault is told, and the store and the answer are as they were,
--- as the text
--- of the last refusal is where memory was refused
+-- as the text of the last refusal is where memory was refused
 abbrev pub Validates : {A B H : Type 0} → Result A Reason → KeptStore B H → KeptStore B H → Type 0
 Validates (Ok a) i j = IsValidStore i.store.held × (j ≡ i)
 Validates (Err w) i j =

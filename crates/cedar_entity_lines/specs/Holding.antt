@@ -30,8 +30,7 @@ abbrev pub IsAsciiWorld : World → Type 0
 IsAsciiWorld W = (a b : EntityUID) → graph W a b ≡ true → IsAsciiUid b
 
 -- the state is held: the entities that wait have no indirect ancestors, the store is plain, and whatever may be printed
--- has
--- an ASCII eid
+-- has an ASCII eid
 pub record Holds (m : StoreAndWaiting) (s : EntityState) : Type 0 where
   pub waiting : map given_of m.waiting ≡ s.waiting
   pub bare : AreBare m.waiting
@@ -58,8 +57,7 @@ abbrev pub EntityWrites : EntityCommand → EntityState → StoreAndWaiting → 
 EntityWrites c s m old new = (t : EntityState) × (out : List ℕ) × EntityGives c s t out × Holds m t × (new ≡ old ++ out)
 
 -- the fields are those of an entity with its parents, a state is held after that command, and nothing is written; or
--- they are
--- those of none, and nothing changed
+-- they are those of none, and nothing changed
 abbrev pub TakesEntity : Bool → List (List ℕ) → StoreAndWaiting → StoreAndWaiting → Type 0
 TakesEntity true fs old new =
     (u : EntityUID) × (ps : List EntityUID) × IsEntityCommand (Ent u ps) fs

@@ -20,8 +20,7 @@ pub record OnlyAdds {K : Type 0} (old new : K → K → Bool) : Type 0 where
   pub only : AddsOnlyReached old new
 
 -- the map is closed, unless memory was refused, and then it may be so in part; a cycle is told exactly where it is
--- asked
--- for and there
+-- asked for and there
 pub record Closes {K V S T : Type 0} (eq : K → K → Bool) (edges : V → K → Bool) (asked : Bool)
     (old new : HashMap K V S) (result : Result T (TcError K)) : Type 0 where
   pub adds : OnlyAdds (graph_of eq edges old) (graph_of eq edges new)

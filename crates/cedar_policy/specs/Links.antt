@@ -7,8 +7,7 @@ use Rattle.cedar_binding.specs.declared.err.LinkingError.{LinkingError}
 use Rattle.cedar_policy.specs.Policies.{PolicyParts, static_policy}
 
 -- where the bindings fit the template's slots: the policy of this template, this id and these bindings; else the
--- refusal
--- of what does not fit
+-- refusal of what does not fit
 abbrev pub Links : Result PolicyParts LinkingError → BodyParts → List ℕ → EnvParts → Type 0
 Links (Ok p) t i e = FitsSlots (body_slots t) e × (p ≡ record { template = t; link = Some i; env = e })
 Links (Err r) t i e = IsUnfit r (body_slots t) e

@@ -42,8 +42,7 @@ unconstrained i a f e =
     }
 
 -- what holds of each policy: the bound ids are the ids of its template's slots, the action's, if it is one of them, is
--- bound
--- to an action, and what is no link has none
+-- bound to an action, and what is no link has none
 pub record IsPolicy (p : PolicyParts) : Type 0 where
   pub total : FitsSlots (body_slots p.template) p.env
   pub unlinked : p.link ≡ None → body_slots p.template ≡ []

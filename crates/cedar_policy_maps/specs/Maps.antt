@@ -40,8 +40,7 @@ abbrev pub templates_in : List PolicyParts → List BodyParts → List BodyParts
 templates_in ps ts = filter (λ t. not (list_any (is_policy_at t.id) ps)) ts
 
 -- they state a board, bodies and policies stand under their own ids, and in the third map stand the ids of all
--- templates,
--- in the order of bodies, with the ids of the links of each, in that of policies
+-- templates, in the order of bodies, with the ids of the links of each, in that of policies
 pub record DoAgree (m : Maps) : Type 0 where
   pub board : IsBoard (board_in m)
   pub bodies_by_id : keys_of m.bodies ≡ map (λ t. t.id) (values_of m.bodies)
@@ -66,8 +65,8 @@ ArePlaced b [] = Unit {0}
 ArePlaced b (p ∷ ps) = IsPlacedBy p.link b p × ArePlaced b ps
 
 -- what is asked of them: policies have their templates and ids of their own, bodies and policies stand under their own
--- ids,
--- and in the third map stand the ids of all bodies, in their order, with the ids of the policies on each, in theirs
+-- ids, and in the third map stand the ids of all bodies, in their order, with the ids of the policies on each, in
+-- theirs
 pub record CanMakeSet (m : Maps) : Type 0 where
   pub placed : ArePlaced (board_in m) (values_of m.policies)
   pub bodies_by_id : keys_of m.bodies ≡ map (λ t. t.id) (values_of m.bodies)

@@ -28,8 +28,7 @@ AreBare (t ∷ ts) ps = (list_any (is_on t.id) ps ≡ false) × AreBare ts ps
 
 -- bodies and policies can go last beside some bodies that stand there: the board is one then; no policy that joins has
 -- the id of a body that was there, and none that was there that of a body that joins; policies join none but these
--- bodies
--- and the new ones; and on new ones stood no policy
+-- bodies and the new ones; and on new ones stood no policy
 pub record CanTakeIn (b : Board) (stand ts : List BodyParts) (ps : List PolicyParts) : Type 0 where
   pub board : IsBoard (taken_in b ts ps)
   pub beside : AreFree b.bodies ps

@@ -109,8 +109,7 @@ AreBelow m [] = Unit {0}
 AreBelow m (i ∷ is) = ((n : ℕ) × (i ≡ numbered n) × (n < m)) × AreBelow m is
 
 -- what merging answers. The renaming, and the board is the merged one; where ids keep theirs there is no conflict. Or
--- the
--- first id that conflicts, where ids keep theirs, and the board is as it was; as it is where memory was refused
+-- the first id that conflicts, where ids keep theirs, and the board is as it was; as it is where memory was refused
 abbrev pub Merges : {A : Type 0} → (A → List (List ℕ × List ℕ)) → Result A PolicySetError → Board → Board → Bool → Board
     → Type 0
 Merges entries (Ok r) old other rename new =

@@ -24,8 +24,7 @@ pub record StandsAt (v : SessionView) (s : State) : Type 0 where
   pub whole : v.is_lost ≡ false
 
 -- a line that is a command gives the state at which the session stands then, and adds what it writes; after any other
--- it
--- stands where it stood, and nothing is added
+-- it stands where it stood, and nothing is added
 abbrev pub Takes : Bool → List ℕ → State → SessionView → List ℕ → List ℕ → Type 0
 Takes true line s v old new = (c : Command) × (t : State) × (out : List ℕ) × IsLine c line × Gives s c t out
     × StandsAt v t × (new ≡ old ++ out)

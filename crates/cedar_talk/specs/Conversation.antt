@@ -20,8 +20,7 @@ abbrev pub Says : ℕ → List ℕ → List ℕ → Type 0
 Says n line out = ((line ≡ codes "help") × (out ≡ HELP.now)) ⊎ ((line ≢ codes "help") × (out ≡ not_command n))
 
 -- line n is answered in the state s: as the command that it is, which gives the state t; or, where the conversation
--- goes on after
--- a line that is none, by what is said of that, and the state stays
+-- goes on after a line that is none, by what is said of that, and the state stays
 abbrev pub Answers : Manner → ℕ → State → List ℕ → State → List ℕ → Type 0
 Answers m n s line t out =
     ((c : Command) × IsLine c line × Gives s c t out)
@@ -46,8 +45,7 @@ abbrev pub AnswersAll : Manner → List ℕ → List ℕ → Type 0
 AnswersAll m input out = (h : Heard) × IsHeard input h × AreAnswers m (all_lines h) out
 
 -- what a fault leaves. Where a read failed, what was written is the answers to all lines that had been read to their
--- line feed;
--- where memory was refused, to all that had been before some read. Of a write fault nothing is said
+-- line feed; where memory was refused, to all that had been before some read. Of a write fault nothing is said
 abbrev pub Leaves : Manner → TalkError → Option (List ℕ) → Option (List ℕ) → Option (List ℕ) → Option (List ℕ) → Type 0
 Leaves m Read r r' w w' = (bytes : List ℕ) × (out : List ℕ) × Consumes r r' bytes × AnswersEnded m bytes out
     × Appends w w' out

@@ -6,8 +6,7 @@ use Rattle.cedar_entity.specs.declared.err.EntitiesError.{EntitiesError}
 use Rattle.cedar_entity.specs.declared.err.EntitiesError.TheVariants as errors
 
 -- what holds of a duplicate that D tells of, of the closure that C tells of, and of want of memory, holds of each
--- refusal
--- that D and C match
+-- refusal that D and C match
 pub refusal_cases : (D : EntityUID → Type 0) (C : TcError EntityUID → Type 0) (P : EntitiesError → Type 0)
     → ((u : EntityUID) → D u → P (errors.Duplicate u))
     → ((t : TcError EntityUID) → C t → P (errors.TransitiveClosureError t)) → P errors.Memory

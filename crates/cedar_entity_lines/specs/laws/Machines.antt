@@ -22,8 +22,7 @@ Refused (TransitiveClosureError (HasCycle v)) old new = new ≡ old ++ written_l
 Refused e old new = ⊥
 
 -- a call on the store gave r, and that is kept: the store, with the line of its count added or, where it was refused,
--- the
--- store without entities, with the line of the refusal
+-- the store without entities, with the line of the refusal
 abbrev pub KeepsAndTells : Result StoreView EntitiesError → StoreAndWaiting → List ℕ → List ℕ → Type 0
 KeepsAndTells (Ok S) m old new = (W : World) → IsPlainStore W S → IsPlainStore W m.store × (new ≡ old ++ count_line W)
 KeepsAndTells (Err e) m old new = IsPlainStore empty_world m.store × Refused e old new

@@ -4,10 +4,9 @@
 // `A::"c"` and two attributes.
 //
 // A value is a number, or a text behind a quote; behind it stands what it is put in, from the inside out, each behind
-// `/`: a set
-// `[`, or a record, which is its key `k`; `k&l` has 1 at `l` too, given behind it, and `l,k` has 1 at `l` before it.
-// `?x` is a text that is left over as an expression, and `!A.é` is the denial of a uid. `@7` behind a uid or a number
-// is its place.
+// `/`: a set `[`, or a record, which is its key `k`; `k&l` has 1 at `l` too, given behind it, and `l,k` has 1 at `l`
+// before it. `?x` is a text that is left over as an expression, and `!A.é` is the denial of a uid. `@7` behind a uid or
+// a number is its place.
 use cedar_entity::entity::Entity;
 use cedar_ids::entity::EntityUID;
 use cedar_ids::loc::Loc;

@@ -1,6 +1,5 @@
 -- A finite graph, closed by a test: which key reaches which, and whether one reaches itself. No function runs it; it
--- shows
--- that reach is settled by looking over a list of keys.
+-- shows that reach is settled by looking over a list of keys.
 use Rattle.std.proofs.Common.{◌≡◌, Bool, true, false, List, [], ◌∷◌, ◌||◌, ◌&&◌, ◌⊎◌, inl, inr, refl, sym, ◌∙◌}
 use Rattle.std.specs.Bool.{Decides}
 use Rattle.std.specs.List.{list_any}

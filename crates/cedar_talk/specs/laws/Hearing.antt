@@ -32,8 +32,8 @@ pub record Has {S H : Type 0} (k : Conversation S H) (bytes out : List ℕ) : Ty
   pub answers : AnswersFrom k.manner 1 start heard.lines state out
 
 -- these bytes, behind any that were heard, are heard too, and `after` is `before` and the answers to the lines that
--- they end; or a
--- line that is no command ends the conversation, and all that was written is a run's output, whatever comes behind
+-- they end; or a line that is no command ends the conversation, and all that was written is a run's output, whatever
+-- comes behind
 abbrev pub Hears : {S H : Type 0} → Bool → Conversation S H → List ℕ → Conversation S H → List ℕ → List ℕ → Type 0
 Hears true old bytes new before after = (new.manner ≡ old.manner)
     × ((xs : List ℕ) → (out : List ℕ) → Has old xs (out ++ before) → Has new (xs ++ bytes) (out ++ after))

@@ -33,8 +33,7 @@ Finishes (Err Write) k w w' = Unit {0}
 Finishes (Err Memory) k w w' = w' ≡ w
 
 -- the input was read to its end and all of its lines answered; or, strictly, the output of a run over it was written,
--- which ends at a
--- line that is no command
+-- which ends at a line that is no command
 abbrev pub Converses : Manner → Result ℕ TalkError → Option (List ℕ) → Option (List ℕ) → Option (List ℕ)
     → Option (List ℕ) → Type 0
 Converses m (Ok status) r r' w w' = (bytes : List ℕ) × (out : List ℕ) × Consumes r r' bytes × Appends w w' out
