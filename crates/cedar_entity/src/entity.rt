@@ -417,6 +417,14 @@ impl Entity {
         SharedUids::of(self.parents.pointers(), self.indirect_ancestors.pointers())
     }
 
+    // The indirect ancestors, then the parents, as they are shared. A closure takes up first what is listed last, and with
+    // the parents all that they reach: then most of the others are there already.
+    pub(crate) fn ancestors_parents_last(&self) -> SharedUids<'_>
+        ensures { (q : EntityUID) → is_member same_uid result q ≡ has_ancestor self.now q }
+    {
+        SharedUids::of(self.indirect_ancestors.pointers(), self.parents.pointers())
+    }
+
     /// The parents and the indirect ancestors, each once, in the order of uids: a walk through both at a time, of a
     /// comparison or two a uid. It takes no memory. This is the project's own.
     pub fn ancestors_in_order(&self) -> Union<'_>

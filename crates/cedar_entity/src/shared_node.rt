@@ -128,7 +128,7 @@ impl TCNode<SharedUid> for Entity {
         _alloc: Global,
         list: &mut Vec<&'a SharedUid>,
     ) -> Result<(), AllocError> {
-        relist(list, self.shared_ancestors())
+        relist(list, self.ancestors_parents_last())
     }
 
     /// As [`Entity::is_descendant_of_shared`].

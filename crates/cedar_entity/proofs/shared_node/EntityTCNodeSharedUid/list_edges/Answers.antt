@@ -8,4 +8,4 @@ use Rattle.cedar_entity.proofs.shared_node.EntityTCNodeSharedUid.list_edges.Goal
 pub returns : goal.returns
 returns c =
     on_ok_weaker c.relist.result (λ e q. ap (λ (l : List EntityUID). is_member same_uid l q) e
-    ∙ c.shared_ancestors.ensures q) c.relist.ensures
+    ∙ c.ancestors_parents_last.ensures q) c.relist.ensures
