@@ -417,8 +417,8 @@ impl Entity {
         SharedUids::of(self.parents.pointers(), self.indirect_ancestors.pointers())
     }
 
-    // The indirect ancestors, then the parents, as they are shared. A closure takes up first what is listed last, and with
-    // the parents all that they reach: then most of the others are there already.
+    // The indirect ancestors, then the parents, as they are shared. A closure takes up first what is listed last, and
+    // with the parents all that they reach: then most of the others are there already.
     pub(crate) fn ancestors_parents_last(&self) -> SharedUids<'_>
         ensures { (q : EntityUID) → is_member same_uid result q ≡ has_ancestor self.now q }
     {

@@ -103,63 +103,43 @@ word_is : (w v : List ℕ) → same_text w v ≡ true → w ≡ v
 word_is w v = (same_text_decides w v).0
 
 effect_found : (w : List ℕ) (e : Effect) → effect_of w ≡ Some e → w ≡ effect_word e
-effect_found w e h =
-    elim (chosen (same_text w (codes "permit")) (Some Permit) (if same_text w (codes "forbid") then Some Forbid
-    else None) e h) [
-      | inl k ↦ word_is w (codes "permit") k.0 ∙ ap effect_word (some_is k.1)
-      | inr j ↦ elim (chosen (same_text w (codes "forbid")) (Some Forbid) None e j) [
-        | inl k ↦ word_is w (codes "forbid") k.0 ∙ ap effect_word (some_is k.1)
-        | inr k ↦ absurd (not_some k)
-      ]
-    ]
+effect_found w e h = elim (chosen (same_text w (codes "permit")) (Some Permit) _ e h) [
+  | inl k ↦ word_is w (codes "permit") k.0 ∙ ap effect_word (some_is k.1)
+  | inr j ↦ elim (chosen (same_text w (codes "forbid")) (Some Forbid) _ e j) [
+    | inl k ↦ word_is w (codes "forbid") k.0 ∙ ap effect_word (some_is k.1)
+    | inr k ↦ absurd (not_some k)
+  ]
+]
 
 slots_found : (w : List ℕ) (s : TemplateSlots) → slots_of w ≡ Some s → w ≡ slots_word s
-slots_found w s h =
-    elim (chosen (same_text w (codes "none")) (Some NoSlots) (if same_text w (codes "principal") then Some OnPrincipal
-    else if same_text w (codes "action") then Some OnAction
-    else if same_text w (codes "resource") then Some OnResource else if same_text w (codes "both") then Some OnBoth
-    else if same_text w (codes "all") then Some OnAll else None) s h) [
-      | inl k ↦ word_is w (codes "none") k.0 ∙ ap slots_word (some_is k.1)
-      | inr h2 ↦
-          elim (chosen (same_text w (codes "principal")) (Some OnPrincipal)
-          (if same_text w (codes "action") then Some OnAction else if same_text w (codes "resource") then Some OnResource
-          else if same_text w (codes "both") then Some OnBoth else if same_text w (codes "all") then Some OnAll
-          else None) s h2) [
-            | inl k ↦ word_is w (codes "principal") k.0 ∙ ap slots_word (some_is k.1)
-            | inr h3 ↦
-                elim (chosen (same_text w (codes "action")) (Some OnAction)
-                (if same_text w (codes "resource") then Some OnResource else if same_text w (codes "both") then Some OnBoth
-                else if same_text w (codes "all") then Some OnAll else None) s h3) [
-                  | inl k ↦ word_is w (codes "action") k.0 ∙ ap slots_word (some_is k.1)
-                  | inr h4 ↦
-                      elim (chosen (same_text w (codes "resource")) (Some OnResource)
-                      (if same_text w (codes "both") then Some OnBoth else if same_text w (codes "all") then Some OnAll
-                      else None) s h4) [
-                        | inl k ↦ word_is w (codes "resource") k.0 ∙ ap slots_word (some_is k.1)
-                        | inr h5 ↦
-                            elim (chosen (same_text w (codes "both")) (Some OnBoth) (if same_text w (codes "all") then Some OnAll
-                            else None) s h5) [
-                              | inl k ↦ word_is w (codes "both") k.0 ∙ ap slots_word (some_is k.1)
-                              | inr h6 ↦ elim (chosen (same_text w (codes "all")) (Some OnAll) None s h6) [
-                                | inl k ↦ word_is w (codes "all") k.0 ∙ ap slots_word (some_is k.1)
-                                | inr k ↦ absurd (not_some k)
-                              ]
-                            ]
-                      ]
-                ]
+slots_found w s h = elim (chosen (same_text w (codes "none")) (Some NoSlots) _ s h) [
+  | inl k ↦ word_is w (codes "none") k.0 ∙ ap slots_word (some_is k.1)
+  | inr h2 ↦ elim (chosen (same_text w (codes "principal")) (Some OnPrincipal) _ s h2) [
+    | inl k ↦ word_is w (codes "principal") k.0 ∙ ap slots_word (some_is k.1)
+    | inr h3 ↦ elim (chosen (same_text w (codes "action")) (Some OnAction) _ s h3) [
+      | inl k ↦ word_is w (codes "action") k.0 ∙ ap slots_word (some_is k.1)
+      | inr h4 ↦ elim (chosen (same_text w (codes "resource")) (Some OnResource) _ s h4) [
+        | inl k ↦ word_is w (codes "resource") k.0 ∙ ap slots_word (some_is k.1)
+        | inr h5 ↦ elim (chosen (same_text w (codes "both")) (Some OnBoth) _ s h5) [
+          | inl k ↦ word_is w (codes "both") k.0 ∙ ap slots_word (some_is k.1)
+          | inr h6 ↦ elim (chosen (same_text w (codes "all")) (Some OnAll) _ s h6) [
+            | inl k ↦ word_is w (codes "all") k.0 ∙ ap slots_word (some_is k.1)
+            | inr k ↦ absurd (not_some k)
           ]
-    ]
-
-renaming_found : (w : List ℕ) (r : Bool) → renaming_of w ≡ Some r → w ≡ renaming_word r
-renaming_found w r h =
-    elim (chosen (same_text w (codes "keep")) (Some false) (if same_text w (codes "rename") then Some true
-    else None) r h) [
-      | inl k ↦ word_is w (codes "keep") k.0 ∙ ap renaming_word (some_is k.1)
-      | inr j ↦ elim (chosen (same_text w (codes "rename")) (Some true) None r j) [
-        | inl k ↦ word_is w (codes "rename") k.0 ∙ ap renaming_word (some_is k.1)
-        | inr k ↦ absurd (not_some k)
+        ]
       ]
     ]
+  ]
+]
+
+renaming_found : (w : List ℕ) (r : Bool) → renaming_of w ≡ Some r → w ≡ renaming_word r
+renaming_found w r h = elim (chosen (same_text w (codes "keep")) (Some false) _ r h) [
+  | inl k ↦ word_is w (codes "keep") k.0 ∙ ap renaming_word (some_is k.1)
+  | inr j ↦ elim (chosen (same_text w (codes "rename")) (Some true) _ r j) [
+    | inl k ↦ word_is w (codes "rename") k.0 ∙ ap renaming_word (some_is k.1)
+    | inr k ↦ absurd (not_some k)
+  ]
+]
 
 behind_found : (mark f t : List ℕ) → behind mark f ≡ Some t → f ≡ mark ++ t
 behind_found mark f t h = elim (chosen (starts_with nat_eq f mark) (Some (drop (length mark) f)) None t h) [
