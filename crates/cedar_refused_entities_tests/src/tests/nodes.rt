@@ -403,7 +403,7 @@ const ENTITIES: &str = "
     TCNode<SharedUid> for Entity::add_edge_to | a b / c / k=1, d | a b / c d / k=1 /
     - TCNode<SharedUid> for Entity::add_edge_to | a b / c, b | a b / c / /
     TCNode<SharedUid> for Entity::out_edges | a b / c d | A::\"b\" A::\"c\" A::\"d\"
-    TCNode<SharedUid> for Entity::list_edges | a b / c d | A::\"b\" A::\"c\" A::\"d\"
+    TCNode<SharedUid> for Entity::list_edges | a b / c d | A::\"c\" A::\"d\" A::\"b\"
     - TCNode<SharedUid> for Entity::reset_edges | a b / c d | a b / / /
     TCNode<SharedUid> for Entity::direct_edges | a b / c d | A::\"b\"
     TCNode<SharedUid> for Entity::order | a, c b | 2
@@ -445,7 +445,7 @@ const COUNTED: &str = "
     TCNode<SharedUid> for SharedEntity::get_key | a b / c | A::\"a\"
     TCNode<SharedUid> for SharedEntity::add_edge_to | a b / c / k=1, d | a b / c d / k=1 /
     TCNode<SharedUid> for SharedEntity::out_edges | a b / c d | A::\"b\" A::\"c\" A::\"d\"
-    TCNode<SharedUid> for SharedEntity::list_edges | a b / c d | A::\"b\" A::\"c\" A::\"d\"
+    TCNode<SharedUid> for SharedEntity::list_edges | a b / c d | A::\"c\" A::\"d\" A::\"b\"
     TCNode<SharedUid> for SharedEntity::reset_edges | a b / c d | a b / / /
     TCNode<SharedUid> for SharedEntity::direct_edges | a b / c d | A::\"b\"
     TCNode<SharedUid> for SharedEntity::order | a, c b | 2
