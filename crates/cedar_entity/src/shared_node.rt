@@ -121,8 +121,8 @@ impl TCNode<SharedUid> for Entity {
         listed_pointers(alloc, self.shared_ancestors())
     }
 
-    /// The ancestors, in the place of what the list has. It takes memory where the list has no room for as many, and is
-    /// refused only where that is.
+    /// The ancestors, the parents last, in the place of what the list has. It takes memory where the list has no room
+    /// for as many, and is refused only where that is.
     fn list_edges<'a>(
         &'a self,
         _alloc: Global,
