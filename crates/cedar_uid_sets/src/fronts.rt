@@ -25,7 +25,7 @@ fn byte(text: &[u8], at: usize) -> u64
 }
 
 // The number of four bytes, the first as the highest.
-fn number_of(a: u8, b: u8, c: u8, d: u8) -> u64
+fn from_four_bytes(a: u8, b: u8, c: u8, d: u8) -> u64
     ensures value { result ≡ a * 0x100_0000 + (b * 0x1_0000 + (c * 0x100 + d)) }
     ensures small { result < 0x1_0000_0000 }
 {
@@ -39,7 +39,7 @@ fn half(text: &[u8]) -> u64
     ensures bytes { AreDigits 4 (slice_index text.now) }
 {
     if let [a, b, c, d, ..] = text {
-        return number_of(*a, *b, *c, *d);
+        return from_four_bytes(*a, *b, *c, *d);
     }
     byte(text, 0) * 0x100_0000 + byte(text, 1) * 0x1_0000 + byte(text, 2) * 0x100 + byte(text, 3)
 }
@@ -50,7 +50,7 @@ fn front(text: &[u8]) -> u64
     ensures bytes { BeginsWithBytes text.now }
 {
     if let [a, b, c, d, rest @ ..] = text {
-        return number_of(*a, *b, *c, *d) * 0x1_0000_0000 + half(rest);
+        return from_four_bytes(*a, *b, *c, *d) * 0x1_0000_0000 + half(rest);
     }
     half(text) * 0x1_0000_0000
 }
