@@ -1,0 +1,150 @@
+//! An authorizer of one afternoon: entities with attributes, templates and links, and requests that are answered by what the
+//! scopes of the policies say. Conditions of policies are an evaluator's, which is another layer: here a policy has none.
+use cedar_store::ast::{
+    ActionConstraint, Annotations, Effect, Entity, EntityReference, EntityUID, PartialValue, Policy, PolicyID,
+    PolicySet, PrincipalConstraint, PrincipalOrResourceConstraint, ResourceConstraint, SlotId, StaticPolicy, Template,
+    Value,
+};
+use cedar_store::entities::{Dereference, Entities, TCComputation};
+use std::collections::HashMap;
+use std::error::Error;
+use std::sync::Arc;
+
+/// Who wants to do what to what.
+struct Request {
+    principal: EntityUID,
+    action: EntityUID,
+    resource: EntityUID,
+}
+
+/// Whether a uid is another, or is below it in the store.
+fn is_in(store: &Entities, uid: &EntityUID, above: &EntityUID) -> bool {
+    uid == above || matches!(store.entity(uid), Dereference::Data(entity) if entity.is_descendant_of(above))
+}
+
+fn meets(store: &Entities, uid: &EntityUID, constraint: &PrincipalOrResourceConstraint) -> bool {
+    let named = |reference: &EntityReference| match reference {
+        EntityReference::EUID(uid) => Arc::clone(uid),
+        EntityReference::Slot(_) => unreachable!("a policy's constraints have their slots filled"),
+    };
+    match constraint {
+        PrincipalOrResourceConstraint::Any => true,
+        PrincipalOrResourceConstraint::Eq(reference) => *uid == *named(reference),
+        PrincipalOrResourceConstraint::In(reference) => is_in(store, uid, &named(reference)),
+        PrincipalOrResourceConstraint::Is(ty) => uid.entity_type() == &**ty,
+        PrincipalOrResourceConstraint::IsIn(ty, reference) => {
+            uid.entity_type() == &**ty && is_in(store, uid, &named(reference))
+        }
+    }
+}
+
+fn applies(store: &Entities, policy: &Policy, request: &Request) -> bool {
+    let action = match policy.action_constraint() {
+        ActionConstraint::Any => true,
+        ActionConstraint::Eq(uid) => request.action == *uid,
+        ActionConstraint::In(uids) => uids.iter().any(|uid| is_in(store, &request.action, uid)),
+        ActionConstraint::InSlot(_) | ActionConstraint::EqSlot(_) => {
+            unreachable!("a policy's constraints have their slots filled")
+        }
+    };
+    action
+        && meets(store, &request.principal, policy.principal_constraint().as_inner())
+        && meets(store, &request.resource, policy.resource_constraint().as_inner())
+}
+
+/// A request is allowed where some policy permits it and none forbids it. Also which policies apply.
+fn decide(store: &Entities, policies: &PolicySet, request: &Request) -> (bool, Vec<String>) {
+    let applying: Vec<&Policy> = policies
+        .policies()
+        .filter(|policy| applies(store, policy, request))
+        .collect();
+    let has = |effect| applying.iter().any(|policy| policy.effect() == effect);
+    let names = applying.iter().map(|policy| policy.id().to_string()).collect();
+    (has(Effect::Permit) && !has(Effect::Forbid), names)
+}
+
+fn uid(ty: &str, eid: &str) -> EntityUID {
+    EntityUID::with_eid_and_type(ty, eid).expect("a type's name")
+}
+
+fn person(eid: &str, age: i64, groups: &[&str]) -> Entity {
+    Entity::new_with_attr_partial_value(
+        uid("User", eid),
+        [("age".to_string(), PartialValue::from(Value::from(age)))],
+        Default::default(),
+        groups.iter().map(|group| uid("Group", group)).collect(),
+        [],
+    )
+}
+
+fn under(own: EntityUID, parent: EntityUID) -> Entity {
+    let mut entity = Entity::with_uid(own);
+    entity.add_parent(parent);
+    entity
+}
+
+/// Everybody who is linked to a folder may read what is in it; nobody may touch what is locked.
+fn policies() -> Result<PolicySet, Box<dyn Error>> {
+    let mut set = PolicySet::new();
+    set.add_template(Template::new(
+        PolicyID::from_string("readers"),
+        None,
+        Annotations::new(),
+        Effect::Permit,
+        PrincipalConstraint::is_in_slot(),
+        ActionConstraint::is_eq(uid("Action", "read")),
+        ResourceConstraint::is_in_slot(),
+        None,
+    ))?;
+    let bound = HashMap::from([
+        (SlotId::principal(), uid("Group", "staff")),
+        (SlotId::resource(), uid("Folder", "reports")),
+    ]);
+    set.link(
+        PolicyID::from_string("readers"),
+        PolicyID::from_string("staff read reports"),
+        bound,
+    )?;
+    set.add_static(StaticPolicy::new(
+        PolicyID::from_string("locked"),
+        None,
+        Annotations::new(),
+        Effect::Forbid,
+        PrincipalConstraint::any(),
+        ActionConstraint::any(),
+        ResourceConstraint::is_in(Arc::new(uid("Folder", "locked"))),
+        None,
+    )?)?;
+    Ok(set)
+}
+
+fn main() -> Result<(), Box<dyn Error>> {
+    let store = Entities::from_entities(
+        [
+            person("alice", 41, &["admins"]),
+            person("bob", 19, &[]),
+            under(uid("Group", "admins"), uid("Group", "staff")),
+            under(uid("File", "q3"), uid("Folder", "reports")),
+            under(uid("File", "secret"), uid("Folder", "locked")),
+            under(uid("Folder", "locked"), uid("Folder", "reports")),
+        ],
+        TCComputation::ComputeNow,
+    )?;
+    let policies = policies()?;
+    for (user, file) in [("alice", "q3"), ("bob", "q3"), ("alice", "secret")] {
+        let request = Request {
+            principal: uid("User", user),
+            action: uid("Action", "read"),
+            resource: uid("File", file),
+        };
+        let (allowed, by) = decide(&store, &policies, &request);
+        println!(
+            "{user} reads {file}: {} by {by:?}",
+            if allowed { "allowed" } else { "denied" }
+        );
+    }
+    if let Dereference::Data(alice) = store.entity(&uid("User", "alice")) {
+        println!("{alice}");
+    }
+    Ok(())
+}

@@ -1,0 +1,52 @@
+//! One store that many threads read, while each copies it and edits its own: copies share entities, and an edit of one is
+//! seen in no other.
+use cedar_store::ast::{Entity, EntityUID};
+use cedar_store::entities::{Dereference, Entities, TCComputation};
+use std::error::Error;
+use std::sync::Arc;
+use std::thread;
+
+const LEVELS: usize = 200;
+
+fn node(number: usize) -> EntityUID {
+    EntityUID::with_eid_and_type("Node", &number.to_string()).expect("a type's name")
+}
+
+/// How many stand above the entity that has no children.
+fn above(store: &Entities) -> usize {
+    match store.entity(&node(0)) {
+        Dereference::Data(entity) => entity.ancestors().count(),
+        Dereference::NoSuchEntity | Dereference::Residual(_) => 0,
+    }
+}
+
+fn main() -> Result<(), Box<dyn Error>> {
+    let chain = (0..LEVELS).map(|number| {
+        let mut entity = Entity::with_uid(node(number));
+        entity.add_parent(node(number + 1));
+        entity
+    });
+    let store = Arc::new(Entities::from_entities(chain, TCComputation::ComputeNow)?);
+    let counts: Vec<(usize, usize)> = thread::scope(|scope| {
+        let started: Vec<_> = (1..=8)
+            .map(|number| {
+                let store = Arc::clone(&store);
+                scope.spawn(move || {
+                    let own = Entities::clone(&store);
+                    let own = own
+                        .remove_entities([node(number * 20)], TCComputation::ComputeNow)
+                        .expect("never refused");
+                    (above(&store), above(&own))
+                })
+            })
+            .collect();
+        started
+            .into_iter()
+            .map(|thread| thread.join().expect("it ends"))
+            .collect()
+    });
+    for (number, (whole, own)) in counts.iter().enumerate() {
+        println!("thread {number}: {whole} in the store that is shared, {own} in its own");
+    }
+    Ok(())
+}

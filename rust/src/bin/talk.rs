@@ -1,0 +1,35 @@
+//! Answers each line as it comes, at a terminal or between two pipes.
+use cedar_store::KeyedState;
+use cedar_store::program::{Manner, help_text, talk};
+use std::env;
+use std::io::{self, Write};
+use std::process::ExitCode;
+
+fn main() -> ExitCode {
+    let arguments: Vec<_> = env::args_os().skip(1).collect();
+    match arguments.as_slice() {
+        [] => held(Manner::Lenient),
+        [only] if only == "--strict" => held(Manner::Strict),
+        [only] if only == "--help" => match write!(io::stdout(), "{}", help_text()) {
+            Ok(()) => ExitCode::SUCCESS,
+            Err(_) => fault("write fault"),
+        },
+        _ => {
+            eprintln!("usage: talk [--strict | --help]");
+            ExitCode::from(2)
+        }
+    }
+}
+
+fn held(manner: Manner) -> ExitCode {
+    let hasher = KeyedState::default();
+    match talk(hasher, manner, &mut io::stdin().lock(), &mut io::stdout().lock()) {
+        Ok(status) => ExitCode::from(status),
+        Err(error) => fault(&error.to_string()),
+    }
+}
+
+fn fault(text: &str) -> ExitCode {
+    eprintln!("{text}");
+    ExitCode::FAILURE
+}

@@ -1,0 +1,107 @@
+//! What a merge renamed, lent as pairs.
+use crate::ast::PolicyID;
+use crate::cedar_keyed_hash::KeyedState;
+use crate::ordered_map::{OrderedMap, Pairs};
+use std::hash::BuildHasher;
+use std::vec;
+
+/// The ids that a merge renamed, each with its new one, in the order in which they were given.
+///
+/// ```
+/// use cedar_store::Renaming;
+/// use cedar_store::ast::{Effect, Expr, Policy, PolicyID, PolicySet};
+///
+/// let one = |clause| {
+///     let (clause, id) = (Expr::val(clause), PolicyID::from_string("p"));
+///     PolicySet::singleton(Policy::from_when_clause(Effect::Permit, clause, id, None))
+/// };
+/// let renaming: Renaming = one(true).merge_policyset(&one(false), true)?;
+/// let (p, fresh) = (PolicyID::from_string("p"), PolicyID::from_string("policy0"));
+/// assert_eq!((renaming.len(), renaming.is_empty()), (1, false));
+/// assert_eq!(renaming.iter().collect::<Vec<_>>(), [(&p, &fresh)]);
+/// assert_eq!((renaming.keys().next(), renaming.get(&p)), (Some(&p), Some(&fresh)));
+/// # Ok::<(), cedar_store::ast::PolicySetError>(())
+/// ```
+#[derive(Clone, Debug)]
+pub struct Renaming<S = KeyedState> {
+    ids: OrderedMap<PolicyID, PolicyID, S>,
+}
+
+impl<S> Renaming<S> {
+    pub(crate) fn of(ids: OrderedMap<PolicyID, PolicyID, S>) -> Self {
+        Renaming { ids }
+    }
+
+    /// How many ids were renamed.
+    pub fn len(&self) -> usize {
+        self.ids.len()
+    }
+
+    /// Whether none was renamed.
+    pub fn is_empty(&self) -> bool {
+        self.ids.is_empty()
+    }
+
+    /// Each id that was renamed with its new one, in order.
+    pub fn iter(&self) -> impl ExactSizeIterator<Item = (&PolicyID, &PolicyID)> {
+        self.ids.iter()
+    }
+
+    /// The ids that were renamed, in order.
+    pub fn keys(&self) -> impl ExactSizeIterator<Item = &PolicyID> {
+        self.iter().map(|(id, _)| id)
+    }
+}
+
+impl<S: BuildHasher> Renaming<S> {
+    /// The new id of one that was renamed.
+    pub fn get(&self, id: &PolicyID) -> Option<&PolicyID> {
+        self.ids.get(id)
+    }
+}
+
+impl<'a, S> IntoIterator for &'a Renaming<S> {
+    type Item = (&'a PolicyID, &'a PolicyID);
+    type IntoIter = RenamedIds<'a>;
+
+    fn into_iter(self) -> RenamedIds<'a> {
+        RenamedIds { pairs: self.ids.iter() }
+    }
+}
+
+impl<S> IntoIterator for Renaming<S> {
+    type Item = (PolicyID, PolicyID);
+    type IntoIter = vec::IntoIter<(PolicyID, PolicyID)>;
+
+    fn into_iter(self) -> Self::IntoIter {
+        self.ids.into_iter().collect::<Vec<_>>().into_iter()
+    }
+}
+
+impl<S> PartialEq for Renaming<S> {
+    fn eq(&self, other: &Self) -> bool {
+        self.iter().eq(other.iter())
+    }
+}
+
+impl<S> Eq for Renaming<S> {}
+
+/// The iterator over the pairs of a [`Renaming`].
+#[derive(Clone, Debug)]
+pub struct RenamedIds<'a> {
+    pairs: Pairs<'a, PolicyID, PolicyID>,
+}
+
+impl<'a> Iterator for RenamedIds<'a> {
+    type Item = (&'a PolicyID, &'a PolicyID);
+
+    fn next(&mut self) -> Option<Self::Item> {
+        self.pairs.next()
+    }
+
+    fn size_hint(&self) -> (usize, Option<usize>) {
+        self.pairs.size_hint()
+    }
+}
+
+impl ExactSizeIterator for RenamedIds<'_> {}

@@ -1,0 +1,171 @@
+//! The store layer of the [Cedar](https://www.cedarpolicy.com) authorization language: entities with all their
+//! ancestors, and policies, templates and links in sets, with the names and the signatures of `cedar-policy-core`
+//! 4.14.1, which is called the original here.
+//!
+//! ```
+//! use cedar_store::ast::{Entity, EntityUID};
+//! use cedar_store::entities::{Dereference, Entities, TCComputation};
+//!
+//! # fn main() -> Result<(), Box<dyn std::error::Error>> {
+//! let uid = EntityUID::from_normalized_str;
+//! let (alice, staff, all) = (uid(r#"User::"alice""#)?, uid(r#"Group::"staff""#)?, uid(r#"Group::"all""#)?);
+//! let mut entities = [alice.clone(), staff.clone(), all.clone()].map(Entity::with_uid);
+//! entities[0].add_parent(staff.clone());
+//! entities[1].add_parent(all.clone());
+//! let store = Entities::from_entities(entities, TCComputation::ComputeNow)?;
+//! assert!(matches!(store.entity(&alice), Dereference::Data(e) if e.is_descendant_of(&all)));
+//! # Ok(())
+//! # }
+//! ```
+//!
+//! A store closes its entities: each has all that it reaches over parents as its ancestors, and a cycle is refused. A
+//! policy set binds ids to static policies, templates and links of templates, and two sets are merged under new ids
+//! where theirs conflict. Stores, sets and what they hold are `Send` and `Sync`; want of memory ends the program.
+//!
+//! # What may be trusted
+//!
+//! This is the text of a layer that is proved in Rattle, which is Rust with contracts: contracts are erased here, and
+//! the text is compiled by rustc. It is tested to answer as the proved program does, and is never called proved. What
+//! stands between is the tool that erases, what is written by hand (`src/handwritten/`, `src/lib.rs` and the two
+//! programs), rustc and std. What the prover checked at each call is the caller's here:
+//! [`compute_tc`](transitive_closure::compute_tc), [`repair_tc`](transitive_closure::repair_tc) and
+//! [`enforce_tc_and_dag`](transitive_closure::enforce_tc_and_dag) ask that each node stands at its own key,
+//! [`Dereference::unwrap`](entities::Dereference::unwrap) that something was found,
+//! [`Policy::from_when_clause`](ast::Policy::from_when_clause) that no slot stands in the clause, and
+//! [`PolicySet::singleton`](ast::PolicySet::singleton) that a link has another id than its template. None can do worse
+//! than panic or answer wrongly, and a debug build looks.
+#![forbid(unsafe_code)]
+
+mod cedar_action;
+mod cedar_annotation;
+mod cedar_binding;
+mod cedar_body;
+mod cedar_children;
+mod cedar_components;
+mod cedar_entities;
+mod cedar_entity;
+mod cedar_entity_lines;
+mod cedar_graph;
+mod cedar_ids;
+mod cedar_keyed_hash;
+mod cedar_lines;
+mod cedar_policy;
+mod cedar_policy_lines;
+mod cedar_policy_maps;
+mod cedar_policy_merge;
+mod cedar_policy_set;
+mod cedar_policy_set_errors;
+mod cedar_replay;
+mod cedar_scope;
+mod cedar_slice;
+mod cedar_store;
+mod cedar_talk;
+mod cedar_terms;
+mod cedar_uid_sets;
+mod handwritten;
+
+use handwritten::ordered_map;
+
+pub use cedar_keyed_hash::{KeyedHasher, KeyedState};
+pub use cedar_slice::slice;
+pub use handwritten::renaming::{RenamedIds, Renaming};
+
+/// Ids, entities, values, expressions, constraints, policies, templates and policy sets.
+pub mod ast {
+    pub use crate::cedar_action::{ActionConstraint, ActionTypesError, EntityIterator};
+    pub use crate::cedar_annotation::{Annotation, Annotations};
+    pub use crate::cedar_entity::Entity;
+    pub use crate::cedar_ids::{
+        ACTION_ENTITY_TYPE, AnyId, Eid, EntityType, EntityUID, EntityUIDImpl, Escaped, Id, Name, NonEmpty, ParseErrors,
+        PolicyID,
+    };
+    pub use crate::cedar_policy::{
+        Effect, LinkingError, Policy, SlotEnv, StaticPolicy, Template, TemplateBody, TemplateBodyImpl,
+        TemplateValidationError, UnexpectedSlotError,
+    };
+    pub use crate::cedar_policy_set::{
+        PolicySet, PolicySetError, PolicySetGetLinksError, PolicySetPolicyRemovalError, PolicySetTemplateRemovalError,
+        PolicySetUnlinkError, PolicySetValidationError,
+    };
+    pub use crate::cedar_scope::{
+        EntityReference, PrincipalConstraint, PrincipalOrResource, PrincipalOrResourceConstraint, ResourceConstraint,
+    };
+    pub use crate::cedar_terms::{
+        Expr, ExprValidationError, ExtensionValue, Literal, PartialValue, Slot, SlotId, StaticType, StaticallyTyped,
+        Unknown, Value, ValueKind, Var, is_reserved_key,
+    };
+
+    /// Annotations, and their iterators.
+    pub mod annotation {
+        pub use crate::cedar_annotation::annotation::{Annotation, Annotations, IntoIter, Iter};
+    }
+
+    /// Entities and what names them.
+    pub mod entity {
+        pub use super::{ACTION_ENTITY_TYPE, Eid, Entity, EntityType, EntityUID, EntityUIDImpl};
+    }
+
+    /// Ids and names.
+    pub mod name {
+        pub use super::{AnyId, Id, Name};
+    }
+}
+
+/// Stores of entities.
+pub mod entities {
+    pub use crate::cedar_entities::{Dereference, Entities, IntoIter, Iter, TCComputation};
+    pub use crate::cedar_entity::EntitiesError;
+
+    /// Why a call on a store or on an entity is refused.
+    pub mod err {
+        pub use crate::cedar_entity::EntitiesError;
+    }
+}
+
+/// The iterators that calls answer, by name.
+pub mod iters {
+    pub use crate::cedar_action::{EntityIterator, iters::ActionTypeNames};
+    pub use crate::cedar_entity::{Ancestors, Keys, Pairs};
+    pub use crate::cedar_policy::Slots;
+    pub use crate::cedar_policy_maps::{AllTemplates, IntoPolicies, LinkedIds, Policies, StaticPolicies, Templates};
+    pub use crate::cedar_scope::iters::ConstraintTypeNames;
+    pub use crate::cedar_uid_sets::{Uids, Union};
+}
+
+/// Where a thing was read, and why a text is refused.
+pub mod parser {
+    pub use crate::cedar_ids::Loc;
+
+    /// Why a text is refused.
+    pub mod err {
+        pub use crate::cedar_ids::ParseErrors;
+    }
+}
+
+/// The program's lines: from bytes to bytes, line by line, and as a conversation.
+pub mod program {
+    pub use crate::cedar_store::{
+        RunError, Session, push_not_command, run, run_and_leave, run_and_leave_with, run_with,
+    };
+    pub use crate::cedar_talk::{Manner, TalkError, help_text, talk};
+}
+
+/// Lists of calls on a store and on a policy set.
+pub mod replay {
+    pub use crate::cedar_replay::{
+        Answer, EntityCall, PolicyCall, replay_entities, replay_entities_with_hasher, replay_policies,
+    };
+}
+
+/// Closures of graphs of any nodes.
+pub mod transitive_closure {
+    pub use crate::cedar_graph::{
+        HasCycle, MissingTcEdge, Result, TCNode, TcError, Work, compute_tc, compute_tc_counted, enforce_tc_and_dag,
+        repair_tc, repair_tc_counted,
+    };
+}
+
+// The program of the page is tried as the one above is.
+#[cfg(doctest)]
+#[doc = include_str!("../README.md")]
+struct Page;

@@ -1,0 +1,344 @@
+//! Lists of calls on stores, drawn, beside a plain model: what is given is inserted, overwritten and deleted in a map from
+//! uids to parents, and ancestors are found by walking over the parents.
+mod common;
+
+use cedar_store::ast::{Entity, EntityUID};
+use cedar_store::entities::{Entities, EntitiesError, TCComputation};
+use cedar_store::slice;
+use cedar_store::transitive_closure::TcError;
+use common::Drawn;
+use std::collections::{BTreeMap, BTreeSet};
+use std::sync::Arc;
+
+/// A uid of the model: its eid.
+type Name = usize;
+type Parents = BTreeSet<Name>;
+
+/// What plain insertion, overwriting and deletion leave.
+#[derive(Clone, Debug, Default, PartialEq)]
+struct World(BTreeMap<Name, Parents>);
+
+#[derive(Debug, PartialEq)]
+enum Refusal {
+    Duplicate(Name),
+    Cycle,
+}
+
+impl World {
+    fn reached(&self, from: Name) -> BTreeSet<Name> {
+        let mut all = BTreeSet::new();
+        let mut open: Vec<Name> = self.0.get(&from).into_iter().flatten().copied().collect();
+        while let Some(name) = open.pop() {
+            if all.insert(name) {
+                open.extend(self.0.get(&name).into_iter().flatten());
+            }
+        }
+        all
+    }
+
+    fn checked(self) -> Result<World, Refusal> {
+        if self.0.keys().any(|name| self.reached(*name).contains(name)) {
+            Err(Refusal::Cycle)
+        } else {
+            Ok(self)
+        }
+    }
+
+    /// A present entity has to have the ancestors that are held; of several with one uid the first counts.
+    fn add(&self, list: &[(Name, Parents)]) -> Result<World, Refusal> {
+        let mut next = self.clone();
+        for (name, parents) in list {
+            let held = match self.0.contains_key(name) {
+                true => Some(self.reached(*name)),
+                false => next.0.get(name).cloned(),
+            };
+            match held {
+                Some(held) if held != *parents => return Err(Refusal::Duplicate(*name)),
+                Some(_) => {}
+                None => {
+                    next.0.insert(*name, parents.clone());
+                }
+            }
+        }
+        next.checked()
+    }
+
+    fn upsert(&self, list: &[(Name, Parents)]) -> Result<World, Refusal> {
+        let mut next = self.clone();
+        next.0.extend(list.iter().cloned());
+        next.checked()
+    }
+
+    fn remove(&self, list: &[Name]) -> World {
+        let gone: Vec<_> = list.iter().filter(|name| self.0.contains_key(name)).collect();
+        let mut next = self.clone();
+        next.0.retain(|name, _| !gone.contains(&name));
+        for parents in next.0.values_mut() {
+            parents.retain(|name| !gone.contains(&name));
+        }
+        next
+    }
+}
+
+fn uid(name: Name) -> EntityUID {
+    EntityUID::with_eid_and_type(if name % 3 == 0 { "A" } else { "B" }, &name.to_string()).unwrap()
+}
+
+fn name_of(uid: &EntityUID) -> Name {
+    uid.eid().as_ref().parse().unwrap()
+}
+
+fn entity((name, parents): &(Name, Parents)) -> Entity {
+    Entity::new_with_attr_partial_value(
+        uid(*name),
+        [],
+        Default::default(),
+        parents.iter().map(|parent| uid(*parent)).collect(),
+        [],
+    )
+}
+
+fn shared(list: &[(Name, Parents)]) -> Vec<Arc<Entity>> {
+    list.iter().map(|row| Arc::new(entity(row))).collect()
+}
+
+/// The store is that of the world: its uids, parents and ancestors, and each way of asking for them.
+fn is_that_of(store: &Entities, world: &World) {
+    assert_eq!(store.len(), world.0.len());
+    for entity in store {
+        let name = name_of(entity.uid());
+        let parents: Parents = entity.parents().map(name_of).collect();
+        assert_eq!(Some(&parents), world.0.get(&name), "the parents of {name}");
+        let ancestors: Parents = entity.ancestors().map(name_of).collect();
+        assert_eq!(ancestors, world.reached(name), "the ancestors of {name}");
+        assert_eq!(entity.ancestors().count(), ancestors.len());
+        for ancestor in &ancestors {
+            assert!(entity.is_descendant_of(&uid(*ancestor)));
+            assert_eq!(entity.is_child_of(&uid(*ancestor)), parents.contains(ancestor));
+        }
+    }
+}
+
+fn refusal(error: &EntitiesError, world: &World) -> Refusal {
+    match error {
+        EntitiesError::Duplicate(uid) => Refusal::Duplicate(name_of(uid)),
+        EntitiesError::TransitiveClosureError(TcError::HasCycle(cycle)) => {
+            let named = name_of(cycle.vertex_with_loop());
+            assert!(world.reached(named).contains(&named), "{named} is on no cycle");
+            Refusal::Cycle
+        }
+        other => panic!("{other}"),
+    }
+}
+
+/// A list of entities: few uids and few parents, so that all kinds of refusals come, and mostly upwards, so that few do.
+fn drawn_list(drawn: &mut Drawn, world: &World, uids: usize) -> Vec<(Name, Parents)> {
+    (0..drawn.below(4))
+        .map(|_| {
+            let name = drawn.below(uids);
+            let up = !drawn.once_in(8);
+            let parents: Parents = (0..drawn.below(4))
+                .map(|_| {
+                    if up {
+                        name + 1 + drawn.below(uids - name + 2)
+                    } else {
+                        drawn.below(uids)
+                    }
+                })
+                .collect();
+            // at times what is held already, by its ancestors
+            let parents = if drawn.once_in(4) && world.0.contains_key(&name) {
+                world.reached(name)
+            } else {
+                parents
+            };
+            (name, parents)
+        })
+        .collect()
+}
+
+/// A world in which the entities of a list stand whatever is refused, to tell whether a uid is on a cycle of it.
+fn forced(world: &World, list: &[(Name, Parents)], over: bool) -> World {
+    let mut all = world.clone();
+    for (name, parents) in list {
+        if over || !all.0.contains_key(name) {
+            all.0.insert(*name, parents.clone());
+        }
+    }
+    all
+}
+
+fn one_list_of_calls(seed: u64, uids: usize, calls: usize) -> (usize, usize) {
+    let mut drawn = Drawn::new(seed);
+    let (mut store, mut world) = (Entities::new(), World::default());
+    let (mut made, mut refused) = (0, 0);
+    for _ in 0..calls {
+        let kind = drawn.below(7);
+        if kind >= 5 {
+            let list: Vec<Name> = (0..drawn.below(3)).map(|_| drawn.below(uids + 2)).collect();
+            let mode = *drawn.one_of(&[
+                TCComputation::ComputeNow,
+                TCComputation::ComputeNow,
+                TCComputation::AssumeAlreadyComputed,
+                TCComputation::EnforceAlreadyComputed,
+            ]);
+            world = world.remove(&list);
+            store = store
+                .remove_entities(list.into_iter().map(uid), mode)
+                .expect("a removal is never refused");
+            made += 1;
+        } else {
+            let list = drawn_list(&mut drawn, &world, uids);
+            let before = store.clone();
+            let (due, told, over) = match kind {
+                0 => {
+                    let due = World::default().add(&list);
+                    (
+                        due,
+                        Entities::from_entities(list.iter().map(entity), TCComputation::ComputeNow),
+                        false,
+                    )
+                }
+                1 | 2 => (
+                    world.add(&list),
+                    store.add_entities(shared(&list), TCComputation::ComputeNow),
+                    false,
+                ),
+                _ => (
+                    world.upsert(&list),
+                    store.upsert_entities(shared(&list), TCComputation::ComputeNow),
+                    true,
+                ),
+            };
+            let from = if kind == 0 { World::default() } else { world.clone() };
+            match (due, told) {
+                (Ok(next), Ok(made_of_it)) => {
+                    (world, store) = (next, made_of_it);
+                    made += 1;
+                }
+                (Err(due), Err(told)) => {
+                    assert_eq!(refusal(&told, &forced(&from, &list, over)), due);
+                    // what was copied before stands
+                    is_that_of(&before, &world);
+                    store = before;
+                    refused += 1;
+                }
+                (due, told) => panic!(
+                    "seed {seed}: {due:?} is due and {:?} was told",
+                    told.map(|store| store.len())
+                ),
+            }
+        }
+        is_that_of(&store, &world);
+        if drawn.once_in(4) {
+            slices_are_parts(&mut drawn, &store, &world, uids);
+        }
+    }
+    (made, refused)
+}
+
+/// A slice has what is asked for and what stands above that, each with its parents and ancestors.
+fn slices_are_parts(drawn: &mut Drawn, store: &Entities, world: &World, uids: usize) {
+    let asked: Vec<Name> = (0..drawn.below(4)).map(|_| drawn.below(uids + 2)).collect();
+    let part = slice(store, &asked.iter().map(|name| uid(*name)).collect::<Vec<_>>());
+    let mut due = World::default();
+    for name in asked.iter().filter(|name| world.0.contains_key(name)) {
+        for held in world.reached(*name).into_iter().chain([*name]) {
+            if let Some(parents) = world.0.get(&held) {
+                due.0.insert(held, parents.clone());
+            }
+        }
+    }
+    is_that_of(&part, &due);
+}
+
+#[test]
+fn lists_of_calls_on_few_uids() {
+    let (mut made, mut refused) = (0, 0);
+    for seed in 0..4_000 {
+        let counts = one_list_of_calls(seed, 7, 25);
+        made += counts.0;
+        refused += counts.1;
+    }
+    assert!(
+        made > 50_000 && refused > 5_000,
+        "{made} calls were made and {refused} refused"
+    );
+}
+
+/// From 40 entities on a store may list children, and edits go down from their own uids.
+#[test]
+fn lists_of_calls_on_many_uids() {
+    for seed in 0..40 {
+        one_list_of_edits(seed, 120, 150);
+    }
+}
+
+/// Edits alone of a store that is large from the first.
+fn one_list_of_edits(seed: u64, uids: usize, calls: usize) {
+    let mut drawn = Drawn::new(seed);
+    let first: Vec<(Name, Parents)> = (0..uids)
+        .map(|name| (name, (0..drawn.below(3)).map(|_| name + 1 + drawn.below(12)).collect()))
+        .collect();
+    let mut world = World::default().add(&first).expect("parents have greater names");
+    let mut store = Entities::from_entities(first.iter().map(entity), TCComputation::ComputeNow).unwrap();
+    for _ in 0..calls {
+        let name = drawn.below(uids);
+        if drawn.once_in(3) {
+            world = world.remove(&[name]);
+            store = store.remove_entities([uid(name)], TCComputation::ComputeNow).unwrap();
+        } else {
+            let row = (name, (0..drawn.below(3)).map(|_| name + 1 + drawn.below(12)).collect());
+            world = world
+                .upsert(std::slice::from_ref(&row))
+                .expect("parents have greater names");
+            store = store
+                .upsert_entities(shared(&[row]), TCComputation::ComputeNow)
+                .unwrap();
+        }
+        is_that_of(&store, &world);
+    }
+}
+
+/// All graphs of three nodes, and of four with edges between different ones: built, each node overwritten without
+/// parents, and each removed.
+#[test]
+fn all_small_graphs() {
+    for bits in 0..512_u32 {
+        every_edit_of(3, &|from, to| bits >> (3 * from + to) & 1 == 1);
+    }
+    for bits in 0..4096_u32 {
+        every_edit_of(4, &|from, to| {
+            from != to && bits >> (3 * from + to - usize::from(to > from)) & 1 == 1
+        });
+    }
+}
+
+fn every_edit_of(size: usize, has_edge: &dyn Fn(usize, usize) -> bool) {
+    let rows: Vec<(Name, Parents)> = (0..size)
+        .map(|from| (from, (0..size).filter(|to| has_edge(from, *to)).collect()))
+        .collect();
+    let built = Entities::from_entities(rows.iter().map(entity), TCComputation::ComputeNow);
+    let Ok(world) = World::default().add(&rows) else {
+        assert_eq!(
+            refusal(&built.unwrap_err(), &forced(&World::default(), &rows, false)),
+            Refusal::Cycle
+        );
+        return;
+    };
+    let store = built.expect("there is no cycle");
+    is_that_of(&store, &world);
+    for name in 0..size {
+        let bare = [(name, Parents::new())];
+        let overwritten = store
+            .clone()
+            .upsert_entities(shared(&bare), TCComputation::ComputeNow)
+            .unwrap();
+        is_that_of(&overwritten, &world.upsert(&bare).unwrap());
+        let removed = store
+            .clone()
+            .remove_entities([uid(name)], TCComputation::ComputeNow)
+            .unwrap();
+        is_that_of(&removed, &world.remove(&[name]));
+    }
+}

@@ -1,0 +1,271 @@
+//! The cases of closures that the original has, under its names. It asks its private checks; here `enforce_tc_and_dag`
+//! is asked, which names a missing edge before a cycle.
+mod common;
+
+use cedar_store::ast::{Entity, EntityUID};
+use cedar_store::transitive_closure::{TCNode, TcError, compute_tc, enforce_tc_and_dag};
+use common::{child, graph, with_eid};
+use std::collections::{BTreeMap, BTreeSet, HashMap};
+
+type Graph = HashMap<EntityUID, Entity>;
+
+/// Whether an edge is missing: a node has an edge to a second, which has one to a third, and the first has none to that.
+fn lacks_an_edge(entities: &Graph) -> bool {
+    matches!(enforce_tc_and_dag(entities), Err(TcError::MissingTcEdge(_)))
+}
+
+/// The eids of a node's ancestors.
+fn above(entities: &Graph, eid: &str) -> BTreeSet<String> {
+    entities[&with_eid(eid)]
+        .ancestors()
+        .map(|uid| uid.eid().as_ref().to_string())
+        .collect()
+}
+
+/// What each key reaches over one or more edges, found by adding edges of edges until nothing changes.
+fn reached(rows: &[(&str, &[&str])]) -> BTreeMap<String, BTreeSet<String>> {
+    let mut all: BTreeMap<String, BTreeSet<String>> = rows
+        .iter()
+        .map(|(eid, parents)| {
+            (
+                (*eid).to_string(),
+                parents.iter().map(|parent| (*parent).to_string()).collect(),
+            )
+        })
+        .collect();
+    loop {
+        let before = all.clone();
+        for edges in all.values_mut() {
+            let further: Vec<_> = edges
+                .iter()
+                .filter_map(|eid| before.get(eid))
+                .flatten()
+                .cloned()
+                .collect();
+            edges.extend(further);
+        }
+        if all == before {
+            return all;
+        }
+    }
+}
+
+/// Closes a graph that is not closed, and has each node's ancestors be exactly what it reaches.
+fn closes(rows: &[(&str, &[&str])], is_closed_before: bool, cycle: &[&str]) {
+    let mut entities = graph(rows);
+    assert_eq!(lacks_an_edge(&entities), !is_closed_before);
+    compute_tc(&mut entities, false).expect("without a check for cycles nothing is refused");
+    for (eid, due) in reached(rows) {
+        assert_eq!(above(&entities, &eid), due, "{eid}");
+    }
+    assert!(!lacks_an_edge(&entities));
+    match enforce_tc_and_dag(&entities) {
+        Ok(()) => assert!(cycle.is_empty()),
+        Err(TcError::HasCycle(fault)) => {
+            let named = fault.vertex_with_loop().eid().as_ref();
+            assert!(cycle.contains(&named), "{named} is on no cycle");
+        }
+        Err(fault) => panic!("{fault}"),
+    }
+    // with the check it is refused exactly there, and the closure stands nevertheless
+    let mut checked = graph(rows);
+    assert_eq!(compute_tc(&mut checked, true).is_err(), !cycle.is_empty());
+    for (uid, entity) in &entities {
+        assert!(entity.deep_eq(&checked[uid]));
+    }
+}
+
+#[test]
+fn basic() {
+    closes(&[("A", &["B"]), ("B", &["C"]), ("C", &[])], false, &[]);
+}
+
+#[test]
+fn reversed() {
+    closes(&[("C", &[]), ("B", &["C"]), ("A", &["B"])], false, &[]);
+}
+
+#[test]
+fn deeper() {
+    closes(
+        &[("A", &["B"]), ("B", &["C"]), ("C", &["D"]), ("D", &["E"]), ("E", &[])],
+        false,
+        &[],
+    );
+}
+
+#[test]
+fn not_alphabetized() {
+    let rows: &[(&str, &[&str])] = &[
+        ("ham", &["eggs"]),
+        ("bar", &["baz"]),
+        ("foo", &["bar"]),
+        ("eggs", &[]),
+        ("baz", &["ham"]),
+    ];
+    closes(rows, false, &[]);
+}
+
+#[test]
+fn multi_parents() {
+    closes(
+        &[("A", &["B", "D"]), ("B", &["C"]), ("C", &[]), ("D", &["E"]), ("E", &[])],
+        false,
+        &[],
+    );
+}
+
+/// A graph with two ways from its least node to its greatest.
+const DAG: &[(&str, &[&str])] = &[
+    ("A", &["B", "F"]),
+    ("B", &["C", "D"]),
+    ("C", &[]),
+    ("D", &["E"]),
+    ("E", &["H"]),
+    ("F", &["G"]),
+    ("G", &["E"]),
+    ("H", &[]),
+];
+
+#[test]
+fn dag() {
+    closes(DAG, false, &[]);
+}
+
+/// Some edges that the closure asks for are there already.
+const ALREADY_EDGES: &[(&str, &[&str])] = &[
+    ("A", &["B", "C", "D"]),
+    ("B", &["C", "E"]),
+    ("C", &["E"]),
+    ("D", &["C", "F"]),
+    ("E", &[]),
+    ("F", &[]),
+];
+
+#[test]
+fn already_edges() {
+    closes(ALREADY_EDGES, false, &[]);
+}
+
+const DISJOINT: &[(&str, &[&str])] = &[
+    ("A", &["F"]),
+    ("B", &["C"]),
+    ("C", &[]),
+    ("D", &["E"]),
+    ("E", &["H"]),
+    ("F", &["G"]),
+    ("G", &[]),
+    ("H", &[]),
+];
+
+#[test]
+fn disjoint_dag() {
+    closes(DISJOINT, false, &[]);
+}
+
+#[test]
+fn trivial_cycle() {
+    closes(&[("A", &["B"]), ("B", &["B"])], true, &["B"]);
+}
+
+const NONTRIVIAL_CYCLE: &[(&str, &[&str])] = &[("A", &["B"]), ("B", &["C", "D"]), ("C", &["A"]), ("D", &[])];
+
+#[test]
+fn nontrivial_cycle() {
+    closes(NONTRIVIAL_CYCLE, false, &["A", "B", "C"]);
+}
+
+const DISJOINT_CYCLES: &[(&str, &[&str])] = &[
+    ("A", &["F"]),
+    ("B", &["C"]),
+    ("C", &["B"]),
+    ("D", &["E"]),
+    ("E", &["H"]),
+    ("F", &["G"]),
+    ("G", &[]),
+    ("H", &["D"]),
+];
+
+#[test]
+fn disjoint_cycles() {
+    closes(DISJOINT_CYCLES, false, &["B", "C", "D", "E", "H"]);
+}
+
+const INTERSECTING_CYCLES: &[(&str, &[&str])] = &[
+    ("A", &["B"]),
+    ("B", &["C"]),
+    ("C", &["E"]),
+    ("D", &["A", "B", "F"]),
+    ("E", &["D"]),
+    ("F", &["E"]),
+];
+
+#[test]
+fn intersecting_cycles() {
+    closes(INTERSECTING_CYCLES, false, &["A", "B", "C", "D", "E", "F"]);
+}
+
+#[test]
+fn updated() {
+    let mut entities = graph(&[("A", &["B"]), ("B", &["C"]), ("C", &[])]);
+    compute_tc(&mut entities, false).unwrap();
+    assert!(entities[&with_eid("A")].has_edge_to(&with_eid("C")));
+    assert!(!entities[&with_eid("A")].has_edge_to(&with_eid("D")));
+    // B leads to D now, and A is made anew, without what it had over B
+    for entity in [child("A", &["B"]), child("B", &["D"]), child("D", &[])] {
+        entities.insert(entity.uid().clone(), entity);
+    }
+    assert!(lacks_an_edge(&entities));
+    compute_tc(&mut entities, false).unwrap();
+    for (eid, due) in [("A", vec!["B", "D"]), ("B", vec!["D"]), ("C", vec![]), ("D", vec![])] {
+        assert_eq!(
+            above(&entities, eid),
+            due.into_iter().map(String::from).collect(),
+            "{eid}"
+        );
+    }
+    assert!(enforce_tc_and_dag(&entities).is_ok());
+}
+
+/// The original compares two ways of closing; here the closure is compared with what is reached.
+#[test]
+fn cyclic_tc_oracle_on_dags() {
+    closes(DAG, false, &[]);
+    closes(DISJOINT, false, &[]);
+    closes(ALREADY_EDGES, false, &[]);
+}
+
+#[test]
+fn cyclic_tc_oracle_on_cycles() {
+    closes(NONTRIVIAL_CYCLE, false, &["A", "B", "C"]);
+    closes(DISJOINT_CYCLES, false, &["B", "C", "D", "E", "H"]);
+}
+
+/// Rings of up to twelve nodes, with a node below and one above.
+#[test]
+fn compute_tc_no_dag_matches_cyclic_tc_on_cycles() {
+    let names: Vec<String> = (0..14).map(|number| format!("n{number}")).collect();
+    for size in 1..12 {
+        let ring = &names[..size];
+        let parents: Vec<Vec<&str>> = (0..size)
+            .map(|at| {
+                let next = ring[(at + 1) % size].as_str();
+                if at == 0 { vec![next, "above"] } else { vec![next] }
+            })
+            .collect();
+        let below = [ring[0].as_str()];
+        let mut rows: Vec<(&str, &[&str])> = ring
+            .iter()
+            .zip(&parents)
+            .map(|(eid, parents)| (eid.as_str(), parents.as_slice()))
+            .collect();
+        rows.push(("below", &below));
+        rows.push(("above", &[]));
+        closes(&rows, false, &ring.iter().map(String::as_str).collect::<Vec<_>>());
+    }
+}
+
+#[test]
+fn self_loop_with_grandchild() {
+    closes(&[("A", &["A", "B"]), ("B", &["C"]), ("C", &[])], false, &["A"]);
+}

@@ -1,0 +1,278 @@
+"""Bodies of functions where memory is not refused: without allocators, without `?` on what gives a value, without `Ok`."""
+import re
+from .functions import called
+from .statements import arms, from_arms, if_parts, match_parts, statements, values_of_block
+from .trees import Group, after, before, code, is_code, is_comment, is_group, is_id, is_p, plain, text, trim, walk
+
+ALLOCATOR = re.compile(r'_?alloc|Global|\*?[\w.]+\.allocator\(\)|\*Box::allocator\(.*\)|rt\.alloc\(\)')
+STD_METHODS = set('''push insert insert_full extend_from_slice reserve to_string collect extend sort sort_by entry append
+to_vec push_str clone'''.split())
+STD_OWNERS = set('''Rc Arc RcStr Vec Box String IndexMap IndexSet HashMap HashSet BTreeMap VecDeque'''.split())
+STD_MACROS = {'format', 'vec'}
+
+
+class Place:
+    """Where a function stands: what its calls mean there."""
+
+    def __init__(self, table, crate, module, owner, imports, choices):
+        self.table, self.crate, self.module, self.owner = table, crate, module, owner
+        self.imports, self.choices, self.unknown = imports, choices, []
+
+    def kind(self, nodes, q):
+        """the kind of the call before nodes[q]"""
+        how, name, on, _ = called(nodes, q)
+        chosen = self.choices.get((self.crate, self.module, name))
+        if chosen:
+            return chosen
+        if how == 'macro':
+            return 'memory' if name in STD_MACROS else 'result'
+        if how == 'free':
+            return self.table.of_free(self.crate, self.module, name, self.imports) or 'result'
+        if how == 'path':
+            return self.of_path(name, on)
+        if how == 'method':
+            return self.of_own(nodes, q, name) or self.of_method(name)
+        return 'result'
+
+    def of_path(self, name, on):
+        if on in STD_OWNERS:
+            return 'memory'
+        on = self.owner if on == 'Self' else on
+        kinds = self.table.owned.get((on, name))
+        if kinds is None:
+            return self.table.of_free(self.crate, self.module, name, self.imports) or 'result'
+        return self.one(kinds, name)
+
+    def of_own(self, nodes, q, name):
+        """the kind of `self.name(..)` where the type has such a method"""
+        k = called(nodes, q)[3]
+        m = before(nodes, before(nodes, k - 1) - 1)
+        own = self.table.owned.get((self.owner, name), set())
+        if is_id(nodes[m], 'self') and not is_p(nodes[before(nodes, m - 1)], '.') and len(own) == 1:
+            return next(iter(own))
+        return None
+
+    def of_method(self, name):
+        kinds = self.table.methods.get(name, set()) | ({'memory'} if name in STD_METHODS else set())
+        return self.one(kinds, name)
+
+    def one(self, kinds, name):
+        kinds = set(kinds)
+        if 'memory' in kinds:
+            kinds.discard('value')
+        if len(kinds) > 1:
+            self.unknown.append(f'{self.crate}/{self.module}: `{name}` is {sorted(kinds)}')
+        return kinds.pop() if len(kinds) == 1 else 'result'
+
+
+def without_allocators(nodes):
+    """calls lose a first argument that is an allocator, and what it was kept in goes"""
+    out = []
+    for n in nodes:
+        if is_group(n, '('):
+            out.append(Group('(', without_first(without_allocators(n.items))))
+        elif isinstance(n, Group):
+            out.append(Group(n.open, without_allocators(n.items)))
+        else:
+            out.append(n)
+    return without_macros(without_lets(out))
+
+
+def without_first(items):
+    parts = items
+    first = []
+    for k, n in enumerate(items):
+        if is_p(n, ','):
+            parts = items[k + 1:]
+            break
+        first.append(n)
+    else:
+        parts = []
+    if ALLOCATOR.fullmatch(plain(first)):
+        return trim(parts) if code(parts) else []
+    return items
+
+
+def without_lets(nodes):
+    """`let alloc = ..;` goes"""
+    out, i = [], 0
+    while i < len(nodes):
+        if is_id(nodes[i], 'let') and is_id(nodes[after(nodes, i + 1)], 'alloc'):
+            while out and not is_code(out[-1]) and not is_comment(out[-1]):
+                out.pop()
+            while not is_p(nodes[i], ';'):
+                i += 1
+        else:
+            out.append(nodes[i])
+        i += 1
+    return out
+
+
+def without_macros(nodes):
+    """`format!(in alloc; ..)` is `format!(..)`, and so are others"""
+    for n in nodes:
+        if isinstance(n, Group) and n.items:
+            k = after(n.items, 0)
+            if k < len(n.items) and is_id(n.items[k], 'in'):
+                while not is_p(n.items[k], ';'):
+                    k += 1
+                n.items = trim(n.items[k + 1:])
+    return nodes
+
+
+def without_questions(nodes, place):
+    """`?` behind what gives a value goes, and so does `.map_err(|_| ..Memory)` before it, and `.unwrap()`"""
+    out = []
+    for n in nodes:
+        n = Group(n.open, without_questions(n.items, place)) if isinstance(n, Group) else n
+        if is_p(n, '?') and out:
+            drop_map_err(out)
+            if place.kind(out, len(out)) == 'memory':
+                while out and not is_code(out[-1]):
+                    out.pop()
+                continue
+        out.append(n)
+        drop_unwrap(out, place)
+    return out
+
+
+def drop_map_err(out):
+    j = before(out, len(out) - 1)
+    if j > 1 and is_group(out[j], '(') and is_id(out[j - 1], 'map_err') and 'Memory' in text(out[j].items):
+        del out[before(out, j - 2):]
+        while out and not is_code(out[-1]):
+            out.pop()
+
+
+def drop_unwrap(out, place):
+    if len(out) > 3 and is_group(out[-1], '(') and not out[-1].items and is_id(out[-2], 'unwrap') and is_p(out[-3], '.'):
+        j = before(out, len(out) - 4)
+        if is_group(out[j], '(') and place.kind(out, j + 1) == 'memory':
+            del out[j + 1:]
+
+
+def without_memory_arms(nodes):
+    """arms for want of memory go"""
+    out = []
+    for k, n in enumerate(nodes):
+        if isinstance(n, Group):
+            n = Group(n.open, without_memory_arms(n.items))
+            if n.open == '{' and any(is_p(x, '=>') for x in n.items):
+                kept = [a for a in arms(n.items) if 'Memory' not in plain(a.pattern)]
+                if len(kept) < len(arms(n.items)):
+                    n = Group('{', from_arms(kept))
+        out.append(n)
+    return out
+
+
+def gives_error(body, place):
+    """whether a body, whose kind is `result`, can give an error"""
+    for nodes in walk(body):
+        for i, n in enumerate(nodes):
+            if is_p(n, '?') and place.kind(nodes, i) != 'memory':
+                return True
+            if is_id(n, 'Err') and not is_pattern(nodes, i):
+                return True
+            if is_id(n, 'return') and not is_fine(nodes[i + 1:stop_of(nodes, i)], place):
+                return True
+    return not all(is_fine(v, place) for v in values_of_block(Group('{', body)))
+
+
+def is_pattern(nodes, i):
+    j = after(nodes, after(nodes, i + 1) + 1)
+    return j < len(nodes) and (is_p(nodes[j], '=>') or is_p(nodes[j], '=') or is_p(nodes[j], '|'))
+
+
+def stop_of(nodes, i):
+    while i < len(nodes) and not (is_p(nodes[i], ';') or is_p(nodes[i], ',')):
+        i += 1
+    return i
+
+
+def is_fine(value, place):
+    """whether this is `Ok` of something, or a call that gives a value"""
+    cs = code(value)
+    if not cs:
+        return True
+    if is_id(cs[0]) and cs[0][1] in ('return', 'loop'):
+        return True
+    if len(cs) == 2 and is_id(cs[0], 'Ok') and is_group(cs[1], '('):
+        return True
+    if any(is_p(n, '?') for n in cs):
+        return False
+    if plain(value).startswith('unreachable'):
+        return True
+    return is_group(cs[-1], '(') and place.kind(value, len(value)) == 'memory'
+
+
+def without_ok(body, unit, place):
+    """the body of a function that gives a value: no `Ok` where it gives it"""
+    body = [Group(n.open, returns(n.items, unit, place)) if isinstance(n, Group) else n for n in body]
+    body = plain_returns(body, unit, place)
+    return block_without_ok(body, unit, place)
+
+
+def returns(nodes, unit, place):
+    nodes = [Group(n.open, returns(n.items, unit, place)) if isinstance(n, Group) else n for n in nodes]
+    return plain_returns(nodes, unit, place)
+
+
+def plain_returns(nodes, unit, place):
+    """`return Ok(x)` is `return x`"""
+    out, i = [], 0
+    while i < len(nodes):
+        out.append(nodes[i])
+        if is_id(nodes[i], 'return'):
+            stop = stop_of(nodes, i)
+            inner = without_ok_at(nodes[i + 1:stop], unit, place)
+            if unit and plain(inner) in ('', '()'):
+                inner = []
+            out += ([('ws', ' ')] if inner else []) + trim(inner)
+            i = stop
+            continue
+        i += 1
+    return out
+
+
+def block_without_ok(nodes, unit, place):
+    list_ = statements(nodes)
+    if not list_ or list_[-1][2]:
+        return nodes
+    start, stop, _ = list_[-1]
+    value = nodes[start:stop]
+    inner = without_ok_at(value, unit, place)
+    if unit and plain(inner) in ('()', ''):
+        return nodes[:start] + nodes[stop:]
+    if unit and is_statement(inner):
+        inner = inner + [('p', ';')]
+    return nodes[:start] + inner + nodes[stop:]
+
+
+def without_comma(nodes):
+    return trim(nodes[:-1]) if nodes and is_p(nodes[-1], ',') else nodes
+
+
+def is_statement(nodes):
+    cs = code(nodes)
+    return bool(cs) and not (is_id(cs[0]) and cs[0][1] in ('if', 'match', 'return', 'loop', 'unreachable'))
+
+
+def without_ok_at(value, unit, place):
+    """the value of an expression that gives `Ok` of it"""
+    value = trim(value)
+    if len(value) == 1 and is_group(value[0], '{'):
+        return [Group('{', block_without_ok(value[0].items, unit, place))]
+    if if_parts(value) is not None:
+        return [Group('{', block_without_ok(n.items, unit, place)) if is_group(n, '{') else n for n in value]
+    parts = match_parts(value)
+    if parts is not None:
+        list_ = arms(parts[1].items)
+        for a in list_:
+            a.body = without_ok_at(a.body, unit, place)
+        return value[:-1] + [Group('{', from_arms(list_))]
+    cs = code(value)
+    if len(cs) == 2 and is_id(cs[0], 'Ok') and is_group(cs[1], '('):
+        return without_comma(trim(cs[1].items))
+    if not is_fine(value, place):
+        place.unknown.append(f'{place.crate}/{place.module}: what gives `{plain(value)[:70]}`?')
+    return value

@@ -1,0 +1,74 @@
+"""Copies that are made part by part, which `derive(Clone)` says."""
+import re
+from .functions import Function, header, is_function, owner_of, starts_item
+from .statements import arms, match_parts
+from .trees import Group, after, code, is_id, is_p, plain, split, trim
+
+
+def derived(nodes):
+    """the types of a file whose `Clone` copies each part and nothing else"""
+    parts = dict(types(nodes))
+    out = set()
+    for i, n in enumerate(nodes):
+        if is_id(n, 'impl') and starts_item(nodes, i):
+            j, head = header(nodes, i)
+            owner, trait = owner_of(head)
+            if trait != 'Clone' or not head.startswith('impl Clone') or '<' in head:
+                continue
+            k = next(k for k, m in enumerate(nodes[j].items) if is_function(nodes[j].items, k))
+            body = Function(nodes[j].items, k).body
+            if owner in parts and copies_all(body, owner, parts[owner]) or copies_each(body):
+                out.add(owner)
+    return out
+
+
+def types(nodes):
+    """the structs of a file with their fields"""
+    for i, n in enumerate(nodes):
+        if is_id(n, 'struct'):
+            name = nodes[after(nodes, i + 1)][1]
+            j = after(nodes, after(nodes, i + 1) + 1)
+            if isinstance(nodes[j], Group):
+                fields = [field(p) for p in split(nodes[j].items)]
+                yield name, fields if nodes[j].open == '{' else [str(k) for k in range(len(fields))]
+
+
+def field(part):
+    cs = code(part)
+    while is_p(cs[0], '#'):
+        cs = cs[2:]
+    return next(n[1] for n in cs if is_id(n) and n[1] not in ('pub', 'crate'))
+
+
+def copies_all(body, owner, fields):
+    """whether a body of `clone` copies each field, told by its text"""
+    told = re.sub(r'\?', '', plain(body))
+    made = re.fullmatch(rf'((?:let \w+ = self\.\w+\.clone\(\); )*)Ok\({owner} ?(.*)\)', told)
+    if not made:
+        return False
+    copied = {a for a, b in re.findall(r'let (\w+) = self\.(\w+)\.clone\(\);', made.group(1)) if a == b}
+    inner = made.group(2).strip()
+    if inner.startswith('('):
+        return inner == '(' + ', '.join(f'self.{f}.clone()' for f in fields) + ')'
+    given = [g.strip() for g in inner.strip('{} ').split(',') if g.strip()]
+    fine = {f'{f}: self.{f}.clone()' for f in fields} | {f'{f}: self.{f}' for f in fields} | copied
+    return len(given) == len(fields) and all(g in fine for g in given)
+
+
+def copies_each(body):
+    """whether a body of `clone` copies each part of each variant of an `enum`"""
+    found = match_parts(trim(body))
+    if found is None or plain(found[0]) != 'self':
+        return False
+    return all(copied(a) == plain(a.pattern) for a in arms(found[1].items))
+
+
+def copied(arm):
+    """what an arm gives, as if its copies were the parts themselves"""
+    told = plain(arm.body).replace('?', '')
+    told = re.sub(r'^\{ (.*) \}$', r'\1', told)
+    told = re.sub(r'let (\w+) = \1\.clone\(\); ', '', told)
+    told = re.sub(r'^Ok\((.*)\)$', r'\1', told)
+    told = re.sub(r'\b(\w+)\.clone\(\)', r'\1', re.sub(r'\*(\w+)', r'\1', told))
+    told = re.sub(r'\b(\w+): \1\b', r'\1', told)
+    return re.sub(r',(?= ?[)}])', '', re.sub(r'\( ', '(', re.sub(r' \)', ')', told)))

@@ -1,0 +1,61 @@
+"""The examples of the package's documentation, `examples.txt`, put at the end of the comments of the calls that they show."""
+import os
+import re
+
+HERE = os.path.dirname(os.path.abspath(__file__))
+INDENT = re.compile(r'( *)pub fn (\w+)')
+
+
+def entries(path=os.path.join(HERE, 'examples.txt')):
+    """the hidden lines of all, and for each type and call the lines of its example"""
+    hidden, found, calls, lines = [], {}, [], []
+    with open(path, encoding='utf-8') as f:
+        rows = f.read().split('\n') + ['@ end: -']
+    for row in rows:
+        if row.startswith('@ '):
+            while lines and not lines[-1]:
+                lines.pop()
+            if calls == ['*']:
+                hidden = lines
+            for call in calls:
+                found[call] = lines
+            lines = []
+            owner, _, names = row[2:].partition(':')
+            calls = ['*'] if owner == '*' else [(owner, name) for name in names.split()]
+        elif calls and not re.match(r'# ?----|# [A-Z]', row):
+            lines.append(row)
+    return hidden, found
+
+
+def shown(line):
+    return '# ' + line[2:] if line.startswith(': ') else line
+
+
+def comment(lines, hidden, indent):
+    """an example as lines of a comment"""
+    code = [shown(line) for line in hidden + lines]
+    if any('?' in re.sub(r'"[^"]*"', '', line) for line in lines):
+        code.append('# Ok::<(), Box<dyn std::error::Error>>(())')
+    return [f'{indent}///', f'{indent}/// ```'] + [f'{indent}/// {line}'.rstrip() for line in code] + [f'{indent}/// ```']
+
+
+def with_examples(source, hidden, found, used):
+    """a file with its examples; which entries were used is noted"""
+    out, owner = [], '-'
+    for line in source.split('\n'):
+        impl = re.match(r'impl(?:<.*?>)? (\w+)(?:<.*>)? ?(?:\{|where|$)', line)
+        if impl:
+            owner = impl.group(1)
+        elif line == '}':
+            owner = '-'
+        call = INDENT.match(line)
+        key = (owner if call and call.group(1) else '-', call.group(2)) if call else None
+        if key in found and (call.group(1) or owner == '-'):
+            at = len(out)
+            while out[at - 1].strip().startswith('#['):
+                at -= 1
+            if out[at - 1].strip().startswith('///'):
+                out[at:at] = comment(found[key], hidden, call.group(1))
+                used.add(key)
+        out.append(line)
+    return '\n'.join(out)

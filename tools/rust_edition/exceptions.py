@@ -1,0 +1,79 @@
+"""What stands outside of the rules, by name."""
+
+# The crates of the layer, lowest first.
+CRATES = '''cedar_ids cedar_keyed_hash cedar_components cedar_uid_sets cedar_graph cedar_terms cedar_entity cedar_children
+cedar_entities cedar_slice cedar_annotation cedar_scope cedar_binding cedar_action cedar_body cedar_policy
+cedar_policy_maps cedar_policy_set_errors cedar_policy_merge cedar_policy_set cedar_replay cedar_lines
+cedar_entity_lines cedar_policy_lines cedar_store cedar_talk'''.split()
+
+# Calls that several functions of one name could be: (crate, file, name) and what is answered there.
+CHOICES = {
+    ('cedar_replay', 'policies', 'link'): 'result',
+    ('cedar_policy_lines', 'making', 'link'): 'result',
+}
+
+# Functions that the package does not have, as proofs alone ask for them: (type or file, name).
+DROPPED = {('KeyedState', 'new'), ('fresh', 'count_ids'), ('fresh', 'size'), ('node', 'listed'),
+           ('shared_node', 'listed_pointers')}
+# Functions that the package does not have, as nothing in it asks for them; the layer's tests do.
+UNASKED = {
+    ('PolicySet', 'from_raw_components'), ('PolicyMaps', 'from_raw_components'), ('lists', 'read_policy'),
+    ('lists', 'read_policies'), ('maps', 'keep_templates'), ('LineStore', 'new'), ('PolicySets', 'new'),
+    ('Entity', 'with_shared_parents'), ('Entity', 'remove_shared_ancestor'), ('Entity', 'remove_shared_parent'),
+    ('UidSet', 'is_ascending'), ('UidSet', 'retain'),
+}
+DROPPED_TYPES = {'Linked', 'Direct', 'Streams'}
+DROPPED_IMPLS = {('Linked', 'Drop'), ('Linked', 'Deref'), ('Direct', 'Streams')}
+
+# Parameters that contracts alone look at: (file, function) and names.
+UNUSED = {
+    ('component_lists', 'add'): {'n'}, ('component_lists', 'add_range'): {'n'}, ('list_order', 'take_all'): {'n'},
+    ('components', 'meet'): {'graph', 'i'}, ('close', 'goes_back'): {'read'},
+}
+
+# Public functions whose parameters take what can be gone through, or what is a text: (type or file, name), and how each
+# of these parameters is used.
+WIDE = {
+    ('Eid', 'new'): {'text': 'into'},
+    ('PolicyID', 'from_string'): {'text': 'as_ref'},
+    ('PolicyID', 'from_smolstr'): {'id': 'into'},
+    ('Unknown', 'new_untyped'): {'name': 'into'},
+    ('Unknown', 'new_with_type'): {'name': 'into'},
+    ('Expr', 'val'): {'literal': 'into'},
+    ('Expr', 'set'): {'exprs': 'collect'},
+    ('Value', 'set'): {'values': 'collect'},
+    ('Value', 'record'): {'pairs': 'loop'},
+    ('Annotations', 'try_from_iter'): {'pairs': 'pass'},
+    ('annotation', 'collected'): {'pairs': 'loop'},
+    ('Entity', 'new_with_attr_partial_value'): {'attrs': 'pass', 'tags': 'pass'},
+    ('entity', 'fields'): {'pairs': 'loop'},
+    ('Entities', 'from_entities'): {'list': 'pass'},
+    ('Entities', 'from_entities_with_hasher'): {'list': 'pass'},
+    ('incoming', 'shared_all'): {'list': 'loop'},
+    ('Entities', 'add_entities'): {'list': 'pass'},
+    ('Entities', 'upsert_entities'): {'list': 'pass'},
+    ('incoming', 'with_uids'): {'list': 'loop'},
+    ('Entities', 'remove_entities'): {'list': 'pass'},
+    ('touching', 'held_uids'): {'list': 'loop'},
+    ('ActionConstraint', 'is_in'): {'euids': 'pass'},
+    ('action', 'shared'): {'euids': 'loop'},
+    ('PolicySet', 'try_from_iter'): {'policies': 'pass'},
+    ('PolicySet', 'try_from_iter_with_hasher'): {'policies': 'pass'},
+    ('PolicySet', 'add_all'): {'policies': 'loop'},
+    ('entities', 'replay_entities'): {'calls': 'pass'},
+    ('entities', 'replay_entities_with_hasher'): {'calls': 'loop'},
+}
+
+# Public functions of the layer that speak of uids as stores keep them: `pub(crate)` here.
+HIDDEN = {('Entity', name) for name in '''with_shared_parents with_parent_set is_descendant_of_shared shared_parents
+shared_ancestors add_shared_parent remove_shared_ancestor remove_shared_parent remove_ancestors_of
+remove_parents_of'''.split()}
+
+# Files whose functions are called so often from others that each is to be inlined, into whatever unit of code: hashing,
+# and telling uids apart.
+INLINED = {('cedar_keyed_hash', 'lib'), ('cedar_uid_sets', 'fronts')}
+
+# The crates of tests, and what they stand on.
+TESTS = '''cedar_test_helpers cedar_store_texts cedar_ids_tests cedar_graph_tests cedar_uid_sets_tests cedar_terms_tests
+cedar_entity_tests cedar_entities_tests cedar_slice_tests cedar_scope_tests cedar_policy_tests cedar_policy_set_tests
+cedar_replay_tests cedar_store_tests cedar_talk_tests'''.split()

@@ -1,0 +1,333 @@
+"""Items of a file: functions with what they answer, errors with their texts, and what the package does not have."""
+import re
+from .bodies import Place, without_allocators, without_memory_arms, without_ok, without_questions
+from .functions import Function, functions, header, is_allocator, is_function, kind_of, owner_of, starts_item
+from .trees import (Group, after, before, code, is_code, is_comment, is_group, is_id, is_p, parse, plain, split, text,
+                    trim, angle_end)
+from .copies import derived
+from .forms import natural
+from .own import self_type, with_self
+from .wide import widened
+
+
+def drop_notes(out):
+    """takes off the comments and attributes that stand last"""
+    while out:
+        if not is_code(out[-1]) and not (is_comment(out[-1]) and out[-1][1].startswith('//!')):
+            out.pop()
+        elif is_group(out[-1], '[') and len(out) > 1 and is_p(out[-2], '#'):
+            del out[-2:]
+        elif is_id(out[-1]) and out[-1][1] in ('pub', 'const') or is_group(out[-1], '(') and is_id(out[-2], 'pub'):
+            out.pop()
+        else:
+            break
+    out.append(('ws', '\n\n'))
+
+
+class File:
+    """A source as it is read: its tree, and what its functions are."""
+
+    def __init__(self, crate, module, nodes, imports):
+        self.crate, self.module, self.nodes, self.imports = crate, module, nodes, imports
+        self.copied = derived(nodes)
+
+    def place(self, table, owner, choices):
+        return Place(table, self.crate, self.module, owner, self.imports, choices)
+
+
+class Writer:
+    """Rewrites the items of files."""
+
+    def __init__(self, table, lists):
+        self.table, self.lists, self.unknown, self.moved = table, lists, [], []
+
+    def kind(self, file, f, owner):
+        """what the function answers, once those that can not fail give values"""
+        kind = kind_of(f.answer)
+        if kind == 'result':
+            if owner is None:
+                kind = self.table.free[file.crate, f.name].get(file.module, kind)
+            elif self.table.owned[owner, f.name] == {'memory'}:
+                kind = 'memory'
+        return kind
+
+    def items(self, nodes, file, owner=None, trait=None):
+        out, i = [], 0
+        while i < len(nodes):
+            n = nodes[i]
+            if is_id(n) and n[1] in ('impl', 'trait') and starts_item(nodes, i):
+                i = self.block(nodes, i, file, out)
+            elif is_id(n, 'mod') and is_group(nodes[after(nodes, after(nodes, i + 1) + 1)], '{'):
+                j = after(nodes, after(nodes, i + 1) + 1)
+                out += nodes[i:j] + [Group('{', self.items(nodes[j].items, file))]
+                i = j + 1
+            elif is_p(n, '#') and is_derive(nodes, i):
+                i = self.derive(nodes, i, file, out)
+            elif is_id(n, 'enum'):
+                i = self.enum(nodes, i, out)
+            elif is_id(n, 'struct') and nodes[after(nodes, i + 1)][1] in self.lists.dropped_types:
+                drop_notes(out)
+                while not is_group(nodes[i], '{') and not is_p(nodes[i], ';'):
+                    i += 1
+                i += 1
+            elif is_function(nodes, i):
+                i = self.function(nodes, i, file, owner, trait, out)
+            else:
+                out.append(n)
+                i += 1
+        return out
+
+    def block(self, nodes, i, file, out):
+        """an `impl` or a `trait`"""
+        j, head = header(nodes, i)
+        owner, trait = owner_of(head)
+        by_hand = (owner, trait) in self.lists.dropped_impls or trait == 'Clone' and owner in file.copied
+        by_hand = by_hand or is_id(nodes[i], 'trait') and nodes[after(nodes, i + 1)][1] in self.lists.dropped_types
+        if re.search(r'From<Alloc(Error|Failed)', head) or by_hand:
+            drop_notes(out)
+            return j + 1
+        self.moved = []
+        inner = self.items(nodes[j].items, file, owner, trait or ('trait' if is_id(nodes[i], 'trait') else None))
+        if not code(inner) and not trait:
+            drop_notes(out)
+            return j + 1
+        kind = self_type(head)
+        if is_id(nodes[i], 'impl') and kind.startswith(owner):
+            inner = with_self(inner, owner, kind)
+        out += nodes[i:j] + [Group('{', inner)]
+        for answer, method in self.moved:
+            out += parse(f'\n\nimpl AsRef<{answer}> for {owner} ') + [Group('{', with_self(method, owner, kind))]
+        return j + 1
+
+    def derive(self, nodes, i, file, out):
+        """`derive` of what std has"""
+        j = after(nodes, i + 1)
+        listed = list(code(nodes[j].items)[1].items)
+        k = next(k for k in range(j, len(nodes)) if is_id(nodes[k]) and nodes[k][1] in ('struct', 'enum'))
+        if nodes[after(nodes, k + 1)][1] in file.copied:
+            listed.insert(0, ('id', 'Clone'))
+        names = [n[1] for n in code(listed) if is_id(n) and n[1] not in ('Drop', 'Error')]
+        if names:
+            out += parse(f'#[derive({", ".join(names)})]')
+            return j + 1
+        return after(nodes, j + 1)
+
+    def enum(self, nodes, i, out):
+        """an `enum`, without its variant for want of memory, and with its texts"""
+        j = i
+        while not is_group(nodes[j], '{'):
+            j += 1
+        parts = split(nodes[j].items)
+        name = nodes[after(nodes, i + 1)][1]
+        kept = [p for p in parts if variant(p)[0] != 'Memory']
+        texts = [(variant(p), error_text(p)) for p in kept]
+        shown = [without_error(p) for p in kept]
+        body = []
+        for p in shown:
+            body += [('ws', '\n')] + trim(p) + [('p', ',')]
+        out += nodes[i:j] + [Group('{', body + [('ws', '\n')])]
+        if all(t for _, t in texts) and texts:
+            out += parse(display(name, plain(nodes[after(nodes, i + 1) + 1:j]), texts))
+        return j + 1
+
+    def without_unused(self, nodes, file):
+        """calls of functions of the file lose what their contracts alone look at"""
+        out = []
+        for n in nodes:
+            if isinstance(n, Group):
+                n = Group(n.open, self.without_unused(n.items, file))
+                j = before(out, len(out) - 1)
+                places = self.unused_places(out, j, file) if n.open == '(' and j >= 0 and is_id(out[j]) else ()
+                if places:
+                    kept = [p for k, p in enumerate(split(n.items)) if k not in places]
+                    n.items[:] = parse(', '.join(plain(p) for p in kept))
+            out.append(n)
+        return out
+
+    def unused_places(self, out, j, file):
+        names = self.lists.unused.get((file.module, out[j][1]))
+        if not names:
+            return ()
+        f = next(f for f, owner, _ in functions(file.nodes) if f.name == out[j][1] and owner is None)
+        params = [p for p in f.params if not is_allocator(p)]
+        return [k for k, p in enumerate(params) if parameter_name(p) in names]
+
+    def function(self, nodes, i, file, owner, trait, out):
+        f = Function(nodes, i)
+        if f.answer == 'Global' or (owner or file.module, f.name) in self.lists.dropped:
+            drop_notes(out)
+            return f.end + 1
+        memory = self.kind(file, f, owner) == 'memory'
+        answer = f.answer
+        if memory:
+            answer = first_argument(answer)
+        unit = answer in ('', '()')
+        unused = self.lists.unused.get((file.module, f.name), ())
+        params = [p for p in f.params if not is_allocator(p) and parameter_name(p) not in unused]
+        place = file.place(self.table, owner, self.lists.choices)
+        body = f.body
+        if body is not None:
+            body = without_memory_arms(without_questions(without_allocators(body), place))
+            body = self.without_unused(body, file)
+            if memory:
+                body = without_ok(body, unit, place)
+            body = natural(body, answer, types_of(params))
+        self.unknown += [u + f' (in {f.name})' for u in place.unknown]
+        texts = [re.sub(r": &('\w+ )?Vec<(.*)>$", r': &\1[\2]', plain(p)) for p in params]
+        generics = text(nodes[f.generics[0]:f.generics[1]])
+        modes = self.lists.wide.get((owner or file.module, f.name))
+        if modes:
+            texts, body = widened(texts, body, modes)
+        texts, answer, generics = elided(texts, answer, generics)
+        tail = '' if unit else f' -> {answer}'
+        self.mark(f, file, owner, out)
+        written = parse(f'fn {f.name}{generics}({", ".join(texts)}){tail} {f.where} ')
+        written.append(Group('{', body) if body is not None else ('p', ';'))
+        if f.name == 'as_ref' and trait is None:
+            drop_notes(out)
+            self.moved.append((answer[1:], written))
+        else:
+            out += written
+        return f.end + 1
+
+    def mark(self, f, file, owner, out):
+        """what stands before a function: its visibility, and that it is inlined"""
+        if (owner or file.module, f.name) in self.lists.hidden:
+            hide(out)
+        if (file.crate, file.module) in self.lists.inlined and f.name != 'fmt':
+            out[visibility(out):] = parse('#[inline]\n') + out[visibility(out):]
+
+
+def elided(texts, answer, generics):
+    """a lifetime that is that of the only reference need not be named"""
+    joined = ', '.join(texts)
+    named = re.fullmatch(r"<'a(?:, (.*))?>", generics.strip(), re.S)
+    if not named or joined.count("'a") != 1 or joined.count('&') + joined.count("<'") != 1:
+        return texts, answer, generics
+    texts = [p.replace("&'a ", '&').replace("<'a", "<'_") for p in texts]
+    rest = f'<{named.group(1)}>' if named.group(1) else ''
+    return texts, answer.replace("&'a ", '&').replace("<'a", "<'_"), rest
+
+
+def parameter_name(p):
+    return re.sub(r'^mut ', '', plain(p)).split(':')[0].strip()
+
+
+def is_derive(nodes, i):
+    g = nodes[after(nodes, i + 1)]
+    return is_group(g, '[') and is_id(code(g.items)[0], 'derive')
+
+
+def hide(out):
+    """`pub` before a function becomes `pub(crate)`"""
+    j = before(out, len(out) - 1)
+    if is_id(out[j], 'pub'):
+        out.insert(j + 1, Group('(', [('id', 'crate')]))
+
+
+def visibility(out):
+    """where the `pub` or `pub(crate)` that stands last begins, or the end"""
+    j = before(out, len(out) - 1)
+    if j > 0 and is_group(out[j], '(') and is_id(out[j - 1], 'pub'):
+        return j - 1
+    return j if j >= 0 and is_id(out[j], 'pub') else len(out)
+
+
+def types_of(params):
+    """the types of parameters by their names"""
+    pairs = [re.sub(r'^mut ', '', plain(p)).split(':', 1) for p in params]
+    types = {p[0].strip(): p[1].strip() for p in pairs if len(p) == 2}
+    if params and plain(params[0]).startswith('&'):
+        types['self'] = '&Self'
+    return types
+
+
+def first_argument(answer):
+    """of `Result<T, E>` the `T`"""
+    nodes = parse(answer)
+    o = next(k for k, n in enumerate(nodes) if is_p(n, '<'))
+    return plain(split(nodes[o + 1:angle_end(nodes, o)])[0])
+
+
+def variant(part):
+    """name and fields of a variant"""
+    cs = code(part)
+    while is_p(cs[0], '#'):
+        cs = cs[2:]
+    return cs[0][1], (cs[1] if len(cs) > 1 else None)
+
+
+def error_text(part):
+    """what `#[error(..)]` says of a variant"""
+    cs = code(part)
+    for k, n in enumerate(cs):
+        if is_group(n, '[') and is_id(code(n.items)[0], 'error'):
+            return code(n.items)[1]
+    return None
+
+
+def without_error(part):
+    out = []
+    for n in part:
+        if is_group(n, '[') and is_id(code(n.items)[0], 'error'):
+            while not is_p(out[-1], '#'):
+                out.pop()
+            out.pop()
+            continue
+        out.append(n)
+    return out
+
+
+def display(name, generics, texts):
+    """`Display` and `Error` of an enum whose variants have texts"""
+    arms = []
+    for (variant_name, fields), said in texts:
+        literal, args = said.items[0][1], plain(said.items[1:])
+        arms.append(arm(f'Self::{variant_name}', fields, literal, args))
+    if re.search(r"'\w", generics):
+        raise AssertionError(name)
+    plain_generics = re.sub(r':[^,>]*', '', generics)
+    return f'''
+
+impl{generics} fmt::Display for {name}{plain_generics} {{
+    fn fmt(&self, f: &mut fmt::Formatter<'_>) -> fmt::Result {{
+        match self {{ {' '.join(arms)} }}
+    }}
+}}
+
+impl{generics} Error for {name}{plain_generics} {{}}
+'''
+
+
+def arm(path, fields, literal, args):
+    """the arm that writes one variant"""
+    names = [part_name(p) for p in split(fields.items)] if fields is not None and fields.open == '(' else []
+    args = re.sub(r'(?<![\w)\]])\.(\d+)', lambda m: names[int(m.group(1))], args)
+    args = re.sub(r'(?<![\w)\]])\.([a-z_]\w*)', r'\1', args)
+    literal = re.sub(r'\{(\d+)\}', lambda m: '{' + names[int(m.group(1))] + '}', literal)
+    pattern = ''
+    used = literal + args
+    if names:
+        pattern = '(' + ', '.join(n if n in used else '_' for n in names) + ')'
+    elif fields is not None:
+        names = [field_name(p) for p in split(fields.items)]
+        kept = [n for n in names if re.search(rf'\b{n}\b', used)]
+        dots = [] if len(kept) == len(names) else ['..']
+        pattern = ' { ' + ', '.join(kept + dots) + ' }'
+    if '{' not in literal:
+        return f'{path}{pattern} => f.write_str({literal}),'
+    return f'{path}{pattern} => write!(f, {literal}{args}),'
+
+
+def part_name(part):
+    """what a part of a variant is called, by its type"""
+    kind = re.sub(r'<.*', '', plain([n for n in part if not is_group(n, '[') and not is_p(n, '#')]))
+    word = re.findall(r'[A-Z]+(?![a-z])|[A-Z][a-z]+', kind)[-1].lower()
+    return {'empty': 'uids', 'string': 'key'}.get(word, word)
+
+
+def field_name(part):
+    cs = code(part)
+    while is_p(cs[0], '#'):
+        cs = cs[2:]
+    return [n for n in cs if is_id(n) and n[1] != 'pub'][0][1]

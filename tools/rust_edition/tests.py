@@ -1,0 +1,331 @@
+"""The layer's own tests over the package: modules of a copy of it, under `cfg(test)`.
+
+A test says of each call what the layer answers, so a call of the package that gives a value is written as `Ok` of it, and all
+that looks at the answer stays as it is. What tests make of themselves keeps its allocator."""
+import os
+import re
+
+from . import exceptions, otherwise, texts
+from .bodies import ALLOCATOR, STD_METHODS
+from .functions import Function, called, functions, header, imports_of, is_function, kind_of, starts_item
+from .ghosts import without_ghosts
+from .items import first_argument
+from .statements import arms, from_arms
+from .trees import Group, after, angle_start, before, is_code, is_group, is_id, is_p, parse, plain, text, trim
+
+HERE = os.path.dirname(os.path.abspath(__file__))
+OK = 'Ok::<_, AllocError>'
+STD_TYPES = set('Rc RcStr Vec String Box IndexSet IndexMap HashMap HashSet BTreeMap BTreeSet VecDeque'.split())
+STD_MEMORY = re.compile(r'(Rc|Box)::new|Rc::(make_mut|unwrap_or_clone)|\w+::(with_capacity|with_capacity_and_hasher)'
+                        r'|Vec::from_slice|(String|RcStr)::from_str')
+NODE = set('''get_key add_edge_to out_edges has_edge_to may_have_edges reset_edges direct_edges list_edges reserve_edges
+shrink_edges order add_edges_to add_new_edges_to'''.split())
+ERRORS = (r'\b(ParseErrors|ExprValidationError|TcError|EntitiesError|ActionTypesError|TemplateValidationError'
+          r'|UnexpectedSlotError|LinkingError|PolicySet\w*Error|RunError|TalkError)(::<\w+>)?::Memory')
+WORDS = {'if', 'match', 'while', 'return', 'in', 'fn', 'let', 'mut', 'for', 'Some', 'Ok', 'Err', 'move', 'else'}
+
+
+def sources(top):
+    """crate, file and tree of each source of tests"""
+    for crate in exceptions.TESTS:
+        folder = os.path.join(top, 'crates', crate, 'src')
+        for base, _, names in sorted(os.walk(folder)):
+            for name in sorted(n for n in names if n.endswith('.rt')):
+                path = os.path.join(base, name)
+                with open(path, encoding='utf-8') as f:
+                    yield crate, os.path.relpath(path, folder)[:-3], without_ghosts(f.read())
+
+
+class Library:
+    """What the package answers, and what a crate of tests has of its own."""
+
+    def __init__(self, table, files, tests):
+        self.table, self.methods, self.own_types, self.own_methods = table, {}, {}, {}
+        for file in files:
+            for f, owner, trait in functions(file.nodes):
+                if f.is_method() and (trait is not None or is_public(f)):
+                    kind = kind_of(f.answer)
+                    kind = 'memory' if table.owned.get((owner, f.name)) == {'memory'} else kind
+                    self.methods.setdefault(f.name, set()).add((kind, f.takes_memory()))
+        for name in ('out_edges', 'direct_edges'):
+            self.methods[name] = {('memory', True)}
+        for crate, _, nodes in tests:
+            for f, owner, _ in functions(nodes):
+                if owner is not None:
+                    self.own_types.setdefault(crate, set()).add(owner)
+                    if f.is_method():
+                        self.own_methods.setdefault(crate, set()).add(f.name)
+
+    def free(self, crate, name):
+        """the kinds of a free function of a crate, or of that name where the crate hands it on"""
+        kinds = set(self.table.free.get((crate, name), {}).values())
+        if not kinds:
+            for (_, other), by_file in self.table.free.items():
+                kinds |= set(by_file.values()) if other == name else set()
+        return kinds
+
+
+def is_public(f):
+    j = before(f.nodes, f.at - 1)
+    while j >= 0 and is_id(f.nodes[j]) and f.nodes[j][1] in ('const', 'final'):
+        j = before(f.nodes, j - 1)
+    return j >= 0 and is_id(f.nodes[j], 'pub')
+
+
+class Test:
+    """A source of tests: its calls are those of the package."""
+
+    def __init__(self, crate, imports, library):
+        self.crate, self.imports, self.library = crate, imports, library
+
+    def judge(self, out):
+        """of the call that stands last: whether it is the package's or std's, and what its answer is to be in"""
+        how, name, on, _ = called(out, len(out))
+        if how == 'path':
+            return self.of_path(name, on)
+        if how == 'free':
+            at = self.imports.get(name, ('', ''))[0]
+            if at not in exceptions.CRATES:
+                return False, None
+            return True, self.told(self.library.free(at, name), name)
+        if how == 'method':
+            return self.of_method(name, is_first_allocator(out[-1].items))
+        return False, None
+
+    def told(self, kinds, name):
+        if name == 'slice':  # refused for want of memory alone, by an error that tests name
+            return 'Ok::<_, crate::entities::EntitiesError>'
+        return OK if 'memory' in kinds else None
+
+    def of_path(self, name, on):
+        if on in STD_TYPES:
+            return True, OK if STD_MEMORY.fullmatch(f'{on}::{name}') else None
+        if on == 'Self' or on in self.library.own_types.get(self.crate, ()):
+            return False, None
+        if (on, name) in self.library.table.owned:
+            return True, self.told(self.library.table.owned[on, name], name)
+        at = on if on in exceptions.CRATES else self.imports.get(on, ('', ''))[0]
+        if at in exceptions.CRATES:
+            return True, self.told(self.library.free(at, name), name)
+        return False, None
+
+    def of_method(self, name, has):
+        """a method, by its name and whether it is handed an allocator"""
+        kinds = {kind for kind, takes in self.library.methods.get(name, ()) if takes == has}
+        if name in STD_METHODS:
+            kinds = {'memory'} if not has and name != 'insert' else kinds | {'memory'}
+        elif name in self.library.own_methods.get(self.crate, ()) and name not in NODE:
+            return False, None
+        if not kinds and not has:
+            return False, None
+        return True, OK if 'memory' in kinds else None
+
+    def calls(self, nodes):
+        """the calls of a body"""
+        out = []
+        for n in nodes:
+            if not isinstance(n, Group):
+                out.append(n)
+                continue
+            j = before(out, len(out) - 1)
+            if j >= 0 and is_p(out[j], '!') and is_id_at(n.items, 'in'):
+                self.macro(out, before(out, j - 1), n)
+                continue
+            out.append(Group(n.open, self.calls(n.items)))
+            if n.open == '(' and j >= 0 and is_call(out, j):
+                self.call(out)
+        return out
+
+    def macro(self, out, start, n):
+        """`format!(in alloc; ..)` and `vec![in alloc; ..]`"""
+        k = next(k for k, x in enumerate(n.items) if is_p(x, ';'))
+        body = out[start:] + [Group(n.open, self.calls(trim(n.items[k + 1:])))]
+        out[start:] = parse(OK) + [Group('(', body)]
+
+    def call(self, out):
+        is_library, told = self.judge(out)
+        if not is_library:
+            return
+        if is_first_allocator(out[-1].items):
+            k = next((k for k, x in enumerate(out[-1].items) if is_p(x, ',')), len(out[-1].items))
+            out[-1].items[:] = trim(out[-1].items[k + 1:])
+        if told:
+            how, name, _, k = called(out, len(out))
+            start = receiver(out, k) if how == 'method' else path_start(out, k)
+            listed = parse('.collect::<Vec<_>>()') if name in ('out_edges', 'direct_edges') else []
+            out[start:] = parse(told) + [Group('(', trim(out[start:]) + listed)]
+
+    def functions(self, nodes):
+        """a tree with the bodies of its functions so"""
+        out, i = [], 0
+        while i < len(nodes):
+            if is_id(nodes[i]) and nodes[i][1] in ('impl', 'trait') and starts_item(nodes, i):
+                j, _ = header(nodes, i)
+                out += nodes[i:j] + [Group('{', self.functions(nodes[j].items))]
+                i = j + 1
+            elif is_function(nodes, i):
+                f = Function(nodes, i)
+                out += self.function(f)
+                i = f.end + 1
+            else:
+                out.append(nodes[i])
+                i += 1
+        return out
+
+    def function(self, f):
+        if f.body is None:
+            return f.nodes[f.at:f.end + 1]
+        body = self.calls(without_library_memory(f.body))
+        if f.name == 'clone' and 'AllocError' in f.answer:
+            made = f'fn clone(&self) -> {first_argument(f.answer)} {{ (|| -> {f.answer} {{ {text(body)} }})().unwrap() }}'
+            return parse(made)
+        signature = [n for n in f.nodes[f.at:f.end] if isinstance(n, Group) or n[0] != 'com']
+        return signature + [Group('{', body)]
+
+
+def is_id_at(items, name):
+    k = after(items, 0)
+    return k < len(items) and is_id(items[k], name)
+
+
+def is_call(out, j):
+    """whether a group in parentheses behind out[j] holds the arguments of a call"""
+    if is_id(out[j]):
+        p = before(out, j - 1)
+        return out[j][1] not in WORDS and not (p >= 0 and is_id(out[p], 'fn'))
+    return is_p(out[j], '>')
+
+
+def is_first_allocator(items):
+    first = []
+    for n in items:
+        if is_p(n, ','):
+            break
+        first.append(n)
+    return ALLOCATOR.fullmatch(plain(first)) is not None
+
+
+def path_start(out, k):
+    """where the path begins that ends with out[k]"""
+    while True:
+        q = before(out, k - 1)
+        if q < 0 or not is_p(out[q], '::'):
+            return k
+        k = before(out, q - 1)
+        if is_p(out[k], '>'):
+            k = before(out, angle_start(out, k) - 1)
+            k = before(out, k - 1) if is_p(out[k], '::') else k
+
+
+def receiver(out, k):
+    """where what a method is called on begins; out[k] is the method's name"""
+    j = before(out, before(out, k - 1) - 1)
+    while True:
+        while is_p(out[j], '?'):
+            j = before(out, j - 1)
+        if isinstance(out[j], Group):
+            j = callee(out, j)
+        j = path_start(out, j)
+        p = before(out, j - 1)
+        if p < 0 or not is_p(out[p], '.'):
+            return j
+        j = before(out, p - 1)
+
+
+def callee(out, j):
+    """the name before the arguments at j, or j itself where these are no arguments"""
+    p = before(out, j - 1)
+    if p < 0 or is_group(out[j], '{'):
+        return j
+    if is_p(out[p], '!'):
+        return before(out, p - 1)
+    if is_p(out[p], '>'):
+        p = before(out, before(out, angle_start(out, p) - 1) - 1)
+    return p if is_id(out[p]) and out[p][1] not in WORDS else j
+
+
+def without_library_memory(nodes):
+    """no arm looks for want of memory in an answer of the package"""
+    out = []
+    for n in nodes:
+        if isinstance(n, Group):
+            n = Group(n.open, without_library_memory(n.items))
+            if n.open == '{' and any(is_p(x, '=>') for x in n.items):
+                all_ = arms(n.items)
+                kept = [a for a in all_ if not re.search(ERRORS, plain(a.pattern))]
+                n = Group('{', from_arms(kept)) if len(kept) < len(all_) else n
+        out.append(n)
+    return out
+
+
+def without_memory(source):
+    """lines that make an error of want of memory answer its text, and assertions of one go"""
+    out = []
+    for line in source.split('\n'):
+        arm = re.match(r'^(\s*.*?) => .*,$', line)
+        if re.search(ERRORS, line) and arm:
+            line = f'{arm.group(1)} => return Ok(String::from("out of memory")),'
+        elif re.search(ERRORS, line) and line.strip().startswith('assert!'):
+            continue
+        out.append(line)
+    return '\n'.join(out)
+
+
+NAMES = [
+    (r'(#\[test\]\s*(?:(?:#\[[^\]]*\]|//[^\n]*)\s*)*fn \w+)\(\s*rt: HostRuntime,?\s*\)([^{]*)\{',
+     r'\1()\2{ let rt = HostRuntime;'),
+    (r'\b((?:debug_)?assert(?:_eq|_ne)?|panic)!\(\s*&?rt\s*;', r'\1!('),
+    (r'impl(.*?) TCNode<', r'impl\1 TestNode<'), (r'\bTestNode\b', 'crate::tests_std::TestNode'),
+    (r'(?<=[:+] )Hash\b(?=\s*[,>+{=])', 'Hash + Eq'),
+    (r'OrderedMap<PolicyID, PolicyID, S>', 'crate::Renaming<S>'), (r'\.src\.as_str\(\)', '.src.as_ref()'),
+    (r'\bstd::(alloc|test|process::Abort)\b', r'crate::tests_std::\1'), (r'\bstd::rc\b', 'std::sync'),
+    (r'use std::sync::\{Arc, Arc<str>\};', 'use std::sync::Arc;'), (r'use std::sync::Arc<str>;', 'use std::sync::Arc;'),
+    (r'use (?:thiserror::Error|std::marker::Model);\n', ''), (r'\{([^{}]*)\bFoldHasher\b,?([^{}]*)\};', r'{\1\2};'),
+    (r'\buse indexmap::', 'use crate::ordered_map::'),
+]
+
+
+def written(crate, name, nodes, library):
+    """the text of a source of tests"""
+    everything = exceptions.CRATES + exceptions.TESTS
+    test = Test(crate, imports_of(nodes, crate, everything), library)
+    source = texts.renamed(text(test.functions(nodes)))
+    source = re.sub(r'#\[derive\(([^)]*)\)\]', lambda m: derived(m.group(1)), source)
+    for old, new in NAMES:
+        source = re.sub(old, new, source)
+    source = texts.on_code(source, lambda s: paths(s, crate, everything))
+    lines = without_memory(source).split('\n')
+    k = next(k for k, line in enumerate(lines) if line.strip() and not line.startswith(('//!', '#!')))
+    return '\n'.join(lines[:k] + ['use crate::tests_std::prelude::*;'] + lines[k:])
+
+
+def derived(listed):
+    names = [n.strip() for n in listed.split(',') if n.strip() not in ('Drop', 'Error')]
+    return f'#[derive({", ".join(names)})]' if names else ''
+
+
+def paths(s, crate, everything):
+    s = re.sub(r'\bpub\(crate\)', 'pub(CRATE)', s)
+    s = re.sub(r'\bcrate::(?!tests_std|Renaming|ordered_map|entities::EntitiesError)', f'crate::{crate}::', s)
+    named = '|'.join(sorted(everything, key=len, reverse=True))
+    s = re.sub(rf'(?<![:\w])({named})::', r'crate::\1::', s)
+    return s.replace('crate::crate::', 'crate::').replace('pub(CRATE)', 'pub(crate)')
+
+
+def modules(top, table, files):
+    """the text of each source of tests, by its path below `src`"""
+    tests = list(sources(top))
+    library = Library(table, files, tests)
+    _, after_ = otherwise.entries(os.path.join(HERE, 'tests_otherwise.txt'))
+    out = {}
+    for crate, name, nodes in tests:
+        source = written(crate, name, nodes, library)
+        source = otherwise.said(source, after_.get((crate, name), []), f'{crate}/{name}')
+        out[os.path.join(crate, 'mod.rs' if name == 'lib' else name + '.rs')] = source
+    return out
+
+
+def asked_for(top):
+    """the names that tests ask the heads of crates for"""
+    return {(path[0], path[1].split(' as ')[0]) for _, _, nodes in sources(top) for path in texts.uses_in(nodes)
+            if path[0] in exceptions.CRATES and len(path) > 1}
