@@ -3,7 +3,6 @@
 // written drop, since a drop that is not written is dear to prove at a type as large as an entity.
 mod changes;
 mod gives;
-mod looking_up;
 mod nodes;
 mod rows;
 mod spec;

@@ -4,9 +4,7 @@ mod coarse;
 mod counted;
 mod counting;
 mod nodes;
-mod random;
 mod reached;
-mod small;
 mod told;
 
 use cedar_keyed_hash::KeyedState;

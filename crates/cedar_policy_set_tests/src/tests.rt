@@ -2,17 +2,12 @@
 //
 // No function holds a set, a policy, a template or an id over a step that may fail, and none leaves one to the end of
 // its body: what is at hand goes to `beside` or `kept`, or is let go by a written `drop`.
-mod apart;
 mod board;
-mod cases;
 mod equality;
-mod lists;
 mod making;
 mod many;
 mod merges;
-mod mixed;
 mod notation;
-mod places;
 mod raw;
 mod reads;
 mod rows;

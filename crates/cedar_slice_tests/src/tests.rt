@@ -1,4 +1,3 @@
-mod random;
 mod stores;
 mod worked;
 mod worlds;

@@ -2,7 +2,6 @@ mod edits;
 mod known_lines;
 mod line_by_line;
 mod policies;
-mod sessions;
 mod slices;
 mod slots;
 mod streams;

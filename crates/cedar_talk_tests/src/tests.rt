@@ -1,5 +1,6 @@
 mod cut;
 mod told;
+mod turns;
 
 use cedar_keyed_hash::KeyedState;
 use cedar_talk::help_text;

@@ -34,13 +34,13 @@ const ROWS: &str =
     "# a user belongs to a group through another, and to none that it is not in; a refusal is told\n\
 member: alice staff, staff all; alice all => true\n\
 member: alice staff, staff all; all alice => false\n\
-member: alice staff, staff alice; alice all => input graph has a cycle containing vertex `Team::\"alice\"`\n\
+member: alice staff, staff staff; alice all => input graph has a cycle containing vertex `Team::\"staff\"`\n\
 # a user goes to another group, and its old one is closed\n\
 moved: alice staff, staff all; alice guests, staff => Team::\"alice\":¶  attrs:¶  ancestors:Team::\"guests\"¶\n\
 # a log is asked at its end\n\
 was: alice staff, staff all; alice all => true\n\
 was: alice staff, staff all, -staff; alice all => false\n\
-was: alice staff, staff alice; alice all => 1 input graph has a cycle containing vertex `Team::\"staff\"`\n\
+was: alice staff, staff staff; alice all => 1 input graph has a cycle containing vertex `Team::\"staff\"`\n\
 # a template's principal is bound; a static policy is no template\n\
 grant: set; t l alice => Template Instance of t, slots: [?principal -> Team::\"alice\"]\n\
 grant: set; s l alice => failed to find a template with id `s`\n\

@@ -188,13 +188,3 @@ pub fn edge_count<S: BuildHasher>(nodes: &HashMap<u64, Counting, S>) -> usize {
     }
     all
 }
-
-/// Whether no node was given more than one row, and none that did not descend.
-pub fn rows_in_order<S: BuildHasher>(nodes: &HashMap<u64, Counting, S>) -> bool {
-    for node in nodes.values() {
-        if node.rows > 1 || !node.in_order {
-            return false;
-        }
-    }
-    true
-}

@@ -151,15 +151,6 @@ fn bits(uids: Uids<'_>) -> u16 {
     set
 }
 
-// The set of the uids of the entities of a store.
-pub(super) fn keys_in<S: BuildHasher + Copy>(store: &Entities<S>) -> u16 {
-    let mut set = 0;
-    for entity in store.iter() {
-        set |= set_of(entity.uid().eid().as_ref());
-    }
-    set
-}
-
 // Adds the letters of a set.
 fn push_set(text: &mut String, set: u16) -> Result<(), AllocError> {
     for (bit, letter) in &LETTERS {

@@ -130,6 +130,73 @@ fn parts_of_an_input_are_of_any_size(rt: HostRuntime) -> Result<(), Fail> {
     Ok(())
 }
 
+// A reader that gives at most nine bytes at a read, and before each, that at the end too, is interrupted so often.
+#[derive(Drop)]
+struct Interrupted<'a> {
+    left: &'a [u8],
+    often: usize,
+    interrupted: usize,
+}
+
+impl Read for Interrupted<'_> {
+    fn read(&mut self, buf: &mut [u8]) -> io::Result<usize> {
+        if self.interrupted < self.often {
+            self.interrupted = self.interrupted.saturating_add(1);
+            return Err(io::Error::from(io::ErrorKind::Interrupted));
+        }
+        self.interrupted = 0;
+        let count = self.left.len().min(buf.len()).min(9);
+        buf[..count].copy_from_slice(&self.left[..count]);
+        self.left = &self.left[count..];
+        Ok(count)
+    }
+}
+
+// Whether a run in a way over a reader that is interrupted so often writes all.
+fn is_read_on(alloc: Global, way: Way, input: &str, want: &str, often: usize) -> bool {
+    let mut reader = Interrupted {
+        left: input.as_bytes(),
+        often,
+        interrupted: 0,
+    };
+    let mut out = Vec::new(alloc);
+    let status = ran(alloc, way, &mut reader, &mut out);
+    let told = matches!(status, Ok(0)) && out.as_slice() == want.as_bytes();
+    drop(out);
+    told
+}
+
+// Whether runs that leave their memory, or that give it back, do so.
+fn are_read_on(alloc: Global, leaves: bool, input: &str, want: &str, often: usize) -> bool {
+    for way in ways(leaves) {
+        if !is_read_on(alloc, way, input, want, often) {
+            return false;
+        }
+    }
+    true
+}
+
+// Whether three entities are read whole by a reader that is interrupted so often.
+fn three_are_read_on(alloc: Global, often: usize) -> Result<bool, Fail> {
+    let (input, want) = many(alloc, 3, 3)?;
+    let told = are_read_on(alloc, false, &input, &want, often)
+        && are_read_on(alloc, true, &input, &want, often);
+    drop(input);
+    drop(want);
+    Ok(told)
+}
+
+#[test]
+fn an_interrupted_read_is_made_again(rt: HostRuntime) -> Result<(), Fail> {
+    for often in [1, 2, 50] {
+        assert!(rt;
+            three_are_read_on(rt.alloc(), often)?,
+            "interrupted {often} times before each read"
+        );
+    }
+    Ok(())
+}
+
 // A writer that keeps its bytes until the flush.
 #[derive(Drop)]
 struct Kept {

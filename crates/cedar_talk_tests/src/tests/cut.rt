@@ -95,7 +95,7 @@ fn are_due(alloc: Global, manner: Manner, rows: &str, most: usize) -> bool {
         && are_due_by(alloc, other, manner, rows, most)
 }
 
-const LENIENT: &str = "ent>A::\"a\">A::\"b\" =>
+pub(super) const LENIENT: &str = "ent>A::\"a\">A::\"b\" =>
 build => ok 1;
 anc A::\"a\" => line 3: not a command;
 anc>A::\"a\" => anc>A::\"b\";
@@ -106,7 +106,7 @@ frob => line 8: not a command;
 static>p>permit => ok;
 ids => bodies>p;policies>p;";
 
-const STRICT: &str = "ent>A::\"a\">A::\"b\" =>
+pub(super) const STRICT: &str = "ent>A::\"a\">A::\"b\" =>
 build => ok 1;
  =>
 anc>A::\"a\" => anc>A::\"b\";

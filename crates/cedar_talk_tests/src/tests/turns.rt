@@ -1,0 +1,160 @@
+// What has come out of a writer with a buffer, looked at from the reader at each of its reads.
+use super::cut::{LENIENT, STRICT};
+use super::{due_of, fixed, keys, lines_of};
+use cedar_talk::{Manner, talk};
+use std::alloc::{AllocError, Global};
+use std::cell::Cell;
+use std::hash::BuildHasher;
+use std::io;
+use std::io::{ErrorKind, Read, Write};
+
+// How many bytes are out, and how many reads found other than what is due then.
+#[derive(Drop)]
+struct Seen {
+    out: Cell<usize>,
+    amiss: Cell<usize>,
+}
+
+// A reader that gives at most so many bytes at a time, and before that is interrupted so often. At each read it looks
+// whether as many bytes are out as are due for all lines that it has given to their line feed.
+#[derive(Drop)]
+struct Looking<'a> {
+    left: &'a [u8],
+    due: &'a [usize],
+    most: usize,
+    often: usize,
+    interrupted: usize,
+    seen: &'a Seen,
+}
+
+impl Read for Looking<'_> {
+    fn read(&mut self, buf: &mut [u8]) -> io::Result<usize> {
+        if self.due.first().copied() != Some(self.seen.out.get()) {
+            self.seen.amiss.set(self.seen.amiss.get().saturating_add(1));
+        }
+        if self.interrupted < self.often {
+            self.interrupted = self.interrupted.saturating_add(1);
+            return Err(io::Error::from(ErrorKind::Interrupted));
+        }
+        self.interrupted = 0;
+        let count = self.left.len().min(buf.len()).min(self.most);
+        buf[..count].copy_from_slice(&self.left[..count]);
+        self.left = &self.left[count..];
+        self.due = self.due.get(count..).unwrap_or(&[]);
+        Ok(count)
+    }
+}
+
+// A writer whose bytes are out when it is flushed.
+#[derive(Drop)]
+struct Buffered<'a> {
+    bytes: Vec<u8>,
+    seen: &'a Seen,
+}
+
+impl Write for Buffered<'_> {
+    fn write(&mut self, buf: &[u8]) -> io::Result<usize> {
+        match self.bytes.extend_from_slice(buf) {
+            Ok(()) => Ok(buf.len()),
+            Err(_) => Err(io::Error::from(ErrorKind::OutOfMemory)),
+        }
+    }
+
+    fn flush(&mut self) -> io::Result<()> {
+        self.seen.out.set(self.bytes.len());
+        Ok(())
+    }
+}
+
+// Adds how many bytes are due where none of the input, one byte of it, and so on to all have come.
+fn push_dues(
+    alloc: Global,
+    dues: &mut Vec<usize>,
+    rows: &str,
+    all: usize,
+) -> Result<(), AllocError> {
+    for count in 0..all.saturating_add(1) {
+        let due = due_of(alloc, rows, count);
+        let length = due.len();
+        drop(due);
+        dues.push(length)?;
+    }
+    Ok(())
+}
+
+// The numbers of bytes that are due; none where there is no memory.
+fn dues_of(alloc: Global, rows: &str, all: usize) -> Vec<usize> {
+    let mut dues = Vec::new(alloc);
+    if push_dues(alloc, &mut dues, rows, all).is_err() {
+        dues.clear();
+    }
+    dues
+}
+
+// Whether at each read of a conversation what is due was out and no more, and at its end all of it.
+fn is_in_turn<S: BuildHasher + Copy>(
+    alloc: Global,
+    hasher: S,
+    manner: Manner,
+    rows: &str,
+    most: usize,
+    often: usize,
+) -> bool {
+    let input = lines_of(alloc, rows);
+    let dues = dues_of(alloc, rows, input.len());
+    let due = due_of(alloc, rows, usize::MAX);
+    let seen = Seen {
+        out: Cell::new(0),
+        amiss: Cell::new(0),
+    };
+    let mut reader = Looking {
+        left: input.as_slice(),
+        due: dues.as_slice(),
+        most,
+        often,
+        interrupted: 0,
+        seen: &seen,
+    };
+    let mut writer = Buffered {
+        bytes: Vec::new(alloc),
+        seen: &seen,
+    };
+    let status = talk(alloc, hasher, manner, &mut reader, &mut writer).ok();
+    let want = match manner {
+        Manner::Lenient => Some(0),
+        Manner::Strict => Some(2),
+    };
+    let whole = status == want && writer.bytes.as_slice() == due.as_slice() && !due.is_empty();
+    let told = whole && seen.amiss.get() == 0 && seen.out.get() == due.len();
+    drop(writer);
+    drop(due);
+    drop(dues);
+    drop(input);
+    told
+}
+
+// Whether that is so leniently and strictly, under the default builder of hashers and under two keys.
+fn are_in_turn(alloc: Global, most: usize, often: usize) -> bool {
+    let (one, other) = keys();
+    is_in_turn(alloc, fixed(), Manner::Lenient, LENIENT, most, often)
+        && is_in_turn(alloc, one, Manner::Lenient, LENIENT, most, often)
+        && is_in_turn(alloc, other, Manner::Strict, STRICT, most, often)
+        && is_in_turn(alloc, fixed(), Manner::Strict, STRICT, most, often)
+}
+
+#[test]
+fn each_answer_is_out_before_the_next_read(rt: HostRuntime) {
+    for most in [1, 2, 3, 7, 11, 64, usize::MAX] {
+        assert!(rt; are_in_turn(rt.alloc(), most, 0), "by {most} bytes a read");
+    }
+}
+
+#[test]
+fn an_interrupted_read_is_made_again(rt: HostRuntime) {
+    for often in [1, 2, 50] {
+        assert!(rt;
+            are_in_turn(rt.alloc(), 5, often),
+            "interrupted {often} times before each read"
+        );
+    }
+}
