@@ -1,5 +1,6 @@
 //! What came of a call while a request was to be refused.
 use crate::refuser::{refuse, relent};
+use crate::things::with_word;
 use std::alloc::{AllocError, Global};
 use std::fmt::Display;
 
@@ -67,6 +68,36 @@ pub fn is_worded<T: Display>(alloc: Global, thing: &T, want: &str) -> bool {
             told
         }
         Err(_) => false,
+    }
+}
+
+// The texts of things, one after another, with a semicolon behind each.
+fn written<T: Display>(alloc: Global, things: &[T]) -> Option<String> {
+    let mut all = Some(String::new(alloc));
+    for thing in things {
+        match thing.to_string(alloc) {
+            Ok(text) => {
+                all = with_word(with_word(all, text.as_str()), ";");
+                drop(text);
+            }
+            Err(_) => {
+                drop(all);
+                return None;
+            }
+        }
+    }
+    all
+}
+
+/// Whether things are written so, one after another, with ` ;` behind each, where blanks and ends of lines count alike.
+pub fn are_worded<T: Display>(alloc: Global, things: &[T], want: &str) -> bool {
+    match written(alloc, things) {
+        Some(text) => {
+            let told = has_words(text.as_str(), want);
+            drop(text);
+            told
+        }
+        None => false,
     }
 }
 

@@ -10,6 +10,10 @@ const NO_MORE: usize = WORDS + (1 << 34);
 
 const THERE: usize = WORDS + (1 << 35);
 
+const COUNT: usize = WORDS + (1 << 36);
+
+const AS_COUNTED: usize = WORDS + (1 << 37);
+
 // Whether a block of this size is given.
 fn is_given(alloc: Global, size: usize) -> bool {
     match Vec::<u8>::with_capacity(alloc, size) {
@@ -38,4 +42,14 @@ pub fn refuse(alloc: Global, number: usize) {
 /// From here on no request is refused. Whether one was.
 pub fn relent(alloc: Global) -> bool {
     is_given(alloc, NO_MORE)
+}
+
+/// Counts the blocks that are there.
+pub fn count(alloc: Global) {
+    let _ = is_given(alloc, COUNT);
+}
+
+/// Whether as many blocks are there as were counted last.
+pub fn is_as_counted(alloc: Global) -> bool {
+    is_given(alloc, AS_COUNTED)
 }

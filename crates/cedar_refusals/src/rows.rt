@@ -1,15 +1,17 @@
 //! Rows of calls, each made again and again while another request is refused.
 use crate::answers::{Answer, Tried};
-use crate::refuser::is_there;
+use crate::refuser::{count, is_as_counted, is_there};
 use std::alloc::Global;
 
-/// A row: a call, what it is given, what comes of it with ample memory, and whether it then asks for memory.
+/// A row: a call, what it is given, what comes of it with ample memory, whether it then asks for memory, and whether it
+/// then leaves what it made where it is.
 #[derive(Clone, Copy)]
 pub struct Row<'a> {
     pub call: &'a str,
     pub given: &'a str,
     pub want: &'a str,
     pub takes: bool,
+    pub leaves: bool,
 }
 
 /// The row that a line is, unless it is empty.
@@ -22,6 +24,10 @@ pub fn row_of(line: &str) -> Option<Row<'_>> {
         Some(rest) => (false, rest),
         None => (true, line),
     };
+    let (leaves, line) = match line.strip_prefix("~ ") {
+        Some(rest) => (true, rest),
+        None => (false, line),
+    };
     let (call, rest) = line.split_once(" | ").unwrap_or((line, ""));
     let (given, want) = rest.split_once(" | ").unwrap_or((rest, ""));
     Some(Row {
@@ -29,6 +35,7 @@ pub fn row_of(line: &str) -> Option<Row<'_>> {
         given: given.trim(),
         want: want.trim(),
         takes,
+        leaves,
     })
 }
 
@@ -45,6 +52,8 @@ pub enum InTurn {
     Well(usize),
     /// The answer was wrong while the request of this number was refused; 0 where none was.
     Wrong(usize),
+    /// Not all that was requested was let go, in the turn of this number.
+    Kept(usize),
 }
 
 // Whether the answer is right: memory is wanting only where a request was refused.
@@ -56,10 +65,21 @@ fn is_right(tried: Tried) -> bool {
     }
 }
 
-/// Makes the call of a row again and again, the first request refused, then the second and so on, until none is.
+// Whether all that a call requested has to be let go: it leaves nothing, or it was refused.
+fn lets_go(row: Row<'_>, tried: Tried) -> bool {
+    !row.leaves || tried.answer != Answer::Ample
+}
+
+/// Makes the call of a row again and again, the first request refused, then the second and so on, until none is. After
+/// each turn all that it requested has to be let go, but for what a call leaves where it is once it is done.
 pub fn in_turn<C: Calls>(alloc: Global, calls: &C, row: Row<'_>) -> InTurn {
+    let there = is_there(alloc);
     for number in 1..100_000 {
+        count(alloc);
         let tried = calls.tried(alloc, number, row);
+        if there && lets_go(row, tried) && !is_as_counted(alloc) {
+            return InTurn::Kept(number);
+        }
         if !is_right(tried) {
             return InTurn::Wrong(if tried.refused { number } else { 0 });
         }
@@ -82,7 +102,7 @@ pub fn tried_rows<C: Calls>(rt: HostRuntime, calls: &C, rows: &str) -> bool {
             let told = in_turn(alloc, calls, row);
             let right = match told {
                 InTurn::Well(n) => !there || (n > 0) == row.takes,
-                InTurn::Wrong(_) => false,
+                InTurn::Wrong(_) | InTurn::Kept(_) => false,
             };
             let call = row.call;
             let given = row.given;

@@ -12,8 +12,8 @@ use cedar_entity::node::SharedEntity;
 use cedar_graph::TCNode;
 use cedar_ids::entity::EntityUID;
 use cedar_refusals::{
-    Answer, Calls, Row, Tried, ample_if, both, changed, has_words, is_worded, joined, judged, made,
-    memory_if, on, refuse, relent, tried_rows, unmade, with_last,
+    Answer, Calls, Row, Tried, ample_if, are_worded, both, changed, has_words, is_worded, joined,
+    judged, made, memory_if, on, refuse, relent, tried_rows, unmade, with_last,
 };
 use cedar_uid_sets::SharedUid;
 use std::alloc::{AllocError, Global};
@@ -278,7 +278,7 @@ fn ordered<K: Eq + Drop, N: TCNode<K>>(
         alloc,
         answer,
         want,
-        |places| is_worded(alloc, &places.len(), want),
+        |places| are_worded(alloc, places.as_slice(), want),
     );
     drop(keys);
     tried
@@ -395,7 +395,7 @@ const ENTITIES: &str = "
     TCNode<EntityUID> for Entity::direct_edges | a b / c d | A::\"b\"
     TCNode::direct_edges | 7 | 7
     TCNode::list_edges | 7 | 7
-    TCNode::order | a, c b | 2
+    TCNode::order | a, c b | 0 ; 1 ;
     TCNode::add_edges_to | a b / c e, f d b | a b / c d e f / /
     TCNode::add_new_edges_to | a b / c e, f d | a b / c d e f / /
     - TCNode::reserve_edges | a b / c, d | a b / c / /
@@ -406,7 +406,7 @@ const ENTITIES: &str = "
     TCNode<SharedUid> for Entity::list_edges | a b / c d | A::\"c\" A::\"d\" A::\"b\"
     - TCNode<SharedUid> for Entity::reset_edges | a b / c d | a b / / /
     TCNode<SharedUid> for Entity::direct_edges | a b / c d | A::\"b\"
-    TCNode<SharedUid> for Entity::order | a, c b | 2
+    TCNode<SharedUid> for Entity::order | a, c b | 1 ; 0 ;
     TCNode<SharedUid> for Entity::add_edges_to | a b / c e, f d b | a b / c d e f / /
     TCNode<SharedUid> for Entity::add_edges_to | a b / c e, d f | a b / c d e f / /
     TCNode<SharedUid> for Entity::add_new_edges_to | a b / c e, d f | a b / c d e f / /
@@ -448,7 +448,7 @@ const COUNTED: &str = "
     TCNode<SharedUid> for SharedEntity::list_edges | a b / c d | A::\"c\" A::\"d\" A::\"b\"
     TCNode<SharedUid> for SharedEntity::reset_edges | a b / c d | a b / / /
     TCNode<SharedUid> for SharedEntity::direct_edges | a b / c d | A::\"b\"
-    TCNode<SharedUid> for SharedEntity::order | a, c b | 2
+    TCNode<SharedUid> for SharedEntity::order | a, c b | 1 ; 0 ;
     TCNode<SharedUid> for SharedEntity::add_edges_to | a b / c e, f d b | a b / c d e f / /
     TCNode<SharedUid> for SharedEntity::add_new_edges_to | a b / c e, f d | a b / c d e f / /
 ";

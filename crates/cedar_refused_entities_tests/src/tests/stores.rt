@@ -244,9 +244,25 @@ const STORES: &str = "
     Entities::try_validate | from: a / / k=!; validate | ! the key `__extn` is reserved
 ";
 
-// What comes of the last of some calls.
+// The word that a text has for a call.
+fn word_of(call: &str) -> &str {
+    match call {
+        "Entities::from_entities" => "from",
+        "Entities::from_entities_with_hasher" => "with",
+        "Entities::add_entities" => "add",
+        "Entities::upsert_entities" => "upsert",
+        "Entities::remove_entities" => "remove",
+        "Entities::try_validate" => "validate",
+        _ => "",
+    }
+}
+
+// What comes of the last of some calls, which has to be the row's.
 fn last_tried(alloc: Global, number: usize, row: Row<'_>) -> Tried {
     let (calls, call) = row.given.rsplit_once(';').unwrap_or(("", row.given));
+    if parts_of(call).0 != word_of(row.call) {
+        return unmade();
+    }
     let outcome = match store_of(alloc, calls) {
         Some(store) => step(alloc, number, store, call),
         None => None,

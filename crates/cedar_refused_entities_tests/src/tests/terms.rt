@@ -1,10 +1,10 @@
 // Expressions and what is found in them. An expression is a word: a truth, a number, a variable, a slot, `text`,
-// `unknown` or `foo()`; several words are the set of these.
+// `unknown`, `foo()`, or a slot below two or eight levels, `deep2` or `deep8`; several words are the set of these.
 use super::{named, typed, uid};
 use cedar_ids::entity::EntityUID;
 use cedar_refusals::{
-    Calls, Row, Tried, both, copied, counted, is_worded, judged, made, on, owned, refuse,
-    same_copied, tried_rows, unmade, with, with_last,
+    Calls, Row, Tried, are_worded, both, copied, counted, is_worded, judged, made, on, owned,
+    refuse, same_copied, tried_rows, unmade, with, with_last,
 };
 use cedar_terms::expr::Expr;
 use cedar_terms::literal::Literal;
@@ -62,6 +62,28 @@ fn unknown_expr(alloc: Global, text: &str) -> Option<Expr> {
     }
 }
 
+// The set of an expression and of the number 1.
+fn beside_one(alloc: Global, inner: Expr) -> Option<Expr> {
+    let number = Expr::val(alloc, Literal::Long(1)).ok();
+    match with_last(with_last(Some(Vec::new(alloc)), Some(inner)), number) {
+        Some(both) => Expr::set(alloc, both).ok(),
+        None => None,
+    }
+}
+
+// A slot below so many levels, sets and negations in turn.
+fn deep(alloc: Global, levels: usize) -> Option<Expr> {
+    let mut all = Expr::slot(alloc, SlotId::Principal).ok();
+    for level in 0..levels {
+        all = match all {
+            Some(inner) if level % 2 == 0 => beside_one(alloc, inner),
+            Some(inner) => Expr::not(alloc, inner).ok(),
+            None => None,
+        };
+    }
+    all
+}
+
 // The expression that a word is.
 fn one(alloc: Global, word: &str) -> Option<Expr> {
     match word {
@@ -71,6 +93,8 @@ fn one(alloc: Global, word: &str) -> Option<Expr> {
         "unknown" => unknown_expr(alloc, "u"),
         "foo()" => called(alloc, "foo"),
         "ip()" => called(alloc, "ip"),
+        "deep2" => deep(alloc, 2),
+        "deep8" => deep(alloc, 8),
         _ => match literal(alloc, word) {
             Some(literal) => Expr::val(alloc, literal).ok(),
             None => None,
@@ -119,6 +143,7 @@ const LEAVES: &str = "
     - Expr::clone | 1 true | [1, true]
     - Expr::clone | foo() | foo()
     - Expr::clone | ?principal | ?principal
+    - Expr::clone | deep2 | ![?principal, 1]
 ";
 
 impl Calls for OnLeaves {
@@ -230,11 +255,15 @@ fn each_call_that_makes_a_node(rt: HostRuntime) {
 struct OnTrees;
 
 const TREES: &str = "
-    Expr::subexpressions | 1 true ?principal | 4
+    Expr::subexpressions | 1 true ?principal | [1, true, ?principal] ; ?principal ; true ; 1 ;
     Expr::slots | ?principal 1 ?resource ?principal | ?principal ?resource ?principal
+    Expr::subexpressions | deep2 | ![?principal, 1] ; [?principal, 1] ; 1 ; ?principal ;
     Expr::slots | 1
-    Expr::unknowns | unknown 1 unknown | 2
+    Expr::slots | deep8 | ?principal
+    Expr::slots | deep8 deep2 deep8 | ?principal ?principal ?principal
+    Expr::unknowns | unknown 1 unknown | u ; u ;
     Expr::try_validate | 1 ip() | ok
+    Expr::try_validate | deep8 foo() deep8 | ! `foo` is not a known function
     Expr::try_validate | 1 foo() | ! `foo` is not a known function
     - EntityUID::type_of | A::B::\"a\" | A::B
     - StaticType::clone | A::B
@@ -259,9 +288,20 @@ pub(super) fn is_type(alloc: Global, told: &StaticType, want: &str) -> bool {
     }
 }
 
-// So many things.
-fn are_so_many(alloc: Global, told: usize, want: &str) -> bool {
-    is_worded(alloc, &told, want)
+// Whether unknowns have these names, one after another.
+fn are_unknowns(alloc: Global, unknowns: &[&Unknown], want: &str) -> bool {
+    let mut names = Some(Vec::new(alloc));
+    for unknown in unknowns {
+        names = with_last(names, Some(unknown.name.as_str()));
+    }
+    match names {
+        Some(names) => {
+            let told = are_worded(alloc, names.as_slice(), want);
+            drop(names);
+            told
+        }
+        None => false,
+    }
 }
 
 impl Calls for OnTrees {
@@ -271,7 +311,7 @@ impl Calls for OnTrees {
             "Expr::subexpressions" => {
                 on(alloc, number, expr(alloc, row.given), |expr| {
                     judged(alloc, expr.subexpressions(alloc), want, |nodes| {
-                        are_so_many(alloc, nodes.len(), want)
+                        are_worded(alloc, nodes.as_slice(), want)
                     })
                 })
             }
@@ -285,7 +325,7 @@ impl Calls for OnTrees {
             "Expr::unknowns" => {
                 on(alloc, number, expr(alloc, row.given), |expr| {
                     judged(alloc, expr.unknowns(alloc), want, |unknowns| {
-                        are_so_many(alloc, unknowns.len(), want)
+                        are_unknowns(alloc, unknowns.as_slice(), want)
                     })
                 })
             }

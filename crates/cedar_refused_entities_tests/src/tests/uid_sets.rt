@@ -2,8 +2,8 @@
 use super::{has_eids, pointers, set_of, shared, uid};
 use cedar_components::reach;
 use cedar_refusals::{
-    Calls, Row, Tried, both, changed, judged, made, on, refuse, same_copied, tried_rows, unmade,
-    with,
+    Calls, Row, Tried, are_worded, both, changed, judged, made, on, refuse, same_copied,
+    tried_rows, unmade, with,
 };
 use cedar_uid_sets::{SharedUid, UidSet};
 use std::alloc::{AllocError, Global};
@@ -153,21 +153,27 @@ fn each_call_on_sets_of_uids(rt: HostRuntime) {
 struct OnNumbers;
 
 const NUMBERS: &str = "
-    reach | 0 to 1, 1 to 0, 1 to 2 | 0 1 2
+    reach | 0 to 1, 1 to 0, 1 to 2 | 0 ; 1 ; 2 ;
 ";
 
-// Whether the numbers 0 and 1 share a list of three, and 2 has none.
-fn is_reached(reached: &cedar_components::Reached) -> bool {
+// Whether the numbers 0 and 1 share this list, and 2, which stands alone, has none.
+fn is_reached(alloc: Global, reached: &cedar_components::Reached, want: &str) -> bool {
     reached.component.len() == 3
         && reached.component.first() == reached.component.get(1)
-        && reached.lists.len() == 3
+        && reached.component.first() != reached.component.get(2)
+        && are_worded(alloc, reached.lists.as_slice(), want)
 }
 
 impl Calls for OnNumbers {
     fn tried(&self, alloc: Global, number: usize, row: Row<'_>) -> Tried {
         refuse(alloc, number);
         let answer = reach(alloc, &[0, 1, 1], &[1, 0, 2], 3, &[0, 1, 2]);
-        judged(alloc, answer, row.want, is_reached)
+        judged(
+            alloc,
+            answer,
+            row.want,
+            |reached| is_reached(alloc, reached, row.want),
+        )
     }
 }
 

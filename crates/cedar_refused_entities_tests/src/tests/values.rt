@@ -46,7 +46,7 @@ fn extension(alloc: Global, text: &str) -> Option<ExtensionValue> {
     }
 }
 
-// A value: `set 1 2`, `record k=1`, `ip text` or a literal.
+// A value: `set 1 2`, `record k=1`, `ip text`, `deep 8` of so many levels, or a literal.
 pub(super) fn value(alloc: Global, text: &str) -> Option<Value> {
     let (word, rest) = text.split_once(' ').unwrap_or((text, ""));
     match word {
@@ -62,8 +62,37 @@ pub(super) fn value(alloc: Global, text: &str) -> Option<Value> {
             Some(extension) => Some(Value::new(ValueKind::ExtensionValue(extension), None)),
             None => None,
         },
+        "deep" => deep(alloc, rest.parse().unwrap_or(0)),
         _ => lit(alloc, text),
     }
+}
+
+// The set, or the record under one key, of a value and of the number 1.
+fn around(alloc: Global, inner: Value, is_set: bool) -> Option<Value> {
+    if is_set {
+        let both = with_last(with_last(Some(Vec::new(alloc)), Some(inner)), Some(long(1)));
+        return match both {
+            Some(both) => Value::set(alloc, both, None).ok(),
+            None => None,
+        };
+    }
+    let pair = both(owned(alloc, "k"), Some(inner));
+    match with_last(Some(Vec::new(alloc)), pair) {
+        Some(pairs) => Value::record(alloc, pairs, None).ok(),
+        None => None,
+    }
+}
+
+// A value of so many levels, sets and records in turn.
+fn deep(alloc: Global, levels: usize) -> Option<Value> {
+    let mut all = Some(long(0));
+    for level in 0..levels {
+        all = match all {
+            Some(inner) => around(alloc, inner, level % 2 == 0),
+            None => None,
+        };
+    }
+    all
 }
 
 fn kind(alloc: Global, text: &str) -> Option<ValueKind> {
@@ -97,6 +126,7 @@ const VALUES: &str = "
     - Value::clone | set 1 2 | [1, 2]
     - Value::clone | record k=1 | {\"k\": 1}
     - Value::clone | ip a | ip(\"a\")
+    - Value::clone | deep 8 | {\"k\": [1, {\"k\": [1, {\"k\": [1, {\"k\": [0, 1]}]}]}]}
     ValueKind::clone | text
     - ValueKind::clone | set 1 2
     ExtensionValue::clone | a

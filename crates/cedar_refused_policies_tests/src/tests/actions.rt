@@ -1,9 +1,11 @@
 // Constraints of actions, by their forms: `any`, `in a b`, `== a`, `in ?`, `== ?` with the slot.
 use super::{shared, uid};
+use cedar_action::iters::ActionTypeNames;
 use cedar_action::{ActionConstraint, EntityIterator};
 use cedar_ids::entity::EntityUID;
 use cedar_refusals::{
-    Calls, Row, Tried, both, judged, made, on, same_copied, tried_rows, unmade, with, with_last,
+    Answer, Calls, Row, Tried, ample_if, are_worded, both, is_worded, judged, made, on, relent,
+    same_copied, tried_rows, unmade, with, with_last,
 };
 use std::alloc::Global;
 
@@ -32,12 +34,38 @@ pub(super) fn action(alloc: Global, text: &str) -> Option<ActionConstraint> {
     }
 }
 
-fn has_two(uids: &EntityIterator<'_>, want: &str) -> bool {
+// Whether uids are these; of several the list is looked at, which is given from its back.
+fn are_uids(alloc: Global, uids: &EntityIterator<'_>, want: &str) -> bool {
     match uids {
         EntityIterator::None => want == "none",
-        EntityIterator::One(_) => want == "one",
-        EntityIterator::Bunch(all) => want == "two" && all.len() == 2,
+        EntityIterator::One(uid) => is_worded(alloc, *uid, want),
+        EntityIterator::Bunch(all) => are_worded(alloc, all.as_slice(), want),
     }
+}
+
+// Whether names of types come so, one after another.
+fn are_types(alloc: Global, names: ActionTypeNames<'_>, want: &str) -> bool {
+    let mut due = want.split_whitespace();
+    for name in names {
+        match due.next() {
+            Some(word) if is_worded(alloc, name, word) => {}
+            _ => return false,
+        }
+    }
+    due.next().is_none()
+}
+
+// What comes of listing the names of the types in a constraint.
+fn types_named(alloc: Global, number: usize, row: Row<'_>) -> Tried {
+    on(alloc, number, action(alloc, row.given), |action| {
+        let answer = action.iter_entity_type_names(alloc);
+        let refused = relent(alloc);
+        let answer = match answer {
+            Ok(names) => ample_if(are_types(alloc, names, row.want)),
+            Err(_) => Answer::Memory,
+        };
+        Tried { answer, refused }
+    })
 }
 
 struct OnActions;
@@ -55,9 +83,9 @@ const ACTIONS: &str = "
     - ActionConstraint::with_filled_slot | in a b, Action.x | action in [A::\"a\",A::\"b\"]
     - ActionConstraint::iter_euids | any | none
     - ActionConstraint::iter_euids | in ? | none
-    ActionConstraint::iter_euids | in a b | two
-    - ActionConstraint::iter_euids | == a | one
-    ActionConstraint::iter_entity_type_names | in a B.b | ok
+    ActionConstraint::iter_euids | in a b | A::\"a\" ; A::\"b\" ;
+    - ActionConstraint::iter_euids | == a | A::\"a\"
+    ActionConstraint::iter_entity_type_names | in a B.b | B A
     - ActionConstraint::check_action_types | == Action.a | ok
     - ActionConstraint::check_action_types | in Action.a Action.b | ok
     - ActionConstraint::check_action_types | == b | ! the action constraint holds uids that are not actions: A::\"b\"
@@ -95,20 +123,11 @@ impl Calls for OnActions {
                         alloc,
                         action.iter_euids(alloc),
                         want,
-                        |uids| has_two(uids, want),
+                        |uids| are_uids(alloc, uids, want),
                     )
                 })
             }
-            "ActionConstraint::iter_entity_type_names" => {
-                on(alloc, number, action(alloc, row.given), |action| {
-                    judged(
-                        alloc,
-                        action.iter_entity_type_names(alloc),
-                        want,
-                        |_| want == "ok",
-                    )
-                })
-            }
+            "ActionConstraint::iter_entity_type_names" => types_named(alloc, number, row),
             _ => checks(alloc, number, row),
         }
     }

@@ -2,10 +2,12 @@
 use super::id;
 use super::parts::{Parts, effect, parts, principal, resource};
 use cedar_body::{TemplateBody, TemplateBodyImpl};
+use cedar_ids::policy_id::PolicyID;
 use cedar_refusals::{
     Calls, Row, Tried, both, is_worded, judged, made, on, same_copied, tried_rows, unmade, with,
 };
 use std::alloc::{AllocError, Global};
+use std::fmt::Display;
 
 fn of_parts(alloc: Global, text: &str, made: Parts) -> Result<TemplateBody, AllocError> {
     let ((id, notes), (action, clause)) = made;
@@ -41,7 +43,7 @@ struct OnBodies;
 const BODIES: &str = "
     TemplateBody::new | a noted principal clause | @k(\"v\") permit( principal == ?principal, action, resource ) when { true };
     TemplateBody::new | a forbid | forbid( principal, action, resource );
-    - TemplateBody::new_id | a noted clause, b | b
+    - TemplateBody::new_id | a noted clause, b | b: @k(\"v\") permit( principal, action, resource ) when { true };
     TemplateBody::principal_constraint_expr | a principal | principal == ?principal
     - TemplateBody::principal_constraint_expr | a | true
     TemplateBody::action_constraint_expr | a action | action == Action::\"x\"
@@ -57,13 +59,24 @@ fn new(alloc: Global, number: usize, row: Row<'_>) -> Tried {
     })
 }
 
+// Whether a thing has an id, and is written so behind it and a colon.
+pub(super) fn has_id_and_text<T: Display>(
+    alloc: Global,
+    id: &PolicyID,
+    thing: &T,
+    want: &str,
+) -> bool {
+    let (name, text) = want.split_once(": ").unwrap_or((want, ""));
+    is_worded(alloc, id, name) && is_worded(alloc, thing, text)
+}
+
 fn under_another_id(alloc: Global, number: usize, row: Row<'_>) -> Tried {
     let (text, name) = row.given.split_once(", ").unwrap_or((row.given, ""));
     match both(id(alloc, name), body(alloc, text)) {
         Some((id, body)) => {
             let tried = with(alloc, number, Some(id), |id| {
                 judged(alloc, body.new_id(id), row.want, |body| {
-                    is_worded(alloc, body.id(), row.want)
+                    has_id_and_text(alloc, body.id(), body, row.want)
                 })
             });
             drop(body);

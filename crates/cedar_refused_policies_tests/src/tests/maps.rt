@@ -14,8 +14,12 @@ use cedar_policy::{Policy, Template};
 use cedar_policy_maps::{Found, Parted, PolicyMaps};
 use cedar_policy_merge::merge_maps;
 use cedar_policy_set_errors::PolicySetError;
-use cedar_refusals::{Calls, Row, Tried, both, has_words, judged, on, refuse, tried_rows, unmade};
+use cedar_refusals::{
+    Calls, Row, Tried, ample_if, both, has_words, is_worded, judged, memory_if, on, refuse, relent,
+    tried_rows, unmade,
+};
 use std::alloc::{AllocError, Global};
+use std::fmt::Display;
 use std::hash::{BuildHasherDefault, FoldHasher};
 use std::rc::Rc;
 
@@ -70,6 +74,35 @@ fn left(maps: Maps, answer: Result<(), AllocError>) -> Result<Maps, AllocError> 
     }
 }
 
+// What came of a call by which the maps have these ids, and have to have those from before where memory was refused.
+fn judged_left<E: Display + Drop>(
+    alloc: Global,
+    maps: Maps,
+    answer: Result<(), E>,
+    ids: (&str, &str),
+) -> Tried {
+    let refused = relent(alloc);
+    let (before, want) = ids;
+    let answer = match answer {
+        Ok(()) => ample_if(has_ids(alloc, &maps, want)),
+        Err(error) => {
+            let stands = has_ids(alloc, &maps, before);
+            let is_wanted = match want.strip_prefix("! ") {
+                Some(text) => is_worded(alloc, &error, text),
+                None => false,
+            };
+            drop(error);
+            if is_wanted {
+                ample_if(stands)
+            } else {
+                memory_if(stands)
+            }
+        }
+    };
+    drop(maps);
+    Tried { answer, refused }
+}
+
 fn has_ids(alloc: Global, maps: &Maps, want: &str) -> bool {
     match ids_in(alloc, maps.all_templates(), maps.policies()) {
         Some(text) => {
@@ -81,20 +114,11 @@ fn has_ids(alloc: Global, maps: &Maps, want: &str) -> bool {
     }
 }
 
-fn judged_maps(alloc: Global, maps: Maps, answer: Result<(), AllocError>, want: &str) -> Tried {
-    judged(
-        alloc,
-        left(maps, answer),
-        want,
-        |maps| has_ids(alloc, maps, want),
-    )
-}
-
 fn put_template(alloc: Global, number: usize, template: Rc<Template>, want: &str) -> Tried {
     let mut maps = empty(alloc);
     refuse(alloc, number);
     let answer = maps.put_template(template);
-    judged_maps(alloc, maps, answer, want)
+    judged_left(alloc, maps, answer, ("/", want))
 }
 
 fn put_both(alloc: Global, number: usize, policy: Policy, want: &str) -> Tried {
@@ -105,7 +129,7 @@ fn put_both(alloc: Global, number: usize, policy: Policy, want: &str) -> Tried {
     let mut maps = empty(alloc);
     refuse(alloc, number);
     let answer = maps.put_both(policy);
-    judged_maps(alloc, maps, answer, want)
+    judged_left(alloc, maps, answer, ("/", want))
 }
 
 // A further share of a policy's template.
@@ -138,7 +162,7 @@ fn put_policy(alloc: Global, number: usize, policy: Policy, want: &str) -> Tried
             }
             refuse(alloc, number);
             let answer = maps.put_policy(policy);
-            judged_maps(alloc, maps, answer, want)
+            judged_left(alloc, maps, answer, ("t /", want))
         }
         None => {
             drop(policy);
@@ -188,7 +212,7 @@ fn take_in(alloc: Global, number: usize, policy: Policy, want: &str) -> Tried {
             let mut maps = empty(alloc);
             refuse(alloc, number);
             let answer = maps.take_in(alloc, bodies, policies);
-            judged_maps(alloc, maps, answer, want)
+            judged_left(alloc, maps, answer, ("/", want))
         }
         Err(_) => unmade(),
     }
@@ -219,23 +243,28 @@ fn maps_of(alloc: Global, text: &str) -> Option<Maps> {
     }
 }
 
-// What these maps are after merging, unless it was refused.
-fn merged_in(
+// Merging other maps in, of which the renaming is let go.
+fn merge_in(
     alloc: Global,
-    maps: Maps,
+    maps: &mut Maps,
     other: &Maps,
     rename: bool,
-) -> Result<Maps, PolicySetError> {
-    let mut maps = maps;
-    match merge_maps(alloc, &mut maps, other, rename) {
+) -> Result<(), PolicySetError> {
+    match merge_maps(alloc, maps, other, rename) {
         Ok(renaming) => {
             drop(renaming);
-            Ok(maps)
+            Ok(())
         }
-        Err(error) => {
-            drop(maps);
-            Err(error)
-        }
+        Err(error) => Err(error),
+    }
+}
+
+// The ids of the maps of a policy, as `has_ids` has them.
+fn ids_before(text: &str) -> &str {
+    if text.starts_with("l =") {
+        "t / l"
+    } else {
+        "a / a"
     }
 }
 
@@ -244,15 +273,13 @@ fn merged(alloc: Global, number: usize, row: Row<'_>) -> Tried {
     let (there, word) = rest.split_once(" // ").unwrap_or((rest, ""));
     match both(maps_of(alloc, here), maps_of(alloc, there)) {
         Some((maps, other)) => {
+            let mut maps = maps;
             refuse(alloc, number);
-            let answer = merged_in(alloc, maps, &other, word == "rename");
+            let answer = merge_in(alloc, &mut maps, &other, word == "rename");
+            let tried = judged_left(alloc, maps, answer, (ids_before(here), row.want));
+            let stays = has_ids(alloc, &other, ids_before(there));
             drop(other);
-            judged(
-                alloc,
-                answer,
-                row.want,
-                |maps| has_ids(alloc, maps, row.want),
-            )
+            if stays { tried } else { unmade() }
         }
         None => unmade(),
     }
@@ -271,6 +298,7 @@ const MAPS: &str = "
     PolicyMaps::clone | l = t principal, principal=x | t / l
     merge_maps | a // l = t principal, principal=x // keep | a t / a l
     merge_maps | a // a forbid // rename | a policy0 / a policy0
+    merge_maps | l = t principal, principal=x // a // keep | t a / l a
     merge_maps | a // a forbid // keep | ! duplicate template or policy id `a`
 ";
 

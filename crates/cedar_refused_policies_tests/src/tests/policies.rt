@@ -2,6 +2,7 @@
 ghost use Rattle.std.specs.Prelude.{◌≡◌, [], IfSome};
 ghost use Rattle.cedar_terms.specs.Walk.{slots_of};
 
+use super::bodies::has_id_and_text;
 use super::parts::values;
 use super::statics::unlinked;
 use super::templates::shared;
@@ -51,8 +52,8 @@ const POLICIES: &str = "
     Policy::action_constraint | t acting, action=Action.y | action in [Action::\"y\"]
     - Policy::action_constraint | a | action
     Policy::condition | t principal, principal=x | (principal == ?principal) && (true && (true && true))
-    Policy::new_id | a noted; b | b
-    Policy::new_id | t principal, principal=x; b | b
+    Policy::new_id | a noted; b | b: @k(\"v\") permit( principal, action, resource );
+    Policy::new_id | t principal, principal=x; b | b: Template Instance of t, slots: [?principal -> A::\"x\"]
     - Policy::new_template_id | a; b | none
     Policy::new_template_id | t principal, principal=x; b | b
     Policy::unknown_entities | a unknown | 1
@@ -143,7 +144,7 @@ fn under_another_id(alloc: Global, number: usize, row: Row<'_>) -> Tried {
         Some((name, policy)) => {
             let tried = with(alloc, number, Some(name), |name| {
                 judged(alloc, policy.new_id(alloc, name), row.want, |policy| {
-                    is_worded(alloc, policy.id(), row.want)
+                    has_id_and_text(alloc, policy.id(), policy, row.want)
                 })
             });
             drop(policy);

@@ -399,9 +399,28 @@ const SETS: &str = "
     PolicySet::get_linked_policies | template t; links u | ! No template `u`
 ";
 
+// The word that a text has for a call.
+fn word_of(call: &str) -> &str {
+    match call {
+        "PolicySet::add_static" => "static",
+        "PolicySet::add_template" => "template",
+        "PolicySet::add" => "add",
+        "PolicySet::link" => "link",
+        "PolicySet::unlink" => "unlink",
+        "PolicySet::remove_static" => "remove_static",
+        "PolicySet::remove_template" => "remove_template",
+        "PolicySet::get_linked_policies" => "links",
+        _ => "",
+    }
+}
+
 impl Calls for OnSets {
     fn tried(&self, alloc: Global, number: usize, row: Row<'_>) -> Tried {
         let (calls, call) = row.given.rsplit_once(';').unwrap_or(("", row.given));
+        let word = call.trim().split_once(' ').unwrap_or((call.trim(), "")).0;
+        if word != word_of(row.call) {
+            return unmade();
+        }
         match three(alloc, calls) {
             Some(sets) => {
                 let none = PolicySet::new(alloc);

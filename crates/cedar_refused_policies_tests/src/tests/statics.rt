@@ -1,4 +1,5 @@
 // Static policies.
+use super::bodies::has_id_and_text;
 use super::id;
 use super::parts::{Parts, effect, parts, principal, resource};
 use super::templates::{template, two};
@@ -38,7 +39,7 @@ const STATICS: &str = "
     StaticPolicy::new | a acting | ! found slot `?action` where slots are not allowed
     - StaticPolicy::try_from | a clause | permit( principal, action, resource ) when { true };
     - StaticPolicy::try_from | a resource | ! found slot `?resource` where slots are not allowed
-    - StaticPolicy::new_id | a noted, b | b
+    - StaticPolicy::new_id | a noted, b | b: @k(\"v\") permit( principal, action, resource );
     - StaticPolicy::principal_constraint_expr | a | true
     StaticPolicy::action_constraint_expr | a action | action == Action::\"x\"
     - StaticPolicy::resource_constraint_expr | a | true
@@ -54,7 +55,7 @@ fn under_another_id(alloc: Global, number: usize, row: Row<'_>) -> Tried {
         Some((id, policy)) => {
             let tried = with(alloc, number, Some(id), |id| {
                 judged(alloc, policy.new_id(id), row.want, |policy| {
-                    is_worded(alloc, policy.id(), row.want)
+                    has_id_and_text(alloc, policy.id(), policy, row.want)
                 })
             });
             drop(policy);

@@ -1,6 +1,6 @@
 // Templates.
 use super::actions::action;
-use super::bodies::body;
+use super::bodies::{body, has_id_and_text};
 use super::id;
 use super::parts::{Parts, effect, parts, principal, resource, values};
 use cedar_action::ActionTypesError;
@@ -55,7 +55,7 @@ const TEMPLATES: &str = "
     Template::new | t noted principal | @k(\"v\") permit( principal == ?principal, action, resource );
     Template::new_shared | t noted principal clause | @k(\"v\") permit( principal == ?principal, action, resource ) when { true };
     Template::from_body | t principal | permit( principal == ?principal, action, resource );
-    Template::new_id | t noted principal, u | u
+    Template::new_id | t noted principal, u | u: @k(\"v\") permit( principal == ?principal, action, resource );
     Template::condition | t principal clause | (principal == ?principal) && (true && (true && true))
     Template::condition | t acting | true && ((action in ?action) && (true && true))
     Template::clone | t noted principal resource clause
@@ -109,7 +109,7 @@ fn under_another_id(alloc: Global, number: usize, row: Row<'_>) -> Tried {
         Some((id, template)) => {
             let tried = with(alloc, number, Some(id), |id| {
                 judged(alloc, template.new_id(id), row.want, |template| {
-                    is_worded(alloc, template.id(), row.want)
+                    has_id_and_text(alloc, template.id(), template, row.want)
                 })
             });
             drop(template);

@@ -1,13 +1,15 @@
 // The calls that lines share, and those by which lines on policy sets are read and answered. Fields stand apart by
 // blanks, but for `read_fields`, by tabs.
+use super::stores::are_written;
 use cedar_lines::field::uid_field;
 use cedar_lines::known_types::{KnownTypes, uid_of_text};
 use cedar_lines::line::read_fields;
 use cedar_lines::writing::push_line;
-use cedar_policy_lines::{PolicyCommand, PolicySets, read_policy_command};
+use cedar_policy_lines::{PolicyCommand, PolicySets, TemplateSlots, read_policy_command};
 use cedar_refusals::{
     Answer, Calls, Row, Tried, ample_if, is_worded, judged, refuse, relent, tried_rows, unmade,
 };
+use cedar_store::{SlotEnv, SlotId};
 use std::alloc::Global;
 
 struct OnLines;
@@ -21,7 +23,7 @@ const LINES: &str = "
     uid_of_text | A::\"a\" B::\"b\" | B::\"b\"
     uid_of_text | A::\"a\" A::\"'\" | none
     - uid_of_text | A::b | none
-    read_fields | ent\tA::\"a\"\tA::\"b\" | 3
+    read_fields | ent\tA::\"a\"\tA::\"b\" | ent A::\"a\" A::\"b\"
     - read_fields | \u{e9} | none
     push_line | anc A::\"a\" | anc A::\"a\"
     read_policy_command | static a permit | some
@@ -55,6 +57,79 @@ const LINES: &str = "
     PolicySets::take | static a permit; other | ok
 ";
 
+// The word for slots of a template.
+fn word_of(slots: TemplateSlots) -> &'static str {
+    match slots {
+        TemplateSlots::NoSlots => "none",
+        TemplateSlots::OnPrincipal => "principal",
+        TemplateSlots::OnAction => "action",
+        TemplateSlots::OnResource => "resource",
+        TemplateSlots::OnBoth => "both",
+        TemplateSlots::OnAll => "all",
+    }
+}
+
+// Whether a field binds a slot to what it is bound to.
+fn binds(alloc: Global, values: &SlotEnv, field: &str) -> bool {
+    let (slot, text) = field.split_once('=').unwrap_or((field, ""));
+    let slot = match slot {
+        "principal" => SlotId::Principal,
+        "action" => SlotId::Action,
+        _ => SlotId::Resource,
+    };
+    match values.get(&slot) {
+        Some(uid) => is_worded(alloc, uid, text),
+        None => false,
+    }
+}
+
+// Whether bindings are those of these fields.
+fn are_bound(alloc: Global, values: &SlotEnv, fields: &str) -> bool {
+    let mut count = 0_usize;
+    for field in fields.split_whitespace() {
+        if !binds(alloc, values, field) {
+            return false;
+        }
+        count = count.saturating_add(1);
+    }
+    values.len() == count
+}
+
+// Whether a command is what a line says.
+fn is_said(alloc: Global, command: &PolicyCommand, line: &str) -> bool {
+    let (word, rest) = line.split_once(' ').unwrap_or((line, ""));
+    let (first, others) = rest.split_once(' ').unwrap_or((rest, ""));
+    match command {
+        PolicyCommand::Static(id, effect) => {
+            word == "static" && is_worded(alloc, id, first) && is_worded(alloc, effect, others)
+        }
+        PolicyCommand::Template(id, slots) => {
+            word == "template" && is_worded(alloc, id, first) && word_of(*slots) == others
+        }
+        PolicyCommand::Link(template, id, values) => {
+            let (second, fields) = others.split_once(' ').unwrap_or((others, ""));
+            word == "link"
+                && is_worded(alloc, template, first)
+                && is_worded(alloc, id, second)
+                && are_bound(alloc, values, fields)
+        }
+        PolicyCommand::Unlink(id) => word == "unlink" && is_worded(alloc, id, rest),
+        PolicyCommand::Other => line == "other",
+        PolicyCommand::Merge(rename) => {
+            word == "merge" && rest == if *rename { "rename" } else { "keep" }
+        }
+        PolicyCommand::Ids => line == "ids",
+    }
+}
+
+// Whether a line was read as the row says.
+fn is_read(alloc: Global, command: &Option<PolicyCommand>, row: Row<'_>) -> bool {
+    match command {
+        Some(command) => row.want == "some" && is_said(alloc, command, row.given),
+        None => row.want == "none",
+    }
+}
+
 fn read(alloc: Global, number: usize, row: Row<'_>) -> Tried {
     let fields: Result<Vec<&str>, std::alloc::AllocError> = row.given.split(' ').collect(alloc);
     match fields {
@@ -65,7 +140,7 @@ fn read(alloc: Global, number: usize, row: Row<'_>) -> Tried {
                 alloc,
                 read_policy_command(alloc, &mut known, fields.as_slice()),
                 row.want,
-                |command| command.is_some() == (row.want == "some"),
+                |command| is_read(alloc, command, row),
             );
             drop(known);
             drop(fields);
@@ -153,7 +228,7 @@ fn parted(alloc: Global, number: usize, row: Row<'_>) -> Tried {
     let answer = read_fields(&mut fields, row.given.as_bytes());
     let refused = relent(alloc);
     let answer = match answer {
-        Ok(true) => ample_if(is_worded(alloc, &fields.len(), row.want)),
+        Ok(true) => ample_if(are_written(alloc, fields.as_slice(), row.want)),
         Ok(false) => ample_if(row.want == "none"),
         Err(_) => Answer::Memory,
     };

@@ -1,5 +1,5 @@
 // Runs of the program. In a row an input and an output are written with `;` for the end of a line and `>` for a tab;
-// before the output stands the status.
+// before the output stands the status. A run that leaves entities and policies where they are begins with `~`.
 use cedar_keyed_hash::KeyedState;
 use cedar_refusals::{
     Answer, Calls, Row, Tried, ample_if, both, memory_if, refuse, relent, tried_rows, unmade,
@@ -134,8 +134,8 @@ const RUNS: &str = "
     run | static>a>permit;frob; | 2 ok;line 2: not a command;
     run | ent>A::\"a\"; | read fault
     run | ent>A::\"a\";build; | write fault
-    run_and_leave | ent>A::\"a\">A::\"b\";ent>A::\"b\">A::\"c\";build;anc>A::\"a\"; | 0 ok 2;anc>A::\"b\">A::\"c\";
-    run_and_leave | static>a>permit;other;static>a>forbid;merge>rename;ids; | 0 ok;ok;ok;ok>a>policy0;bodies>a>policy0;policies>a>policy0;
+    ~ run_and_leave | ent>A::\"a\">A::\"b\";ent>A::\"b\">A::\"c\";build;anc>A::\"a\"; | 0 ok 2;anc>A::\"b\">A::\"c\";
+    ~ run_and_leave | static>a>permit;other;static>a>forbid;merge>rename;ids; | 0 ok;ok;ok;ok>a>policy0;bodies>a>policy0;policies>a>policy0;
     run_and_leave | frob; | 2 line 1: not a command;
     run_and_leave | ent>A::\"a\"; | read fault
     run_and_leave | ent>A::\"a\";build; | write fault
@@ -144,7 +144,7 @@ const RUNS: &str = "
     run_with | static>a>permit;frob; | 2 ok;line 2: not a command;
     run_with | ent>A::\"a\"; | read fault
     run_with | ent>A::\"a\";build; | write fault
-    run_and_leave_with | ent>A::\"a\">A::\"b\";ent>A::\"b\">A::\"c\";build;anc>A::\"a\"; | 0 ok 2;anc>A::\"b\">A::\"c\";
+    ~ run_and_leave_with | ent>A::\"a\">A::\"b\";ent>A::\"b\">A::\"c\";build;anc>A::\"a\"; | 0 ok 2;anc>A::\"b\">A::\"c\";
     run_and_leave_with | ent>A::\"a\"; | read fault
     run_and_leave_with | ent>A::\"a\";build; | write fault
 ";

@@ -1,9 +1,10 @@
 // The calls by which lines on the store are read and answered. Fields stand apart by blanks.
 use cedar_entity_lines::{EntityCommand, KnownUids, LineStore, read_entity_command};
 use cedar_refusals::{
-    Answer, Calls, Row, Tried, ample_if, judged, refuse, relent, tried_rows, unmade,
+    Answer, Calls, Row, Tried, ample_if, is_worded, judged, refuse, relent, tried_rows, unmade,
 };
 use std::alloc::Global;
+use std::fmt::Display;
 
 struct OnStores;
 
@@ -36,6 +37,47 @@ const STORES: &str = "
     LineStore::take | anc A::\"a\" | no entity
 ";
 
+// Whether things are written as these words, one after another.
+pub(super) fn are_written<T: Display>(alloc: Global, things: &[T], words: &str) -> bool {
+    let mut due = words.split_whitespace();
+    for thing in things {
+        match due.next() {
+            Some(word) if is_worded(alloc, thing, word) => {}
+            _ => return false,
+        }
+    }
+    due.next().is_none()
+}
+
+// Whether a command is what a line says.
+fn is_said(alloc: Global, command: &EntityCommand, line: &str) -> bool {
+    let (word, rest) = line.split_once(' ').unwrap_or((line, ""));
+    match command {
+        EntityCommand::Ent(uid, parents) => {
+            let (own, others) = rest.split_once(' ').unwrap_or((rest, ""));
+            word == "ent"
+                && is_worded(alloc, uid, own)
+                && are_written(alloc, parents.as_slice(), others)
+        }
+        EntityCommand::Build => line == "build",
+        EntityCommand::Add => line == "add",
+        EntityCommand::Upsert => line == "upsert",
+        EntityCommand::Remove(uids) => {
+            word == "remove" && are_written(alloc, uids.as_slice(), rest)
+        }
+        EntityCommand::Slice(uids) => word == "slice" && are_written(alloc, uids.as_slice(), rest),
+        EntityCommand::Anc(uid) => word == "anc" && is_worded(alloc, uid, rest),
+    }
+}
+
+// Whether a line was read as the row says.
+fn is_read(alloc: Global, command: &Option<EntityCommand>, row: Row<'_>) -> bool {
+    match command {
+        Some(command) => row.want == "some" && is_said(alloc, command, row.given),
+        None => row.want == "none",
+    }
+}
+
 fn read(alloc: Global, number: usize, row: Row<'_>) -> Tried {
     let fields: Result<Vec<&str>, std::alloc::AllocError> = row.given.split(' ').collect(alloc);
     match fields {
@@ -46,7 +88,7 @@ fn read(alloc: Global, number: usize, row: Row<'_>) -> Tried {
                 alloc,
                 read_entity_command(alloc, &mut known, fields.as_slice()),
                 row.want,
-                |command| command.is_some() == (row.want == "some"),
+                |command| is_read(alloc, command, row),
             );
             drop(known);
             drop(fields);
