@@ -1,2 +1,3 @@
 pub mod Bunch
+pub mod Passing
 pub mod UidLists

@@ -9,11 +9,11 @@ use Rattle.cedar_action.specs.declared.action.ActionConstraint.{ActionConstraint
 use Rattle.cedar_action.specs.declared.action.ActionTypesError.{ActionTypesError}
 use Rattle.cedar_action.specs.declared.action.ActionTypesError.TheVariants.{NotActions, Memory}
 
--- a refusal that is owed to a rule: exactly the uids that are not actions, in list order; want of memory says
--- nothing of the rule
+-- a refusal that is owed to a rule: exactly the uids that are not actions, in list order; want of memory is answered
+-- only where there is one, so that a rule that passes takes none
 abbrev pub RefusesTypes : ActionTypesError → ActionRule → Type 0
 RefusesTypes (NotActions us) a = map (λ u. uid_parts u.value) (all_of us) ≡ non_actions a
-RefusesTypes Memory a = Unit {0}
+RefusesTypes Memory a = non_actions a ≡ [] → ⊥
 
 -- `Ok` where each uid is an action, else the refusal
 abbrev pub ChecksTypes : {A : Type 0} → Result A ActionTypesError → ActionRule → Type 0

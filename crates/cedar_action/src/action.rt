@@ -1,5 +1,5 @@
 //! What a policy asks of the action: anything, one uid, one of a list, or what its slot is bound to.
-ghost use Rattle.std.specs.Prelude.{◌≡◌, ◌&&◌, ◌++◌, IfOk, List, map, true, false};
+ghost use Rattle.std.specs.Prelude.{◌≡◌, ◌&&◌, ◌++◌, IfOk, OnErr, List, map, true, false};
 ghost use Rattle.std.specs.Fmt.{WritesOnOk};
 ghost use Rattle.std.specs.List.{list_all, flat_map, filter};
 ghost use Rattle.std.specs.Ordering.{on, as_partial_cmp};
@@ -8,7 +8,7 @@ ghost use Rattle.std.specs.Cmp.Lexicographic.{slice_cmp};
 ghost use Rattle.std.proofs.Common.{refl};
 ghost use Rattle.cedar_ids.specs.NonEmpties.{all_of};
 ghost use Rattle.cedar_ids.specs.Printed.{printed_uid};
-ghost use Rattle.cedar_ids.specs.Uid.{name_part};
+ghost use Rattle.cedar_ids.specs.Uid.{UidParts, name_part};
 ghost use Rattle.cedar_ids.specs.UidOf.{uid_parts};
 ghost use Rattle.cedar_terms.specs.ExprTree.{set_node, slot_node, expr_trees};
 ghost use Rattle.cedar_terms.specs.declared.slot.SlotId.TheVariants.{Action};
@@ -153,6 +153,8 @@ impl ActionConstraint {
     ) -> Result<ActionConstraint, AllocError>
         ensures fills { IfOk result (λ c. rule_of c ≡ filled_rule (uid_parts euid.value) (rule_of self)) }
         ensures no_slot { IfOk result (λ c. rule_has_slot (rule_of c) ≡ false) }
+        ensures again { IfOk result (λ c. (u : UidParts) → filled_rule u (rule_of c) ≡ rule_of c) }
+        ensures refused { OnErr result (rule_of self ≡ among_slot) }
     {
         match self {
             ActionConstraint::InSlot(_) => {
@@ -222,7 +224,8 @@ impl ActionConstraint {
     /// its path. The slot passes.
     ///
     /// `NotActions` has exactly the others, in the order of the list, repeats kept, and they are shared.
-    /// Takes memory for these alone; `Memory` comes only where that was refused. Reads each uid's type once.
+    /// Takes memory for these alone, so that a constraint that passes takes none; `Memory` comes only where there is
+    /// one and that was refused. Reads each uid's type once.
     pub fn check_action_types(&self, alloc: Global) -> Result<(), ActionTypesError>
         ensures { ChecksTypes result (rule_of self.now) }
     {
@@ -390,8 +393,10 @@ fn check_all(alloc: Global, euids: &Vec<Rc<EntityUID>>) -> Result<(), ActionType
 
 // The uids that are no actions, in the order of the list.
 fn non_actions(alloc: Global, euids: &Vec<Rc<EntityUID>>) -> Result<Vec<Rc<EntityUID>>, AllocError>
-    ensures { IfOk result (λ us. map (λ u. uid_parts u.value) us.items
+    ensures ok { IfOk result (λ us. map (λ u. uid_parts u.value) us.items
         ≡ filter is_no_action (map (λ u. uid_parts u.value) euids.now.items)) }
+    ensures err { OnErr result
+        (filter is_no_action (map (λ u. uid_parts u.value) euids.now.items) ≡ [] → ⊥) }
 {
     let mut found = Vec::new(alloc);
     for euid in euids {

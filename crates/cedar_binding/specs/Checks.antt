@@ -16,7 +16,8 @@ IsUnfit (errors.NoSuchTemplate i) slots e = ⊥
 IsUnfit (errors.PolicyIdConflict i) slots e = ⊥
 IsUnfit errors.Memory slots e = Unit {0}
 
--- `Ok` exactly where the bindings fit the slots, else the refusal
+-- `Ok` exactly where the bindings fit the slots, else the refusal. Want of memory comes only where they don't fit, so
+-- that no memory is taken where they do
 abbrev pub Binds : {A : Type 0} → Result A LinkingError → List SlotId → EnvParts → Type 0
 Binds (Ok a) slots e = FitsSlots slots e
-Binds (Err r) slots e = IsUnfit r slots e
+Binds (Err r) slots e = IsUnfit r slots e × (FitsSlots slots e → ⊥)

@@ -1,5 +1,5 @@
 //! Whether bindings fit the slots of a template.
-ghost use Rattle.std.specs.Prelude.{◌≡◌, ◌&&◌, ◌↔◌, [], not, IfOk, IsTrue};
+ghost use Rattle.std.specs.Prelude.{◌≡◌, ◌&&◌, ◌↔◌, [], not, IfOk, OnErr, IsTrue};
 ghost use Rattle.std.specs.Option.{option_copied, option_map};
 ghost use Rattle.cedar_ids.specs.UidOf.{uid_parts};
 ghost use Rattle.cedar_binding.specs.Bindings.{binds, is_among, unbound, extra, wrong_action};
@@ -17,8 +17,8 @@ use std::alloc::{AllocError, Global};
 ///
 /// Where the ids are others, the `ArityError` has exactly the slots that are not bound, in their order, as often as
 /// they stand there, and the bound ids that are no slots, in the order of ids. Where they are not, `NotAnAction` has
-/// the uid. Takes memory for what a refusal has alone; `Memory` comes only where that was refused. Reads each slot a
-/// few times.
+/// the uid. Takes memory for what a refusal has alone, so that bindings that fit take none; `Memory` comes only where
+/// they do not and that was refused. Reads each slot a few times.
 pub fn check_bindings(alloc: Global, slots: &[Slot], values: &SlotEnv) -> Result<(), LinkingError>
     ensures { Binds result slots.now (env_of values.now) }
 {
@@ -45,7 +45,8 @@ fn has_slot(slots: &[Slot], id: SlotId) -> bool
 
 // The slots that are not bound.
 fn unbound(alloc: Global, slots: &[Slot], values: &SlotEnv) -> Result<Vec<SlotId>, AllocError>
-    ensures { IfOk result (λ ids. ids.items ≡ unbound slots.now (env_of values.now)) }
+    ensures ok { IfOk result (λ ids. ids.items ≡ unbound slots.now (env_of values.now)) }
+    ensures err { OnErr result (unbound slots.now (env_of values.now) ≡ [] → ⊥) }
 {
     let mut ids = Vec::new(alloc);
     for slot in slots {
@@ -65,7 +66,8 @@ fn is_extra(slots: &[Slot], values: &SlotEnv, id: SlotId) -> bool
 
 // The bound ids that are no slots.
 fn extra(alloc: Global, slots: &[Slot], values: &SlotEnv) -> Result<Vec<SlotId>, AllocError>
-    ensures { IfOk result (λ ids. ids.items ≡ extra slots.now (env_of values.now)) }
+    ensures ok { IfOk result (λ ids. ids.items ≡ extra slots.now (env_of values.now)) }
+    ensures err { OnErr result (extra slots.now (env_of values.now) ≡ [] → ⊥) }
 {
     let mut ids = Vec::new(alloc);
     for id in SlotId::ALL.iter() {

@@ -1,23 +1,24 @@
 -- Parents that are gathered edge by edge are those that all edges give.
 use Rattle.std.proofs.Common.{◌≡◌, ap, sym, refl, ◌∙◌, ◌++◌, ◌+◌, ◌<◌, ◌≤◌, ℕ, suc, zero, List, [], ◌∷◌, Some, None}
 use Rattle.std.proofs.Common.{length, map, if◌then◌else◌, take, Bool, subst, arith, ◌⊎◌, inl, inr}
-use Rattle.std.proofs.lemmas.Bool.{eq-eqb, ne_eqb}
+use Rattle.std.proofs.lemmas.Bool.{cases_lt, eq-eqb, ne_eqb}
 use Rattle.std.proofs.Math.ListN.{get_or, set}
 use Rattle.std.proofs.lemmas.List.{append-nil, take_more}
 use Rattle.std.proofs.lemmas.List.Elements.{filter_map-append}
-use Rattle.std.proofs.lemmas.Option.{slice_get-get_or}
+use Rattle.std.proofs.lemmas.Option.{slice_get-get_or, slice_get_within}
 use Rattle.std.specs.FinSet.{contains-empty}
 use Rattle.std.specs.List.{cons_option, slice_get}
 use Rattle.cedar_ids.specs.UidOf.{uid_order}
 use Rattle.cedar_ids.specs.declared.entity.EntityUID.{EntityUID}
 use Rattle.cedar_entity.specs.View.{EntityView}
 use Rattle.cedar_entities.specs.Plain.{AreBare}
-use Rattle.cedar_c_lists.specs.Texts.{AreReadAt}
+use Rattle.cedar_c_lists.specs.Texts.{AreReadAt, IsInside}
 use Rattle.cedar_c_lists.specs.declared.layout.Span.{Span}
-use Rattle.cedar_c_stores.specs.Lists.{AreListed, IsEdgeOf, IsUnlisted, entities_by, entities_from, parent_by}
-use Rattle.cedar_c_stores.specs.Lists.{parents_at, with_parents}
+use Rattle.cedar_c_stores.specs.Lists.{AreEdgesOf, AreListed, IsEdgeOf, IsUnlisted, entities_by, entities_from}
+use Rattle.cedar_c_stores.specs.Lists.{parent_by, parents_at, with_parents}
 use Rattle.cedar_c_lists.specs.declared.layout.Edge.{Edge}
-use Rattle.cedar_c_stores.specs.laws.Listed.{Gathered, IsSomeEdgeOut, IsUngathered, listed_from, with_edge}
+use Rattle.cedar_c_stores.specs.laws.Listed.{Gathered, IsGathered, IsSomeEdgeOut, IsUngathered, listed_from}
+use Rattle.cedar_c_stores.specs.laws.Listed.{with_edge}
 use Rattle.cedar_c_lists.specs.declared.reason.Reason.{Reason}
 use Rattle.cedar_c_lists.specs.declared.reason.Reason.TheVariants.{NoMemory, BadArgument}
 
@@ -111,6 +112,22 @@ pub length_next : (k : ℕ) (p : EntityUID) (gs hs : List Gathered) (n : ℕ) �
     → length hs ≡ n
 length_next k p gs hs n so step = ap length step ∙ length_with_edge k p gs ∙ so
 
+-- the edge at the next place is in range too
+pub within_next : (us : List EntityUID) (es : List Edge) (k : ℕ) (d : Edge) (p : EntityUID) (n : ℕ) → k < length es
+    → ((j : ℕ) (e : Edge) → j < k → slice_get es j ≡ Some e → IsEdgeOf n (length us) e)
+    → slice_get us (get_or es k d).to ≡ Some p → (get_or es k d).from < n
+    → (j : ℕ) (e : Edge) → j < k + 1 → slice_get es j ≡ Some e → IsEdgeOf n (length us) e
+within_next us es k d p n l before found within j e below at =
+    elim (cases_lt j k) [
+      | inl lt ↦ before j e lt at
+      | inr ge ↦
+          let here : j ≡ k = omega arith in
+          let same : Some (get_or es k d) ≡ Some e =
+          sym (slice_get-get_or es k d l) ∙ ap (slice_get es) (sym here) ∙ at in
+          let one : get_or es k d ≡ e = cc in
+          subst (IsEdgeOf n (length us)) one (within, slice_get_within us (get_or es k d).to p found)
+    ]
+
 -- an edge that leads from nowhere or to nowhere
 pub edge_out : (n m : ℕ) (es : List Edge) (k : ℕ) (d : Edge) (w : Reason) → k < length es
     → (IsEdgeOf n m (get_or es k d) → ⊥) → (w ≡ NoMemory) ⊎ (w ≡ BadArgument) → IsSomeEdgeOut n m es w
@@ -133,8 +150,13 @@ length_bare : (us : List EntityUID) → length {A = Gathered} (map (λ u. (u, []
 length_bare [] = refl
 length_bare (u ∷ us) = ap suc (length_bare us)
 
+length_gathered : (us : List EntityUID) (n : ℕ) (first : List EntityUID) (gs : List Gathered) → n ≤ length us
+    → first ≡ take n us → gs ≡ map (λ u. (u, [])) first → length gs ≡ n
+length_gathered us n first gs few front bare =
+    ap length bare ∙ length_bare first ∙ ap length front ∙ length_first us n few
+
 -- what the edges make of the first uids
-pub made_of_edges : (us : List EntityUID) (es : List Edge) (n : ℕ) (first : List EntityUID) (gs hs : List Gathered)
+made_of_edges : (us : List EntityUID) (es : List Edge) (n : ℕ) (first : List EntityUID) (gs hs : List Gathered)
     (L : List EntityView) → first ≡ take n us → gs ≡ map (λ u. (u, [])) first →
     ((xs : List EntityUID) → gs ≡ listed_from us [] 0 xs → hs ≡ listed_from us es 0 xs)
     → L ≡ map (λ p. with_parents p.0 p.1) hs → L ≡ entities_by us es n
@@ -143,13 +165,23 @@ made_of_edges us es n first gs hs L front bare put made =
     (put (take n us) (bare ∙ ap (map (λ u. (u, []))) front ∙ listed_bare us 0 (take n us)))
     ∙ made_of_listed us es 0 (take n us)
 
+-- so the first uids are gathered, where there are so many and the edges are in range
+pub gathered_by : (us : List EntityUID) (es : List Edge) (n : ℕ) (first : List EntityUID) (gs hs : List Gathered)
+    (L : List EntityView) → n ≤ length us → first ≡ take n us → gs ≡ map (λ u. (u, [])) first →
+    ((xs : List EntityUID) → gs ≡ listed_from us [] 0 xs → hs ≡ listed_from us es 0 xs)
+    → AreEdgesOf (length gs) (length us) es → L ≡ map (λ p. with_parents p.0 p.1) hs → IsGathered us n es L
+gathered_by us es n first gs hs L few front bare put range made = record {
+  enough = few;
+  leading = subst (λ k. AreEdgesOf k (length us) es) (length_gathered us n first gs few front bare) range;
+  entities = made_of_edges us es n first gs hs L front bare put made;
+}
+
 -- an edge that is out of range of the first uids
 pub out_of_first : (us : List EntityUID) (es : List Edge) (n : ℕ) (first : List EntityUID) (gs : List Gathered)
     (w : Reason) → n ≤ length us → first ≡ take n us → gs ≡ map (λ u. (u, [])) first →
     IsSomeEdgeOut (length gs) (length us) es w → IsUngathered (length us) n es w
 out_of_first us es n first gs w few front bare out =
-    inr (subst (λ k. IsSomeEdgeOut k (length us) es w) (ap length bare ∙ length_bare first ∙ ap length front
-    ∙ length_first us n few) out)
+    inr (subst (λ k. IsSomeEdgeOut k (length us) es w) (length_gathered us n first gs few front bare) out)
 
 -- uids are as many as the parts that they are read of
 length_read : (text : List ℕ) (us : List EntityUID) (spans : List Span) → AreReadAt text us spans
@@ -159,16 +191,32 @@ length_read text [] (s ∷ spans) r = absurd r
 length_read text (u ∷ us) [] r = absurd r
 length_read text (u ∷ us) (s ∷ spans) r = ap suc (length_read text us spans r.1)
 
--- the list is made of what was read
+-- each part that a uid is read of lies within the text
+inside_read : (text : List ℕ) (us : List EntityUID) (spans : List Span) → AreReadAt text us spans
+    → (k : ℕ) (s : Span) → slice_get spans k ≡ Some s → IsInside text s
+inside_read text us [] r k s at = absurd (cc)
+inside_read text [] (x ∷ spans) r k s at = absurd r
+inside_read text (u ∷ us) (x ∷ spans) r zero s at = let same : x ≡ s = cc in subst (IsInside text) same r.0.0
+inside_read text (u ∷ us) (x ∷ spans) r (suc k) s at = inside_read text us spans r.1 k s at
+
+-- the list is made of what was read, which is in range
 pub listed_of : (text : List ℕ) (spans : List Span) (n : ℕ) (es : List Edge) (us shared : List EntityUID)
-    (L : List EntityView) → AreReadAt text us spans → shared ≡ us → L ≡ entities_by shared es n
+    (L : List EntityView) → AreReadAt text us spans → shared ≡ us → IsGathered shared n es L
     → AreListed text spans n es L
-listed_of text spans n es us shared L read same made = record {
-  uids = us;
-  read = read;
-  entities = made ∙ ap (λ l. entities_by l es n) same;
-  bare = subst AreBare (sym (made ∙ ap (λ l. entities_by l es n) same)) (made_bare us es 0 (take n us));
-}
+listed_of text spans n es us shared L read same made =
+    let many : length shared ≡ length spans = ap length same ∙ length_read text us spans read in
+    let entities : L ≡ entities_by us es n = made.entities ∙ ap (λ l. entities_by l es n) same in
+    record {
+      in_range = record {
+        inside = inside_read text us spans read;
+        enough = omega (arith, made.enough, many);
+        leading = subst (λ m. AreEdgesOf n m es) many made.leading;
+      };
+      uids = us;
+      read = read;
+      entities = entities;
+      bare = subst AreBare (sym entities) (made_bare us es 0 (take n us));
+    }
 
 -- or it is not, where something is out of range
 pub unlisted_by : (text : List ℕ) (spans : List Span) (n : ℕ) (es : List Edge) (us shared : List EntityUID) (w : Reason)

@@ -39,14 +39,19 @@ entities_by us es n = entities_from us es 0 (take n us)
 abbrev pub IsEdgeOf : ℕ → ℕ → Edge → Type 0
 IsEdgeOf n m e = (e.from < n) × (e.to < m)
 
+-- all edges lead from one of n places to one of m
+abbrev pub AreEdgesOf : ℕ → ℕ → List Edge → Type 0
+AreEdgesOf n m es = (k : ℕ) (e : Edge) → slice_get es k ≡ Some e → IsEdgeOf n m e
+
 -- all parts lie within the text, there are n of them at the least, and all edges lead from the first n to one of them
 pub record AreInRange (text : List ℕ) (spans : List Span) (n : ℕ) (es : List Edge) : Type 0 where
   pub inside : (k : ℕ) (s : Span) → slice_get spans k ≡ Some s → IsInside text s
   pub enough : n ≤ length spans
-  pub leading : (k : ℕ) (e : Edge) → slice_get es k ≡ Some e → IsEdgeOf n (length spans) e
+  pub leading : AreEdgesOf n (length spans) es
 
--- the list has the entities that uids, read of the parts of a text, and edges make
+-- all is in range, and the list has the entities that uids, read of the parts of a text, and edges make
 pub record AreListed (text : List ℕ) (spans : List Span) (n : ℕ) (es : List Edge) (L : List EntityView) : Type 0 where
+  pub in_range : AreInRange text spans n es
   pub uids : List EntityUID
   pub read : AreReadAt text uids spans
   pub entities : L ≡ entities_by uids es n

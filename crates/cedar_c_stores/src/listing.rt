@@ -3,8 +3,8 @@ ghost use Rattle.std.specs.Prelude.{◌≡◌, ◌<◌, ◌≤◌, ◌⊎◌, Li
 ghost use Rattle.std.specs.Prelude.{length, map, slice_get, take};
 ghost use Rattle.cedar_ids.specs.declared.entity.EntityUID.{EntityUID};
 ghost use Rattle.cedar_entities.specs.Plain.{entities_in};
-ghost use Rattle.cedar_c_stores.specs.Lists.{AreListed, entities_by, IsMode, IsNoMode, IsUnlisted, with_parents};
-ghost use Rattle.cedar_c_stores.specs.laws.Listed.{IsSomeEdgeOut, IsUngathered, listed_from, with_edge};
+ghost use Rattle.cedar_c_stores.specs.Lists.{AreEdgesOf, AreListed, IsMode, IsNoMode, IsUnlisted, with_parents};
+ghost use Rattle.cedar_c_stores.specs.laws.Listed.{IsGathered, IsSomeEdgeOut, IsUngathered, listed_from, with_edge};
 ghost use Rattle.cedar_c_lists.specs.declared.reason.Reason.TheVariants.{BadArgument, NoMemory};
 
 use cedar_c_lists::{Edge, Reason, Span, uids_of};
@@ -126,6 +126,7 @@ fn uid_in(uids: &[SharedUid], place: usize) -> Result<SharedUid, Reason>
 fn put_edges(listed: &mut Vec<Listed>, uids: &[SharedUid], edges: &[Edge]) -> Result<(), Reason>
     ensures ok { OnOk result ((us : List EntityUID) → listed.old.items ≡ listed_from uids.now [] 0 us →
         listed.new.items ≡ listed_from uids.now edges.now 0 us) }
+    ensures range { OnOk result (AreEdgesOf (length listed.old.items) (length uids.now) edges.now) }
     ensures err { IfErr result (IsSomeEdgeOut (length listed.old.items) (length uids.now) edges.now) }
 {
     for edge in edges {
@@ -164,7 +165,7 @@ fn gathered(
     count: usize,
     edges: &[Edge],
 ) -> Result<Vec<Rc<Entity>>, Reason>
-    ensures { MatchResult result (λ v. entities_in v.items ≡ entities_by uids.now edges.now count)
+    ensures { MatchResult result (λ v. IsGathered uids.now count edges.now (entities_in v.items))
         (IsUngathered (length uids.now) count edges.now) }
 {
     let first = first_of(uids, count)?;

@@ -45,14 +45,19 @@ use std::marker::Model;
 use std::rc::Rc;
 
 /// How a call sees to it that ancestors are closed.
+///
+/// What a call touches is what it puts in or takes out, and what has that among its ancestors. A removal repairs what
+/// it touched in each mode: that is given what it still reaches.
 #[derive(Clone, Copy, Debug, Drop, PartialEq, Eq, Hash)]
 pub enum TCComputation {
-    /// Nothing is done: the entities are taken to have all their ancestors.
+    /// Entities that are put in are taken to have all their ancestors: nothing is computed for them or for what is
+    /// above or below. A removal repairs. Nothing is checked, and no cycle is refused.
     AssumeAlreadyComputed,
-    /// The whole store is checked, and refused where an ancestor is missing or an entity is its own.
+    /// Entities that are put in are taken as they are, and a removal repairs, as under `AssumeAlreadyComputed`. Then
+    /// the whole store is checked, and refused where an ancestor of an ancestor is missing or an entity is its own.
     EnforceAlreadyComputed,
-    /// The ancestors of the entities that the call touches are computed, and the store is refused where one of
-    /// these is among its own.
+    /// What is touched is given all that it reaches, in a removal too, and the store is refused where one of it reaches
+    /// itself. Nothing else is checked.
     ComputeNow,
 }
 

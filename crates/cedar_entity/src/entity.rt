@@ -584,12 +584,13 @@ impl Entity {
     ///   element. The keys of attributes and tags themselves are not tested, and residuals are skipped;
     /// - `Memory`: the copy of a uid or a key was refused.
     ///
-    /// It takes memory for those copies alone; it walks the values by recursion, a small frame a level, and
-    /// carries 10,000 levels.
+    /// It takes memory for those copies alone, so that a valid entity takes none; it walks the values by recursion, a
+    /// small frame a level, and carries 10,000 levels.
     /// Where several uids would do, the original names any of them.
     pub fn validate(&self, alloc: Global) -> Result<(), EntitiesError>
         ensures ok { OnOk result (IsValid self.now) }
         ensures err { IfErr result (IsFault self.now) }
+        ensures refused { OnErr result (IsValid self.now → ⊥) }
     {
         match self.fault() {
             None => Ok(()),
@@ -611,6 +612,7 @@ impl Entity {
     pub fn try_validate(self, alloc: Global) -> Result<Entity, EntitiesError>
         ensures ok { IfOk result (λ e. (e ≡ self) × IsValid self) }
         ensures err { IfErr result (IsFault self) }
+        ensures refused { OnErr result (IsValid self → ⊥) }
     {
         self.validate(alloc)?;
         Ok(self)

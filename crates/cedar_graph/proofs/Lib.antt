@@ -1,4 +1,5 @@
 pub mod Closing
+pub mod Counting
 pub mod Keyed
 pub mod Loops
 pub mod Members

@@ -1,6 +1,8 @@
 -- What a closure call does: what stays in the map, which edges come, and what is refused.
-use Rattle.std.specs.Prelude.{◌≡◌, Bool, true, false, Result, IsTrue, OnOk, IfErr}
+use Rattle.std.specs.Prelude.{◌≡◌, ℕ, ◌≤◌, Bool, true, false, List, length, Result, IsTrue, OnOk, IfErr}
+use Rattle.std.specs.List.{IsDistinct}
 use Rattle.std.specs.Option.{is_some}
+use Rattle.std.specs.Set.{is_member}
 use Rattle.std.specs.HashMap.{HashMap, get}
 use Rattle.std.specs.HashSet.{HashSet, contains}
 use Rattle.cedar_graph.specs.Graph.{graph_of, KeepsNodes, KeepsEdges, AddsOnlyReached, ReachesSame, IsClosure}
@@ -43,6 +45,15 @@ pub record Repairs {K V S T : Type 0} (eq : K → K → Bool) (edges : V → K �
   pub ok : OnOk result (IsTrusted fix (graph_of eq edges old) → IsTrue asked
       → HasNoCycleAt fix (graph_of eq edges old))
   pub err : IfErr result (NamesCycleAt asked fix (graph_of eq edges old))
+
+-- no two keys of the list are equal, and each has an edge in the graph
+pub record AreEdged {K : Type 0} (eq : K → K → Bool) (G : K → K → Bool) (keys : List K) : Type 0 where
+  pub distinct : IsDistinct eq keys
+  pub edges : (q : K) → is_member eq keys q ≡ true → (b : K) × (G q b ≡ true)
+
+-- n is at least the number of keys that have an edge in the graph
+abbrev pub CoversEdged : {K : Type 0} → (K → K → Bool) → (K → K → Bool) → ℕ → Type 0
+CoversEdged {K} eq G n = (keys : List K) → AreEdged eq G keys → length keys ≤ n
 
 -- the map has a node at each key of the set
 abbrev pub HasAll : {K V S F : Type 0} → (K → K → Bool) → HashSet K F → HashMap K V S → Type 0

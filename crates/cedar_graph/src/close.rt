@@ -20,7 +20,7 @@ ghost use Rattle.std.specs.HashSet.{contains, hash_set_len};
 ghost use Rattle.indexmap.specs.IndexSet.{IsUnique};
 ghost use Rattle.cedar_components.specs.Reach.{AreArcs, Goes};
 ghost use Rattle.cedar_graph.specs.Graph.{graph_of, Grows, HasNoLoop, IsTrusted};
-ghost use Rattle.cedar_graph.specs.Calls.{HasAll, KeepsAll, OnlyAdds};
+ghost use Rattle.cedar_graph.specs.Calls.{CoversEdged, HasAll, KeepsAll, OnlyAdds};
 ghost use Rattle.cedar_graph.specs.laws.Reaches.{HasReached};
 ghost use Rattle.cedar_graph.specs.laws.Arcs.{Ascends, IsKeyAt, IsRowEdge};
 ghost use Rattle.cedar_graph.specs.laws.Readings.{AreRead, IsArc};
@@ -295,6 +295,10 @@ pub(crate) fn close<K: Clone + Eq + Hash, V: TCNode<K>, S: BuildHasher + Clone>(
         c.has_loop ≡ false → HasNoLoop (graph_of K.eq V.edges nodes.new)) }
     ensures reads { IfOk result (λ c. c.work.reads ≤ hash_map_len nodes.old) }
     ensures closings { IfOk result (λ c. c.work.closings ≤ hash_map_len nodes.old) }
+    ensures lists { IfOk result (λ c.
+        CoversEdged K.eq (graph_of K.eq V.edges nodes.old) c.work.reads) }
+    ensures visits { IfOk result (λ c.
+        CoversEdged K.eq (graph_of K.eq V.edges nodes.old) c.work.closings) }
 {
     let read = read_arcs(alloc, nodes)?;
     close_read(alloc, nodes, &read)

@@ -19,7 +19,7 @@ ghost use Rattle.std.specs.List.Sorted.{IsPermutation};
 ghost use Rattle.std.specs.Set.{is_member, ClonesAreEqual};
 ghost use Rattle.std.specs.HashMap.{hash_map_len};
 ghost use Rattle.std.specs.HashSet.{contains, hash_set_len};
-ghost use Rattle.cedar_graph.specs.Calls.{Closes, HasAll, KeepsAll, Repairs};
+ghost use Rattle.cedar_graph.specs.Calls.{Closes, CoversEdged, HasAll, KeepsAll, Repairs};
 ghost use Rattle.cedar_graph.specs.Graph.{graph_of, Grows, IsClosedWithoutLoop, KeysMatch};
 ghost use Rattle.cedar_graph.specs.Faults.{DeniesClosed};
 
@@ -235,9 +235,11 @@ pub trait TCNode<K: Eq + Drop> {
 /// How much a closure call did.
 #[derive(Clone, Copy, Debug, PartialEq, Eq)]
 pub struct Work {
-    /// How often the edges of a node were listed, by [`TCNode::list_edges`].
+    /// How often the edges of a node were listed, by [`TCNode::list_edges`]: so how often
+    /// [`TCNode::out_edges`] was called, of a node type that leaves that its default body.
     pub reads: usize,
-    /// How often a node of the map that was to be fixed was visited.
+    /// How often a node of the map that was to be fixed was visited: in a closure, a node that may
+    /// have edges; in a repair, a node at a key to fix.
     pub closings: usize,
 }
 
@@ -283,7 +285,8 @@ pub fn compute_tc<K: Clone + Eq + Hash + Debug + Display, V: TCNode<K>, S: Build
 }
 
 /// As [`compute_tc`], and counts: at most as many listings of edges as the map has nodes, and at
-/// most twice as many visits. The counts stay at `usize::MAX` once there.
+/// most twice as many visits; of both at least as many as it has nodes with an edge. The counts
+/// stay at `usize::MAX` once there.
 ///
 /// The original counts nothing.
 #[tactic(auto, using(crate::specs::laws::Nodes::keys_match_kept))]
@@ -299,6 +302,10 @@ pub fn compute_tc_counted<
     ensures closes { Closes K.eq V.edges enforce_dag nodes.old nodes.new result }
     ensures reads { IfOk result (λ w. w.reads ≤ hash_map_len nodes.old) }
     ensures closings { IfOk result (λ w. w.closings ≤ 2 * hash_map_len nodes.old) }
+    ensures lists { IfOk result (λ w.
+        CoversEdged K.eq (graph_of K.eq V.edges nodes.old) w.reads) }
+    ensures visits { IfOk result (λ w.
+        CoversEdged K.eq (graph_of K.eq V.edges nodes.old) w.closings) }
 {
     let closed = close(alloc, nodes)?;
     if !enforce_dag || !closed.has_loop {

@@ -245,8 +245,9 @@ impl Template {
         self.body.condition(alloc)
     }
 
-    /// The slots that the walk through the condition meets, as often as it meets them: those of the clause
-    /// first, then the resource's, then the principal's.
+    /// The slots that the walk through the condition meets, as often as it meets them. The walk comes to a node before
+    /// its children, and to these from the last to the first: so the slots of the clause come first, in that order,
+    /// then the resource's, the action's and the principal's.
     pub fn slots(&self) -> Slots<'_>
         ensures { result ≡ body_slots self.now }
     {
@@ -265,8 +266,8 @@ impl Template {
     ///
     /// Where the ids are others, the `ArityError` has exactly the template's slots that are not bound, in their order,
     /// as often as they stand there, and the bound ids that are no slots, in the order of ids. Where they are not,
-    /// `NotAnAction` has the uid. Takes memory for what a refusal has alone; `Memory` comes only where that was
-    /// refused.
+    /// `NotAnAction` has the uid. Takes memory for what a refusal has alone, so that bindings that fit take none;
+    /// `Memory` comes only where they do not and that was refused.
     pub fn check_binding(
         alloc: Global,
         template: &Template,

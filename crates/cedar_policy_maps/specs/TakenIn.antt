@@ -10,10 +10,10 @@ use Rattle.cedar_policy_maps.specs.Lists.{is_on}
 abbrev pub taken_in : Board → List BodyParts → List PolicyParts → Board
 taken_in b ts ps = record { bodies = b.bodies ++ ts; policies = b.policies ++ ps }
 
--- no policy has the id of one of these bodies
-abbrev pub AreFree : List BodyParts → List PolicyParts → Type 0
-AreFree [] ps = Unit {0}
-AreFree (t ∷ ts) ps = (list_any (is_policy_at t.id) ps ≡ false) × AreFree ts ps
+-- the ids of these bodies are free of these policies: no policy has one of them
+abbrev pub HaveIdsFreeOf : List BodyParts → List PolicyParts → Type 0
+HaveIdsFreeOf [] ps = Unit {0}
+HaveIdsFreeOf (t ∷ ts) ps = (list_any (is_policy_at t.id) ps ≡ false) × HaveIdsFreeOf ts ps
 
 -- policies are on none of these bodies but those that stand among others
 abbrev pub AreOnly : List BodyParts → List BodyParts → List PolicyParts → Type 0
@@ -31,8 +31,8 @@ AreBare (t ∷ ts) ps = (list_any (is_on t.id) ps ≡ false) × AreBare ts ps
 -- bodies and the new ones; and on new ones stood no policy
 pub record CanTakeIn (b : Board) (stand ts : List BodyParts) (ps : List PolicyParts) : Type 0 where
   pub board : IsBoard (taken_in b ts ps)
-  pub beside : AreFree b.bodies ps
-  pub behind : AreFree ts b.policies
+  pub beside : HaveIdsFreeOf b.bodies ps
+  pub behind : HaveIdsFreeOf ts b.policies
   pub once : AreOnce (λ (t : BodyParts). t.id) stand
   pub only : AreOnly b.bodies stand ps
   pub bare : AreBare ts b.policies

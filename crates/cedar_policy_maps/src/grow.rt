@@ -24,7 +24,7 @@ use std::hash::BuildHasher;
 use std::rc::Rc;
 
 /// What goes into maps: what stands there as well, and what joins.
-#[derive(Drop)]
+#[derive(Debug, Drop)]
 pub struct Parted<T> {
     /// What stands there as well.
     pub stand: Vec<T>,

@@ -3,7 +3,7 @@ use Rattle.std.specs.Prelude.{◌≡◌, ℕ, ◌+◌, ◌==◌, ◌⊎◌, List
 use Rattle.std.proofs.Common.{sym, refl, ◌∙◌, inl, inr}
 use Rattle.std.specs.List.{slice_split, list_all}
 use Rattle.cedar_lines.specs.Lines.{is_line_byte}
-use Rattle.cedar_entity_lines.specs.EntityCommand.{EntityCommand, IsEntityCommand}
+use Rattle.cedar_entity_lines.specs.EntityCommand.{IsEntityCommand}
 use Rattle.cedar_entity_lines.specs.laws.OneAnswer.{entity_gives}
 use Rattle.cedar_entity_lines.specs.laws.ReadCommands.{Found, entity_command_found}
 use Rattle.cedar_policy_lines.specs.PolicyCommand.{PolicyCommand, IsPolicyCommand}

@@ -1,10 +1,11 @@
 -- What the parts of a session make of its state.
-use Rattle.std.specs.Prelude.{◌≡◌, ◌↔◌, ◌==◌, ℕ, Bool, true, false, List, [], ◌∷◌, Result, Ok, Err, IfOk, IsTrue, OnErr}
+use Rattle.std.specs.Prelude.{◌≡◌, ◌==◌, ℕ, Bool, true, false, List, [], ◌∷◌, length, Result, Ok, Err, IfOk, OnErr}
 use Rattle.std.specs.Prelude.{is_err}
-use Rattle.std.proofs.Common.{refl, sym, subst, ◌∙◌}
-use Rattle.std.proofs.lemmas.Bool.{false≢true}
-use Rattle.std.specs.List.{list_all, slice_split}
 use mathlib.Core.List.{append-nil}
+use Rattle.std.proofs.lemmas.Bool.{false≢true}
+use Rattle.std.proofs.Common.{refl, sym, subst, ap, ◌∙◌, ne_eqb, arith}
+use Rattle.std.specs.List.{list_all, slice_split, join_with_byte}
+use Rattle.std.proofs.lemmas.List.Splits.{join_with_byte-slice_split}
 use Rattle.cedar_lines.specs.Lines.{is_line_byte}
 use Rattle.cedar_entity_lines.specs.EntityCommand.{EntityCommand, IsEntityCommand}
 use Rattle.cedar_entity_lines.specs.Holding as held
@@ -96,16 +97,24 @@ none_found fs nothing entity policy Nothing h = nothing h
 none_found fs nothing entity policy (Entity c) h = entity c h
 none_found fs nothing entity policy (Policy c) h = policy c h
 
--- a line whose fields are those of neither kind of command is taken where it is empty, and changes nothing
-pub line_left : (b : Bool) (line : List ℕ) (fs : List (List ℕ)) (s : State) (v : SessionView) (old new : List ℕ)
-    → list_all is_line_byte line ≡ true → fs ≡ slice_split (λ b. b == 9) line
-    → IsTrue b ↔ (fs ≡ [] ∷ []) → ((c : EntityCommand) → IsEntityCommand c (slice_split (λ b. b == 9) line) → ⊥)
+-- a line that is not empty has other fields than an empty one
+one_empty_field : (line : List ℕ) → slice_split (λ b. b == 9) line ≡ [] ∷ [] → line ≡ []
+one_empty_field line e = sym (join_with_byte-slice_split 9 line) ∙ ap (join_with_byte 9) e
+
+-- an empty line is taken as the command that does nothing
+pub nothing_taken : (line : List ℕ) (s : State) (v : SessionView) (old : List ℕ) → (length line == 0) ≡ true
+    → StandsAt v s → Takes true line s v old old
+nothing_taken [] s v old empty h = (Nothing, s, [], (refl, refl), (refl, refl), h, sym (append-nil old))
+nothing_taken (b ∷ bs) s v old empty h =
+    absurd (false≢true (sym (ne_eqb (length (b ∷ bs)) 0 (λ e. omega (arith, e))) ∙ empty))
+
+-- a line that is not empty and whose fields are those of neither kind of command is none, and changes nothing
+pub line_left : (line : List ℕ) (s : State) (v : SessionView) (old new : List ℕ) → (line ≡ [] → ⊥)
+    → ((c : EntityCommand) → IsEntityCommand c (slice_split (λ b. b == 9) line) → ⊥)
     → ((c : PolicyCommand) → IsPolicyCommand c (slice_split (λ b. b == 9) line) → ⊥)
-    → StandsAt v s → new ≡ old → Takes b line s v old new
-line_left true line fs s v old new readable same empty entity policy h kept =
-    (Nothing, s, [], (readable, sym same ∙ empty.0 refl), (refl, refl), h, kept ∙ sym (append-nil old))
-line_left false line fs s v old new readable same empty entity policy h kept = (
-  λ c k. none_found (slice_split (λ b. b == 9) line) (λ e. false≢true (empty.1 (same ∙ e))) entity policy c k.1,
+    → StandsAt v s → new ≡ old → Takes false line s v old new
+line_left line s v old new full entity policy h kept = (
+  λ c k. none_found (slice_split (λ b. b == 9) line) (λ e. full (one_empty_field line e)) entity policy c k.1,
   h,
   kept,
 )

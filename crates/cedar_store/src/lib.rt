@@ -1,4 +1,4 @@
-//! The store layer of the Cedar authorization language: one crate with all public names of the layers below it, and the
+//! The store layer of the Cedar authorization language: one crate with the public names of the layers below it, and the
 //! program over them.
 //!
 //! The names stand at the original's module paths: [`ast`] has ids, values, expressions, entities, templates, policies
@@ -7,6 +7,11 @@
 //! contracts say what that leaves; [`run`] reads lines and writes their answers, and its contract says that what is
 //! written is the output of what was read, by `specs/Output.antt`, and that each input has exactly one; a [`Session`]
 //! takes such lines one by one.
+//!
+//! What the layers below are made with, and none of these names needs, stays below: of `cedar_policy_maps` and
+//! `cedar_policy_merge` the maps of a policy set and their merging (`PolicyMaps`, `Found`, `Parted`, `is_link`,
+//! `has_no_slots`, `merge_maps`), of `cedar_children` the index of children (`Children`), and of `cedar_ids` the test of
+//! a text that is its own escape (`is_own_escape`).
 #![tactic(auto, using(cedar_ids::specs::laws::UidOfLaws::same_uid_decides))]
 
 mod program;
@@ -56,7 +61,8 @@ pub mod bindings {
     pub use cedar_action::action::JoinedUids;
     pub use cedar_binding::err::ArityText;
     pub use cedar_binding::{
-        JoinedBindings, bound_to, check_bindings, copy_of_bindings, no_bindings, same_bindings,
+        JoinedBindings, bound_to, check_bindings, copy_of_bindings, fitted_bindings, no_bindings,
+        same_bindings,
     };
 }
 
@@ -88,7 +94,7 @@ pub mod entity_lines {
 pub mod policy_lines {
     pub use cedar_lines::field::uid_field;
     pub use cedar_lines::known_types::KnownTypes;
-    pub use cedar_policy_lines::{PolicyCommand, PolicySets, read_policy_command};
+    pub use cedar_policy_lines::{PolicyCommand, PolicySets, TemplateSlots, read_policy_command};
 }
 
 /// Ids, names, uids, values, expressions, entities, scope constraints, templates, policies and policy sets, at the

@@ -1,8 +1,9 @@
 //! The program's work, from bytes to bytes.
-ghost use Rattle.std.specs.Prelude.{◌≡◌, ◌<◌, ◌==◌, ◌∷◌, List, ℕ, length, IfOk, OnOk, IfSome, IfErr, map};
+ghost use Rattle.std.specs.Prelude.{◌≡◌, ◌≢◌, ◌<◌, ◌≤◌, ◌==◌, ◌∷◌, List, ℕ, length, take, IfOk, OnOk, IfSome, IfErr};
 ghost use Rattle.std.specs.Option.{option_copied};
 ghost use Rattle.std.specs.List.{slice_split};
-ghost use Rattle.std.specs.Io.KnownBytes.{IsAtEnd, Appends};
+ghost use Rattle.std.specs.Io.KnownBytes.{IsAtEnd, Appends, Consumes};
+ghost use Rattle.std.specs.IoError.{error_kind};
 ghost use Rattle.cedar_store.specs.laws.FirstLine.{lines_left};
 ghost use Rattle.cedar_store.specs.Output.{IsOutput, HasOneOutput};
 ghost use Rattle.cedar_store.specs.Faults.{Leaves};
@@ -11,8 +12,8 @@ use crate::session::{Session, push_not_command};
 use memchr::memchr;
 use std::alloc::{AllocError, Global};
 use std::hash::{BuildHasher, BuildHasherDefault, FoldHasher};
-use std::io::{Read, Write};
-use std::mem;
+use std::io::{ErrorKind, Read, Write};
+use std::{io, mem};
 use thiserror::Error;
 
 /// Why a run ended early.
@@ -29,6 +30,28 @@ pub enum RunError {
     Memory,
 }
 
+// The bytes that come next, at the front of the buffer, and how many these are: none at the end. A read that was
+// interrupted is made again, and so is never what failed.
+fn read_some<R: Read>(reader: &mut R, buffer: &mut [u8]) -> io::Result<usize>
+    requires { 0 < length buffer.old }
+    ensures bound { IfOk result (λ n. n ≤ length buffer.new) }
+    ensures bytes { IfOk result (λ n. Consumes (R.remaining reader.old) (R.remaining reader.new) (take n buffer.new)) }
+    ensures end { IfOk result (λ n. n ≡ 0 → IsAtEnd (R.remaining reader.new)) }
+    ensures again { IfErr result (λ e. error_kind e ≢ ErrorKind.Interrupted) }
+{
+    for _ in 0..u64::MAX {
+        match reader.read(buffer) {
+            Ok(count) => return Ok(count),
+            Err(error) => {
+                if error.kind() != ErrorKind::Interrupted {
+                    return Err(error);
+                }
+            }
+        }
+    }
+    Err(io::Error::from(ErrorKind::Other))
+}
+
 // All bytes that a reader has left.
 fn read_all<R: Read>(alloc: Global, reader: &mut R) -> Result<Vec<u8>, RunError>
     ensures bytes { IfOk result (λ v. IfSome (R.remaining reader.old) (λ xs. v.items ≡ xs)) }
@@ -37,7 +60,7 @@ fn read_all<R: Read>(alloc: Global, reader: &mut R) -> Result<Vec<u8>, RunError>
     let mut input = Vec::new(alloc);
     let mut buffer = [0u8; 4096];
     for _ in 0..u64::MAX {
-        let count = reader.read(&mut buffer).map_err(|_| RunError::Read)?;
+        let count = read_some(reader, &mut buffer).map_err(|_| RunError::Read)?;
         if count == 0 {
             return Ok(input);
         }
@@ -65,21 +88,8 @@ fn first_line(input: &[u8]) -> (&[u8], Option<&[u8]>)
     }
 }
 
-// The lines of an input, between its line feeds.
-fn lines_of(alloc: Global, input: &[u8]) -> Result<Vec<&[u8]>, AllocError>
-    ensures { IfOk result (λ v. map (λ x. x.now) v.items ≡ slice_split (λ b. b == 10) input.now) }
-{
-    let mut lines = Vec::new(alloc);
-    let mut left = Some(input);
-    while let Some(rest) = left {
-        let (line, behind) = first_line(rest);
-        lines.push(line)?;
-        left = behind;
-    }
-    Ok(lines)
-}
-
-// What is written for an input, the status, and the session as it stands then.
+// What is written for an input, the status, and the session as it stands then. Nothing is kept of a line that was
+// taken but what the session and the output have of it.
 fn answer<S: BuildHasher + Copy>(
     alloc: Global,
     hasher: S,
@@ -87,15 +97,19 @@ fn answer<S: BuildHasher + Copy>(
 ) -> Result<(Vec<u8>, u8, Session<S>), AllocError>
     ensures { IfOk result (λ r. IsOutput input.now (record { bytes = r.0.items; status = r.1 })) }
 {
-    let lines = lines_of(alloc, input)?;
     let mut session = Session::with_hasher(alloc, hasher);
     let mut fields = Vec::new(alloc);
     let mut out = Vec::new(alloc);
-    for (i, line) in lines.iter().enumerate() {
+    let mut number = 0;
+    let mut left = Some(input);
+    while let Some(rest) = left {
+        let (line, behind) = first_line(rest);
+        number += 1;
         if !session.take_fields_of(alloc, &mut fields, line, &mut out)? {
-            push_not_command(alloc, &mut out, i + 1)?;
+            push_not_command(alloc, &mut out, number)?;
             return Ok((out, 2, session));
         }
+        left = behind;
     }
     Ok((out, 0, session))
 }

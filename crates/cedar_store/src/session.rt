@@ -1,5 +1,5 @@
 //! A session: what takes the lines of the program one by one, and answers each.
-ghost use Rattle.std.specs.Prelude.{◌≡◌, ◌↔◌, ◌++◌, ◌∷◌, [], IfOk, IsTrue, OnOk, OnErr, IsErr, map};
+ghost use Rattle.std.specs.Prelude.{◌≡◌, ◌++◌, IfOk, OnOk, OnErr, IsErr, map};
 ghost use Rattle.cedar_store.specs.Command.{Entity, Policy};
 ghost use Rattle.cedar_store.specs.Sessions.{StandsAt, IsLost, Takes};
 ghost use Rattle.cedar_store.specs.laws.Sessions.{TakesKind};
@@ -46,16 +46,6 @@ pub fn push_not_command(alloc: Global, out: &mut Vec<u8>, number: usize) -> Resu
 {
     let text = format!(in alloc; "line {number}: not a command")?;
     push_line(out, text.as_str())
-}
-
-// Whether the fields are those of an empty line.
-fn is_nothing(fields: &[&str]) -> bool
-    ensures { IsTrue result ↔ (map (λ f. f.now) fields.now ≡ [] ∷ []) }
-{
-    match fields.split_first() {
-        Some((word, rest)) => word.is_empty() && rest.is_empty(),
-        None => false,
-    }
 }
 
 impl Session {
@@ -121,9 +111,10 @@ impl<S: BuildHasher + Copy> Session<S> {
         }
     }
 
-    // Takes a line, and says whether it is a command. What the fields are before says nothing: they are set to those
-    // of the line. Lines of entities are the most, so the store is asked for these first. A command goes from where it
-    // is read straight to what it is for.
+    // Takes a line, and says whether it is a command. What the fields are before and after says nothing: those of a
+    // line that is not empty are put there. An empty line is a command that does nothing, and is told before its fields
+    // are read. Lines of entities are the most of the others, so the store is asked for these first. A command goes
+    // from where it is read straight to what it is for.
     pub(crate) fn take_fields_of<'a>(
         &mut self,
         alloc: Global,
@@ -134,6 +125,9 @@ impl<S: BuildHasher + Copy> Session<S> {
         ensures { IfOk result (λ known. (s : State) → StandsAt self.old s →
             Takes known line.now s self.new out.old.items out.new.items) }
     {
+        if line.is_empty() {
+            return Ok(true);
+        }
         let is_text = read_fields(fields, line)?;
         if !is_text {
             return Ok(false);
@@ -150,7 +144,7 @@ impl<S: BuildHasher + Copy> Session<S> {
         if on_sets {
             return Ok(true);
         }
-        Ok(is_nothing(fields))
+        Ok(false)
     }
 
     /// Takes a line, given without its line feed, and says whether it is a command. One that is has its answer added

@@ -9,8 +9,8 @@ use std::process::ExitCode;
 fn main(rt: HostRuntime) -> ExitCode {
     let hasher = match KeyedState::new(&rt) {
         Ok(hasher) => hasher,
-        Err(error) => {
-            let _ = eprintln!(rt; "{error}");
+        Err(_) => {
+            let _ = eprintln!(rt; "no random key");
             return ExitCode::FAILURE;
         }
     };

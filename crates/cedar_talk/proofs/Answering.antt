@@ -3,9 +3,9 @@ use Rattle.std.proofs.Common.{◌≡◌, ℕ, ◌+◌, ◌==◌, List, [], ◌�
 use Rattle.std.proofs.Common.{append-nil, inl, inr, arith}
 use Rattle.std.specs.List.{slice_split}
 use Rattle.cedar_store.specs.Command.{Command, Nothing, IsLine}
-use Rattle.cedar_store.specs.Output.{State, Written, Gives, start, after, not_command, IsOutput, IsOutputFrom}
-use Rattle.cedar_talk.specs.Heard.{Heard, IsHeard, all_lines}
-use Rattle.cedar_talk.specs.Conversation.{Answers, AnswersFrom, AreAnswers, AnswersAll}
+use Rattle.cedar_store.specs.Output.{State, Written, start, after, not_command, IsOutput, IsOutputFrom}
+use Rattle.cedar_talk.specs.Heard.{all_lines}
+use Rattle.cedar_talk.specs.Conversation.{Answers, AnswersFrom, AnswersAll}
 use Rattle.cedar_talk.specs.declared.manner.Manner.{Manner}
 use Rattle.cedar_talk.specs.declared.manner.Manner.TheVariants.{Strict}
 use Rattle.cedar_talk.proofs.Parting.{heard_parts}

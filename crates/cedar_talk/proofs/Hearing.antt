@@ -6,8 +6,8 @@ use Rattle.std.specs.List.{slice_split}
 use Rattle.cedar_store.specs.Command.{Command, IsLine}
 use Rattle.cedar_store.specs.Output.{State, start, not_command, IsOutput}
 use Rattle.cedar_store.specs.Sessions.{SessionView, StandsAt, Takes}
-use Rattle.cedar_talk.specs.Heard.{Heard, IsHeard, all_lines}
-use Rattle.cedar_talk.specs.Conversation.{GoesOn, Answers, AnswersFrom, AreAnswers, AnswersAll}
+use Rattle.cedar_talk.specs.Heard.{all_lines}
+use Rattle.cedar_talk.specs.Conversation.{GoesOn, Answers, AnswersFrom, AnswersAll}
 use Rattle.cedar_talk.specs.laws.Hearing.{IsRefused, IsAnswered, Has, Hears, Closes}
 use Rattle.cedar_talk.specs.declared.conversation.Conversation.{Conversation}
 use Rattle.cedar_talk.specs.declared.manner.Manner.{Manner}

@@ -1,5 +1,5 @@
 -- The lines of an input, byte by byte and as its parts.
-use Rattle.std.proofs.Common.{◌≡◌, ℕ, ◌==◌, List, [], ◌∷◌, ◌++◌, length, refl, sym, ap, subst, ◌∙◌, append_assoc}
+use Rattle.std.proofs.Common.{◌≡◌, ℕ, ◌==◌, List, [], ◌∷◌, ◌++◌, length, refl, sym, ap, ◌∙◌, append_assoc}
 use Rattle.std.proofs.Common.{append-nil, ne_eqb, arith}
 use Rattle.std.specs.Prelude.{◌≢◌, ◌<◌}
 use Rattle.std.specs.List.{AllByRecursion, flat_map, slice_split, onto_first}

@@ -1,12 +1,11 @@
 -- A conversation over a reader and a writer, one read further and at its end.
-use Rattle.std.proofs.Common.{◌≡◌, ◌⊎◌, ℕ, List, [], ◌∷◌, ◌++◌, Option, Some, None, Result, Ok, Err, IfSome, IfOk}
-use Rattle.std.proofs.Common.{IfErr, OnOk, refl, sym, ap, subst, ◌∙◌, append_assoc, append-nil, inl, inr, true, false}
+use Rattle.std.proofs.Common.{◌≡◌, ◌≤◌, ℕ, List, [], ◌++◌, Option, Some, None, Result, Ok, Err, IfSome, IfOk}
+use Rattle.std.proofs.Common.{IfErr, refl, sym, ap, subst, ◌∙◌, append_assoc, append-nil, inl, inr, true, false}
+use Rattle.std.proofs.Common.{length, arith}
 use Rattle.std.specs.Io.KnownBytes.{Appends, Consumes, IsAtEnd, Keeps}
-use Rattle.cedar_store.specs.Output.{start, IsOutput}
-use Rattle.cedar_store.specs.Sessions.{StandsAt}
-use Rattle.cedar_talk.specs.Heard.{Heard, IsHeard}
-use Rattle.cedar_talk.specs.Conversation.{AnswersFrom, AnswersEnded, AnswersAll, Leaves}
-use Rattle.cedar_talk.specs.laws.Hearing.{Has, Hears, Closes}
+use Rattle.cedar_store.specs.Output.{IsOutput}
+use Rattle.cedar_talk.specs.Conversation.{AnswersEnded, AnswersAll, Leaves, StopsNear}
+use Rattle.cedar_talk.specs.laws.Hearing.{Has, Hears}
 use Rattle.cedar_talk.specs.laws.Talking.{Finishes, Converses, IsReadFault, IsWriteFault}
 use Rattle.cedar_talk.specs.declared.conversation.Conversation.{Conversation}
 use Rattle.cedar_talk.specs.declared.manner.Manner.{Manner}
@@ -51,16 +50,16 @@ abbrev pub SoFar : {S H : Type 0} → Option (List ℕ) → Option (List ℕ) �
     → Conversation S H → Type 0
 SoFar r r' w w' k = (bytes : List ℕ) × (out : List ℕ) × Consumes r r' bytes × Has k bytes out × Appends w w' out
 
-pub nothing_yet : {S H : Type 0} (r w : Option (List ℕ)) (k : Conversation S H) → Has k [] [] → SoFar r r w w k
+unfoldable pub nothing_yet : {S H : Type 0} (r w : Option (List ℕ)) (k : Conversation S H) → Has k [] [] → SoFar r r w w k
 nothing_yet r w k h = ([], [], reads_none r, h, writes_none w)
 
 -- what was answered so far
-answered : {S H : Type 0} (k : Conversation S H) (bytes out : List ℕ) → Has k bytes out
+pub answered : {S H : Type 0} (k : Conversation S H) (bytes out : List ℕ) → Has k bytes out
     → AnswersEnded k.manner bytes out
 answered k bytes out h = (h.heard, h.is_heard, (h.state, h.answers))
 
 -- a piece more was read, and its answers written
-pub one_more : {S H : Type 0} (r r' r'' w w' w'' : Option (List ℕ)) (k l : Conversation S H) (piece out : List ℕ)
+unfoldable pub one_more : {S H : Type 0} (r r' r'' w w' w'' : Option (List ℕ)) (k l : Conversation S H) (piece out : List ℕ)
     → SoFar r r' w w' k → Consumes r' r'' piece → Hears true k piece l [] out → Appends w' w'' out → SoFar r r'' w w'' l
 one_more r r' r'' w w' w'' k l piece out s read hears sent = (
   s.0 ++ piece,
@@ -92,13 +91,14 @@ reads_end m r r' w w' k is s = (s.0, s.1, s.2, subst (λ n. AnswersEnded n s.0 s
 -- memory is refused for what came last
 pub memory_fails : {S H : Type 0} (m : Manner) (e : TalkError) (r r' r'' w w' : Option (List ℕ)) (k : Conversation S H)
     (piece : List ℕ) → e ≡ Memory → k.manner ≡ m
-    → SoFar r r' w w' k → Consumes r' r'' piece → Leaves m e r r'' w w'
-memory_fails m e r r' r'' w w' k piece f is s read =
+    → SoFar r r' w w' k → Consumes r' r'' piece → length piece ≤ 4096 → Leaves m e r r'' w w'
+memory_fails m e r r' r'' w w' k piece f is s read most =
     subst (λ d. Leaves m d r r'' w w') (sym f) (
       s.0,
       piece,
       s.1,
       reads_then r r' r'' s.0 piece s.2 read,
+      most,
       subst (λ n. AnswersEnded n s.0 s.1) is (answered k s.0 s.1 s.3),
       s.4,
     )
@@ -138,8 +138,8 @@ of_whole Q (Some a) (Some b) bytes c end q = subst Q (sym (c ∙ ap (λ z. bytes
 pub line_stops : {S H : Type 0} (m : Manner) (r r' r'' w w' w'' : Option (List ℕ)) (k l : Conversation S H)
     (piece out : List ℕ) → k.manner ≡ m
     → SoFar r r' w w' k → Consumes r' r'' piece → Hears false k piece l [] out → Appends w' w'' out
-    → Converses m (Ok 2) r r'' w w''
-line_stops m r r' r'' w w' w'' k l piece out e s read hears sent = (
+    → length piece ≤ 4096 → Converses m (Ok 2) r r'' w w''
+line_stops m r r' r'' w w' w'' k l piece out e s read hears sent most = (
   s.0 ++ piece,
   s.1 ++ out,
   reads_then r r' r'' s.0 piece s.2 read,
@@ -150,6 +150,14 @@ line_stops m r r' r'' w w' w'' k l piece out e s read hears sent = (
     of_all (λ input. IsOutput input (record { bytes = s.1 ++ out; status = 2 })) r r'' (s.0 ++ piece)
         (reads_then r r' r'' s.0 piece s.2 read)
         (λ rest. (hears s.0 s.1 rest (subst (Has k s.0) (sym (append-nil s.1)) s.3)).1),
+    (
+      s.0,
+      piece,
+      s.1,
+      reads_then r r' r'' s.0 piece s.2 read,
+      most,
+      subst (λ n. AnswersEnded n s.0 s.1) e (answered k s.0 s.1 s.3),
+    ),
   ),
 )
 
@@ -170,13 +178,21 @@ input_ends m r r' r'' w w' w'' k (Ok status) e s read end f =
           sym e ∙ (a.1 s.0 s.1 s.3).0,
           of_whole (λ input. IsOutput input (record { bytes = s.1 ++ f.0; status = 2 })) r r'' s.0 all end
               (a.1 s.0 s.1 s.3).1,
+          (
+            s.0,
+            [],
+            s.1,
+            reads_then r r' r'' s.0 [] s.2 read,
+            omega arith,
+            subst (λ n. AnswersEnded n s.0 s.1) e (answered k s.0 s.1 s.3),
+          ),
         )
       ],
     )
 input_ends m r r' r'' w w' w'' k (Err Read) e s read end f = absurd f
 input_ends m r r' r'' w w' w'' k (Err Write) e s read end f = tt
 input_ends m r r' r'' w w' w'' k (Err Memory) e s read end f =
-    memory_fails m Memory r r' r'' w w'' k [] refl e (subst (λ v. SoFar r r' w v k) (sym f) s) read
+    memory_fails m Memory r r' r'' w w'' k [] refl e (subst (λ v. SoFar r r' w v k) (sym f) s) read (omega arith)
 
 -- ---- the clauses of `talk`
 
@@ -236,3 +252,11 @@ pub is_fault : (m : Manner) (result : Result ℕ TalkError) (r r' w w' : Option 
     → IfErr result (λ e. Leaves m e r r' w w')
 is_fault m (Ok status) r r' w w' c = tt
 is_fault m (Err e) r r' w w' c = c
+
+pub is_near : (m : Manner) (result : Result ℕ TalkError) (r r' w w' : Option (List ℕ)) → Converses m result r r' w w'
+    → IfOk result (λ status. status ≡ 2 → StopsNear m r r')
+is_near m (Ok status) r r' w w' c = elim c.4 [
+  | inl a ↦ λ t. absurd (zero_or_two status a.0 t)
+  | inr a ↦ λ t. a.3
+]
+is_near m (Err e) r r' w w' c = tt

@@ -1,5 +1,5 @@
 -- What a conversation answers, line by line.
-use Rattle.std.specs.Prelude.{◌≡◌, ◌≢◌, ◌⊎◌, ℕ, ◌+◌, List, [], ◌∷◌, ◌++◌, Option, codes}
+use Rattle.std.specs.Prelude.{◌≡◌, ◌≢◌, ◌≤◌, ◌⊎◌, ℕ, ◌+◌, List, [], ◌∷◌, ◌++◌, Option, codes, length}
 use Rattle.std.specs.Io.KnownBytes.{Appends, Consumes}
 use Rattle.cedar_store.specs.Command.{Command, IsLine}
 use Rattle.cedar_store.specs.Output.{State, Gives, start, not_command}
@@ -44,11 +44,17 @@ AnswersEnded m bytes out = (h : Heard) × IsHeard bytes h × AreAnswers m h.line
 abbrev pub AnswersAll : Manner → List ℕ → List ℕ → Type 0
 AnswersAll m input out = (h : Heard) × IsHeard input h × AreAnswers m (all_lines h) out
 
+-- all lines were answered that ended in what was read, but for its last 4,096 bytes at the most
+abbrev pub StopsNear : Manner → Option (List ℕ) → Option (List ℕ) → Type 0
+StopsNear m r r' = (bytes : List ℕ) × (more : List ℕ) × (out : List ℕ) × Consumes r r' (bytes ++ more)
+    × (length more ≤ 4096) × AnswersEnded m bytes out
+
 -- what a fault leaves. Where a read failed, what was written is the answers to all lines that had been read to their
--- line feed; where memory was refused, to all that had been before some read. Of a write fault nothing is said
+-- line feed; where memory was refused, to all that had been but for what the last read brought, 4,096 bytes at the
+-- most. Of a write fault nothing is said
 abbrev pub Leaves : Manner → TalkError → Option (List ℕ) → Option (List ℕ) → Option (List ℕ) → Option (List ℕ) → Type 0
 Leaves m Read r r' w w' = (bytes : List ℕ) × (out : List ℕ) × Consumes r r' bytes × AnswersEnded m bytes out
     × Appends w w' out
 Leaves m Memory r r' w w' = (bytes : List ℕ) × (more : List ℕ) × (out : List ℕ) × Consumes r r' (bytes ++ more)
-    × AnswersEnded m bytes out × Appends w w' out
+    × (length more ≤ 4096) × AnswersEnded m bytes out × Appends w w' out
 Leaves m Write r r' w w' = Unit {0}

@@ -1,3 +1,4 @@
 pub mod Conversation
 pub mod Heard
+pub mod Order
 pub mod laws

@@ -4,8 +4,9 @@
 
 use cedar_keyed_hash::KeyedState;
 use cedar_talk::{Manner, help_text, talk};
+use std::env::{Env, FillError};
+use std::io;
 use std::process::ExitCode;
-use std::{env, io};
 
 // What a start of the program asks for.
 #[derive(Clone, Copy)]
@@ -15,29 +16,34 @@ enum Asked {
     Unknown,
 }
 
-// What one argument asks for.
-fn named(argument: &str) -> Asked {
-    match argument {
-        "--strict" => Asked::Talk(Manner::Strict),
-        "--help" => Asked::Help,
-        _ => Asked::Unknown,
+// What an argument asks for: one that is no text is unknown as any other.
+fn named(argument: &[u8]) -> Asked {
+    if argument == b"--strict".as_slice() {
+        Asked::Talk(Manner::Strict)
+    } else if argument == b"--help".as_slice() {
+        Asked::Help
+    } else {
+        Asked::Unknown
     }
 }
 
-// What the arguments ask for, of which there is one at the most.
-fn read_arguments(rt: &HostRuntime) -> io::Result<Asked> {
-    let mut asked = Asked::Talk(Manner::Lenient);
-    for (i, argument) in env::args(rt)?.enumerate() {
-        if i > 0 {
-            asked = if i > 1 {
-                Asked::Unknown
-            } else {
-                named(argument.as_str())
-            };
-        }
-        drop(argument);
+// What the argument at this place asks for, if there is one: it is unknown where it has no room in 16 bytes.
+fn argument(rt: &HostRuntime, place: usize) -> Option<Asked> {
+    let mut room = [0u8; 16];
+    match rt.arg(place, &mut room) {
+        Ok(length) => Some(named(&room[..length])),
+        Err(FillError::TooLong) => Some(Asked::Unknown),
+        Err(FillError::NotPresent) => None,
     }
-    Ok(asked)
+}
+
+// What the arguments ask for, of which there is one at the most behind the name of the program. Takes no memory.
+fn read_arguments(rt: &HostRuntime) -> Asked {
+    match (argument(rt, 1), argument(rt, 2)) {
+        (None, _) => Asked::Talk(Manner::Lenient),
+        (Some(asked), None) => asked,
+        (Some(_), Some(_)) => Asked::Unknown,
+    }
 }
 
 // Says that a fault ended the program.
@@ -46,13 +52,11 @@ fn fault(rt: &HostRuntime, text: &str) -> ExitCode {
     ExitCode::FAILURE
 }
 
+// Holds a conversation over the standard streams.
 fn held(rt: &HostRuntime, manner: Manner) -> ExitCode {
     let hasher = match KeyedState::new(rt) {
         Ok(hasher) => hasher,
-        Err(error) => {
-            let _ = eprintln!(rt; "{error}");
-            return ExitCode::FAILURE;
-        }
+        Err(_) => return fault(rt, "no random key"),
     };
     match talk(
         rt.alloc(),
@@ -71,15 +75,14 @@ fn held(rt: &HostRuntime, manner: Manner) -> ExitCode {
 
 fn main(rt: HostRuntime) -> ExitCode {
     match read_arguments(&rt) {
-        Ok(Asked::Talk(manner)) => held(&rt, manner),
-        Ok(Asked::Help) => match print!(rt; "{}", help_text()) {
+        Asked::Talk(manner) => held(&rt, manner),
+        Asked::Help => match print!(rt; "{}", help_text()) {
             Ok(()) => ExitCode::SUCCESS,
             Err(_) => fault(&rt, "write fault"),
         },
-        Ok(Asked::Unknown) => {
+        Asked::Unknown => {
             let _ = eprintln!(rt; "usage: talk [--strict | --help]");
             ExitCode::from(2)
         }
-        Err(_) => fault(&rt, "the arguments could not be read"),
     }
 }

@@ -1,6 +1,6 @@
 -- What is read of a map of nodes: numbers for keys, and arcs between them.
-use Rattle.std.specs.Prelude.{◌≡◌, ℕ, List, ◌<◌, ◌≤◌, ◌+◌, ◌++◌, ◌∷◌, [], ◌⊎◌, Bool, true, length, take, slice_get}
-use Rattle.std.specs.Prelude.{Some, IsSomeAnd}
+use Rattle.std.specs.Prelude.{◌≡◌, ℕ, List, ◌<◌, ◌≤◌, ◌+◌, ◌^◌, ◌++◌, ◌∷◌, [], ◌⊎◌, Bool, true, length, take, slice_get}
+use Rattle.std.specs.Prelude.{Some, IsSomeAnd, is_some}
 use Rattle.std.specs.Borrow.{Bor}
 use Rattle.std.specs.Set.{is_member}
 use Rattle.std.specs.HashMap.{HashMap, get, hash_map_len}
@@ -61,11 +61,13 @@ abbrev pub AreNodesAt : {K V S : Type 0} → (K → K → Bool) → HashMap K V 
 AreNodesAt {K} {V} eq nodes keys rows = (i : ℕ) (k : K) (r : Bor V) → slice_get keys i ≡ Some k
     → slice_get rows i ≡ Some r → get eq nodes k ≡ Some r.now
 
--- in each graph in which the key of number a has these edges, one more row of arcs is read
+-- in each graph in which the key of number a has these edges, one more row of arcs is read, and counted where the count
+-- can go on
 pub record ReadsNode {K S H : Type 0} (eq : K → K → Bool) (row : K → Bool) (a : ℕ) (old new : Reading K S H)
     : Type 0 where
   pub unique : IsUnique eq new.keys
   pub on : ReadsOn 1 old new
+  pub counts : old.reads + 1 < 2 ^ 64 → new.reads ≡ old.reads + 1
   pub read : (G : K → K → Bool) → IsReadBelow eq G a old
       → ((x q : K) → slice_get old.keys.keys a ≡ Some x → row q ≡ G x q) → IsReadBelow eq G (a + 1) new
 
@@ -73,6 +75,7 @@ pub record ReadsNode {K S H : Type 0} (eq : K → K → Bool) (row : K → Bool)
 pub record ReadsNodes {K V S H : Type 0} (eq : K → K → Bool) (edges : V → K → Bool) (rows : List (Bor V))
     (old new : Reading K S H) : Type 0 where
   pub on : ReadsOn (length rows) old new
+  pub counts : old.reads + length rows < 2 ^ 64 → new.reads ≡ old.reads + length rows
   pub read : (G : K → K → Bool) → ((i : ℕ) (x q : K) (r : Bor V) → slice_get old.keys.keys i ≡ Some x
       → slice_get rows i ≡ Some r → edges r.now q ≡ G x q) → IsReadBelow eq G (length rows) new
 
@@ -87,7 +90,7 @@ pub record AreRead {K S H : Type 0} (eq : K → K → Bool) (G : K → K → Boo
   pub complete : (a : ℕ) (x q : K) → a < read.fixed → slice_get read.reading.keys.keys a ≡ Some x → G x q ≡ true
       → (b : ℕ) × (y : K) × IsArc read.reading a b × (slice_get read.reading.keys.keys b ≡ Some y) × (eq q y ≡ true)
 
--- the arcs are all edges of a map, and its keys with edges are to be fixed, each of which was read once at most
+-- the arcs are all edges of a map, and its keys with edges are to be fixed, each of which was read and counted
 pub record ReadsAll {K V S H : Type 0} (eq : K → K → Bool) (edges : V → K → Bool) (nodes : HashMap K V S)
     (read : FixReading K S H) : Type 0 where
   pub unique : IsUnique eq read.reading.keys
@@ -96,8 +99,10 @@ pub record ReadsAll {K V S H : Type 0} (eq : K → K → Bool) (edges : V → K 
   pub fixed : read.fixed ≤ length read.reading.keys.keys
   pub same : AreSameEdges eq (graph_of eq edges nodes) read.reading.keys.keys (IsArc read.reading)
   pub all : (q b : K) → graph_of eq edges nodes q b ≡ true → HasNumberBelow eq read.fixed read.reading.keys.keys q
+  pub there : (i : ℕ) (k : K) → i < read.fixed → slice_get read.reading.keys.keys i ≡ Some k
+      → is_some (get eq nodes k) ≡ true
   pub few : read.fixed ≤ hash_map_len nodes
-  pub reads : read.reading.reads ≤ read.fixed
+  pub reads : read.reading.reads ≡ read.fixed
 
 -- the arcs are the edges of the keys to fix, which come first, and of those that these have an edge to
 pub record ReadsFix {K V S F H : Type 0} (eq : K → K → Bool) (edges : V → K → Bool) (fix : HashSet K F)

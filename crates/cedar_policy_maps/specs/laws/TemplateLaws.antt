@@ -13,7 +13,7 @@ use Rattle.cedar_body.specs.Bodies.{BodyParts}
 use Rattle.cedar_policy.specs.Policies.{PolicyParts, policy_id}
 use Rattle.cedar_policy_maps.specs.Boards.{is_body_at, is_policy_at}
 use Rattle.cedar_policy_maps.specs.Maps.{ids_by_body, templates_in}
-use Rattle.cedar_policy_maps.specs.TakenIn.{AreFree}
+use Rattle.cedar_policy_maps.specs.TakenIn.{HaveIdsFreeOf}
 use Rattle.cedar_policy_maps.specs.laws.OnceLaws.{find-filter, find-unless}
 
 neither : (a c : Bool) → a ≡ false → c ≡ false → (a || c) ≡ false
@@ -41,7 +41,7 @@ none-filter p t (x ∷ xs) h = grind (arith, common_steps, h x, none-filter p t 
 -- ---- what joins
 
 -- policies that have no id of these bodies
-pub templates_beside : (ts : List BodyParts) (ps qs : List PolicyParts) → AreFree ts qs
+pub templates_beside : (ts : List BodyParts) (ps qs : List PolicyParts) → HaveIdsFreeOf ts qs
     → templates_in (ps ++ qs) ts ≡ templates_in ps ts
 templates_beside [] ps qs h = refl
 templates_beside (t ∷ ts) ps qs h =
@@ -50,7 +50,7 @@ templates_beside (t ∷ ts) ps qs h =
     λ j. cond (not (e j)) (t ∷ templates_beside ts ps qs h.1 j) (templates_beside ts ps qs h.1 j)
 
 -- bodies of which no policy before has the id
-pub templates_behind : (ts : List BodyParts) (ps qs : List PolicyParts) → AreFree ts ps
+pub templates_behind : (ts : List BodyParts) (ps qs : List PolicyParts) → HaveIdsFreeOf ts ps
     → templates_in (ps ++ qs) ts ≡ templates_in qs ts
 templates_behind [] ps qs h = refl
 templates_behind (t ∷ ts) ps qs h =
@@ -59,7 +59,7 @@ templates_behind (t ∷ ts) ps qs h =
     λ j. cond (not (e j)) (t ∷ templates_behind ts ps qs h.1 j) (templates_behind ts ps qs h.1 j)
 
 -- both
-pub templates_joined : (ts us : List BodyParts) (ps qs : List PolicyParts) → AreFree ts qs → AreFree us ps →
+pub templates_joined : (ts us : List BodyParts) (ps qs : List PolicyParts) → HaveIdsFreeOf ts qs → HaveIdsFreeOf us ps →
     templates_in (ps ++ qs) (ts ++ us) ≡ templates_in ps ts ++ templates_in qs us
 templates_joined ts us ps qs h g =
     filter-append (λ (t : BodyParts). not (list_any (is_policy_at t.id) (ps ++ qs))) ts us
@@ -67,7 +67,7 @@ templates_joined ts us ps qs h g =
 
 -- one policy, whose id no body has
 pub free_of_one : (ts : List BodyParts) (p : PolicyParts) → list_any (is_body_at (policy_id p)) ts ≡ false
-    → AreFree ts (p ∷ [])
+    → HaveIdsFreeOf ts (p ∷ [])
 free_of_one [] p h = tt
 free_of_one (t ∷ ts) p h =
     let n = or_parts _ _ h in

@@ -16,7 +16,7 @@ use Rattle.cedar_policy_maps.specs.Boards.{Board, is_bound, is_body_at, is_polic
 use Rattle.cedar_policy_maps.specs.Lists.{is_on}
 use Rattle.cedar_policy_merge.specs.Merge.{renamed_body, renamed_policy, joined_bodies, joined_policies}
 use Rattle.cedar_policy_maps.specs.laws.BoardLaws.{no_body_at, no_policy_at}
-use Rattle.cedar_policy_maps.specs.TakenIn.{AreFree, AreOnly, AreBare, CanTakeIn}
+use Rattle.cedar_policy_maps.specs.TakenIn.{HaveIdsFreeOf, AreOnly, AreBare, CanTakeIn}
 use Rattle.cedar_policy_maps.specs.laws.MapLaws.{none_on_it}
 use Rattle.cedar_policy_merge.specs.laws.MergeLaws.{Renames, AreAll, bodies_bound, body_bound, body_new, found_there}
 use Rattle.cedar_policy_merge.specs.laws.MergeLaws.{any_renamed, once_renamed, merged_is_board}
@@ -119,7 +119,7 @@ bound_fails h i p b e = ap (λ k. not (is_bound h k)) (sym ((same_text_decides i
 
 all_beside : (h : Board) (ts : List BodyParts) (ps : List PolicyParts)
     → AreAll (λ (t : BodyParts). is_bound h t.id ≡ true) ts
-    → AreFree ts (filter (λ p. not (is_bound h (policy_id p))) ps)
+    → HaveIdsFreeOf ts (filter (λ p. not (is_bound h (policy_id p))) ps)
 all_beside h [] ps a = tt
 all_beside h (t ∷ ts) ps a = (
   none-filter (λ p. not (is_bound h (policy_id p))) (is_policy_at t.id) ps
@@ -127,12 +127,12 @@ all_beside h (t ∷ ts) ps a = (
   all_beside h ts ps a.1,
 )
 
-behind_at : (v : Bool) (h : Board) (t : BodyParts) (ts : List BodyParts) → is_bound h t.id ≡ v → AreFree ts h.policies
-    → AreFree (cond (not v) (t ∷ ts) ts) h.policies
+behind_at : (v : Bool) (h : Board) (t : BodyParts) (ts : List BodyParts) → is_bound h t.id ≡ v
+    → HaveIdsFreeOf ts h.policies → HaveIdsFreeOf (cond (not v) (t ∷ ts) ts) h.policies
 behind_at true h t ts e r = r
 behind_at false h t ts e r = (no_policy_at h t.id e, r)
 
-all_behind : (h : Board) (ts : List BodyParts) → AreFree (filter (λ t. not (is_bound h t.id)) ts) h.policies
+all_behind : (h : Board) (ts : List BodyParts) → HaveIdsFreeOf (filter (λ t. not (is_bound h t.id)) ts) h.policies
 all_behind h [] = tt
 all_behind h (t ∷ ts) = behind_at (is_bound h t.id) h t (filter (λ t. not (is_bound h t.id)) ts) refl (all_behind h ts)
 

@@ -1,8 +1,8 @@
 -- What a conversation over a reader and a writer comes to.
-use Rattle.std.specs.Prelude.{◌≡◌, ◌⊎◌, ℕ, List, ◌++◌, Option, Result, Ok, Err, IfSome, true, false}
+use Rattle.std.specs.Prelude.{◌≡◌, ◌⊎◌, ℕ, List, Option, Result, Ok, Err, IfSome, true, false}
 use Rattle.std.specs.Io.KnownBytes.{Appends, Consumes, IsAtEnd}
 use Rattle.cedar_store.specs.Output.{IsOutput}
-use Rattle.cedar_talk.specs.Conversation.{AnswersAll, Leaves}
+use Rattle.cedar_talk.specs.Conversation.{AnswersAll, Leaves, StopsNear}
 use Rattle.cedar_talk.specs.laws.Hearing.{Closes}
 use Rattle.cedar_talk.specs.declared.conversation.Conversation.{Conversation}
 use Rattle.cedar_talk.specs.declared.manner.Manner.{Manner}
@@ -33,10 +33,11 @@ Finishes (Err Write) k w w' = Unit {0}
 Finishes (Err Memory) k w w' = w' ≡ w
 
 -- the input was read to its end and all of its lines answered; or, strictly, the output of a run over it was written,
--- which ends at a line that is no command
+-- which ends at a line that is no command, and little was read behind that
 abbrev pub Converses : Manner → Result ℕ TalkError → Option (List ℕ) → Option (List ℕ) → Option (List ℕ)
     → Option (List ℕ) → Type 0
 Converses m (Ok status) r r' w w' = (bytes : List ℕ) × (out : List ℕ) × Consumes r r' bytes × Appends w w' out
     × (((status ≡ 0) × IsAtEnd r' × AnswersAll m bytes out)
-    ⊎ ((status ≡ 2) × (m ≡ Strict) × IfSome r (λ input. IsOutput input (record { bytes = out; status = 2 }))))
+    ⊎ ((status ≡ 2) × (m ≡ Strict) × IfSome r (λ input. IsOutput input (record { bytes = out; status = 2 }))
+    × StopsNear m r r'))
 Converses m (Err e) r r' w w' = Leaves m e r r' w w'

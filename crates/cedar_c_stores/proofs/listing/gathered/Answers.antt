@@ -1,4 +1,4 @@
-use Rattle.cedar_c_stores.proofs.Gathering.{made_of_edges, out_of_first}
+use Rattle.cedar_c_stores.proofs.Gathering.{gathered_by, out_of_first}
 use Rattle.cedar_c_stores.proofs.listing.gathered.Goals as goal
 
 pub returns-in-Err : goal.returns-in-Err
@@ -9,6 +9,6 @@ returns-in-Err c =
 
 pub returns-in_ok-entities_with-in-Ok : goal.returns-in_ok-entities_with-in-Ok
 returns-in_ok-entities_with-in-Ok c =
-    made_of_edges c.args.uids.now c.args.edges.now c.args.count c.in_ok-first.first.now c.in_ok-listed.listed.items
-    c.put_edges.new.listed.items _ c.in_ok-first.ensures.1
-    c.in_ok-listed.ensures c.in-Ok.ensures.ok c.in_ok-entities_with-in-Ok.ensures
+    gathered_by c.args.uids.now c.args.edges.now c.args.count c.in_ok-first.first.now c.in_ok-listed.listed.items
+    c.put_edges.new.listed.items _ c.in_ok-first.ensures.0 c.in_ok-first.ensures.1
+    c.in_ok-listed.ensures c.in-Ok.ensures.ok c.in-Ok.ensures.range c.in_ok-entities_with-in-Ok.ensures

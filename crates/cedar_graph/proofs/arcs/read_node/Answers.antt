@@ -31,6 +31,7 @@ loop-edge-preserved g c =
         keys = prefix_trans keys0 keys after i.on.keys e.keys;
         reads = omega (arith, i.on.reads, c.in_ok-add_arc.ensures.reads);
       };
+      counts = λ fits. omega (arith, i.counts fits, c.in_ok-add_arc.ensures.reads);
       arcs = λ G read has.
           let arcs : AreArcsIn eq G a after (s.from.items ++ a ∷ []) (s.to.items ++ b ∷ [])
           (is_member eq (map (λ x. x.now) (take (j + 1) refs))) =
@@ -59,6 +60,7 @@ returns g c =
     record {
       unique = i.unique;
       on = i.on;
+      counts = i.counts;
       read = λ G read has. record {
         unique = i.unique;
         arcs = row_end eq G a keys s.from.items s.to.items (is_member eq (map (λ x. x.now) (take j refs)))

@@ -9,6 +9,7 @@ loop-a-init g c = record {
   within = omega arith;
   unique = (c.requires.fresh (λ _ _. false)).unique;
   on = record { keys = prefix_refl c.args.s.now.keys.keys; reads = omega arith };
+  counts = λ _. omega arith;
   read = λ G has. c.requires.fresh G;
 }
 
@@ -32,6 +33,7 @@ loop-a-preserved g c =
         keys = prefix_trans keys0 keys after i.on.keys e.on.keys;
         reads = omega (arith, i.on.reads, e.on.reads);
       };
+      counts = λ fits. omega (arith, i.counts (omega arith), e.counts (omega (arith, i.counts (omega arith))));
       read = λ G has. e.read G (i.read G has)
           (λ x q h. has a x q node (prefix_back keys0 keys i.on.keys a x within h) at_a);
     }
@@ -43,5 +45,6 @@ returns g c =
     let all : c.loop-a.a ≡ length c.args.nodes.now = omega arith in
     record {
       on = subst (λ n. ReadsOn n c.args.s.now c.loop-a.s) all i.on;
+      counts = λ fits. omega (arith, i.counts (omega arith));
       read = λ G has. subst (λ n. IsReadBelow eq G n c.loop-a.s) all (i.read G has);
     }

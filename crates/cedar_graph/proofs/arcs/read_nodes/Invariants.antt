@@ -1,4 +1,4 @@
-use Rattle.std.proofs.Common.{◌≡◌, ◌≤◌, ℕ, Bool, length, slice_get, Some}
+use Rattle.std.proofs.Common.{◌≡◌, ◌<◌, ◌≤◌, ◌+◌, ◌^◌, ℕ, Bool, length, slice_get, Some}
 use Rattle.std.specs.Borrow.{Bor}
 use Rattle.indexmap.specs.IndexSet.{IsUnique}
 use Rattle.cedar_graph.specs.laws.Readings.{IsReadBelow, ReadsOn}
@@ -13,6 +13,7 @@ invariant-loop-a g l =
       within : l.a ≤ length l.nodes;
       unique : IsUnique eq l.s.keys;
       on : ReadsOn l.a l.fn.s l.s;
+      counts : l.fn.s.reads + l.a < 2 ^ 64 → l.s.reads ≡ l.fn.s.reads + l.a;
       read : (G : K → K → Bool) → ((i : ℕ) (x q : K) (r : Bor g.row.V.Denot) → slice_get l.fn.s.keys.keys i ≡ Some x
           → slice_get l.nodes i ≡ Some r → edges r.now q ≡ G x q) → IsReadBelow eq G l.a l.s;
     }

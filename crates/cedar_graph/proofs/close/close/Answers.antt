@@ -1,7 +1,9 @@
 use Rattle.std.proofs.Common.{arith}
 use Rattle.std.proofs.lemmas.Result.{on_ok_weaker, IfOk-weaker}
 use Rattle.cedar_graph.specs.laws.Readings.{IsArc}
+use Rattle.cedar_graph.specs.Graph.{graph_of}
 use Rattle.cedar_graph.proofs.Closing.{closed_only, closed_has}
+use Rattle.cedar_graph.proofs.Counting.{edged_within, nodes_there}
 use Rattle.cedar_graph.proofs.Loops.{no_loop}
 use Rattle.cedar_graph.proofs.close.close.Goals as goal
 
@@ -57,3 +59,26 @@ pub returns-clause-closings : goal.returns-clause-closings
 returns-clause-closings g c =
     IfOk-weaker c.close_read.result _ _ (λ w work. omega (arith, work.closings.most, c.in_ok-read.ensures.few))
     c.close_read.ensures.work
+
+pub returns-clause-lists : goal.returns-clause-lists
+returns-clause-lists g c =
+    let s = c.in_ok-read.read in
+    let f = c.in_ok-read.ensures in
+    IfOk-weaker c.close_read.result _ _ (λ w work ks edged. omega (
+      arith,
+      work.reads,
+      f.reads,
+      edged_within g.met.K.Eq.laws (graph_of g.K.PartialEq.eq g.V.TCNode.edges c.args.nodes.now) s.reading.keys.keys
+          s.fixed f.fixed f.all ks edged,
+    )) c.close_read.ensures.work
+
+pub returns-clause-visits : goal.returns-clause-visits
+returns-clause-visits g c =
+    let s = c.in_ok-read.read in
+    let f = c.in_ok-read.ensures in
+    IfOk-weaker c.close_read.result _ _ (λ w work ks edged. omega (
+      arith,
+      work.closings.all (nodes_there g.met.K.Eq.laws c.args.nodes.now s.reading.keys.keys s.fixed f.there),
+      edged_within g.met.K.Eq.laws (graph_of g.K.PartialEq.eq g.V.TCNode.edges c.args.nodes.now) s.reading.keys.keys
+          s.fixed f.fixed f.all ks edged,
+    )) c.close_read.ensures.work

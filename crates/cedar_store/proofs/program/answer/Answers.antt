@@ -1,35 +1,51 @@
-use Rattle.std.proofs.Common.{◌+◌, sym, subst, arith}
+use Rattle.std.proofs.Common.{◌+◌, ◌≤◌, ◌∙◌, sym, subst, ap, length, suc, arith}
+use Rattle.std.specs.Option.{option_copied}
+use Rattle.cedar_store.specs.laws.FirstLine.{lines_left}
 use Rattle.cedar_store.specs.Output.{start, IsOutput}
-use Rattle.cedar_store.proofs.EachLine.{line_taken, line_refused, lines_end}
+use Rattle.cedar_store.proofs.EachLine.{Continues, line_taken, line_refused, lines_end, bytes_left, bytes_behind, none_left}
 use Rattle.cedar_store.proofs.program.answer.Goals as goal
 
-pub loop-i-init : goal.loop-i-init
-loop-i-init g c =
-    let lines = sym c.in_ok-lines.ensures in (
-      start,
-      c.with_hasher-session.ensures,
-      λ w r.
-          rw (c.new-out.ensures.items, lines) (rw c.deref-line-items.ensures.value at r),
-    )
+pub loop-left-init : goal.loop-left-init
+loop-left-init g c = (start, c.with_hasher-session.ensures, λ w r. rw c.new-out.ensures.items r, omega arith)
 
 pub returns-then-not-branch : goal.returns-then-not-branch
 returns-then-not-branch g c =
-    let i = c.loop-i.invariant in
+    let i = c.loop-left.invariant in
+    let Q = IsOutput c.args.input.now in
+    let n = c.loop-left.number + 1 in
+    let old = c.loop-left.out.items in
+    let new = c.take_fields_of.new.out.items in
+    let line = c.first_line.result.0.now in
+    let behind = lines_left (option_copied c.first_line.result.1) in
     let known = rw c.if-not-branch.true at c.in_ok-take_fields_of.ensures in
-    subst (λ o. IsOutput c.args.input.now (record { bytes = o; status = 2 })) (sym c.in_ok-push_not_command.ensures)
-    (line_refused (IsOutput c.args.input.now)
-    (c.loop-i.i + 1) c.loop-i.i i.0 c.take_fields_of.new.self c.loop-i.out.items c.take_fields_of.new.out.items
-    c.deref-line-items.result.now _ (omega arith) (known i.0 i.1) i.2)
+    subst (λ o. Q (record { bytes = o; status = 2 })) (sym c.in_ok-push_not_command.ensures)
+    (line_refused Q n i.0 c.take_fields_of.new.self old new line behind (known i.0 i.1)
+    (subst (λ ls. Continues Q n i.0 ls old)
+    (ap (λ o. lines_left (option_copied o)) c.in-Some.is ∙ c.first_line.ensures.lines) i.2))
 
-pub loop-i-preserved : goal.loop-i-preserved
-loop-i-preserved g c =
-    let i = c.loop-i.invariant in
+pub loop-left-preserved : goal.loop-left-preserved
+loop-left-preserved g c =
+    let i = c.loop-left.invariant in
+    let Q = IsOutput c.args.input.now in
+    let n = c.loop-left.number + 1 in
+    let old = c.loop-left.out.items in
+    let new = c.take_fields_of.new.out.items in
+    let line = c.first_line.result.0.now in
+    let behind = lines_left (option_copied c.first_line.result.1) in
     let known = rw c.if-not-branch.false at c.in_ok-take_fields_of.ensures in
-    line_taken (IsOutput c.args.input.now) (c.loop-i.i + 1) c.loop-i.i i.0 c.take_fields_of.new.self c.loop-i.out.items
-    c.take_fields_of.new.out.items c.deref-line-items.result.now _ (omega arith) (known i.0 i.1) i.2
+    let taken = line_taken Q n i.0 c.take_fields_of.new.self old new line behind (known i.0 i.1)
+    (subst (λ ls. Continues Q n i.0 ls old)
+    (ap (λ o. lines_left (option_copied o)) c.in-Some.is ∙ c.first_line.ensures.lines) i.2) in
+    let left : bytes_left (option_copied c.first_line.result.1) ≤ length c.in-Some.rest.now =
+    bytes_behind c.first_line.result.1 (length c.in-Some.rest.now) c.first_line.ensures.shorter in
+    let bound : c.loop-left.number + suc (length c.in-Some.rest.now) ≤ suc (length c.args.input.now) =
+    subst (λ o. c.loop-left.number + bytes_left (option_copied o) ≤ suc (length c.args.input.now)) c.in-Some.is i.3 in
+    (taken.0, taken.1, taken.2, omega (arith, left, bound))
 
 pub returns : goal.returns
 returns g c =
-    let i = c.loop-i.invariant in
-    lines_end (IsOutput c.args.input.now) (c.loop-i.i + 1) c.loop-i.i i.0 c.loop-i.out.items
-    c.deref-line-items.result.now (omega arith) i.2
+    let i = c.loop-left.invariant in
+    let Q = IsOutput c.args.input.now in
+    lines_end Q (c.loop-left.number + 1) i.0 c.loop-left.out.items
+    (subst (λ ls. Continues Q (c.loop-left.number + 1) i.0 ls c.loop-left.out.items)
+    (none_left c.loop-left.left c.in_default.not-Some) i.2)

@@ -1,4 +1,3 @@
-use Rattle.std.proofs.Common.{Bool, List, ℕ}
 use Rattle.std.proofs.lemmas.Result.{IfOk-weaker}
 use Rattle.cedar_store.specs.Output.{State}
 use Rattle.cedar_store.specs.Sessions.{StandsAt}

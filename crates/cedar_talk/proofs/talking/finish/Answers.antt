@@ -2,18 +2,18 @@ use Rattle.std.proofs.Common.{refl, subst, inl, inr}
 use Rattle.std.specs.Io.KnownBytes.{Appends}
 use Rattle.cedar_talk.proofs.talking.finish.Goals as goal
 
-pub returns-then-on : goal.returns-then-on
-returns-then-on g c = (
-  c.in_ok-out.out.items,
-  subst (Appends (g.W.Write.contents c.args.writer.now) (g.W.Write.contents c.send.new.writer)) c.deref.ensures.value
+pub returns-then-on-clause-finishes : goal.returns-then-on-clause-finishes
+returns-then-on-clause-finishes g c = (
+  c.in-Ok.last.items,
+  subst (Appends (g.T.Streams.contents c.args.writer.now) (g.T.Streams.contents c.send.new.writer)) c.as_slice.ensures.value
       c.in_ok-send.ensures.sent,
-  inl (refl, rw c.if-on.true at c.in_ok-out.ensures),
+  inl (refl, rw c.if-on.true at c.in-Ok.ensures),
 )
 
-pub returns : goal.returns
-returns g c = (
-  c.in_ok-out.out.items,
-  subst (Appends (g.W.Write.contents c.args.writer.now) (g.W.Write.contents c.send.new.writer)) c.deref.ensures.value
+pub returns-clause-finishes : goal.returns-clause-finishes
+returns-clause-finishes g c = (
+  c.in-Ok.last.items,
+  subst (Appends (g.T.Streams.contents c.args.writer.now) (g.T.Streams.contents c.send.new.writer)) c.as_slice.ensures.value
       c.in_ok-send.ensures.sent,
-  inr (refl, rw c.if-on.false at c.in_ok-out.ensures),
+  inr (refl, rw c.if-on.false at c.in-Ok.ensures),
 )

@@ -1,12 +1,17 @@
-use Rattle.std.proofs.Common.{◌≡◌, ◌==◌, ◌∙◌, refl, sym, subst, ap, map, true}
+use Rattle.std.proofs.Common.{◌≡◌, ◌==◌, ◌∙◌, refl, sym, subst, ap, map, length, true}
+use Rattle.std.proofs.lemmas.Bool.{false≢true}
 use Rattle.std.specs.List.{list_all, slice_split}
 use Rattle.cedar_lines.specs.Lines.{is_line_byte}
 use Rattle.cedar_entity_lines.specs.EntityCommand.{Ent}
 use Rattle.cedar_store.specs.Command.{Entity, Policy}
 use Rattle.cedar_store.specs.Sessions.{SessionView, StandsAt}
 use Rattle.cedar_store.specs.laws.Sessions.{TakesKind}
-use Rattle.cedar_store.proofs.Joined.{entity_takes, line_taken, line_left, none_of_line}
+use Rattle.cedar_store.proofs.Joined.{entity_takes, line_taken, line_left, nothing_taken, none_of_line}
 use Rattle.cedar_store.proofs.session.Session.take_fields_of.Goals as goal
+
+pub returns-then-is_empty : goal.returns-then-is_empty
+returns-then-is_empty g c s h =
+    nothing_taken c.args.line.now s c.args.self.now c.args.out.now.items (sym c.is_empty.ensures ∙ c.if-is_empty.true) h
 
 pub returns-then-waits : goal.returns-then-waits
 returns-then-waits g c s h =
@@ -63,20 +68,16 @@ returns g c s h =
     let i = c.self.inside in
     let text : c.in_ok-is_text.is_text ≡ true = c.if-not-is_text.false in
     let line = c.args.line.now in
-    let readable : list_all is_line_byte line ≡ true = sym c.in_ok-is_text.ensures.readable ∙ text in
     let same-2 : map (λ f. f.now) c.deref-2.result.now ≡ slice_split (λ b. b == 9) line =
     ap (map (λ f. f.now)) c.deref-2.ensures.value ∙ c.in_ok-is_text.ensures.fields text in
     let same-3 : map (λ f. f.now) c.deref-3.result.now ≡ slice_split (λ b. b == 9) line =
     ap (map (λ f. f.now)) c.deref-3.ensures.value ∙ c.in_ok-is_text.ensures.fields text in
-    let same : map (λ f. f.now) c.deref-4.result.now ≡ slice_split (λ b. b == 9) line =
-    ap (map (λ f. f.now)) c.deref-4.ensures.value ∙ c.in_ok-is_text.ensures.fields text in
     let left = (rw c.if-waits.false at c.in_ok-waits.ensures).1 in
     let is = subst (λ m. StandsAt (record { entities = m; boards = i.sets; is_lost = i.is_lost }) s) (sym left)
     (subst (λ v. StandsAt v s) (sym c.self.view_is) h) in
     let none = rw c.if-on_store.false at (c.in_ok-on_store.ensures s is) in
     let more = rw c.if-on_sets.false at (c.in_ok-on_sets.ensures s none.1) in
-    line_left c.is_nothing.result line (map (λ f. f.now) c.deref-4.result.now) s _ c.args.out.now.items _ readable same
-    c.is_nothing.ensures
+    line_left line s _ c.args.out.now.items _ (λ e. false≢true (sym c.if-is_empty.false ∙ c.is_empty.ensures ∙ ap (λ l. length l == 0) e))
     (none_of_line Entity line (map (λ f. f.now) c.deref-2.result.now) same-2 none.0)
     (none_of_line Policy line (map (λ f. f.now) c.deref-3.result.now) same-3 more.0)
     more.1 (more.2 ∙ none.2)

@@ -1,5 +1,4 @@
-use Rattle.std.proofs.Common.{refl, ap, []}
-use Rattle.cedar_store.specs.Output.{start}
+use Rattle.std.proofs.Common.{refl}
 use Rattle.cedar_talk.proofs.Hearing.{begins}
 use Rattle.cedar_talk.proofs.conversation.Conversation.new.Goals as goal
 
