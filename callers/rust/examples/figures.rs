@@ -1,8 +1,8 @@
 //! What a tree of 100,000 entities costs through this crate, and what the same costs in plain hash maps of Rust and by the program of
 //! the library in one call. Prints the least of three runs, in seconds of the processor where Linux tells them, and else by the clock:
 //! `cargo run --release --example figures`.
-use cedar_store::TCComputation::ComputeNow;
-use cedar_store::{is_uid, run, Entity, Store};
+use cedar_store_proved::TCComputation::ComputeNow;
+use cedar_store_proved::{is_uid, run, Entities, Entity};
 use std::collections::{HashMap, HashSet};
 use std::hint::black_box;
 use std::time::Instant;
@@ -62,9 +62,9 @@ fn print(what: &str, seconds: f64) {
 }
 
 fn through_the_crate(pairs: &[(String, String)]) -> usize {
-    let entity = |place| Entity::new(uid(place)).with_parents(parent(place).map(uid));
+    let entity = |place| Entity::with_uid(uid(place)).with_parents(parent(place).map(uid));
     let entities: Vec<Entity> = (0..SIZE).map(entity).collect();
-    let (seconds, store) = least(|| Store::from_entities(&entities, ComputeNow).unwrap());
+    let (seconds, store) = least(|| Entities::from_entities(&entities, ComputeNow).unwrap());
     print("from_entities through this crate", seconds);
     let asks = || {
         pairs

@@ -6,9 +6,9 @@ use std::hash::BuildHasher;
 /// which of several cycles or of several missing ancestors a refusal names; it keeps strangers from picking ids that collide.
 ///
 /// ```
-/// use cedar_store::{Key, Store};
-/// let drawn = Store::with_key(Key::drawn()).unwrap();
-/// let everybodys = Store::with_key(Key { seed: 0, key: 0 }).unwrap();
+/// use cedar_store_proved::{Entities, Key};
+/// let drawn = Entities::with_key(Key::drawn()).unwrap();
+/// let everybodys = Entities::with_key(Key { seed: 0, key: 0 }).unwrap();
 /// assert!(drawn.deep_eq(&everybodys));
 /// ```
 #[derive(Clone, Copy)]

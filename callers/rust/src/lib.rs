@@ -4,6 +4,9 @@
 //! lays lists out for it, copies answers out of it, and lets go of what it holds. It is tested, not proved.
 //!
 //! Uids are texts as `A::B::"c"`: a type, and an eid in quotes, escaped. Ids of policies are any text.
+//!
+//! What has a name of the package `cedar-store` means what it means there, over texts and with refusals for want of memory; the
+//! crate's page says what differs.
 #![warn(missing_docs)]
 #![deny(unsafe_code)]
 
@@ -11,20 +14,35 @@
 mod ffi;
 mod key;
 mod lists;
-mod policies;
+mod policy_set;
 mod refusal;
-mod store;
+mod stored;
 
 pub use key::Key;
-pub use policies::{Effect, Policies, SlotEnv, Slots};
+pub use policy_set::{Effect, PolicySet, SlotEnv, Slots};
 pub use refusal::{Reason, Refusal};
-pub use store::{Entity, Store, StoredEntity, TCComputation};
+pub use stored::{Entities, Entity, StoredEntity, TCComputation};
+
+/// Entities and policy sets, at the paths that they have in the package `cedar-store`.
+pub mod ast {
+    pub use crate::{Effect, Entity, PolicySet, SlotEnv};
+}
+
+/// Stores of entities, at the paths that they have in the package `cedar-store`.
+pub mod entities {
+    pub use crate::{Entities, TCComputation};
+}
+
+// The program of the page is tried too.
+#[cfg(doctest)]
+#[doc = include_str!("../README.md")]
+struct Page;
 
 /// Whether a text is a uid's. Refused by `Memory`.
 ///
 /// ```
-/// assert!(cedar_store::is_uid("A::\"a\"").unwrap());
-/// assert!(!cedar_store::is_uid("A::a").unwrap());
+/// assert!(cedar_store_proved::is_uid("A::\"a\"").unwrap());
+/// assert!(!cedar_store_proved::is_uid("A::a").unwrap());
 /// ```
 pub fn is_uid(text: &str) -> Result<bool, Refusal> {
     match ffi::check_uid(text) {
@@ -38,7 +56,7 @@ pub fn is_uid(text: &str) -> Result<bool, Refusal> {
 /// `Memory`.
 ///
 /// ```
-/// let (out, status) = cedar_store::run(b"ent\tA::\"a\"\nbuild\n").unwrap();
+/// let (out, status) = cedar_store_proved::run(b"ent\tA::\"a\"\nbuild\n").unwrap();
 /// assert_eq!((out.as_slice(), status), (b"ok 1\n".as_slice(), 0));
 /// ```
 pub fn run(input: &[u8]) -> Result<(Vec<u8>, u32), Refusal> {

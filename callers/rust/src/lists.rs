@@ -1,5 +1,6 @@
 //! Lists as the library takes them: one text, the part of it that is each uid, and edges to parents.
-use crate::store::Entity;
+use crate::stored::Entity;
+use std::borrow::Borrow;
 use std::collections::HashMap;
 
 /// A part of a text.
@@ -49,8 +50,10 @@ impl Lists {
     }
 
     /// Entities, and behind them those of their parents that are none of them. A parent that comes often is written once.
-    pub(crate) fn of_entities(entities: &[Entity]) -> Lists {
-        let mut lists = Lists::of_texts(entities.iter().map(Entity::uid));
+    pub(crate) fn of_entities(entities: impl IntoIterator<Item = impl Borrow<Entity>>) -> Lists {
+        let entities: Vec<_> = entities.into_iter().collect();
+        let entities: Vec<&Entity> = entities.iter().map(Borrow::borrow).collect();
+        let mut lists = Lists::of_texts(entities.iter().map(|entity| entity.uid()));
         lists.count = entities.len();
         let mut places = HashMap::with_capacity(entities.len());
         for (place, entity) in entities.iter().enumerate() {

@@ -86,8 +86,8 @@ impl Reason {
 /// A refused call: the reason, and a text with the uids or the id that it names.
 ///
 /// ```
-/// use cedar_store::{Policies, Effect, Reason};
-/// let mut set = Policies::new();
+/// use cedar_store_proved::{PolicySet, Effect, Reason};
+/// let mut set = PolicySet::new();
 /// set.add_static("p", Effect::Permit).unwrap();
 /// let refusal = set.add_static("p", Effect::Forbid).unwrap_err();
 /// assert_eq!(refusal.reason(), Reason::Occupied);

@@ -1,6 +1,6 @@
 //! The closures that the original tests, over stores: who is above whom in graphs without and with cycles, and after an update.
 mod short;
-use cedar_store::{Reason, Store};
+use cedar_store_proved::{Entities, Reason};
 use short::*;
 
 // A graph: what is given, for each entity all that is above it, and for graphs with cycles who stands on one.
@@ -109,14 +109,14 @@ fn the_order_of_entities_makes_no_difference() {
 #[test]
 fn what_is_not_closed_is_found() {
     for graph in ACYCLIC {
-        let given = Store::from_entities(&listed(graph.given), ASSUME).unwrap();
+        let given = Entities::from_entities(listed(graph.given), ASSUME).unwrap();
         assert_eq!(
             given.try_validate().unwrap_err().reason(),
             Reason::NotClosed,
             "{}",
             graph.given
         );
-        let enforced = Store::from_entities(&listed(graph.given), ENFORCE);
+        let enforced = Entities::from_entities(listed(graph.given), ENFORCE);
         assert_eq!(enforced.unwrap_err().reason(), Reason::NotClosed);
     }
 }
@@ -131,7 +131,7 @@ fn what_is_closed_stays_as_it_is() {
             .map(|one| format!("{} {}", &one[..1], above(&closed, &one[..1])));
         let spec = rows.collect::<Vec<_>>().join(";");
         for mode in [NOW, ENFORCE, ASSUME] {
-            let again = Store::from_entities(&listed(&spec), mode).unwrap();
+            let again = Entities::from_entities(listed(&spec), mode).unwrap();
             assert!(
                 again.deep_eq(&closed) && again.try_validate().is_ok(),
                 "{spec}"
@@ -143,22 +143,22 @@ fn what_is_closed_stays_as_it_is() {
 #[test]
 fn cycles_are_found_in_each_mode() {
     for (given, on) in CYCLIC {
-        refused_for_cycle(Store::from_entities(&listed(given), NOW), on);
-        refused_for_cycle(Store::from_entities(&listed(&reversed(given)), NOW), on);
-        let assumed = Store::from_entities(&listed(given), ASSUME).unwrap();
+        refused_for_cycle(Entities::from_entities(listed(given), NOW), on);
+        refused_for_cycle(Entities::from_entities(listed(&reversed(given)), NOW), on);
+        let assumed = Entities::from_entities(listed(given), ASSUME).unwrap();
         assert!(assumed.try_validate().is_err());
-        assert!(Store::from_entities(&listed(given), ENFORCE).is_err());
+        assert!(Entities::from_entities(listed(given), ENFORCE).is_err());
     }
 }
 
 #[test]
 fn a_closed_graph_with_a_cycle_is_refused_for_it() {
     let given = "a abc;b abc;c abc;d abc";
-    refused_for_cycle(Store::from_entities(&listed(given), ENFORCE), "abc");
-    let assumed = Store::from_entities(&listed(given), ASSUME).unwrap();
+    refused_for_cycle(Entities::from_entities(listed(given), ENFORCE), "abc");
+    let assumed = Entities::from_entities(listed(given), ASSUME).unwrap();
     refused_for_cycle(assumed.try_validate(), "abc");
     refused(
-        Store::from_entities(&listed("a b;b b"), ENFORCE),
+        Entities::from_entities(listed("a b;b b"), ENFORCE),
         Reason::Cycle,
         "cycle at A::\"b\"",
     );
@@ -186,11 +186,11 @@ fn an_update_takes_the_old_way_and_brings_the_new() {
 #[test]
 fn an_entity_that_is_its_own_parent_is_refused() {
     refused(
-        Store::from_entities(&listed("s s"), NOW),
+        Entities::from_entities(listed("s s"), NOW),
         Reason::Cycle,
         "cycle at A::\"s\"",
     );
-    let assumed = Store::from_entities(&listed("s s"), ASSUME).unwrap();
+    let assumed = Entities::from_entities(listed("s s"), ASSUME).unwrap();
     refused(assumed.try_validate(), Reason::Cycle, "cycle at A::\"s\"");
     assert!(store("o").try_validate().is_ok());
 }

@@ -1,6 +1,6 @@
 //! The cases of policy sets that the original tests, over the calls that cross: adding, linking, counting, and merging.
 mod short;
-use cedar_store::{Effect, Policies, Reason, SlotEnv, Slots};
+use cedar_store_proved::{Effect, PolicySet, Reason, SlotEnv, Slots};
 use short::*;
 
 #[test]
@@ -13,7 +13,7 @@ fn a_link_may_not_have_the_id_of_a_policy() {
 
 #[test]
 fn a_policy_joins_once() {
-    let mut held = Policies::new();
+    let mut held = PolicySet::new();
     held.add_static("id", Effect::Permit).unwrap();
     refused(
         held.add_static("id", Effect::Forbid),
@@ -98,7 +98,7 @@ fn bodies_and_policies_are_counted() {
 
 #[test]
 fn a_template_is_linked_once_it_is_there() {
-    let mut held = Policies::new();
+    let mut held = PolicySet::new();
     let given = held.link("template", "link", SlotEnv::default());
     refused(
         given,
@@ -130,9 +130,9 @@ fn two_slots_are_bound() {
 
 #[test]
 fn an_empty_set_has_no_policies() {
-    let held = Policies::new();
+    let held = PolicySet::new();
     assert_eq!(ids(&held), (String::new(), String::new()));
-    assert!(held == Policies::default());
+    assert!(held == PolicySet::default());
 }
 
 #[test]

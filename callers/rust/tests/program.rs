@@ -1,5 +1,5 @@
 //! Worked inputs of the program: what it writes, and the status of its run.
-use cedar_store::{run, run_with_key, Key};
+use cedar_store_proved::{run, run_with_key, Key};
 
 // Lines with `~` for a tab, and what is due for them.
 fn writes(lines: &[&str], due: &[&str], status: u32) {

@@ -1,6 +1,6 @@
 //! Worked cases of policy sets: joining, linking, taking out, and merging with and without renaming.
 mod short;
-use cedar_store::{Effect, Policies, Reason, Slots};
+use cedar_store_proved::{Effect, PolicySet, Reason, Slots};
 use short::*;
 
 const LACKS: &str = "the following slots were not provided as arguments: ";
@@ -48,7 +48,7 @@ fn links_bind_exactly_the_slots() {
 #[test]
 fn the_actions_slot_takes_actions_alone() {
     let mut held = set(&["template t par", "template u a"]);
-    let bound = |uid| cedar_store::SlotEnv::action(uid);
+    let bound = |uid| cedar_store_proved::SlotEnv::action(uid);
     assert_eq!(
         held.link("t", "l", bound("A::\"x\"")).unwrap_err().reason(),
         Reason::Arity
@@ -83,7 +83,7 @@ fn what_is_no_template_is_not_linked() {
 #[test]
 fn refusals_of_a_link_come_in_an_order() {
     let mut held = set(&["template u a", "permit s"]);
-    let action = |uid| cedar_store::SlotEnv::action(uid);
+    let action = |uid| cedar_store_proved::SlotEnv::action(uid);
     refused(
         held.link("none", "s", action("A::\"x\"")),
         Reason::NoSuchTemplate,
@@ -165,7 +165,7 @@ fn what_leaves_closes_up() {
         Reason::NoTemplate,
         "no template t",
     );
-    assert!(held == Policies::new());
+    assert!(held == PolicySet::new());
 }
 
 #[test]
@@ -218,10 +218,10 @@ fn equal_sets_bind_equal_things_in_equal_orders() {
     assert!(set(&of) != set(&["permit a", "template t r", "link t l r"]));
     let mut bound_to_another = set(&["permit a", "template t p"]);
     bound_to_another
-        .link("t", "l", cedar_store::SlotEnv::principal("A::\"z\""))
+        .link("t", "l", cedar_store_proved::SlotEnv::principal("A::\"z\""))
         .unwrap();
     assert!(set(&of) != bound_to_another);
-    let mut forbids = Policies::new();
+    let mut forbids = PolicySet::new();
     forbids
         .add_template("t", Effect::Forbid, Slots::principal())
         .unwrap();
@@ -272,7 +272,7 @@ fn what_both_bind_alike_is_bound_once() {
     let mut here = set(&["template t p", "link t l p"]);
     let mut other = set(&["template t p", "link t l p"]);
     other
-        .link("t", "m", cedar_store::SlotEnv::principal("A::\"y\""))
+        .link("t", "m", cedar_store_proved::SlotEnv::principal("A::\"y\""))
         .unwrap();
     assert_eq!(renamed(here.merge_policyset(&other, false)), "");
     assert_eq!(ids(&here), ("t".into(), "l m".into()));
@@ -362,7 +362,7 @@ fn conflicts_are_found_in_four_passes() {
 
 #[test]
 fn any_text_is_an_id() {
-    let mut held = Policies::new();
+    let mut held = PolicySet::new();
     for id in ["", " ", "it's \"x\"\n", "é", "\0"] {
         held.add_static(id, Effect::Permit).unwrap();
         refused(

@@ -1,6 +1,6 @@
 //! Worked cases of stores: building, adding, overwriting, removing and slicing, in the three modes.
 mod short;
-use cedar_store::{is_uid, Entity, Reason, Store};
+use cedar_store_proved::{is_uid, Entities, Entity, Reason};
 use short::*;
 
 #[test]
@@ -40,12 +40,12 @@ fn uids_are_read_exactly() {
 fn a_text_that_is_no_uid_is_refused_and_leaves_the_store() {
     let mut held = store("a b");
     refused(
-        held.add_entities(&[Entity::new("A::x")], NOW),
+        held.add_entities(&[Entity::with_uid("A::x")], NOW),
         Reason::NotAUid,
         "not a uid",
     );
     refused(
-        held.upsert_entities(&[Entity::new(uid("x")).with_parent("b")], NOW),
+        held.upsert_entities(&[Entity::with_uid(uid("x")).with_parent("b")], NOW),
         Reason::NotAUid,
         "not a uid",
     );
@@ -73,7 +73,8 @@ fn uids_are_ordered_by_basename_then_path_then_eid() {
         "AA::\"aaa\"",
         "A::AA::\"n\"",
     ];
-    let held = Store::from_entities(&[Entity::new(uid("a")).with_parents(parents)], NOW).unwrap();
+    let held =
+        Entities::from_entities(&[Entity::with_uid(uid("a")).with_parents(parents)], NOW).unwrap();
     let due = [
         "AA::\"aaa\"",
         "AA::\"zzz\"",
@@ -128,7 +129,7 @@ fn a_cycle_in_the_middle_of_a_list_is_none_at_its_end() {
 fn cycles_are_refused() {
     refused_for_cycle(added(store("a b"), "b a"), "ab");
     refused(
-        Store::from_entities(&listed("a a"), NOW),
+        Entities::from_entities(listed("a a"), NOW),
         Reason::Cycle,
         "cycle at A::\"a\"",
     );
@@ -139,10 +140,10 @@ fn cycles_are_refused() {
 fn a_refused_store_is_empty_and_goes_on() {
     let mut held = store("a b");
     let copy = held.try_clone().unwrap();
-    refused_for_cycle(held.add_entities(&listed("b a"), NOW), "ab");
+    refused_for_cycle(held.add_entities(listed("b a"), NOW), "ab");
     assert!(held.is_empty());
     assert_eq!((copy.len(), above(&copy, "a")), (1, "b".into()));
-    held.add_entities(&listed("b a"), NOW).unwrap();
+    held.add_entities(listed("b a"), NOW).unwrap();
     assert_eq!(above(&held, "b"), "a");
 }
 
@@ -156,7 +157,7 @@ fn one_that_stands_has_to_have_the_same_ancestors() {
     let held = added(store("a b;b c;c"), "a bc").unwrap();
     assert_eq!(parents(&held, "a"), "b");
     refused(
-        Store::from_entities(&listed("a b;a c"), NOW),
+        Entities::from_entities(listed("a b;a c"), NOW),
         Reason::Duplicate,
         "duplicate entity A::\"a\"",
     );
@@ -178,15 +179,15 @@ fn the_last_version_counts() {
 fn what_is_given_may_be_enforced_or_assumed() {
     let text = "ancestors not closed at A::\"a\" A::\"b\" A::\"c\"";
     refused(
-        Store::from_entities(&listed("a b;b c"), ENFORCE),
+        Entities::from_entities(listed("a b;b c"), ENFORCE),
         Reason::NotClosed,
         text,
     );
-    let held = Store::from_entities(&listed("a b;b c"), ASSUME).unwrap();
+    let held = Entities::from_entities(listed("a b;b c"), ASSUME).unwrap();
     assert_eq!(above(&held, "a"), "b");
     refused(held.try_validate(), Reason::NotClosed, text);
     assert_eq!(held.len(), 2);
-    let closed = Store::from_entities(&listed("a bc;b c"), ENFORCE).unwrap();
+    let closed = Entities::from_entities(listed("a bc;b c"), ENFORCE).unwrap();
     assert!(closed.deep_eq(&store("a b;b c")) && closed.try_validate().is_ok());
 }
 
@@ -214,7 +215,7 @@ fn removing_in_each_mode_repairs() {
 
 #[test]
 fn what_is_not_touched_stays() {
-    let mut held = Store::from_entities(&listed("x y;y z;d"), ASSUME).unwrap();
+    let mut held = Entities::from_entities(listed("x y;y z;d"), ASSUME).unwrap();
     held = upserted(held, "d e", NOW).unwrap();
     assert_eq!(above(&held, "x"), "y");
     held = added(held, "f").unwrap();
@@ -259,17 +260,17 @@ fn repeats_and_strangers_in_a_list() {
     );
 }
 
-fn held_of(store: &Store) -> String {
+fn held_of(store: &Entities) -> String {
     held(store, "abcdefxyz")
 }
 
 #[test]
 fn a_hundred_below_one_that_comes_and_goes() {
     let below: Vec<Entity> = (0..100)
-        .map(|i| Entity::new(uid(i)).with_parent(uid("x")))
+        .map(|i| Entity::with_uid(uid(i)).with_parent(uid("x")))
         .collect();
-    let mut held = Store::from_entities(&below, NOW).unwrap();
-    let due = |held: &Store, names: &str| (0..100).all(|i| above(held, &i.to_string()) == names);
+    let mut held = Entities::from_entities(&below, NOW).unwrap();
+    let due = |held: &Entities, names: &str| (0..100).all(|i| above(held, &i.to_string()) == names);
     assert!(due(&held, "x"));
     held = added(held, "x y").unwrap();
     assert!(due(&held, "xy"));
@@ -282,9 +283,9 @@ fn a_hundred_below_one_that_comes_and_goes() {
 #[test]
 fn a_chain_of_five_hundred() {
     let chain: Vec<Entity> = (0..500)
-        .map(|i| Entity::new(uid(i)).with_parents((i < 499).then(|| uid(i + 1))))
+        .map(|i| Entity::with_uid(uid(i)).with_parents((i < 499).then(|| uid(i + 1))))
         .collect();
-    let held = Store::from_entities(&chain, NOW).unwrap();
+    let held = Entities::from_entities(&chain, NOW).unwrap();
     let count: usize = (0..500)
         .map(|i| held.ancestors(&uid(i)).unwrap().len())
         .sum();
@@ -297,8 +298,8 @@ fn a_chain_of_five_hundred() {
 #[test]
 fn actions_stand_below_actions_alone() {
     let one = |child: &str, parents: &[&str]| {
-        Store::from_entities(
-            &[Entity::new(child).with_parents(parents.iter().copied())],
+        Entities::from_entities(
+            &[Entity::with_uid(child).with_parents(parents.iter().copied())],
             NOW,
         )
         .unwrap()
@@ -324,9 +325,9 @@ fn actions_stand_below_actions_alone() {
 
 #[test]
 fn the_fault_of_the_least_uid_is_named() {
-    let entities =
-        ["b", "a"].map(|name| Entity::new(format!("Action::\"{name}\"")).with_parent(uid("x")));
-    let held = Store::from_entities(&entities, NOW).unwrap();
+    let entities = ["b", "a"]
+        .map(|name| Entity::with_uid(format!("Action::\"{name}\"")).with_parent(uid("x")));
+    let held = Entities::from_entities(&entities, NOW).unwrap();
     let text = "ancestor of an action that is none Action::\"a\" A::\"x\"";
     refused(held.try_validate(), Reason::ActionParentIsNotAction, text);
 }
@@ -381,6 +382,6 @@ fn equal_stores_have_the_same_ancestors() {
     assert!(
         !one.deep_eq(&store("a b;b c"))
             && !one.deep_eq(&store("a b;b;c"))
-            && !one.deep_eq(&Store::new())
+            && !one.deep_eq(&Entities::new())
     );
 }

@@ -1,6 +1,6 @@
 //! Lines of the program, drawn; and the same lines taken one by one through the crate.
-use cedar_store::{
-    Effect, Entity, Policies, Reason, Refusal, SlotEnv, Slots, Store, TCComputation,
+use cedar_store_proved::{
+    Effect, Entities, Entity, PolicySet, Reason, Refusal, SlotEnv, Slots, TCComputation,
 };
 use std::fmt;
 
@@ -199,9 +199,9 @@ impl fmt::Display for Line {
 #[derive(Default)]
 pub struct Session {
     waiting: Vec<Entity>,
-    store: Store,
-    set: Policies,
-    aside: Policies,
+    store: Entities,
+    set: PolicySet,
+    aside: PolicySet,
 }
 
 // An id as the program writes it.
@@ -262,18 +262,20 @@ impl Session {
     fn check_modes(&self) {
         let rows: Vec<Entity> = UIDS
             .into_iter()
-            .filter_map(|uid| Some(Entity::new(uid).with_parents(self.store.ancestors(uid).ok()?)))
+            .filter_map(|uid| {
+                Some(Entity::with_uid(uid).with_parents(self.store.ancestors(uid).ok()?))
+            })
             .collect();
         for mode in MODES {
-            let again = Store::from_entities(&rows, mode).unwrap();
+            let again = Entities::from_entities(&rows, mode).unwrap();
             assert!(again.deep_eq(&self.store) && self.store.deep_eq(&again));
         }
     }
 
     fn built(&mut self) -> Result<(), Refusal> {
         let waiting = std::mem::take(&mut self.waiting);
-        self.store = Store::new();
-        self.store = Store::from_entities(&waiting, TCComputation::ComputeNow)?;
+        self.store = Entities::new();
+        self.store = Entities::from_entities(&waiting, TCComputation::ComputeNow)?;
         Ok(())
     }
 
@@ -313,17 +315,17 @@ impl Session {
         let given = match line {
             Line::Ent(uid, parents) => {
                 self.waiting
-                    .push(Entity::new(*uid).with_parents(parents.iter().copied()));
+                    .push(Entity::with_uid(*uid).with_parents(parents.iter().copied()));
                 return Some(String::new());
             }
             Line::Anc(uid) => return Some(self.asked(uid)),
             Line::Build => self.built(),
             Line::Add => self
                 .store
-                .add_entities(&std::mem::take(&mut self.waiting), now),
+                .add_entities(std::mem::take(&mut self.waiting), now),
             Line::Upsert => self
                 .store
-                .upsert_entities(&std::mem::take(&mut self.waiting), now),
+                .upsert_entities(std::mem::take(&mut self.waiting), now),
             Line::Remove(uids, mode) => self.removed(uids, *mode),
             Line::Slice(uids) => self.store.slice(uids).map(|slice| self.store = slice),
             _ => return None,

@@ -1,7 +1,7 @@
 //! Stores, sets and what they answer by short texts. A name x of one letter is the uid `A::"x"`.
 #![allow(dead_code)]
-use cedar_store::{
-    Effect, Entity, Policies, Reason, Refusal, SlotEnv, Slots, Store, TCComputation,
+use cedar_store_proved::{
+    Effect, Entities, Entity, PolicySet, Reason, Refusal, SlotEnv, Slots, TCComputation,
 };
 
 pub const NOW: TCComputation = TCComputation::ComputeNow;
@@ -22,13 +22,13 @@ pub fn uids(names: &str) -> Vec<String> {
 pub fn listed(spec: &str) -> Vec<Entity> {
     let entities = spec.split(';').filter(|one| !one.is_empty());
     entities
-        .map(|one| Entity::new(uid(&one[..1])).with_parents(uids(one[1..].trim())))
+        .map(|one| Entity::with_uid(uid(&one[..1])).with_parents(uids(one[1..].trim())))
         .collect()
 }
 
 /// The store of such entities, with their ancestors computed.
-pub fn store(spec: &str) -> Store {
-    Store::from_entities(&listed(spec), NOW).unwrap()
+pub fn store(spec: &str) -> Entities {
+    Entities::from_entities(listed(spec), NOW).unwrap()
 }
 
 // The names of uids, one behind the other.
@@ -38,7 +38,7 @@ fn names(uids: Vec<String>) -> String {
 }
 
 /// The names of an entity's ancestors, in their order. It is a descendant of these, and not of the others of some.
-pub fn above(store: &Store, name: &str) -> String {
+pub fn above(store: &Entities, name: &str) -> String {
     let ancestors = store.ancestors(&uid(name)).unwrap();
     let others = uids("abcdefghxyz");
     for other in ancestors.iter().chain(&others) {
@@ -49,28 +49,28 @@ pub fn above(store: &Store, name: &str) -> String {
 }
 
 /// The names of an entity's parents, in their order.
-pub fn parents(store: &Store, name: &str) -> String {
+pub fn parents(store: &Entities, name: &str) -> String {
     names(store.parents(&uid(name)).unwrap())
 }
 
 /// Those of some names that are an entity's, in the order of the names.
-pub fn held(store: &Store, of: &str) -> String {
+pub fn held(store: &Entities, of: &str) -> String {
     of.chars()
         .filter(|name| store.contains(&uid(name)).unwrap())
         .collect()
 }
 
-pub fn added(mut store: Store, spec: &str) -> Result<Store, Refusal> {
-    store.add_entities(&listed(spec), NOW)?;
+pub fn added(mut store: Entities, spec: &str) -> Result<Entities, Refusal> {
+    store.add_entities(listed(spec), NOW)?;
     Ok(store)
 }
 
-pub fn upserted(mut store: Store, spec: &str, mode: TCComputation) -> Result<Store, Refusal> {
-    store.upsert_entities(&listed(spec), mode)?;
+pub fn upserted(mut store: Entities, spec: &str, mode: TCComputation) -> Result<Entities, Refusal> {
+    store.upsert_entities(listed(spec), mode)?;
     Ok(store)
 }
 
-pub fn removed(mut store: Store, names: &str, mode: TCComputation) -> Result<Store, Refusal> {
+pub fn removed(mut store: Entities, names: &str, mode: TCComputation) -> Result<Entities, Refusal> {
     store.remove_entities(uids(names), mode)?;
     Ok(store)
 }
@@ -96,8 +96,8 @@ pub fn refused_for_cycle<T>(given: Result<T, Refusal>, of: &str) {
 }
 
 /// A set of words, as `join` takes them.
-pub fn set(words: &[&str]) -> Policies {
-    let mut set = Policies::new();
+pub fn set(words: &[&str]) -> PolicySet {
+    let mut set = PolicySet::new();
     for word in words {
         join(&mut set, word).unwrap();
     }
@@ -106,7 +106,7 @@ pub fn set(words: &[&str]) -> Policies {
 
 /// One more joins a set, by a word: `permit ID`, `forbid ID`, `template ID SLOTS`, `link TEMPLATE ID SLOTS`, where slots are of the
 /// letters p, a and r, and those of a link are bound to `A::"x"`, `Action::"x"` and `A::"y"`.
-pub fn join(set: &mut Policies, word: &str) -> Result<(), Refusal> {
+pub fn join(set: &mut PolicySet, word: &str) -> Result<(), Refusal> {
     let fields: Vec<&str> = word.split(' ').collect();
     match fields[..] {
         ["permit", id] => set.add_static(id, Effect::Permit),
@@ -134,7 +134,7 @@ pub fn bindings_of(letters: &str) -> SlotEnv<'static> {
 }
 
 /// The ids of bodies, and those of policies, parted by blanks.
-pub fn ids(set: &Policies) -> (String, String) {
+pub fn ids(set: &PolicySet) -> (String, String) {
     (
         set.bodies().unwrap().join(" "),
         set.policies().unwrap().join(" "),

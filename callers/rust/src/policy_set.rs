@@ -3,14 +3,24 @@ use crate::ffi::{Held, Sets};
 use crate::key::Key;
 use crate::lists::Lists;
 use crate::refusal::Refusal;
+use std::fmt;
 
 /// Whether a policy permits or forbids.
-#[derive(Clone, Copy, Debug, PartialEq, Eq, Hash)]
+#[derive(Clone, Copy, Debug, PartialEq, Eq, PartialOrd, Ord, Hash)]
 pub enum Effect {
     /// It permits.
     Permit,
     /// It forbids.
     Forbid,
+}
+
+impl fmt::Display for Effect {
+    fn fmt(&self, f: &mut fmt::Formatter<'_>) -> fmt::Result {
+        f.write_str(match self {
+            Effect::Permit => "permit",
+            Effect::Forbid => "forbid",
+        })
+    }
 }
 
 /// The slots of a template.
@@ -110,37 +120,37 @@ impl<'a> SlotEnv<'a> {
     }
 }
 
-/// A policy set, near the original's `PolicySet`: ids are bound to static policies, to templates, and to links of templates. A
+/// A policy set: ids are bound to static policies, to templates, and to links of templates. A
 /// call that is refused, for memory too, leaves the set as it was.
 ///
 /// It is of the thread that made it: neither `Send` nor `Sync`.
 ///
 /// ```compile_fail
 /// fn sends<T: Send>(_: T) {}
-/// sends(cedar_store::Policies::new());
+/// sends(cedar_store_proved::PolicySet::new());
 /// ```
 ///
 /// ```compile_fail
 /// fn shares<T: Sync>(_: T) {}
-/// shares(cedar_store::Policies::new());
+/// shares(cedar_store_proved::PolicySet::new());
 /// ```
 ///
 /// ```
-/// use cedar_store::{Effect, Policies, SlotEnv, Slots};
-/// let mut set = Policies::new();
+/// use cedar_store_proved::{Effect, PolicySet, SlotEnv, Slots};
+/// let mut set = PolicySet::new();
 /// set.add_template("t", Effect::Permit, Slots::principal()).unwrap();
 /// set.link("t", "l", SlotEnv::principal("User::\"alice\"")).unwrap();
 /// assert_eq!(set.policies().unwrap(), ["l"]);
 /// assert_eq!(set.bodies().unwrap(), ["t"]);
 /// ```
-pub struct Policies {
+pub struct PolicySet {
     held: Held<Sets>,
 }
 
-impl Policies {
-    fn of(held: Result<Held<Sets>, u32>) -> Result<Policies, Refusal> {
+impl PolicySet {
+    fn of(held: Result<Held<Sets>, u32>) -> Result<PolicySet, Refusal> {
         match held {
-            Ok(held) => Ok(Policies { held }),
+            Ok(held) => Ok(PolicySet { held }),
             Err(status) => Err(Refusal::new(status, Vec::new)),
         }
     }
@@ -150,14 +160,14 @@ impl Policies {
     }
 
     /// The set without policies, with a key that is drawn. Ends the program where its few bytes of memory are refused;
-    /// [`Policies::with_key`] does not.
-    pub fn new() -> Policies {
-        Policies::with_key(Key::drawn()).expect("memory for an empty set")
+    /// [`PolicySet::with_key`] does not.
+    pub fn new() -> PolicySet {
+        PolicySet::with_key(Key::drawn()).expect("memory for an empty set")
     }
 
     /// The set without policies, whose maps, and those of its copies, hash by this key. Refused by `Memory`.
-    pub fn with_key(key: Key) -> Result<Policies, Refusal> {
-        Policies::of(Held::new(key))
+    pub fn with_key(key: Key) -> Result<PolicySet, Refusal> {
+        PolicySet::of(Held::new(key))
     }
 
     /// A static policy, which constrains nothing, joins the set. Refused by `Occupied` and `Memory`.
@@ -176,8 +186,8 @@ impl Policies {
     /// `IdConflict` and `Memory`.
     ///
     /// ```
-    /// use cedar_store::{Effect, Policies, Reason, SlotEnv, Slots};
-    /// let mut set = Policies::new();
+    /// use cedar_store_proved::{Effect, PolicySet, Reason, SlotEnv, Slots};
+    /// let mut set = PolicySet::new();
     /// set.add_template("t", Effect::Permit, Slots::principal()).unwrap();
     /// let refusal = set.link("t", "l", SlotEnv::default()).unwrap_err();
     /// assert_eq!(refusal.reason(), Reason::Arity);
@@ -215,8 +225,8 @@ impl Policies {
     /// id that both bind to different things is refused as `Occupied`.
     ///
     /// ```
-    /// use cedar_store::{Effect, Policies};
-    /// let (mut one, mut other) = (Policies::new(), Policies::new());
+    /// use cedar_store_proved::{Effect, PolicySet};
+    /// let (mut one, mut other) = (PolicySet::new(), PolicySet::new());
     /// one.add_static("p", Effect::Permit).unwrap();
     /// other.add_static("p", Effect::Forbid).unwrap();
     /// assert!(one.merge_policyset(&other, false).is_err());
@@ -224,7 +234,7 @@ impl Policies {
     /// ```
     pub fn merge_policyset(
         &mut self,
-        other: &Policies,
+        other: &PolicySet,
         rename: bool,
     ) -> Result<Vec<(String, String)>, Refusal> {
         let status = self.held.merge(&other.held, rename);
@@ -253,27 +263,27 @@ impl Policies {
     }
 
     /// A copy. Refused by `Memory`.
-    pub fn try_clone(&self) -> Result<Policies, Refusal> {
-        Policies::of(self.held.copy())
+    pub fn try_clone(&self) -> Result<PolicySet, Refusal> {
+        PolicySet::of(self.held.copy())
     }
 }
 
-impl PartialEq for Policies {
-    fn eq(&self, other: &Policies) -> bool {
+impl PartialEq for PolicySet {
+    fn eq(&self, other: &PolicySet) -> bool {
         self.held.is_equal(&other.held)
     }
 }
 
-impl Eq for Policies {}
+impl Eq for PolicySet {}
 
-impl Default for Policies {
-    fn default() -> Policies {
-        Policies::new()
+impl Default for PolicySet {
+    fn default() -> PolicySet {
+        PolicySet::new()
     }
 }
 
-impl std::fmt::Debug for Policies {
-    fn fmt(&self, f: &mut std::fmt::Formatter<'_>) -> std::fmt::Result {
-        f.debug_struct("Policies").finish_non_exhaustive()
+impl fmt::Debug for PolicySet {
+    fn fmt(&self, f: &mut fmt::Formatter<'_>) -> fmt::Result {
+        f.debug_struct("PolicySet").finish_non_exhaustive()
     }
 }

@@ -1,0 +1,126 @@
+"""Servers of PostgreSQL for a test: in a folder of their own, on a socket in it alone, as a user that is not root."""
+from __future__ import annotations
+
+import atexit
+import contextlib
+import glob
+import os
+import pwd
+import shutil
+import subprocess
+import tempfile
+
+import psycopg2
+
+SETTINGS = """
+listen_addresses = ''
+unix_socket_directories = '{folder}'
+max_connections = 60
+shared_buffers = 128MB
+max_wal_size = 512MB
+wal_level = replica
+max_wal_senders = 4
+wal_keep_size = 256MB
+max_pred_locks_per_transaction = 1024
+max_pred_locks_per_page = 32
+logging_collector = off
+fsync = {fsync}
+"""
+
+
+def programs() -> str:
+    """The folder with the programs of the newest server of this machine, or nothing."""
+    found = [name for name in glob.glob("/usr/lib/postgresql/*/bin/initdb") if name.split("/")[4].isdigit()]
+    newest = max(found, key=lambda name: int(name.split("/")[4]), default=None) or shutil.which("initdb")
+    return os.path.dirname(os.path.realpath(newest)) if newest else ""
+
+
+def _user() -> dict:
+    """As whom a server runs: where this is root, as a user that is not, which initdb wants."""
+    if os.getuid() != 0:
+        return {}
+    names = {entry.pw_name: entry for entry in pwd.getpwall()}
+    entry = names.get("postgres") or names["nobody"]
+    return {"user": entry.pw_uid, "group": entry.pw_gid, "extra_groups": []}
+
+
+class Server:
+    """A server with data of its own; `close` stops it, and takes its folder away."""
+
+    def __init__(self, of: Server | None = None, durable: bool = True) -> None:
+        """A server whose tables are empty or, where a primary is given, its replica.
+
+        One that is not `durable` does not wait for the disk: it would lose what was committed where the machine stops,
+        and loses nothing where it stops itself.
+        """
+        self.folder = tempfile.mkdtemp(prefix="cedar-")
+        atexit.register(self.close)
+        self.where = f"host={self.folder} user=cedar dbname=postgres"
+        if os.getuid() == 0:
+            os.chown(self.folder, _user()["user"], _user()["group"])
+        data = ["-D", self.folder + "/data"]
+        if of:
+            how = ["-R", "-X", "stream", "-c", "fast", "--no-sync"]
+            self._run("pg_basebackup", "-h", of.folder, "-U", "cedar", *how, *data)
+        else:
+            self._run("initdb", "-U", "cedar", "--auth=trust", "-E", "UTF8", "--locale=C", "--no-sync", *data)
+        with open(self.folder + "/data/postgresql.conf", "a") as settings:
+            settings.write(SETTINGS.format(folder=self.folder, fsync="on" if durable else "off"))
+        self.start()
+
+    def _run(self, program: str, *arguments: str) -> None:
+        command = [os.path.join(programs(), program), *arguments]
+        done = subprocess.run(command, cwd=self.folder, stdin=subprocess.DEVNULL, stdout=subprocess.PIPE,
+                              stderr=subprocess.STDOUT, text=True, **_user())
+        if done.returncode != 0:
+            raise RuntimeError(f"{program}: {done.stdout}")
+
+    def _control(self, *arguments: str) -> None:
+        self._run("pg_ctl", "-D", self.folder + "/data", "-s", "-w", "-t", "60", *arguments)
+
+    def start(self) -> None:
+        """Starts it, and waits until it answers."""
+        self._control("-l", self.folder + "/log", "start")
+
+    def stop(self, how: str = "fast") -> None:
+        """Stops it: `immediate` as if the machine's power went, but for what its files already have."""
+        self._control("-m", how, "stop")
+
+    def fresh(self, name: str) -> str:
+        """A database with the tables of `schema.sql`, empty: its connection string."""
+        self.sql("CREATE DATABASE " + name)
+        where = self.where.replace("dbname=postgres", "dbname=" + name)
+        with open(os.path.join(os.path.dirname(os.path.abspath(__file__)), "schema.sql")) as schema:
+            self.sql(schema.read(), where=where)
+        return where
+
+    def sql(self, statement: str, *values: object, where: str = "") -> list:
+        """The rows of a statement of another hand than the library's, in a connection of its own."""
+        connection = psycopg2.connect(where or self.where)
+        connection.autocommit = True
+        with contextlib.closing(connection), connection.cursor() as cursor:
+            cursor.execute(statement, values or None)
+            return cursor.fetchall() if cursor.description else []
+
+    def close(self) -> None:
+        """Stops it where it runs, and takes its folder away; at the end of the process at the latest."""
+        if os.path.exists(self.folder + "/data/postmaster.pid"):
+            self.stop("immediate")
+        shutil.rmtree(self.folder, ignore_errors=True)
+        atexit.unregister(self.close)
+
+    def __enter__(self) -> Server:
+        return self
+
+    def __exit__(self, *_: object) -> None:
+        self.close()
+
+
+_shared: list[Server] = []
+
+
+def shared() -> Server:
+    """The server of all tests that want no other, started by the first."""
+    if not _shared:
+        _shared.append(Server(durable=False))
+    return _shared[0]

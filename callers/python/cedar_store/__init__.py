@@ -1,0 +1,29 @@
+"""Stores of entities and policy sets of the Cedar authorization language.
+
+The calls are those of a static library whose functions are proved, up to the boundary that `cedar.h` describes; this
+package lays lists out for it, copies answers out of it, and lets go of what it holds. It is tested, not proved. The
+shared library is the one that CEDAR_LIBRARY names or, where nothing does, `libcedar.so` beside this file, as a wheel
+has it; in a checkout it is what `callers/run` leaves.
+
+Uids are texts as `A::B::"c"`: a type, and an eid in quotes, escaped. Ids of policies are any text. A refused call
+raises `Refused`, and one on what was let go of `Closed`. A number that is no mode or no effect raises `ValueError`,
+want of memory `MemoryError`.
+
+A store or a set is of the thread that made it: another thread's call raises `WrongThread`. One that another thread lets
+go of last is freed by its own thread, at that thread's next call on a store or a set, and `ResourceWarning` says so. As
+a thread ends, all that it made is freed.
+
+The maps of a store or a set hash by a key of 16 bytes, drawn by `os.urandom` where none is given, so that whoever picks
+ids cannot pick such as collide. No answer depends on it, but for which of several cycles or of several missing
+ancestors a refusal names.
+"""
+from __future__ import annotations
+
+from ._library import is_uid, run
+from ._policies import Effect, Policies
+from ._refusals import Closed, Refused, WrongThread
+from ._store import Entities, Mode, Store
+
+__version__ = "0.1.0"
+
+__all__ = ["Closed", "Effect", "Entities", "Mode", "Policies", "Refused", "Store", "WrongThread", "is_uid", "run"]

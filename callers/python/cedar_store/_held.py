@@ -1,0 +1,195 @@
+"""Handles: of which thread each is, and when it is freed."""
+from __future__ import annotations
+
+import ctypes
+import threading
+import warnings
+from typing import Any, Callable, Dict, List, NoReturn, Optional, Tuple, TypeVar
+
+from ._library import SIZES, Handle, halves
+from ._refusals import FIRST_WITH_TEXT, WrongThread, refuse
+
+_ROOM = 4096
+_NOTHING = ctypes.c_size_t(0)
+_Frees = Callable[[Any], None]
+
+
+class Thread:
+    """What a thread has of its own: the handles that it opened, those that other threads let go of, and some room."""
+
+    def __init__(self) -> None:
+        self.ident = threading.get_ident()
+        self.has_ended = False
+        self.opened: Dict[int, Tuple[Handle, _Frees]] = {}
+        self.left: List[int] = []
+        self.truth = ctypes.c_bool(False)
+        self.truth_at = ctypes.byref(self.truth)
+        self.bytes = (ctypes.c_char * _ROOM)()
+        self.places = (ctypes.c_size_t * (_ROOM // 4))()
+
+    def free(self, at: int) -> None:
+        """Frees a handle. This thread alone calls it."""
+        handle, frees = self.opened.pop(at)
+        frees(ctypes.byref(handle))
+
+    def sweep(self) -> None:
+        """Frees what other threads let go of. This thread alone calls it."""
+        while self.left:
+            self.free(self.left.pop())
+
+    def end(self, ident: Callable[[], int] = threading.get_ident) -> None:
+        """Frees all, as the thread ends. Behind a fork the threads that are gone end on another: they free nothing."""
+        if self.ident == ident():
+            self.has_ended = True
+            while self.opened:
+                self.free(next(iter(self.opened)))
+
+
+class _Keeper:
+    """Ends its thread's handles when the thread ends, which lets go of it."""
+
+    def __init__(self) -> None:
+        self.thread = Thread()
+
+    def __del__(self) -> None:
+        self.thread.end()
+
+
+class _Local(threading.local):
+    def __init__(self) -> None:
+        self.keeper = _Keeper()
+        self.thread = self.keeper.thread
+
+
+LOCAL = _Local()
+
+_Kind = TypeVar("_Kind", bound="Held")
+
+
+class Held:
+    """A store or a set: a handle that its own thread alone uses and frees."""
+
+    __slots__ = ("_handle", "_at", "_thread", "__weakref__")
+    _kind = ""
+    _new: Any
+    _free: Any
+    _copy: Any
+    _equal: Any
+    _answer: Any
+    _answer_spans: Any
+    _refusal: Any
+    _handle: Handle
+    _at: Any
+    _thread: Thread
+
+    def __new__(cls, *_: Any, **__: Any) -> Any:
+        made = super().__new__(cls)
+        made._thread = thread = LOCAL.thread
+        if thread.left:
+            thread.sweep()
+        made._handle = handle = Handle()
+        made._at = ctypes.byref(handle)
+        thread.opened[ctypes.addressof(handle)] = handle, cls._free
+        return made
+
+    def __init__(self, *, key: Optional[bytes] = None) -> None:
+        drawn = halves(key)
+        self._mine()
+        status = self._new(self._at, *drawn)
+        if status:
+            refuse(status)
+
+    def _mine(self) -> None:
+        """Sees to it that the call is on the thread of the handle, and frees what other threads let go of."""
+        thread = self._thread
+        if thread is not LOCAL.thread:
+            raise WrongThread(f"{self._kind} of another thread")
+        if thread.left:
+            thread.sweep()
+
+    def _call(self, function: Any, *arguments: Any) -> None:
+        """A call that answers a status."""
+        self._mine()
+        status = function(self._at, *arguments)
+        if status:
+            self._refuse(status)
+
+    def _refuse(self, status: int) -> NoReturn:
+        text = ""
+        if status >= FIRST_WITH_TEXT:
+            length = self._refusal(self._at, b"", 0)
+            out = ctypes.create_string_buffer(max(length, 1))
+            self._refusal(self._at, out, length)
+            text = out.raw[:length].decode("utf-8", "replace")
+        refuse(status, text)
+
+    def _answered(self) -> List[str]:
+        """The texts of the last answer."""
+        thread = self._thread
+        out: Any = thread.bytes
+        length = self._answer(self._at, _NOTHING, out, SIZES[_ROOM])
+        if length > _ROOM:
+            out = (ctypes.c_char * length)()
+            self._answer(self._at, _NOTHING, out, SIZES[length])
+        places: Any = thread.places
+        count = self._answer_spans(self._at, _NOTHING, places, SIZES[_ROOM // 8])
+        if count > _ROOM // 8:
+            places = (ctypes.c_size_t * (2 * count))()
+            self._answer_spans(self._at, _NOTHING, places, SIZES[count])
+        laid = out[:length]
+        flat = places[: 2 * count]
+        text = laid.decode("utf-8", "replace")
+        if len(text) == length:
+            return [text[start:end] for start, end in zip(flat[::2], flat[1::2])]
+        return [laid[start:end].decode("utf-8", "replace") for start, end in zip(flat[::2], flat[1::2])]
+
+    def copy(self: _Kind) -> _Kind:
+        """A copy, with the same key."""
+        self._mine()
+        fresh: _Kind = type(self).__new__(type(self))
+        self._call(self._copy, fresh._at)
+        return fresh
+
+    __copy__ = copy
+
+    def __deepcopy__(self: _Kind, _: Dict[int, Any]) -> _Kind:
+        return self.copy()
+
+    def __reduce__(self) -> NoReturn:
+        raise TypeError(f"{self._kind} cannot be pickled: no call lists all that it holds. Pickle what it is made of")
+
+    def __eq__(self, other: object) -> bool:
+        if not isinstance(other, Held) or other._kind != self._kind:
+            return NotImplemented
+        if self is other:
+            return True
+        other._mine()
+        self._call(self._equal, other._at, self._thread.truth_at)
+        return self._thread.truth.value
+
+    __hash__ = None  # type: ignore[assignment]
+
+    def close(self) -> None:
+        """Lets go of what is held, once or any number of times.
+
+        Later calls raise `Closed`, but for the `len` of a store, which is 0.
+        """
+        self._mine()
+        self._free(self._at)
+
+    def __enter__(self: _Kind) -> _Kind:
+        return self
+
+    def __exit__(self, *_: object) -> None:
+        self.close()
+
+    def __del__(self) -> None:
+        thread = self._thread
+        if thread.has_ended:
+            return
+        at = ctypes.addressof(self._handle)
+        if thread is LOCAL.thread:
+            thread.free(at)
+            return
+        thread.left.append(at)
+        warnings.warn(f"{self._kind} let go of by another thread: its own frees it", ResourceWarning, source=self)
