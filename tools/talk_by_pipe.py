@@ -154,7 +154,7 @@ def help_is_told():
 
 
 def other_arguments_are_refused():
-    for arguments in (("--frob",), ("--strict", "--strict"), ("--help", "x"), ("",)):
+    for arguments in (("--frob",), ("--strict", "--strict"), ("--help", "x"), ("",), (b"\xff\xfe",), ("x" * 5000,)):
         with Talk(*arguments) as talk:
             talk.ends(2, closes=False, said=b"usage: ")
 

@@ -1,15 +1,19 @@
 #!/usr/bin/env python3
 """Tries wrong bodies, many in one check: `./wrong-bodies` says what for. Run at the top of the repository, with names of crates, and before
-them, where wanted: `--jobs N` gives each check N jobs, where rt's own choice is too much beside other work; `--beside` leaves out those
-that the gate tries; `--part K/N` tries the Kth of N parts, so that N runs side by side try all.
+them, where wanted: `--jobs N` gives each check N jobs, where rt's own choice is too much beside other work; `--gate` tries those alone that
+the gate tries, `--beside` the others alone; `--edits NAME,NAME` these alone; `--part K/N` the Kth of N parts, so that N runs side by side
+try all.
 
-A contract stands between a function and its callers, so whether a body is proved does not hang on what other bodies do. So one
-check can try one wrong body of each of several functions at once, and costs little more than a check that tries one: most of
-what that costs is to read the crate. What tells that a wrong body was refused is the line of its own function. A function whose
-callee is not proved is not judged, and waits for a later check.
+A contract stands between a function and its callers, so whether a body is proved does not hang on what other bodies do. So one check tries
+one wrong body of each of several functions at once, by `rt check --only` these, over the libraries below that are kept (those that
+tools/kept_libraries.py finds are taken; rt proves the others), and without a proof of the crate first.
 
-A wrong body is tried alone, and `rt must-fail` is asked in the end, where this cannot tell: where it changes what is no body (a type, a constant, a
-clause), where its function has no line of its own, where a check stops before it judges, and where its function was proved.
+What tells that a wrong body was refused is the line of its own function, and that a goal of it is not proved: an answer that no longer
+fits what is to be shown, or a goal that had none and is not found. Where answers were lost by their names alone (a goal that is called
+otherwise now, a fact that a proof names and that is gone), nothing is shown of the contract: that is said to be a lost name, and counts for
+nothing. A function whose callee was changed in the same check waits for a later one.
+
+A wrong body that changes what is no body (a type, a constant, a clause) is tried alone, by a check of the whole crate.
 """
 import glob
 import os
@@ -21,9 +25,10 @@ import tempfile
 import time
 
 # The most wrong bodies of one check: with more, more functions wait for callees.
-MOST = 24
+MOST = 10
 BEGINS = re.compile(r'^(\s*)(?:pub(?:\([^)]*\))? )?(?:const )?(?:unsafe )?(?:extern "C" )?fn (\w+)')
-LOST_NAME = re.compile(r'has no field|is not in scope|has no `|was not admitted')
+LOST_NAME = re.compile(r'has no field|is not in scope|has no `|was not admitted|not found: `|no `[^`]*` that can be named|cannot be named|no such name')
+DIAGNOSTIC = re.compile(r'^(?:note: )?(?:\./)?((?:proofs|src|specs)/\S+?):\d+:\d+: (.*)$')
 
 
 class WrongBody:
@@ -45,13 +50,14 @@ class WrongBody:
         self.function = self.place()
 
     def place(self):
-        """The type and name of the function in whose body all that is replaced stands, or None."""
+        """The function in whose body all that is replaced stands, as `--only` takes it, or None."""
         if not self.file.startswith('src/') or any(self.text.count(old) != 1 for old, _ in self.pairs):
             return None
         lines = [self.text[:self.text.index(old)].count('\n') for old, _ in self.pairs]
         for start, end, owner, name in bodies(self.text):
             if all(start < line < end for line in lines):
-                return owner, name
+                inner = [it for it in (*self.file[len('src/'):-len('.rt')].split('/'), owner) if it and it not in ('lib', 'main')]
+                return '::'.join([*inner, name])
         return None
 
     def edited(self, text):
@@ -61,13 +67,26 @@ class WrongBody:
         return text
 
 
+def owner_of(head):
+    """What a check calls the functions of an `impl`: the type, and behind it a trait with what it is given."""
+    head = re.sub(r'^impl(<(?:[^<>]|<[^<>]*>)*>)? ', '', head.split(' where ')[0].rstrip(' {'))
+    trait, _, kind = head.rpartition(' for ')
+    kind = re.sub(r"<.*|&(?:'\w+ )?(?:mut )?", '', kind)
+    given = re.findall(r'<(.*)>', trait)
+    inner = ''.join(re.findall(r'\w+', re.sub(r"'\w+", '', given[0]))) if given else ''
+    return kind.split('::')[-1] + re.sub(r'<.*', '', trait).split('::')[-1] + inner
+
+
 def bodies(text):
-    """The functions of a file as `rt fmt` lays it out: the lines of a body's braces, the type whose impl has it, and its name."""
+    """The functions of a file as `rt fmt` lays it out: the lines of a body's braces, the owner of its impl, and its name."""
     lines, owner, found, at = text.split('\n'), '', [], 0
     while at < len(lines):
         if lines[at].startswith('impl'):
-            head = re.sub(r'^impl(<[^{]*?>)? ', '', lines[at].rstrip(' {'))
-            owner = re.sub(r'<.*', '', head.split(' for ')[-1])
+            head, end = lines[at], at
+            while not lines[end].rstrip().endswith('{') and end + 1 < len(lines):
+                end += 1
+                head += ' ' + lines[end].strip()
+            owner = owner_of(head)
         elif lines[at].startswith('}'):
             owner = ''
         begins = BEGINS.match(lines[at])
@@ -85,26 +104,43 @@ def bodies(text):
     return found
 
 
+def diagnostics(told):
+    """The errors and notes of a check, each with the file that it is about and all its lines."""
+    found = []
+    for line in told.split('\n'):
+        begins = DIAGNOSTIC.match(line)
+        if begins:
+            found.append([begins[1], begins[2]])
+        elif found and line.startswith(' '):
+            found[-1][1] += '\n' + line
+        else:
+            found.append(['', ''])
+    return [(file, text) for file, text in found if file]
+
+
 def judged(told, function):
-    """What a check tells of a function: 'refused', 'waits' (a callee is not proved) or 'unknown', and the first words of why."""
-    owner, name = function
+    """What a check tells of a function: 'refused' at a goal, 'lost' (names alone), 'waits' (a callee is not proved), 'proved' or
+    'unknown', and the first words of why."""
     lines = re.findall(r'(?m)^(?:so far: )?fn (\S+): (.*)$', told)
-    own = [(path, rest) for path, rest in lines if path.split('::')[-1] == name]
-    if owner:
-        own = [(path, rest) for path, rest in own if path.split('::')[-2].startswith(owner)] or own
+    own = [(path, rest) for path, rest in lines if ('::' + path).endswith('::' + function)]
     if len({path for path, _ in own}) != 1:
         return 'unknown', ''
     path, rest = own[-1]
+    if re.match(r'proved|no holes', rest):
+        return 'proved', rest
     if not re.match(r'not proved|no proof', rest):
-        return 'unknown', ''
-    if re.search(r'it calls|it passes|a call of', rest):
-        return 'waits', ''
+        return 'unknown', rest
     inner = '/'.join(path.split('::')[1:])
-    about = re.findall(r'(?m)^(?:note: )?(?:\./)?proofs/' + re.escape(inner) + r'/\S+ (?:error|note): .*$', told)
-    if about and all(LOST_NAME.search(line) for line in about):
-        return 'unknown', ''
-    goals = [line for line in about if not LOST_NAME.search(line)]
-    return 'refused', (goals[0] if goals else rest)[:150]
+    about = [text for file, text in diagnostics(told) if file.startswith(f'proofs/{inner}/') and text.startswith('error')]
+    goals = [text for text in about if not LOST_NAME.search(text)]
+    if re.search(r'it calls|it passes|a call of', rest):
+        return 'waits', rest
+    if goals:
+        return 'refused', goals[0].split('\n')[0][:150]
+    if about:
+        return 'lost', about[0].split('\n')[0][:150]
+    found = re.search(r'`search` did not prove (.*)', rest) or re.search(r'which antt refuses', rest)
+    return ('refused', rest[:150]) if found else ('unknown', rest[:150])
 
 
 def link_or_copy(one, other):
@@ -131,53 +167,54 @@ class Crate:
 
     def __init__(self, room, name, options):
         self.name, self.folder, self.jobs = name, f'{room}/crates/{name}', options.jobs
-        self.kept = f'{room}/kept-{name}'
         self.edits = [WrongBody(path, self.folder) for path in options.edits_of(self.folder)]
-        self.room, self.before, self.counts = room, time.time(), {'refused': 0, 'not': 0, 'not tried': 0}
+        self.room, self.before = room, time.time()
+        self.counts = {'refused': 0, 'lost': 0, 'not': 0, 'not tried': 0}
 
     def say(self, text):
         now = time.time()
         print(f'{now - self.before:5.0f} s  {text}', flush=True)
         self.before = now
 
-    def restore(self):
-        """Puts back the crate as it stands, with what its check kept."""
-        shutil.rmtree(self.folder, ignore_errors=True)
-        shutil.copytree(self.kept, self.folder, symlinks=True, copy_function=link_or_copy)
+    def verdict(self, edit, kind, text):
+        self.counts[kind] += 1
+        words = {'refused': 'refused', 'lost': 'LOST NAME', 'not': 'NOT REFUSED', 'not tried': 'NOT TRIED'}[kind]
+        self.say(f'{self.name}/{edit.name}: {words}: {text}')
 
-    def checked(self, edits):
-        """What a check of the crate with these edits tells, over what a check of the crate as it stands kept, and its status."""
-        self.restore()
-        for file in {edit.file for edit in edits}:
-            text = next(edit.text for edit in edits if edit.file == file)
+    def checked(self, edits, only):
+        """What a check of the crate with these edits tells, and its status."""
+        changed = {edit.file: edit.text for edit in edits}
+        for edit in edits:
+            changed[edit.file] = edit.edited(changed[edit.file])
+        try:
+            for file, text in changed.items():
+                with open(f'{self.folder}/{file}', 'w', encoding='utf-8') as out:
+                    out.write(text)
+            words = [word for function in only for word in ('--only', f'{self.name}::{function}')]
+            ran = subprocess.run(['rt', 'check', *self.jobs, *(['--allow-holes'] if only else []), *words], cwd=self.folder,
+                                 stdout=subprocess.PIPE, stderr=subprocess.STDOUT, text=True, errors='replace', check=False)
+        finally:
             for edit in edits:
-                if edit.file == file:
-                    text = edit.edited(text)
-            with open(f'{self.folder}/{file}', 'w', encoding='utf-8') as out:
-                out.write(text)
-        ran = subprocess.run(['rt', 'check', *self.jobs], cwd=self.folder, stdout=subprocess.PIPE, stderr=subprocess.STDOUT, text=True, check=False)
+                with open(f'{self.folder}/{edit.file}', 'w', encoding='utf-8') as out:
+                    out.write(edit.text)
         return ran.stdout, ran.returncode
-
-    def check(self, edits):
-        """What such a check tells where it judges the crate and does not prove it, and else nothing."""
-        told, status = self.checked(edits)
-        return told if status == 1 and 'logic=not-proved' in told else ''
 
     def together(self, edits):
         """Tries edits of different functions in one check. Returns those that wait, and those that are to be tried alone."""
-        told = self.check(edits)
-        if not told and len(edits) > 1:
+        told, _ = self.checked(edits, [edit.function for edit in edits])
+        if not re.search(r'(?m)^fn ', told) and len(edits) > 1:
             half = len(edits) // 2
             first, second = self.together(edits[:half]), self.together(edits[half:])
             return first[0] + second[0], first[1] + second[1]
         waits, alone = [], []
         for edit in edits:
             verdict, why = judged(told, edit.function)
-            if verdict == 'refused':
-                self.counts['refused'] += 1
-                self.say(f'{self.name}/{edit.name}: refused: {why}')
+            if verdict in ('refused', 'lost'):
+                self.verdict(edit, verdict, why)
             elif verdict == 'waits' and len(edits) > 1:
                 waits.append(edit)
+            elif verdict == 'proved':
+                self.verdict(edit, 'not', f'{edit.function} is still proved')
             else:
                 alone.append(edit)
         return waits, alone
@@ -194,73 +231,54 @@ class Crate:
                     taken.add(edit.function)
                     now.append(edit)
             waits, more = self.together(now)
-            edits = waits + later
+            edits = later + waits
             alone += more
         return alone
 
     def alone(self, edit):
-        """Tries one edit by a check of the whole crate, as `rt must-fail` does; what that cannot tell it is asked itself."""
-        told, status = self.checked([edit])
-        about = re.findall(r'(?m)^(?:note: )?\S+:\d+:\d+: .*$', told)
-        goals = [line for line in about if (': error' in line or line.startswith('note: ')) and not LOST_NAME.search(line)]
-        if status == 1 and 'logic=not-proved' in told and goals:
-            self.counts['refused'] += 1
-            self.say(f'{self.name}/{edit.name}: refused: {goals[0][:150]}')
-        elif status == 0:
-            self.counts['not'] += 1
-            self.say(f'{self.name}/{edit.name}: NOT REFUSED: the crate is still proved with this edit')
+        """Tries one edit by a check of the whole crate, as the gate does."""
+        told, status = self.checked([edit], [])
+        errors = [(file, text) for file, text in diagnostics(told) if text.startswith('error') or file.startswith('src/')]
+        goals = [f'{file}: {text}'.split('\n')[0][:150] for file, text in errors if not LOST_NAME.search(text)]
+        if status == 0:
+            self.verdict(edit, 'not', 'the crate is still proved with this edit')
+        elif status == 1 and 'logic=not-proved' in told:
+            self.verdict(edit, *(('refused', goals[0]) if goals else ('lost', 'no other error stands there')))
         else:
-            self.asked(edit)
-
-    def asked(self, edit):
-        """Has `rt must-fail` try one edit."""
-        self.restore()
-        shutil.rmtree(f'{self.folder}/must-fail', ignore_errors=True)
-        os.mkdir(f'{self.folder}/must-fail')
-        folder = 'must-fail' if '/must-fail/' in edit.path else 'wrong-bodies'
-        shutil.copy(f'{self.kept}/{folder}/{edit.name}.edit', f'{self.folder}/must-fail/')
-        ran = subprocess.run(['rt', 'must-fail', self.name], cwd=self.room, stdout=subprocess.PIPE, stderr=subprocess.STDOUT, text=True, check=False)
-        kind = 'refused' if ': refused' in ran.stdout else 'not' if re.search('NOT REFUSED|BAD EDIT', ran.stdout) else 'not tried'
-        self.counts[kind] += 1
-        self.say(ran.stdout.rstrip())
+            self.verdict(edit, 'not tried', (re.findall(r'(?m)^.*error.*$', told) or [told.strip()[-150:]])[0][:150])
 
     def run(self):
         """Tries all wrong bodies of the crate."""
-        ran = subprocess.run(['rt', 'check', *self.jobs], cwd=self.folder, stdout=subprocess.PIPE, stderr=subprocess.STDOUT, text=True, check=False)
-        if ran.returncode:
-            sys.stdout.write(ran.stdout)
-            sys.exit(f'wrong-bodies: {self.name} as it stands is not proved')
-        self.say(f'{self.name}: checked as it stands')
-        os.rename(self.folder, self.kept)
         alone = [edit for edit in self.edits if not edit.function]
         alone += self.by_rounds([edit for edit in self.edits if edit.function])
         for edit in alone:
             self.alone(edit)
-        self.restore()
-        lost = len(self.edits) - sum(self.counts.values())
-        self.counts['not tried'] += max(0, lost)
 
 
 class Options:
     """What stands before the names of crates: the jobs of a check, and which wrong bodies are tried."""
 
     def __init__(self, words):
-        self.jobs, self.folders, self.part = [], ['must-fail', 'wrong-bodies'], (1, 1)
+        self.jobs, self.folders, self.part, self.edits = [], ['must-fail', 'wrong-bodies'], (1, 1), None
         while words[:1] and words[0].startswith('--'):
-            if words[0] == '--beside':
-                self.folders, words = ['wrong-bodies'], words[1:]
+            if words[0] in ('--beside', '--gate'):
+                self.folders, words = ['wrong-bodies' if words[0] == '--beside' else 'must-fail'], words[1:]
             elif words[0] == '--jobs' and re.fullmatch('[1-9][0-9]*', ''.join(words[1:2])):
                 self.jobs, words = words[:2], words[2:]
+            elif words[0] == '--edits' and words[1:]:
+                self.edits, words = words[1].split(','), words[2:]
             elif words[0] == '--part' and re.fullmatch('[1-9][0-9]*/[1-9][0-9]*', ''.join(words[1:2])):
                 first, many = words[1].split('/')
                 self.part, words = (int(first), int(many)), words[2:]
             else:
-                sys.exit(f'wrong-bodies: {words[0]}: no such option; --beside, --jobs N and --part K/N stand before the names of crates')
+                sys.exit(f'wrong-bodies: {words[0]}: no such option; --gate, --beside, --jobs N, --edits A,B and --part K/N stand first')
         self.names = words
 
     def edits_of(self, folder):
         """The wrong bodies of a crate's folder that are tried, in the order of their names."""
         found = sorted(path for it in self.folders for path in glob.glob(f'{folder}/{it}/*.edit'))
+        if self.edits is not None:
+            found = [path for path in found if os.path.basename(path)[:-len('.edit')] in self.edits]
         first, many = self.part
         return found[first - 1::many]
 
@@ -271,19 +289,21 @@ def main(words):
     for name in names:
         if not os.path.isdir(f'crates/{name}'):
             sys.exit(f'wrong-bodies: there is no crate {name}')
-    counts = {'refused': 0, 'not': 0, 'not tried': 0}
+    counts = {'refused': 0, 'lost': 0, 'not': 0, 'not tried': 0}
     with tempfile.TemporaryDirectory() as room:
         copy_of_repository(room)
+        tool = os.path.abspath(os.path.dirname(__file__))
+        subprocess.run([sys.executable, f'{tool}/kept_libraries.py', *names], cwd=room, check=False)
         crates = [Crate(room, name, options) for name in names]
-        total = sum(len(crate.edits) for crate in crates)
-        print(f'{total} wrong bodies of {len(crates)} crates: some 20 seconds of a processor each, {total * 20 / 3600:.1f} hours by the mean', flush=True)
-        print('before them a check of each crate, and of those below it, that is not proved here yet: a whole proof (docs/GATE.md)', flush=True)
+        print(f'{sum(len(crate.edits) for crate in crates)} wrong bodies of {len(crates)} crates', flush=True)
         for crate in crates:
             crate.run()
+            told = ', '.join(f'{count} {kind}' for kind, count in crate.counts.items())
+            print(f'{crate.name}: {len(crate.edits)} wrong bodies: {told}', flush=True)
             for kind, count in crate.counts.items():
                 counts[kind] += count
-    print(f"{counts['refused']} refused, {counts['not']} not, {counts['not tried']} not tried")
-    return 0 if counts['refused'] and not counts['not'] and not counts['not tried'] else 1
+    print(f"{counts['refused']} refused at a goal, {counts['lost']} for a lost name alone, {counts['not']} not refused, {counts['not tried']} not tried")
+    return 0 if counts['refused'] and not (counts['lost'] or counts['not'] or counts['not tried']) else 1
 
 
 if __name__ == '__main__':
