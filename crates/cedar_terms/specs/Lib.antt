@@ -1,6 +1,7 @@
 pub mod Codes
 pub mod ExprEquality
 pub mod ExprKeys
+pub mod ExprNodes
 pub mod ExprTexts
 pub mod ExprTree
 pub mod ExprViews

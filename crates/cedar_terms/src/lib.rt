@@ -9,6 +9,7 @@
 pub mod err;
 pub mod expr;
 mod expr_hash;
+mod expr_node;
 mod expr_same;
 mod expr_text;
 mod expr_walk;
@@ -26,6 +27,7 @@ pub mod var;
 
 pub use err::ExprValidationError;
 pub use expr::Expr;
+pub use expr_node::ExprNode;
 pub use literal::Literal;
 pub use partial_value::PartialValue;
 pub use reserved::is_reserved_key;
