@@ -17,44 +17,107 @@
 mod program;
 mod session;
 
-pub use cedar_action::{ActionConstraint, ActionTypesError, EntityIterator};
-pub use cedar_annotation::{Annotation, Annotations};
-pub use cedar_entities::{
-    Ancestors, Dereference, Entities, EntitiesError, Entity, Keys, Pairs, SharedEntity, SharedUid,
-    SharedUids, TCComputation, UidSet, Uids,
-};
-pub use cedar_graph::{
-    HasCycle, MissingTcEdge, TCNode, TcError, Work, compute_tc, compute_tc_counted,
-    enforce_tc_and_dag, repair_tc, repair_tc_counted,
-};
-pub use cedar_ids::{
-    ACTION_ENTITY_TYPE, AnyId, Eid, EntityType, EntityUID, EntityUIDImpl, Escaped, Id, Loc, Name,
-    NonEmpty, ParseErrors, PolicyID,
-};
-pub use cedar_policy::{
-    Effect, LinkingError, Policy, SlotEnv, Slots, StaticPolicy, Template, TemplateBody,
-    TemplateBodyImpl, TemplateValidationError, UnexpectedSlotError,
-};
-pub use cedar_policy_set::{
-    AllTemplates, IntoPolicies, Linked, LinkedIds, Policies, PolicySet, PolicySetError,
-    PolicySetGetLinksError, PolicySetPolicyRemovalError, PolicySetTemplateRemovalError,
-    PolicySetUnlinkError, PolicySetValidationError, StaticPolicies, Templates,
-};
-pub use cedar_replay::{
-    Answer, EntityCall, PolicyCall, replay_entities, replay_entities_with_hasher, replay_policies,
-};
-pub use cedar_scope::{
-    EntityReference, PrincipalConstraint, PrincipalOrResource, PrincipalOrResourceConstraint,
-    ResourceConstraint,
-};
+pub use cedar_action::ActionConstraint;
+pub use cedar_action::ActionTypesError;
+pub use cedar_action::EntityIterator;
+pub use cedar_annotation::Annotation;
+pub use cedar_annotation::Annotations;
+pub use cedar_entities::Ancestors;
+pub use cedar_entities::Dereference;
+pub use cedar_entities::Entities;
+pub use cedar_entities::EntitiesError;
+pub use cedar_entities::Entity;
+pub use cedar_entities::Keys;
+pub use cedar_entities::Pairs;
+pub use cedar_entities::SharedEntity;
+pub use cedar_entities::SharedUid;
+pub use cedar_entities::SharedUids;
+pub use cedar_entities::TCComputation;
+pub use cedar_entities::UidSet;
+pub use cedar_entities::Uids;
+pub use cedar_graph::HasCycle;
+pub use cedar_graph::MissingTcEdge;
+pub use cedar_graph::TCNode;
+pub use cedar_graph::TcError;
+pub use cedar_graph::Work;
+pub use cedar_graph::compute_tc;
+pub use cedar_graph::compute_tc_counted;
+pub use cedar_graph::enforce_tc_and_dag;
+pub use cedar_graph::repair_tc;
+pub use cedar_graph::repair_tc_counted;
+pub use cedar_ids::ACTION_ENTITY_TYPE;
+pub use cedar_ids::AnyId;
+pub use cedar_ids::Eid;
+pub use cedar_ids::EntityType;
+pub use cedar_ids::EntityUID;
+pub use cedar_ids::EntityUIDImpl;
+pub use cedar_ids::Escaped;
+pub use cedar_ids::Id;
+pub use cedar_ids::Loc;
+pub use cedar_ids::Name;
+pub use cedar_ids::NonEmpty;
+pub use cedar_ids::ParseErrors;
+pub use cedar_ids::PolicyID;
+pub use cedar_policy::Effect;
+pub use cedar_policy::LinkingError;
+pub use cedar_policy::Policy;
+pub use cedar_policy::SlotEnv;
+pub use cedar_policy::Slots;
+pub use cedar_policy::StaticPolicy;
+pub use cedar_policy::Template;
+pub use cedar_policy::TemplateBody;
+pub use cedar_policy::TemplateBodyImpl;
+pub use cedar_policy::TemplateValidationError;
+pub use cedar_policy::UnexpectedSlotError;
+pub use cedar_policy_set::AllTemplates;
+pub use cedar_policy_set::IntoPolicies;
+pub use cedar_policy_set::Linked;
+pub use cedar_policy_set::LinkedIds;
+pub use cedar_policy_set::Policies;
+pub use cedar_policy_set::PolicySet;
+pub use cedar_policy_set::PolicySetError;
+pub use cedar_policy_set::PolicySetGetLinksError;
+pub use cedar_policy_set::PolicySetPolicyRemovalError;
+pub use cedar_policy_set::PolicySetTemplateRemovalError;
+pub use cedar_policy_set::PolicySetUnlinkError;
+pub use cedar_policy_set::PolicySetValidationError;
+pub use cedar_policy_set::StaticPolicies;
+pub use cedar_policy_set::Templates;
+pub use cedar_replay::Answer;
+pub use cedar_replay::EntityCall;
+pub use cedar_replay::PolicyCall;
+pub use cedar_replay::replay_entities;
+pub use cedar_replay::replay_entities_with_hasher;
+pub use cedar_replay::replay_policies;
+pub use cedar_scope::EntityReference;
+pub use cedar_scope::PrincipalConstraint;
+pub use cedar_scope::PrincipalOrResource;
+pub use cedar_scope::PrincipalOrResourceConstraint;
+pub use cedar_scope::ResourceConstraint;
 pub use cedar_slice::slice;
-pub use cedar_terms::{
-    Expr, ExprValidationError, ExtensionValue, Literal, PartialValue, Slot, SlotId, StaticType,
-    StaticallyTyped, Unknown, Value, ValueKind, Var, is_reserved_key,
-};
+pub use cedar_terms::Expr;
+pub use cedar_terms::ExprNode;
+pub use cedar_terms::ExprValidationError;
+pub use cedar_terms::ExtensionValue;
+pub use cedar_terms::Literal;
+pub use cedar_terms::PartialValue;
+pub use cedar_terms::Slot;
+pub use cedar_terms::SlotId;
+pub use cedar_terms::StaticType;
+pub use cedar_terms::StaticallyTyped;
+pub use cedar_terms::Unknown;
+pub use cedar_terms::Value;
+pub use cedar_terms::ValueKind;
+pub use cedar_terms::Var;
+pub use cedar_terms::is_reserved_key;
 pub use cedar_uid_sets::Union;
-pub use program::{RunError, run, run_and_leave, run_and_leave_with, run_with};
-pub use session::{Session, push_not_command};
+pub use program::RunError;
+pub use program::run;
+pub use program::run_and_leave;
+pub use program::run_and_leave_with;
+pub use program::run_with;
+pub use session::Session;
+pub use session::push_not_command;
 
 /// What is done with bindings, and the texts of refusals.
 pub mod bindings {
@@ -120,8 +183,8 @@ pub mod ast {
         ResourceConstraint,
     };
     pub use cedar_terms::{
-        Expr, ExprValidationError, ExtensionValue, Literal, PartialValue, Slot, SlotId, StaticType,
-        StaticallyTyped, Unknown, Value, ValueKind, Var, is_reserved_key,
+        Expr, ExprNode, ExprValidationError, ExtensionValue, Literal, PartialValue, Slot, SlotId,
+        StaticType, StaticallyTyped, Unknown, Value, ValueKind, Var, is_reserved_key,
     };
 
     /// Annotations and their iterators, at the original's path: these two have the names of the store's.

@@ -6,6 +6,16 @@
 mod program;
 mod session;
 
-pub use program::{RunError, run, run_and_leave, run_and_leave_with, run_with};
+pub use program::RunError;
 
-pub use session::{Session, push_not_command};
+pub use program::run;
+
+pub use program::run_and_leave;
+
+pub use program::run_and_leave_with;
+
+pub use program::run_with;
+
+pub use session::Session;
+
+pub use session::push_not_command;

@@ -5,6 +5,7 @@
 pub mod err;
 pub mod expr;
 mod expr_hash;
+mod expr_node;
 mod expr_same;
 mod expr_text;
 mod expr_walk;

@@ -7,13 +7,11 @@ use Rattle.cedar_terms.specs.Keys.{Key, tip, fork}
 use Rattle.cedar_terms.specs.laws.NameKeyLaws.{name_at, name_at-name_key}
 use Rattle.cedar_terms.specs.laws.LiteralLaws.{literal_at, literal_at-literal_key}
 use Rattle.cedar_terms.specs.ExprKeys.{annotation_key, expr_key, exprs_key, unknown_key}
-use Rattle.cedar_terms.specs.SlotTree.{slot_index}
 use Rattle.cedar_terms.specs.laws.VarLaws.{var_at, var_at-var_index}
 use Rattle.cedar_terms.specs.UnknownParts.{UnknownParts}
 use Rattle.cedar_terms.specs.ExprTree.{operator_index, Operator, and_operator, eq_operator, in_operator, ExprTree}
 use Rattle.cedar_terms.specs.ExprTree.{val_node, var_node, slot_node, unknown_node, set_node, call_node, not_node}
 use Rattle.cedar_terms.specs.ExprTree.{binary_node, is_node, ExprTrees, no_exprs, expr_then}
-use Rattle.cedar_terms.specs.declared.slot.SlotId.{SlotId}
 use Rattle.cedar_terms.specs.laws.SlotIdLaws.{slot_at, slot_at-slot_index}
 
 -- the annotation of a key
