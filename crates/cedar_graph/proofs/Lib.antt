@@ -1,5 +1,6 @@
 pub mod Closing
 pub mod Counting
+pub mod Dags
 pub mod Keyed
 pub mod Loops
 pub mod Members

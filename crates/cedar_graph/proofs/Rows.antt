@@ -3,11 +3,11 @@ use Rattle.std.specs.Cmp.{IsEquivalence, nat_eq_equiv}
 use Rattle.std.specs.HashMap.{HashMap, get, keys}
 use Rattle.std.specs.List.{list_any, slice_get, slice_range}
 use Rattle.std.specs.Option.{is_some}
-use Rattle.std.proofs.lemmas.Bool.{cases_eq}
+use Rattle.std.proofs.lemmas.Bool.{cases_eq, eqb-true}
 use Rattle.std.proofs.lemmas.List.{get_or-take, get_or-drop}
 use Rattle.std.proofs.lemmas.List.Folds.{list_any_at}
 use Rattle.std.proofs.lemmas.Result.{on_ok_weaker}
-use Rattle.std.proofs.Common.{◌≡◌, Bool, true, ℕ, ◌<◌, ◌≤◌, ◌+◌, ◌-◌, inl, inr, nat_eq, List, Some, Result, Ok, OnOk}
+use Rattle.std.proofs.Common.{◌≡◌, Bool, true, ℕ, ◌<◌, ◌≤◌, ◌+◌, ◌-◌, inl, inr, nat_eq, suc, List, [], ◌∷◌, Some, Result, Ok, OnOk}
 use Rattle.std.proofs.Common.{length, drop, get_or, arith, ap, refl, sym, subst, ◌∙◌, length-take, length-drop}
 use Rattle.cedar_components.specs.Reach.{Goes, IsReach, IsWithin}
 use Rattle.cedar_graph.specs.Graph.{graph_of}
@@ -15,7 +15,7 @@ use Rattle.cedar_graph.specs.declared.close.Known.{Known}
 use Rattle.cedar_graph.specs.laws.Arcs.{IsKeyAt, IsRowEdge, IsRowEdgeBelow, ReachesKey}
 use Rattle.cedar_graph.specs.laws.Writings.{CountsFound, HasNodes, IsAt, IsEdgeTo, IsKeyBelow, IsRowOf, KnowsEdges}
 use Rattle.cedar_graph.specs.laws.Writings.{Writes}
-use Rattle.cedar_graph.proofs.Reaches.{graph_from, graph_to, same_found}
+use Rattle.cedar_graph.proofs.Reaches.{graph_from, graph_to, or_cases, same_found}
 
 -- a part of a list
 module _ (lists : List ℕ) (i j : ℕ) (ordered : i ≤ j) (within : j ≤ length lists) where
@@ -24,6 +24,15 @@ module _ (lists : List ℕ) (i j : ℕ) (ordered : i ≤ j) (within : j ≤ leng
 
   part_at : (n : ℕ) → n < j - i → get_or (slice_range lists i j) n 0 ≡ get_or lists (i + n) 0
   part_at n h = get_or-take (j - i) (drop i lists) n 0 h ∙ get_or-drop i lists n 0
+
+-- where a number stands that is found
+found_at : (y : ℕ) (xs : List ℕ) → list_any (λ v. nat_eq v y) xs ≡ true
+    → (n : ℕ) × (n < length xs) × (get_or xs n 0 ≡ y)
+found_at y [] h = absurd cc
+found_at y (x ∷ xs) h = elim (or_cases (nat_eq x y) (list_any (λ v. nat_eq v y) xs) h) [
+  | inl same ↦ (0, omega arith, eqb-true x y same)
+  | inr further ↦ let r = found_at y xs further in (suc r.0, omega (arith, r.1), r.2)
+]
 
 -- the part of the lists that belongs to number x
 module _ {K : Type 0} (eq : K → K → Bool) (keys : List K) (E : ℕ → ℕ → Type 0) (component start lists : List ℕ)
@@ -73,6 +82,16 @@ module _ {K : Type 0} (eq : K → K → Bool) (keys : List K) (E : ℕ → ℕ �
       ∙ ap (λ m. get_or lists m 0) place ∙ w.3 in
       let len : n < length (slice_range lists i j) = omega (arith, part_len lists i j ordered inside) in
       list_any_at (λ v. nat_eq v y) (slice_range lists i j) n 0 len (rw at (nat_eq_equiv.refl y))
+
+  -- a number that is found in the part is reached
+  pub part_only : (y : ℕ) → list_any (λ v. nat_eq v y) (slice_range lists i j) ≡ true → Goes E x y
+  part_only y h =
+      let f = found_at y (slice_range lists i j) h in
+      let n_in : f.0 < j - i = omega (arith, f.1, part_len lists i j ordered inside) in
+      let at : get_or lists (i + f.0) 0 ≡ y = sym (part_at lists i j ordered inside f.0 n_in) ∙ f.2 in
+      let here : IsWithin lists i j y = (i + f.0, omega arith, omega arith, at) in
+      r.sound x y within (subst (λ m. IsWithin lists m (get_or start (get_or component x 0 + 1) 0) y) i_is
+      (subst (λ m. IsWithin lists i m y) j_is here))
 
   -- the row of a number, given to the node at its key, is what the number reaches
   pub number_written : {V S T F : Type 0} (laws : IsEquivalence eq) (edges : V → K → Bool)

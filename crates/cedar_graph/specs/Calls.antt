@@ -7,7 +7,7 @@ use Rattle.std.specs.HashMap.{HashMap, get}
 use Rattle.std.specs.HashSet.{HashSet, contains}
 use Rattle.cedar_graph.specs.Graph.{graph_of, KeepsNodes, KeepsEdges, AddsOnlyReached, ReachesSame, IsClosure}
 use Rattle.cedar_graph.specs.Graph.{IsTrusted, HasNoCycle, HasNoCycleAt}
-use Rattle.cedar_graph.specs.Faults.{NamesCycleAt, UnlessMemory}
+use Rattle.cedar_graph.specs.Faults.{MatchFault, NamesCycleAt, UnlessMemory}
 use Rattle.cedar_graph.specs.declared.err.TcError.{TcError}
 
 -- the map has the same keys, and at each of them a node with the same key and rest, which has what adding keeps
@@ -45,6 +45,32 @@ pub record Repairs {K V S T : Type 0} (eq : K → K → Bool) (edges : V → K �
   pub ok : OnOk result (IsTrusted fix (graph_of eq edges old) → IsTrue asked
       → HasNoCycleAt fix (graph_of eq edges old))
   pub err : IfErr result (NamesCycleAt asked fix (graph_of eq edges old))
+
+-- where a cycle is told, all is as it was
+abbrev pub StaysOnCycle : {K M T : Type 0} → M → M → Result T (TcError K) → Type 0
+StaysOnCycle old new result = IfErr result (λ e. MatchFault e (λ _ _ _. ⊥) (λ _. new ≡ old))
+
+-- a map without a cycle is closed, unless memory was refused, and then it may be so in part; where there is a cycle,
+-- that is told, and the map is as it was
+pub record ClosesDag {K V S T : Type 0} (eq : K → K → Bool) (edges : V → K → Bool) (old new : HashMap K V S)
+    (result : Result T (TcError K)) : Type 0 where
+  pub adds : OnlyAdds (graph_of eq edges old) (graph_of eq edges new)
+  pub closed : OnOk result (IsClosure (graph_of eq edges old) (graph_of eq edges new))
+  pub ok : OnOk result (HasNoCycle (graph_of eq edges old))
+  pub err : IfErr result (NamesCycleAt true (λ v. is_some (get eq old v)) (graph_of eq edges old))
+  pub stays : StaysOnCycle old new result
+
+-- no node changes but those at keys to fix; where all others have an edge to what they reach, these are closed, unless
+-- one lies on a cycle: that is told, and the map is as it was
+pub record RepairsDag {K V S T : Type 0} (eq : K → K → Bool) (edges : V → K → Bool) (fix : K → Bool)
+    (old new : HashMap K V S) (result : Result T (TcError K)) : Type 0 where
+  pub alone : (q : K) → fix q ≡ false → get eq new q ≡ get eq old q
+  pub adds : OnlyAdds (graph_of eq edges old) (graph_of eq edges new)
+  pub closed : OnOk result (IsTrusted fix (graph_of eq edges old)
+      → IsClosure (graph_of eq edges old) (graph_of eq edges new))
+  pub ok : OnOk result (IsTrusted fix (graph_of eq edges old) → HasNoCycleAt fix (graph_of eq edges old))
+  pub err : IfErr result (NamesCycleAt true fix (graph_of eq edges old))
+  pub stays : StaysOnCycle old new result
 
 -- no two keys of the list are equal, and each has an edge in the graph
 pub record AreEdged {K : Type 0} (eq : K → K → Bool) (G : K → K → Bool) (keys : List K) : Type 0 where

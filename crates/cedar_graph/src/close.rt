@@ -192,21 +192,22 @@ fn mark_targets(from: &[usize], to: &[usize], known: &mut Known, x: usize, e: us
 }
 
 // Whether number x reaches itself.
-fn goes_back<K: Clone + Eq + Hash, S: BuildHasher>(
+pub(crate) fn goes_back<K: Clone + Eq + Hash, S: BuildHasher>(
     read: &Reading<K, S>,
     reached: &Reached,
     x: usize,
 ) -> bool
     requires reach { IsReachOf read.now reached.now }
     requires within { x < length read.now.keys.keys }
-    ensures { result ≡ false → Goes (IsArc read.now) x x → ⊥ }
+    ensures none { result ≡ false → Goes (IsArc read.now) x x → ⊥ }
+    ensures some { result ≡ true → Goes (IsArc read.now) x x }
 {
     let component = reached.component[x];
     let numbers = &reached.lists[reached.start[component]..reached.start[component + 1]];
     numbers.contains(&x)
 }
 
-// What was done, and whether a number to fix was seen to reach itself.
+// What was done, and whether a number to fix may reach itself: one was seen to, or none was looked at.
 #[derive(Drop)]
 pub(crate) struct Closed {
     pub(crate) work: Work,
@@ -214,13 +215,14 @@ pub(crate) struct Closed {
 }
 
 // Adds to the node of each number to fix an edge to the key of each number that it reaches, counts
-// the nodes, and tells whether one of the numbers reaches itself. For that it looks at those alone
-// that are marked when it comes to them: on each way back to its beginning there is one.
-fn write_rows<K: Clone + Eq + Hash, V: TCNode<K>, S: BuildHasher>(
+// the nodes, and tells whether one of the numbers may reach itself. Where that is asked for it looks at those alone that
+// are marked when it comes to them: on each way back to its beginning there is one.
+pub(crate) fn write_rows<K: Clone + Eq + Hash, V: TCNode<K>, S: BuildHasher>(
     alloc: Global,
     nodes: &mut HashMap<K, V, S>,
     read: &FixReading<K, S>,
     reached: &Reached,
+    asks: bool,
 ) -> Result<Closed, AllocError>
     requires copies { ClonesAreEqual K.eq K.is_clone }
     requires read { AreRead K.eq (graph_of K.eq V.edges nodes.old) read.now }
@@ -240,7 +242,7 @@ fn write_rows<K: Clone + Eq + Hash, V: TCNode<K>, S: BuildHasher>(
     };
     let mut place = 0;
     let mut closings = 0;
-    let mut has_loop = false;
+    let mut has_loop = !asks;
     for x in 0..read.fixed {
         place = mark_targets(&arcs.from, &arcs.to, &mut known, x, place);
         closings += write_number(alloc, nodes, arcs, reached, x, &known)?;
@@ -253,12 +255,26 @@ fn write_rows<K: Clone + Eq + Hash, V: TCNode<K>, S: BuildHasher>(
     Ok(Closed { work, has_loop })
 }
 
+// What each number that was read reaches.
+pub(crate) fn reach_of<K: Clone + Eq + Hash, V: TCNode<K>, S: BuildHasher>(
+    alloc: Global,
+    read: &Reading<K, S>,
+) -> Result<Reached, AllocError>
+    requires { AreArcs read.now.from.items read.now.to.items (length read.now.keys.keys) }
+    ensures { IfOk result (IsReachOf read.now) }
+{
+    let keys = read.keys.as_slice();
+    let order = order_of::<K, V>(alloc, keys, &read.to)?;
+    reach(alloc, &read.from, &read.to, keys.len(), &order)
+}
+
 // Adds to the nodes of the numbers to fix the edges that what was read asks for, and tells whether one of these numbers
-// reaches itself.
+// may reach itself: where that is not asked for, it may.
 fn close_read<K: Clone + Eq + Hash, V: TCNode<K>, S: BuildHasher>(
     alloc: Global,
     nodes: &mut HashMap<K, V, S>,
     read: &FixReading<K, S>,
+    asks: bool,
 ) -> Result<Closed, AllocError>
     requires copies { ClonesAreEqual K.eq K.is_clone }
     requires read { AreRead K.eq (graph_of K.eq V.edges nodes.old) read.now }
@@ -269,22 +285,16 @@ fn close_read<K: Clone + Eq + Hash, V: TCNode<K>, S: BuildHasher>(
     ensures loops { IfOk result (λ c.
         c.has_loop ≡ false → NoneGoesBack (IsArc read.now.reading) read.now.fixed) }
 {
-    let keys = read.reading.keys.as_slice();
-    let order = order_of::<K, V>(alloc, keys, &read.reading.to)?;
-    let reached = reach(
-        alloc,
-        &read.reading.from,
-        &read.reading.to,
-        keys.len(),
-        &order,
-    )?;
-    write_rows(alloc, nodes, read, &reached)
+    let reached = reach_of::<K, V, S>(alloc, &read.reading)?;
+    write_rows(alloc, nodes, read, &reached, asks)
 }
 
-// Adds an edge to each key that is reached, and tells whether some key has an edge to itself then.
+// Adds an edge to each key that is reached, and tells whether some key may have an edge to itself then: where that is not
+// asked for, it may.
 pub(crate) fn close<K: Clone + Eq + Hash, V: TCNode<K>, S: BuildHasher + Clone>(
     alloc: Global,
     nodes: &mut HashMap<K, V, S>,
+    asks: bool,
 ) -> Result<Closed, AllocError>
     requires { ClonesAreEqual K.eq K.is_clone }
     ensures keeps { KeepsAll K.eq V.key V.rest V.kept nodes.old nodes.new }
@@ -301,7 +311,7 @@ pub(crate) fn close<K: Clone + Eq + Hash, V: TCNode<K>, S: BuildHasher + Clone>(
         CoversEdged K.eq (graph_of K.eq V.edges nodes.old) c.work.closings) }
 {
     let read = read_arcs(alloc, nodes)?;
-    close_read(alloc, nodes, &read)
+    close_read(alloc, nodes, &read, asks)
 }
 
 // Adds to the nodes to fix an edge to each key that is reached.
@@ -323,6 +333,6 @@ pub(crate) fn repair<K: Clone + Eq + Hash, V: TCNode<K>, S: BuildHasher + Clone,
         → hash_set_len fix.now ≤ w.closings) }
 {
     let read = read_fix(alloc, fix, nodes)?;
-    let closed = close_read(alloc, nodes, &read)?;
+    let closed = close_read(alloc, nodes, &read, false)?;
     Ok(closed.work)
 }

@@ -45,11 +45,13 @@ mod arcs;
 mod checks;
 mod close;
 mod copies;
+mod dag;
 pub mod err;
 mod numbering;
 mod order;
 pub mod transitive_closure;
 
+pub use dag::{close_dag, repair_dag};
 pub use err::{HasCycle, MissingTcEdge, Result, TcError};
 pub use transitive_closure::{
     TCNode, Work, compute_tc, compute_tc_counted, enforce_tc_and_dag, repair_tc, repair_tc_counted,

@@ -307,7 +307,7 @@ pub fn compute_tc_counted<
     ensures visits { IfOk result (λ w.
         CoversEdged K.eq (graph_of K.eq V.edges nodes.old) w.closings) }
 {
-    let closed = close(alloc, nodes)?;
+    let closed = close(alloc, nodes, enforce_dag)?;
     if !enforce_dag || !closed.has_loop {
         return Ok(closed.work);
     }

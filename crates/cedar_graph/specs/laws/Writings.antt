@@ -96,6 +96,10 @@ IsReachOf s reached = IsReach (IsArc s) (length s.keys.keys) reached.component.i
 abbrev pub NoneGoesBack : (ℕ → ℕ → Type 0) → ℕ → Type 0
 NoneGoesBack E n = (w x : ℕ) → w ≤ x → x < n → E w x → Goes E x x → ⊥
 
+-- no number below n to which an arc leads reaches itself
+abbrev pub NoneLoops : (ℕ → ℕ → Type 0) → ℕ → Type 0
+NoneLoops E n = (w x : ℕ) → x < n → E w x → Goes E x x → ⊥
+
 -- each number to which an arc leads from one below n has a mark
 abbrev pub AreMarked : (ℕ → ℕ → Type 0) → ℕ → List ℕ → Type 0
 AreMarked E n marks = (w y : ℕ) → w < n → E w y → 0 < slice_index marks y
@@ -122,3 +126,13 @@ pub record CountsWork {K V S H : Type 0} (eq : K → K → Bool) (read : FixRead
     (work : Work) : Type 0 where
   pub reads : work.reads ≡ read.reading.reads
   pub closings : CountsFound read.fixed (HasNodes eq nodes (IsToFix eq read)) work.closings
+
+-- each number has a mark, and that to which one of the first n arcs leads a true one
+pub record HasMarks {K S H : Type 0} (s : Reading K S H) (n : ℕ) (marks : List Bool) : Type 0 where
+  pub len : length marks ≡ length s.keys.keys
+  pub led : (k : ℕ) → k < n → slice_get marks (slice_index s.to.items k) ≡ Some true
+
+-- q is the key of a number to fix that reaches itself
+abbrev pub IsKeyOfLoop : {K S H : Type 0} → (K → K → Bool) → FixReading K S H → K → Type 0
+IsKeyOfLoop {K} eq read q = (x : ℕ) × (k : K) × (x < read.fixed) × (slice_get read.reading.keys.keys x ≡ Some k)
+    × (eq k q ≡ true) × Goes (IsArc read.reading) x x
