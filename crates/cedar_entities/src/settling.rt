@@ -13,7 +13,7 @@ ghost use Rattle.cedar_entities.specs.laws.Held.{held, held_map, UidsMatch};
 use crate::entities::TCComputation;
 use cedar_entity::err::EntitiesError;
 use cedar_entity::node::SharedEntity;
-use cedar_graph::{compute_tc, enforce_tc_and_dag, repair_tc};
+use cedar_graph::{close_dag, enforce_tc_and_dag, repair_dag, repair_tc};
 use cedar_uid_sets::SharedUid;
 use std::alloc::Global;
 use std::collections::{HashMap, HashSet};
@@ -31,7 +31,7 @@ pub(crate) fn computes(tc_computation: TCComputation) -> bool
 }
 
 // Checks that the ancestors are closed and that no entity is its own.
-pub(crate) fn check<S: BuildHasher>(
+pub(crate) fn check<S: BuildHasher + Clone>(
     alloc: Global,
     entities: &HashMap<SharedUid, SharedEntity, S>,
 ) -> Result<(), EntitiesError>
@@ -44,7 +44,8 @@ pub(crate) fn check<S: BuildHasher>(
     Ok(())
 }
 
-// Gives the entities that are touched the ancestors that they reach.
+// Gives the entities that are touched the ancestors that they reach. Where a cycle is asked for, it is told before any
+// ancestor is written.
 fn repair_touched<S: BuildHasher + Clone>(
     alloc: Global,
     entities: &mut HashMap<SharedUid, SharedEntity, S>,
@@ -61,7 +62,11 @@ fn repair_touched<S: BuildHasher + Clone>(
         × IsClosureRefused ComputeNow (held_map entities.old) t)) }
     ensures named { IfErr result (NamesOneOf (contains same_uid touched.now)) }
 {
-    repair_tc(alloc, touched, entities, enforce_dag)?;
+    if enforce_dag {
+        repair_dag(alloc, touched, entities)?;
+        return Ok(());
+    }
+    repair_tc(alloc, touched, entities, false)?;
     Ok(())
 }
 
@@ -87,8 +92,8 @@ pub(crate) fn settle_touched<S: BuildHasher + Clone>(
     }
 }
 
-// Gives all entities the ancestors that they reach, and refuses where one reaches itself. So all that a map held where
-// it was empty before is repaired, whatever passes for touched.
+// Gives all entities the ancestors that they reach, and refuses where one reaches itself, before any ancestor is
+// written. So all that a map held where it was empty before is repaired, whatever passes for touched.
 fn close_whole<S: BuildHasher + Clone>(
     alloc: Global,
     entities: &mut HashMap<SharedUid, SharedEntity, S>,
@@ -105,7 +110,7 @@ fn close_whole<S: BuildHasher + Clone>(
         ((q : EntityUID) → is_some (held entities.old q) ≡ true → touched q ≡ true) →
         NamesOneOf touched e) }
 {
-    compute_tc(alloc, entities, true)?;
+    close_dag(alloc, entities)?;
     Ok(())
 }
 

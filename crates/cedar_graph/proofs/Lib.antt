@@ -1,3 +1,4 @@
+pub mod Checking
 pub mod Closing
 pub mod Counting
 pub mod Dags

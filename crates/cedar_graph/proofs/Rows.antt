@@ -71,17 +71,24 @@ module _ {K : Type 0} (eq : K → K → Bool) (keys : List K) (E : ℕ → ℕ �
       ∙ ap (λ m. get_or lists m 0) place ∙ w.3 in
       (n, p.1, omega (arith, part_len lists i j ordered inside), rw at p.3, p.4)
 
-  -- a number that is reached is found in the part
-  pub part_has : (y : ℕ) → Goes E x y → list_any (λ v. nat_eq v y) (slice_range lists i j) ≡ true
-  part_has y goes =
+  -- a number that is reached stands in the part
+  pub part_place : (y : ℕ) → Goes E x y
+      → (n : ℕ) × (n < length (slice_range lists i j)) × (get_or (slice_range lists i j) n 0 ≡ y)
+  part_place y goes =
       let w = r.complete x y within goes in
       let n = w.0 - i in
       let n_in : n < j - i = omega (arith, w.1, w.2) in
-      let place : i + n ≡ w.0 = omega (arith, w.1) in
-      let at : get_or (slice_range lists i j) n 0 ≡ y = part_at lists i j ordered inside n n_in
-      ∙ ap (λ m. get_or lists m 0) place ∙ w.3 in
-      let len : n < length (slice_range lists i j) = omega (arith, part_len lists i j ordered inside) in
-      list_any_at (λ v. nat_eq v y) (slice_range lists i j) n 0 len (rw at (nat_eq_equiv.refl y))
+      let place : i + n ≡ w.0 = omega (arith, w.1) in (
+        n,
+        omega (arith, part_len lists i j ordered inside),
+        part_at lists i j ordered inside n n_in ∙ ap (λ m. get_or lists m 0) place ∙ w.3,
+      )
+
+  -- and is found there
+  pub part_has : (y : ℕ) → Goes E x y → list_any (λ v. nat_eq v y) (slice_range lists i j) ≡ true
+  part_has y goes =
+      let p = part_place y goes in
+      list_any_at (λ v. nat_eq v y) (slice_range lists i j) p.0 0 p.1 (rw p.2 (nat_eq_equiv.refl y))
 
   -- a number that is found in the part is reached
   pub part_only : (y : ℕ) → list_any (λ v. nat_eq v y) (slice_range lists i j) ≡ true → Goes E x y

@@ -68,10 +68,10 @@ fn pick_key<K: Clone + Eq + Hash>(row: &mut Vec<K>, key: &K, known: bool) -> Res
 // The numbers whose keys a node has an edge to already: those with this mark, to which so many arcs
 // lead.
 #[derive(Drop)]
-struct Known {
-    marks: Vec<usize>,
-    mark: usize,
-    count: usize,
+pub(crate) struct Known {
+    pub(crate) marks: Vec<usize>,
+    pub(crate) mark: usize,
+    pub(crate) count: usize,
 }
 
 // Copies of the keys of these numbers, in their order, but for those that are known.
@@ -166,7 +166,7 @@ fn write_number<K: Clone + Eq + Hash, V: TCNode<K>, S: BuildHasher>(
 }
 
 // Makes known the targets of number x, whose arcs begin at place e, and gives the place after them.
-fn mark_targets(from: &[usize], to: &[usize], known: &mut Known, x: usize, e: usize) -> usize
+pub(crate) fn mark_targets(from: &[usize], to: &[usize], known: &mut Known, x: usize, e: usize) -> usize
     requires arcs { AreArcs from.now to.now (length known.old.marks.items) }
     requires ascending { Ascends from.now }
     requires starts { StartsAt from.now x e }

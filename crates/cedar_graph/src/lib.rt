@@ -44,6 +44,7 @@
 mod arcs;
 mod checks;
 mod close;
+mod closed;
 mod copies;
 mod dag;
 pub mod err;

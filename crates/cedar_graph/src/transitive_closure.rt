@@ -23,8 +23,9 @@ ghost use Rattle.cedar_graph.specs.Calls.{Closes, CoversEdged, HasAll, KeepsAll,
 ghost use Rattle.cedar_graph.specs.Graph.{graph_of, Grows, IsClosedWithoutLoop, KeysMatch};
 ghost use Rattle.cedar_graph.specs.Faults.{DeniesClosed};
 
-use crate::checks::{enforce_no_loop, enforce_no_loop_for, enforce_tc};
+use crate::checks::{enforce_no_loop, enforce_no_loop_for};
 use crate::close::{close, repair};
+use crate::closed::enforce_tc;
 use crate::err::Result;
 use std::alloc::{AllocError, Global};
 use std::collections::{HashMap, HashSet};
@@ -397,14 +398,16 @@ pub fn repair_tc_counted<
 /// that show that the graph is not closed; by [`TcError::HasCycle`](crate::TcError::HasCycle) only
 /// where the graph is closed, and it names a key with an edge to itself; and by `TcError::Memory`.
 ///
-/// Takes memory for lists of edges. Reads each node's edges once, and once more for each edge that
-/// leads to it.
+/// Takes memory, hashes and lists edges as [`compute_tc`] does, and then costs what the keys with edges, the edges and
+/// what each key reaches cost: of a closed graph the edges once more. At the end it asks each node by
+/// [`TCNode::has_edge_to`] once.
 ///
 /// Unlike the original it takes the allocator and may answer `TcError::Memory`.
-pub fn enforce_tc_and_dag<K: Clone + Eq + Hash + Debug + Display, V: TCNode<K>, S: BuildHasher>(
-    alloc: Global,
-    nodes: &HashMap<K, V, S>,
-) -> Result<(), K>
+pub fn enforce_tc_and_dag<
+    K: Clone + Eq + Hash + Debug + Display,
+    V: TCNode<K>,
+    S: BuildHasher + Clone,
+>(alloc: Global, nodes: &HashMap<K, V, S>) -> Result<(), K>
     requires copies { ClonesAreEqual K.eq K.is_clone }
     requires keys { KeysMatch K.eq V.key nodes.now }
     ensures ok { OnOk result (IsClosedWithoutLoop (graph_of K.eq V.edges nodes.now)) }
