@@ -166,7 +166,13 @@ fn write_number<K: Clone + Eq + Hash, V: TCNode<K>, S: BuildHasher>(
 }
 
 // Makes known the targets of number x, whose arcs begin at place e, and gives the place after them.
-pub(crate) fn mark_targets(from: &[usize], to: &[usize], known: &mut Known, x: usize, e: usize) -> usize
+pub(crate) fn mark_targets(
+    from: &[usize],
+    to: &[usize],
+    known: &mut Known,
+    x: usize,
+    e: usize,
+) -> usize
     requires arcs { AreArcs from.now to.now (length known.old.marks.items) }
     requires ascending { Ascends from.now }
     requires starts { StartsAt from.now x e }

@@ -130,11 +130,7 @@ pub fn repair_dag<
     V: TCNode<K>,
     S: BuildHasher + Clone,
     F: BuildHasher,
->(
-    alloc: Global,
-    nodes_to_fix: &HashSet<K, F>,
-    nodes: &mut HashMap<K, V, S>,
-) -> Result<(), K>
+>(alloc: Global, nodes_to_fix: &HashSet<K, F>, nodes: &mut HashMap<K, V, S>) -> Result<(), K>
     requires copies { ClonesAreEqual K.eq K.is_clone }
     requires keys { KeysMatch K.eq V.key nodes.old }
     ensures keys { KeysMatch K.eq V.key nodes.new }

@@ -105,7 +105,10 @@ pub fn repair_counted<V: TCNode<u64>, S: BuildHasher + Copy>(
 }
 
 /// Whether a graph is closed and has no cycle.
-pub fn check<V: TCNode<u64>, S: BuildHasher + Copy>(alloc: Global, nodes: &HashMap<u64, V, S>) -> Told
+pub fn check<V: TCNode<u64>, S: BuildHasher + Copy>(
+    alloc: Global,
+    nodes: &HashMap<u64, V, S>,
+) -> Told
     requires { KeysMatch nat_eq V.key nodes.now }
 {
     told_of(enforce_tc_and_dag(alloc, nodes))
