@@ -293,6 +293,20 @@ plain_held W S p = (
   },
 )
 
+-- and with the flag of the store that it is the plain store of some world
+pub plain_at : (S : StoreView) → IsPlainHeld S.held → (W : World) × IsPlainStore W S
+plain_at S h = (
+  record h.0 { partial = S.partial },
+  record {
+    partial = refl;
+    holds = h.1.holds;
+    keyed = h.1.keyed;
+    reached = h.1.reached;
+    apart = h.1.apart;
+    acyclic = h.1.acyclic;
+  },
+)
+
 -- the children by what the map has are those by what is held
 pub children_seen : {S T H : Type 0} (n : HashMap EntityUID SharedEntity T) (o : Option (Children S H))
     → IfSome o (HasChildren (parentage (held n))) → IfSome o (HasChildren (parentage (finmap.get (held_map n))))

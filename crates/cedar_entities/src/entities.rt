@@ -330,6 +330,21 @@ impl<S: BuildHasher + Clone> Entities<S> {
         }
     }
 
+    /// The store as it is, which from here on knows that its ancestors are what the parents imply, where `other` knows
+    /// that of its own: then edits of it cost what edits of `other` do. It is for who makes a store of a part of another,
+    /// and is to be called only where a part of a plain store is a plain store. It takes no memory. This is the
+    /// project's own.
+    pub fn known_plain_with(self, other: &Entities<S>) -> Entities<S>
+        requires { (W : World) → IsPlainStore W other.now → (V : World) × IsPlainStore V self }
+        ensures { result ≡ self }
+    {
+        Entities {
+            entities: self.entities,
+            partial: self.partial,
+            index: Index::unlisted(other.index.plain),
+        }
+    }
+
     /// Whether the store is partial. It takes no memory.
     pub fn is_partial(&self) -> bool
         ensures { result ≡ self.now.partial }

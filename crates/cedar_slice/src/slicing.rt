@@ -64,7 +64,8 @@ fn want<S: BuildHasher + Clone>(
     Ok(())
 }
 
-// The uids that are asked for, and the ancestors of what the store has with them.
+// The uids that are asked for, and the ancestors of what the store has with them. What is asked for again is passed
+// over.
 fn all_wanted<S: BuildHasher + Clone>(
     alloc: Global,
     store: &Entities<S>,
@@ -74,8 +75,13 @@ fn all_wanted<S: BuildHasher + Clone>(
         contains same_uid s q ≡ is_wanted store.now.held uids.now q) }
 {
     let mut wanted = HashSet::with_hasher(alloc, store.hasher().clone()?);
+    let mut asked: HashSet<SharedUid, S> = HashSet::with_hasher(alloc, store.hasher().clone()?);
     for uid in uids {
+        if asked.contains(uid) {
+            continue;
+        }
         want(alloc, store, &mut wanted, uid)?;
+        asked.insert(SharedUid::copy_of(alloc, uid)?)?;
     }
     Ok(wanted)
 }
@@ -113,14 +119,8 @@ fn copies_of<S: BuildHasher + Clone>(
     Ok(list)
 }
 
-/// The slice of a store at some uids, not partial: copies of the entities that have one of these uids, and of those
-/// that the store holds among the ancestors of one of them, each with all that it holds. Asked uids that the store
-/// lacks, and repeats, change nothing. The slice hashes uids as the store does, by a copy of its builder of hashers.
-///
-/// Refused by [`EntitiesError::Memory`] alone, whatever the store. It takes memory. It looks each asked uid up, notes
-/// its ancestors, and looks each uid that was noted up once and copies what it finds: the store is never walked as a
-/// whole. Attributes and tags are copied, the uids of ancestors are shared.
-pub fn slice<S: BuildHasher + Clone>(
+// The slice of a store at some uids, of which is not known that it is plain.
+fn part_of<S: BuildHasher + Clone>(
     alloc: Global,
     store: &Entities<S>,
     uids: &[EntityUID],
@@ -142,4 +142,34 @@ pub fn slice<S: BuildHasher + Clone>(
     let list = copies_of(alloc, store, &wanted)?;
     let hasher = store.hasher().clone()?;
     Entities::from_entities_with_hasher(alloc, hasher, list, TCComputation::AssumeAlreadyComputed)
+}
+
+/// The slice of a store at some uids, not partial: copies of the entities that have one of these uids, and of those
+/// that the store holds among the ancestors of one of them, each with all that it holds. Asked uids that the store
+/// lacks, and repeats, change nothing. The slice hashes uids as the store does, by a copy of its builder of hashers.
+///
+/// Refused by [`EntitiesError::Memory`] alone, whatever the store. It takes memory. It looks each asked uid up, notes
+/// its ancestors, and looks each uid that was noted up once and copies what it finds: the store is never walked as a
+/// whole. Attributes and tags are copied, the uids of ancestors are shared. Where the store knows that its ancestors are
+/// what the parents imply, the slice knows it too: edits of it cost what edits of the store do.
+pub fn slice<S: BuildHasher + Clone>(
+    alloc: Global,
+    store: &Entities<S>,
+    uids: &[EntityUID],
+) -> Result<Entities<S>, EntitiesError>
+    ensures held { IfOk result (λ s. s ≡ record {
+      held = sliced store.now.held uids.now;
+      partial = false;
+    }) }
+    ensures asked { IfOk result (λ s. (q : EntityUID) → is_member same_uid uids.now q ≡ true →
+        finmap.get s.held q ≡ finmap.get store.now.held q) }
+    ensures plain { IfOk result (λ s. (W : World) → IsPlainStore W store.now →
+        IsPlainSlice W uids.now s) }
+    ensures least { IfOk result (λ s. (W : World) → IsPlainStore W store.now →
+        (V : World) → IsPartWith W uids.now V → (q : EntityUID) →
+        finmap.contains_key s.held q ≡ true → finmap.contains_key V.entities q ≡ true) }
+    ensures err { IfErr result (λ e. e ≡ Memory) }
+{
+    let part = part_of(alloc, store, uids)?;
+    Ok(part.known_plain_with(store))
 }

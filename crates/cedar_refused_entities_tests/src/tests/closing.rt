@@ -9,7 +9,8 @@ use super::nodes::is_among;
 use super::{eids, hashed, uid_of};
 use cedar_entity::node::SharedEntity;
 use cedar_graph::{
-    TCNode, compute_tc, compute_tc_counted, enforce_tc_and_dag, repair_tc, repair_tc_counted,
+    TCNode, close_dag, compute_tc, compute_tc_counted, enforce_tc_and_dag, repair_dag, repair_tc,
+    repair_tc_counted,
 };
 use cedar_ids::entity::EntityUID;
 use cedar_refusals::{
@@ -238,6 +239,42 @@ fn repaired(alloc: Global, number: usize, row: Row<'_>) -> Tried {
     }
 }
 
+// What comes of closing a graph that has to have no cycle.
+fn closed_dag(alloc: Global, number: usize, row: Row<'_>) -> Tried {
+    match store(alloc, row.given) {
+        Some(nodes) => {
+            let mut nodes = nodes;
+            refuse(alloc, number);
+            let answer = close_dag(alloc, &mut nodes);
+            let tried = told(alloc, answer, &nodes, row.given, row.want);
+            drop(nodes);
+            tried
+        }
+        None => unmade(),
+    }
+}
+
+// What comes of repairing a graph, at the keys before a colon, of which none may lie on a cycle.
+fn repaired_dag(alloc: Global, number: usize, row: Row<'_>) -> Tried {
+    let (keys, text) = row.given.split_once(": ").unwrap_or(("", row.given));
+    match (hashed(alloc, keys), store(alloc, text)) {
+        (Some(keys), Some(nodes)) => {
+            let mut nodes = nodes;
+            refuse(alloc, number);
+            let answer = repair_dag(alloc, &keys, &mut nodes);
+            let tried = told(alloc, answer, &nodes, text, row.want);
+            drop(keys);
+            drop(nodes);
+            tried
+        }
+        (keys, nodes) => {
+            drop(keys);
+            drop(nodes);
+            unmade()
+        }
+    }
+}
+
 // What comes of checking a graph.
 fn checked(alloc: Global, number: usize, row: Row<'_>) -> Tried {
     match store(alloc, row.given) {
@@ -255,6 +292,10 @@ fn checked(alloc: Global, number: usize, row: Row<'_>) -> Tried {
 struct OnGraphs;
 
 const GRAPHS: &str = "
+    close_dag | a b, b c, c d, d | a b c d, b c d, c d, d
+    close_dag | a a, b a | a a, b a ! input graph has a cycle containing vertex `A::\"a\"`
+    repair_dag | a b: a b, b c, c d, d | a b c d, b c d, c d, d
+    repair_dag | a: a b, b a | a b, b a ! input graph has a cycle containing vertex `A::\"a\"`
     compute_tc | a b, b c, c a, d a | a a b c, b a b c, c a b c, d a b c
     compute_tc | a b, b c x, c | a b c x, b c x, c
     compute_tc | dag a b, b c, c | a b c, b c, c
@@ -278,6 +319,8 @@ impl Calls for OnGraphs {
         match row.call {
             "compute_tc" | "compute_tc_counted" => computed(alloc, number, row),
             "repair_tc" | "repair_tc_counted" => repaired(alloc, number, row),
+            "close_dag" => closed_dag(alloc, number, row),
+            "repair_dag" => repaired_dag(alloc, number, row),
             "enforce_tc_and_dag" => checked(alloc, number, row),
             _ => unmade(),
         }

@@ -1,0 +1,17 @@
+use Rattle.std.proofs.Common.{sym, subst}
+use Rattle.cedar_entities.specs.laws.Held.{held_map}
+use Rattle.cedar_entities.specs.laws.Indexes.{IsIndexOf}
+use Rattle.cedar_entities.proofs.Indexes.{plain_at, plain_held}
+use Rattle.cedar_entities.proofs.entities.Entities.known_plain_with.Goals as goal
+
+pub invariant_of-result : goal.invariant_of-result
+invariant_of-result g c = (
+  c.self.invariant.0,
+  subst (λ x. IsIndexOf x (held_map c.self.inside.entities)) (sym c.unlisted.ensures)
+      (record {
+        plain = λ t. let p = plain_at c.args.other.now (c.other.invariant.1.plain t) in
+            let q = c.requires p.0 p.1 in
+            plain_held q.0 c.args.self q.1;
+        children = tt;
+      }),
+)
