@@ -14,7 +14,7 @@ CHOICES = {
 
 # Functions that the package does not have, as proofs alone ask for them: (type or file, name).
 DROPPED = {('KeyedState', 'new'), ('fresh', 'count_ids'), ('fresh', 'size'), ('node', 'listed'),
-           ('shared_node', 'listed_pointers')}
+           ('shared_node', 'listed_pointers'), ('store_text', 'next_entity'), ('store_text', 'is_before')}
 # Functions that the package does not have, as nothing in it asks for them; the layer's tests do.
 UNASKED = {
     ('PolicySet', 'from_raw_components'), ('PolicyMaps', 'from_raw_components'), ('lists', 'read_policy'),
@@ -29,6 +29,7 @@ DROPPED_IMPLS = {('Linked', 'Drop'), ('Linked', 'Deref'), ('Direct', 'Streams')}
 UNUSED = {
     ('component_lists', 'add'): {'n'}, ('component_lists', 'add_range'): {'n'}, ('list_order', 'take_all'): {'n'},
     ('components', 'meet'): {'graph', 'i'}, ('close', 'goes_back'): {'read'},
+    ('closed', 'knows_reached'): {'read'},
 }
 
 # Public functions whose parameters take what can be gone through, or what is a text: (type or file, name), and how each

@@ -273,6 +273,17 @@ impl<S: BuildHasher + Clone> Entities<S> {
         }
     }
 
+    /// The store as it is, which from here on knows that its ancestors are what the parents imply, where `other` knows
+    /// that of its own: then edits of it cost what edits of `other` do. It is for who makes a store of a part of
+    /// another, and is to be called only where a part of a plain store is a plain store. This is the project's own.
+    pub(crate) fn known_plain_with(self, other: &Self) -> Self {
+        Self {
+            entities: self.entities,
+            partial: self.partial,
+            index: Index::unlisted(other.index.plain),
+        }
+    }
+
     /// Whether the store is partial.
     ///
     /// ```

@@ -5,7 +5,7 @@
 use crate::cedar_entities::entities::TCComputation;
 use crate::cedar_entity::err::EntitiesError;
 use crate::cedar_entity::node::SharedEntity;
-use crate::cedar_graph::{compute_tc, enforce_tc_and_dag, repair_tc};
+use crate::cedar_graph::{close_dag, enforce_tc_and_dag, repair_dag, repair_tc};
 use crate::cedar_uid_sets::SharedUid;
 use std::collections::{HashMap, HashSet};
 use std::hash::BuildHasher;
@@ -19,18 +19,25 @@ pub(crate) fn computes(tc_computation: TCComputation) -> bool {
 }
 
 // Checks that the ancestors are closed and that no entity is its own.
-pub(crate) fn check<S: BuildHasher>(entities: &HashMap<SharedUid, SharedEntity, S>) -> Result<(), EntitiesError> {
+pub(crate) fn check<S: BuildHasher + Clone>(
+    entities: &HashMap<SharedUid, SharedEntity, S>,
+) -> Result<(), EntitiesError> {
     enforce_tc_and_dag(entities)?;
     Ok(())
 }
 
-// Gives the entities that are touched the ancestors that they reach.
+// Gives the entities that are touched the ancestors that they reach. Where a cycle is asked for, it is told before any
+// ancestor is written.
 fn repair_touched<S: BuildHasher + Clone>(
     entities: &mut HashMap<SharedUid, SharedEntity, S>,
     touched: &HashSet<SharedUid, S>,
     enforce_dag: bool,
 ) -> Result<(), EntitiesError> {
-    repair_tc(touched, entities, enforce_dag)?;
+    if enforce_dag {
+        repair_dag(touched, entities)?;
+        return Ok(());
+    }
+    repair_tc(touched, entities, false)?;
     Ok(())
 }
 
@@ -47,12 +54,12 @@ pub(crate) fn settle_touched<S: BuildHasher + Clone>(
     }
 }
 
-// Gives all entities the ancestors that they reach, and refuses where one reaches itself. So all that a map held where
-// it was empty before is repaired, whatever passes for touched.
+// Gives all entities the ancestors that they reach, and refuses where one reaches itself, before any ancestor is
+// written. So all that a map held where it was empty before is repaired, whatever passes for touched.
 fn close_whole<S: BuildHasher + Clone>(
     entities: &mut HashMap<SharedUid, SharedEntity, S>,
 ) -> Result<(), EntitiesError> {
-    compute_tc(entities, true)?;
+    close_dag(entities)?;
     Ok(())
 }
 

@@ -19,10 +19,10 @@ fn pick_key<K: Clone + Eq + Hash>(row: &mut Vec<K>, key: &K, known: bool) {
 
 // The numbers whose keys a node has an edge to already: those with this mark, to which so many arcs
 // lead.
-struct Known {
-    marks: Vec<usize>,
-    mark: usize,
-    count: usize,
+pub(crate) struct Known {
+    pub(crate) marks: Vec<usize>,
+    pub(crate) mark: usize,
+    pub(crate) count: usize,
 }
 
 // Copies of the keys of these numbers, in their order, but for those that are known.
@@ -76,7 +76,7 @@ fn write_number<K: Clone + Eq + Hash, V: TCNode<K>, S: BuildHasher>(
 }
 
 // Makes known the targets of number x, whose arcs begin at place e, and gives the place after them.
-fn mark_targets(from: &[usize], to: &[usize], known: &mut Known, x: usize, e: usize) -> usize {
+pub(crate) fn mark_targets(from: &[usize], to: &[usize], known: &mut Known, x: usize, e: usize) -> usize {
     let mut k = e;
     while k < from.len() && from[k] == x {
         known.marks[to[k]] = x + 1;
@@ -88,25 +88,26 @@ fn mark_targets(from: &[usize], to: &[usize], known: &mut Known, x: usize, e: us
 }
 
 // Whether number x reaches itself.
-fn goes_back(reached: &Reached, x: usize) -> bool {
+pub(crate) fn goes_back(reached: &Reached, x: usize) -> bool {
     let component = reached.component[x];
     let numbers = &reached.lists[reached.start[component]..reached.start[component + 1]];
     numbers.contains(&x)
 }
 
-// What was done, and whether a number to fix was seen to reach itself.
+// What was done, and whether a number to fix may reach itself: one was seen to, or none was looked at.
 pub(crate) struct Closed {
     pub(crate) work: Work,
     pub(crate) has_loop: bool,
 }
 
 // Adds to the node of each number to fix an edge to the key of each number that it reaches, counts
-// the nodes, and tells whether one of the numbers reaches itself. For that it looks at those alone
-// that are marked when it comes to them: on each way back to its beginning there is one.
-fn write_rows<K: Clone + Eq + Hash, V: TCNode<K>, S: BuildHasher>(
+// the nodes, and tells whether one of the numbers may reach itself. Where that is asked for it looks at those alone that
+// are marked when it comes to them: on each way back to its beginning there is one.
+pub(crate) fn write_rows<K: Clone + Eq + Hash, V: TCNode<K>, S: BuildHasher>(
     nodes: &mut HashMap<K, V, S>,
     read: &FixReading<K, S>,
     reached: &Reached,
+    asks: bool,
 ) -> Closed {
     let arcs = &read.reading;
     let mut known = Known {
@@ -116,7 +117,7 @@ fn write_rows<K: Clone + Eq + Hash, V: TCNode<K>, S: BuildHasher>(
     };
     let mut place = 0;
     let mut closings = 0;
-    let mut has_loop = false;
+    let mut has_loop = !asks;
     for x in 0..read.fixed {
         place = mark_targets(&arcs.from, &arcs.to, &mut known, x, place);
         closings += write_number(nodes, arcs, reached, x, &known);
@@ -129,24 +130,32 @@ fn write_rows<K: Clone + Eq + Hash, V: TCNode<K>, S: BuildHasher>(
     Closed { work, has_loop }
 }
 
+// What each number that was read reaches.
+pub(crate) fn reach_of<K: Clone + Eq + Hash, V: TCNode<K>, S: BuildHasher>(read: &Reading<K, S>) -> Reached {
+    let keys = read.keys.as_slice();
+    let order = order_of::<K, V>(keys, &read.to);
+    reach(&read.from, &read.to, keys.len(), &order)
+}
+
 // Adds to the nodes of the numbers to fix the edges that what was read asks for, and tells whether one of these numbers
-// reaches itself.
+// may reach itself: where that is not asked for, it may.
 fn close_read<K: Clone + Eq + Hash, V: TCNode<K>, S: BuildHasher>(
     nodes: &mut HashMap<K, V, S>,
     read: &FixReading<K, S>,
+    asks: bool,
 ) -> Closed {
-    let keys = read.reading.keys.as_slice();
-    let order = order_of::<K, V>(keys, &read.reading.to);
-    let reached = reach(&read.reading.from, &read.reading.to, keys.len(), &order);
-    write_rows(nodes, read, &reached)
+    let reached = reach_of::<K, V, S>(&read.reading);
+    write_rows(nodes, read, &reached, asks)
 }
 
-// Adds an edge to each key that is reached, and tells whether some key has an edge to itself then.
+// Adds an edge to each key that is reached, and tells whether some key may have an edge to itself then: where that is not
+// asked for, it may.
 pub(crate) fn close<K: Clone + Eq + Hash, V: TCNode<K>, S: BuildHasher + Clone>(
     nodes: &mut HashMap<K, V, S>,
+    asks: bool,
 ) -> Closed {
     let read = read_arcs(nodes);
-    close_read(nodes, &read)
+    close_read(nodes, &read, asks)
 }
 
 // Adds to the nodes to fix an edge to each key that is reached.
@@ -155,6 +164,6 @@ pub(crate) fn repair<K: Clone + Eq + Hash, V: TCNode<K>, S: BuildHasher + Clone,
     nodes: &mut HashMap<K, V, S>,
 ) -> Work {
     let read = read_fix(fix, nodes);
-    let closed = close_read(nodes, &read);
+    let closed = close_read(nodes, &read, false);
     closed.work
 }

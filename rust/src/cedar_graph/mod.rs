@@ -5,11 +5,15 @@
 mod arcs;
 mod checks;
 mod close;
+mod closed;
 mod copies;
+mod dag;
 pub mod err;
 mod numbering;
 mod order;
 pub mod transitive_closure;
+
+pub use dag::{close_dag, repair_dag};
 
 pub use err::{HasCycle, MissingTcEdge, Result, TcError};
 

@@ -2,8 +2,9 @@
 
 //! Nodes with edges, and the closure calls over a map of them.
 
-use crate::cedar_graph::checks::{enforce_no_loop, enforce_no_loop_for, enforce_tc};
+use crate::cedar_graph::checks::{enforce_no_loop, enforce_no_loop_for};
 use crate::cedar_graph::close::{close, repair};
+use crate::cedar_graph::closed::enforce_tc;
 use crate::cedar_graph::err::Result;
 use std::collections::{HashMap, HashSet};
 use std::fmt::{Debug, Display};
@@ -216,7 +217,7 @@ pub fn compute_tc_counted<K: Clone + Eq + Hash + Debug + Display, V: TCNode<K>, 
         nodes.iter().all(|(key, node)| node.get_key() == *key),
         "each node stands at its own key"
     );
-    let closed = close(nodes);
+    let closed = close(nodes, enforce_dag);
     if !enforce_dag || !closed.has_loop {
         return Ok(closed.work);
     }
@@ -349,7 +350,7 @@ pub fn repair_tc_counted<
 /// that the graph is not closed; by [`TcError::HasCycle`](crate::cedar_graph::TcError::HasCycle) only where the graph
 /// is closed, and it names a key with an edge to itself.
 ///
-/// Reads each node's edges once, and once more for each edge that leads to it.
+/// At the end it asks each node by [`TCNode::has_edge_to`] once.
 ///
 /// ```
 /// # use cedar_store::{ast::*, entities::*};
@@ -380,7 +381,7 @@ pub fn repair_tc_counted<
 /// assert!(nodes[&uid(r#"A::"a""#)].is_descendant_of(&uid(r#"A::"c""#)));
 /// # Ok::<(), Box<dyn std::error::Error>>(())
 /// ```
-pub fn enforce_tc_and_dag<K: Clone + Eq + Hash + Debug + Display, V: TCNode<K>, S: BuildHasher>(
+pub fn enforce_tc_and_dag<K: Clone + Eq + Hash + Debug + Display, V: TCNode<K>, S: BuildHasher + Clone>(
     nodes: &HashMap<K, V, S>,
 ) -> Result<(), K> {
     debug_assert!(

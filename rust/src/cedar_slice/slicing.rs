@@ -27,11 +27,17 @@ fn want<S: BuildHasher + Clone>(store: &Entities<S>, wanted: &mut HashSet<Shared
     wanted.insert(SharedUid::copy_of(uid));
 }
 
-// The uids that are asked for, and the ancestors of what the store has with them.
+// The uids that are asked for, and the ancestors of what the store has with them. What is asked for again is passed
+// over.
 fn all_wanted<S: BuildHasher + Clone>(store: &Entities<S>, uids: &[EntityUID]) -> HashSet<SharedUid, S> {
     let mut wanted = HashSet::with_hasher(store.hasher().clone());
+    let mut asked: HashSet<SharedUid, S> = HashSet::with_hasher(store.hasher().clone());
     for uid in uids {
+        if asked.contains(uid) {
+            continue;
+        }
         want(store, &mut wanted, uid);
+        asked.insert(SharedUid::copy_of(uid));
     }
     wanted
 }
@@ -52,12 +58,25 @@ fn copies_of<S: BuildHasher + Clone>(store: &Entities<S>, uids: &HashSet<SharedU
     list
 }
 
+// The slice of a store at some uids, of which is not known that it is plain.
+fn part_of<S: BuildHasher + Clone>(store: &Entities<S>, uids: &[EntityUID]) -> Entities<S> {
+    let wanted = all_wanted(store, uids);
+    let list = copies_of(store, &wanted);
+    let hasher = store.hasher().clone();
+    match Entities::from_entities_with_hasher(hasher, list, TCComputation::AssumeAlreadyComputed) {
+        Ok(slice) => slice,
+        Err(_) => unreachable!("the entities of a store have different uids"),
+    }
+}
+
 /// The slice of a store at some uids, not partial: copies of the entities that have one of these uids, and of those
 /// that the store holds among the ancestors of one of them, each with all that it holds. Asked uids that the store
 /// lacks, and repeats, change nothing. The slice hashes uids as the store does, by a copy of its builder of hashers.
 ///
 /// It looks each asked uid up, notes its ancestors, and looks each uid that was noted up once and copies what it finds:
-/// the store is never walked as a whole. Attributes and tags are copied, the uids of ancestors are shared.
+/// the store is never walked as a whole. Attributes and tags are copied, the uids of ancestors are shared. Where the
+/// store knows that its ancestors are what the parents imply, the slice knows it too: edits of it cost what edits of
+/// the store do.
 ///
 /// ```
 /// # use cedar_store::{ast::*, entities::*};
@@ -88,11 +107,5 @@ fn copies_of<S: BuildHasher + Clone>(store: &Entities<S>, uids: &HashSet<SharedU
 /// # Ok::<(), Box<dyn std::error::Error>>(())
 /// ```
 pub fn slice<S: BuildHasher + Clone>(store: &Entities<S>, uids: &[EntityUID]) -> Entities<S> {
-    let wanted = all_wanted(store, uids);
-    let list = copies_of(store, &wanted);
-    let hasher = store.hasher().clone();
-    match Entities::from_entities_with_hasher(hasher, list, TCComputation::AssumeAlreadyComputed) {
-        Ok(slice) => slice,
-        Err(_) => unreachable!("the entities of a store have different uids"),
-    }
+    part_of(store, uids).known_plain_with(store)
 }
