@@ -91,8 +91,8 @@ pub mod ast {
         EntityReference, PrincipalConstraint, PrincipalOrResource, PrincipalOrResourceConstraint, ResourceConstraint,
     };
     pub use crate::cedar_terms::{
-        Expr, ExprValidationError, ExtensionValue, Literal, PartialValue, Slot, SlotId, StaticType, StaticallyTyped,
-        Unknown, Value, ValueKind, Var, is_reserved_key,
+        Expr, ExprNode, ExprValidationError, ExtensionValue, Literal, PartialValue, Slot, SlotId, StaticType,
+        StaticallyTyped, Unknown, Value, ValueKind, Var, is_reserved_key,
     };
 
     /// Annotations, and their iterators.
