@@ -25,6 +25,8 @@ pub use err::ExprValidationError;
 
 pub use expr::Expr;
 
+pub use expr_node::ExprNode;
+
 pub use literal::Literal;
 
 pub use partial_value::PartialValue;
