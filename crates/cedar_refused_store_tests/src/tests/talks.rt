@@ -168,6 +168,7 @@ const TALKS: &str = "
     Session::take_line | ent>A::\"a\";build;ent>A::\"b\">A::\"a\";add | yes ok 2;
     Session::take_line | static>a>permit;static>a>forbid | yes refused: occupied a;
     Session::take_line | frob | no
+    - Session::take_line | ent>A::\"a\">A::\"b\"; | yes
     - Session::take_line | \u{e9} | no
     push_not_command | four | line 4: not a command
 ";
