@@ -160,8 +160,8 @@ pub mod replay {
 /// Closures of graphs of any nodes.
 pub mod transitive_closure {
     pub use crate::cedar_graph::{
-        HasCycle, MissingTcEdge, Result, TCNode, TcError, Work, compute_tc, compute_tc_counted, enforce_tc_and_dag,
-        repair_tc, repair_tc_counted,
+        HasCycle, MissingTcEdge, Result, TCNode, TcError, Work, close_dag, compute_tc, compute_tc_counted,
+        enforce_tc_and_dag, repair_dag, repair_tc, repair_tc_counted,
     };
 }
 

@@ -3,7 +3,8 @@
 mod common;
 
 use cedar_store::transitive_closure::{
-    TCNode, TcError, compute_tc, compute_tc_counted, enforce_tc_and_dag, repair_tc, repair_tc_counted,
+    TCNode, TcError, close_dag, compute_tc, compute_tc_counted, enforce_tc_and_dag, repair_dag, repair_tc,
+    repair_tc_counted,
 };
 use common::Drawn;
 use std::cell::Cell;
@@ -131,6 +132,16 @@ fn closes(graph: &Edges) {
         Err(error) => names_one_of(&error, &cycles),
     }
     assert_eq!(edges_of(&nodes), due);
+    // where a cycle is told before anything is written, nothing was written
+    let mut nodes = nodes_of(graph);
+    match close_dag(&mut nodes) {
+        Ok(()) => assert!(cycles.is_empty() && edges_of(&nodes) == due),
+        Err(error) => {
+            names_one_of(&error, &cycles);
+            assert_eq!(edges_of(&nodes), *graph);
+        }
+    }
+    rest_stays(&nodes, graph);
     let mut nodes = nodes_of(graph);
     let work = compute_tc_counted(&mut nodes, false).expect("without a check for cycles nothing is refused");
     let edged = graph.values().filter(|edges| !edges.is_empty()).count();
@@ -196,6 +207,14 @@ fn repairs(graph: &Edges, fix: &BTreeSet<u8>) {
         only_adds(&nodes, &given, fix);
     }
     let mut nodes = nodes_of(&given);
+    match repair_dag(&fixed, &mut nodes) {
+        Ok(()) => assert!(cycles.is_empty() && edges_of(&nodes) == full),
+        Err(error) => {
+            names_one_of(&error, &cycles);
+            assert_eq!(edges_of(&nodes), given);
+        }
+    }
+    let mut nodes = nodes_of(&given);
     let work = repair_tc_counted(&fixed, &mut nodes, false).expect("nothing is refused");
     assert_eq!(work.reads, nodes.values().map(|node| node.listed.get()).sum());
     assert!(work.closings <= 2 * fix.len());
@@ -227,6 +246,12 @@ fn repairs_anything(graph: &Edges, fix: &BTreeSet<u8>) {
         }
         only_adds(&nodes, graph, fix);
     }
+    let mut nodes = nodes_of(graph);
+    if let Err(error) = repair_dag(&fixed, &mut nodes) {
+        names_one_of(&error, &on_cycles(graph).intersection(fix).copied().collect());
+        assert_eq!(edges_of(&nodes), *graph);
+    }
+    only_adds(&nodes, graph, fix);
 }
 
 fn drawn_graph(drawn: &mut Drawn) -> Edges {

@@ -239,7 +239,14 @@ fn one_list_of_calls(seed: u64, uids: usize, calls: usize) -> (usize, usize) {
 
 /// A slice has what is asked for and what stands above that, each with its parents and ancestors.
 fn slices_are_parts(drawn: &mut Drawn, store: &Entities, world: &World, uids: usize) {
-    let asked: Vec<Name> = (0..drawn.below(4)).map(|_| drawn.below(uids + 2)).collect();
+    let most = drawn.below(4);
+    is_sliced(drawn, (store, world), uids, most);
+}
+
+/// A slice at so many uids, some of them asked for again, and the part of the world that it is.
+fn is_sliced(drawn: &mut Drawn, whole: (&Entities, &World), uids: usize, most: usize) -> (Entities, World) {
+    let (store, world) = whole;
+    let asked: Vec<Name> = (0..most).map(|_| drawn.below(uids + 2)).collect();
     let part = slice(store, &asked.iter().map(|name| uid(*name)).collect::<Vec<_>>());
     let mut due = World::default();
     for name in asked.iter().filter(|name| world.0.contains_key(name)) {
@@ -250,6 +257,7 @@ fn slices_are_parts(drawn: &mut Drawn, store: &Entities, world: &World, uids: us
         }
     }
     is_that_of(&part, &due);
+    (part, due)
 }
 
 #[test]
@@ -274,7 +282,7 @@ fn lists_of_calls_on_many_uids() {
     }
 }
 
-/// Edits alone of a store that is large from the first.
+/// Edits alone of a store that is large from the first; now and then a slice of it goes on in its place.
 fn one_list_of_edits(seed: u64, uids: usize, calls: usize) {
     let mut drawn = Drawn::new(seed);
     let first: Vec<(Name, Parents)> = (0..uids)
@@ -297,6 +305,9 @@ fn one_list_of_edits(seed: u64, uids: usize, calls: usize) {
                 .unwrap();
         }
         is_that_of(&store, &world);
+        if drawn.once_in(25) {
+            (store, world) = is_sliced(&mut drawn, (&store, &world), uids, uids * 2 / 3);
+        }
     }
 }
 

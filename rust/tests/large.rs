@@ -6,6 +6,7 @@ use cedar_store::ast::{
     PrincipalConstraint, ResourceConstraint, SlotId, Template, Value,
 };
 use cedar_store::entities::{Dereference, Entities, EntitiesError, TCComputation};
+use cedar_store::slice;
 use common::{id, permit, principal, principal_template};
 use std::collections::HashSet;
 use std::collections::hash_map::DefaultHasher;
@@ -155,6 +156,25 @@ fn under(number: usize, parents: &[usize]) -> Entity {
         entity.add_parent(node(*parent));
     }
     entity
+}
+
+/// A refused cycle costs what reading it costs, a check of a closed chain what its ancestors do, and a slice that repeats a
+/// uid what it has: each would take minutes or gigabytes otherwise.
+#[test]
+fn what_is_refused_checked_and_repeated() {
+    let cycle = (0..100_000).map(|number| under(number, &[(number + 1) % 100_000]));
+    assert!(Entities::from_entities(cycle, TCComputation::ComputeNow).is_err());
+    let chain = (0..2_000).map(|number| under(number, &[number + 1]));
+    let store = Entities::from_entities(chain, TCComputation::ComputeNow).unwrap();
+    let store = store.try_validate().expect("it is closed");
+    let again = Entities::from_entities(store.iter().cloned(), TCComputation::EnforceAlreadyComputed).unwrap();
+    assert!(again.deep_eq(&store));
+    let asked = vec![node(0); 100_000];
+    assert_eq!(slice(&store, &asked).len(), 2_000);
+    let mut entities: Vec<&Entity> = store.iter().collect();
+    entities.sort_by(|one, other| one.uid().cmp(other.uid()));
+    let text: String = entities.iter().map(|entity| format!("{entity}\n")).collect();
+    assert!(store.to_string() == text);
 }
 
 #[test]

@@ -218,7 +218,7 @@ pub mod parser {
 /// Nodes with edges and the closure calls, at the original's path.
 pub mod transitive_closure {
     pub use cedar_graph::{
-        HasCycle, MissingTcEdge, Result, TCNode, TcError, Work, compute_tc, compute_tc_counted,
-        enforce_tc_and_dag, repair_tc, repair_tc_counted,
+        HasCycle, MissingTcEdge, Result, TCNode, TcError, Work, close_dag, compute_tc,
+        compute_tc_counted, enforce_tc_and_dag, repair_dag, repair_tc, repair_tc_counted,
     };
 }

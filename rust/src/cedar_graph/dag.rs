@@ -59,6 +59,38 @@ fn refuse_loop<K: Clone + Eq + Hash + Debug + Display, S: BuildHasher>(
 /// It asks no node whether it has an edge.
 ///
 /// The original has no such call.
+///
+/// ```
+/// # use cedar_store::{ast::*, entities::*};
+/// # #[allow(unused)]
+/// # fn uid(text: &str) -> EntityUID { EntityUID::from_normalized_str(text).unwrap() }
+/// # #[allow(unused)]
+/// # fn under(own: &str, parents: &[&str]) -> Entity {
+/// #     let mut entity = Entity::with_uid(uid(own));
+/// #     parents.iter().for_each(|parent| entity.add_parent(uid(parent)));
+/// #     entity
+/// # }
+/// # #[allow(unused)]
+/// # fn template(name: &str, principal: PrincipalConstraint) -> Template {
+/// #     let (id, all) = (PolicyID::from_string(name), ResourceConstraint::any());
+/// #     Template::new(id, None, Annotations::new(), Effect::Permit, principal, ActionConstraint::any(), all, None)
+/// # }
+/// # #[allow(unused)]
+/// # fn permit(name: &str) -> StaticPolicy {
+/// #     StaticPolicy::try_from(template(name, PrincipalConstraint::any())).unwrap()
+/// # }
+/// use cedar_store::transitive_closure::{TcError, close_dag, repair_dag};
+/// # use std::collections::{HashMap, HashSet};
+/// let ring = [under(r#"A::"a""#, &[r#"A::"b""#]), under(r#"A::"b""#, &[r#"A::"a""#])];
+/// let mut nodes: HashMap<_, _> = ring.into_iter().map(|entity| (entity.uid().clone(), entity)).collect();
+/// // a cycle is told before anything is written
+/// assert!(matches!(close_dag(&mut nodes), Err(TcError::HasCycle(_))));
+/// assert!(!nodes[&uid(r#"A::"a""#)].is_descendant_of(&uid(r#"A::"a""#)));
+/// nodes.insert(uid(r#"A::"b""#), under(r#"A::"b""#, &[r#"A::"c""#]));
+/// repair_dag(&HashSet::from([uid(r#"A::"a""#)]), &mut nodes)?;
+/// assert!(nodes[&uid(r#"A::"a""#)].is_descendant_of(&uid(r#"A::"c""#)));
+/// # Ok::<(), Box<dyn std::error::Error>>(())
+/// ```
 pub fn close_dag<K: Clone + Eq + Hash + Debug + Display, V: TCNode<K>, S: BuildHasher + Clone>(
     nodes: &mut HashMap<K, V, S>,
 ) -> Result<(), K> {
@@ -82,6 +114,38 @@ pub fn close_dag<K: Clone + Eq + Hash + Debug + Display, V: TCNode<K>, S: BuildH
 /// nodes that are not to be fixed always stay.
 ///
 /// The original has no such call.
+///
+/// ```
+/// # use cedar_store::{ast::*, entities::*};
+/// # #[allow(unused)]
+/// # fn uid(text: &str) -> EntityUID { EntityUID::from_normalized_str(text).unwrap() }
+/// # #[allow(unused)]
+/// # fn under(own: &str, parents: &[&str]) -> Entity {
+/// #     let mut entity = Entity::with_uid(uid(own));
+/// #     parents.iter().for_each(|parent| entity.add_parent(uid(parent)));
+/// #     entity
+/// # }
+/// # #[allow(unused)]
+/// # fn template(name: &str, principal: PrincipalConstraint) -> Template {
+/// #     let (id, all) = (PolicyID::from_string(name), ResourceConstraint::any());
+/// #     Template::new(id, None, Annotations::new(), Effect::Permit, principal, ActionConstraint::any(), all, None)
+/// # }
+/// # #[allow(unused)]
+/// # fn permit(name: &str) -> StaticPolicy {
+/// #     StaticPolicy::try_from(template(name, PrincipalConstraint::any())).unwrap()
+/// # }
+/// use cedar_store::transitive_closure::{TcError, close_dag, repair_dag};
+/// # use std::collections::{HashMap, HashSet};
+/// let ring = [under(r#"A::"a""#, &[r#"A::"b""#]), under(r#"A::"b""#, &[r#"A::"a""#])];
+/// let mut nodes: HashMap<_, _> = ring.into_iter().map(|entity| (entity.uid().clone(), entity)).collect();
+/// // a cycle is told before anything is written
+/// assert!(matches!(close_dag(&mut nodes), Err(TcError::HasCycle(_))));
+/// assert!(!nodes[&uid(r#"A::"a""#)].is_descendant_of(&uid(r#"A::"a""#)));
+/// nodes.insert(uid(r#"A::"b""#), under(r#"A::"b""#, &[r#"A::"c""#]));
+/// repair_dag(&HashSet::from([uid(r#"A::"a""#)]), &mut nodes)?;
+/// assert!(nodes[&uid(r#"A::"a""#)].is_descendant_of(&uid(r#"A::"c""#)));
+/// # Ok::<(), Box<dyn std::error::Error>>(())
+/// ```
 pub fn repair_dag<K: Clone + Eq + Hash + Debug + Display, V: TCNode<K>, S: BuildHasher + Clone, F: BuildHasher>(
     nodes_to_fix: &HashSet<K, F>,
     nodes: &mut HashMap<K, V, S>,
