@@ -35,6 +35,57 @@ static void uid_texts(void) {
     CHECK(cedar_uid_check(TEXT("A::\"\xff\"")) == CEDAR_NOT_A_UID);
 }
 
+/* What a call wrote, and how much there is in all: the length behind the text, or 100 and the status. */
+static const char *made(const char *type, const char *id, size_t room) {
+    static char out[96];
+    uint8_t text[64];
+    size_t length = 99;
+    memset(text, '.', sizeof text);
+    uint32_t status = cedar_uid_make(TEXT(type), TEXT(id), text, room, &length);
+    snprintf(out, sizeof out, "%.*s %u", (int)(length < room ? length + 1 : room + 1), (char *)text,
+             (unsigned)(status ? 100 + status : length));
+    return out;
+}
+
+static void uids_made(void) {
+    CHECK(IS(made("A", "a", 64), "A::\"a\". 6"));
+    CHECK(IS(made("User", "O'Brien", 64), "User::\"O\\'Brien\". 16"));
+    CHECK(IS(made("A::B::C", "", 64), "A::B::C::\"\". 11"));
+    CHECK(IS(made("A", "A::\"\n\"", 64), "A::\"A::\\\"\\n\\\"\". 14"));
+    CHECK(IS(made("A", "\xc3\xa9", 64), "A::\"\xc3\xa9\". 7"));
+    CHECK(IS(made("A", "abc", 3), "A::. 8") && IS(made("A", "abc", 0), ". 8"));
+    CHECK(IS(made("", "a", 2), "... 127") && IS(made("A B", "a", 2), "... 127") && IS(made("if", "a", 2), "... 127"));
+    CHECK(IS(made("A::", "a", 2), "... 127") && IS(made("1", "a", 2), "... 127"));
+    CHECK(IS(made("\xff", "a", 2), "... 127") && IS(made("A", "\xff", 2), "... 105"));
+}
+
+static void uids_apart(void) {
+    uint8_t out[32];
+    size_t type_len = 9, length = 9;
+    memset(out, '.', sizeof out);
+    CHECK(cedar_uid_parts(TEXT("A::B::\"O\\'Brien\""), out, sizeof out, &type_len, &length) == CEDAR_OK);
+    CHECK(type_len == 4 && length == 11 && !memcmp(out, "A::BO'Brien.", 12));
+    memset(out, '.', sizeof out);
+    CHECK(cedar_uid_parts(TEXT("A::\"\""), out, sizeof out, &type_len, &length) == CEDAR_OK);
+    CHECK(type_len == 1 && length == 1 && !memcmp(out, "A.", 2));
+    CHECK(cedar_uid_parts(TEXT("AB::\"\xc3\xa9\""), out, 3, &type_len, &length) == CEDAR_OK);
+    CHECK(type_len == 2 && length == 4 && !memcmp(out, "AB\xc3.", 4));
+    CHECK(cedar_uid_parts(TEXT("AB::c"), out, 3, &type_len, &length) == CEDAR_NOT_A_UID);
+    CHECK(type_len == 2 && length == 4 && !memcmp(out, "AB\xc3.", 4));
+}
+
+static void what_it_is(void) {
+    uint8_t out[16];
+    CHECK(cedar_version() == CEDAR_VERSION);
+    memset(out, '.', sizeof out);
+    CHECK(cedar_status_text(CEDAR_OK, out, 16) == 2 && !memcmp(out, "ok.", 3));
+    CHECK(cedar_status_text(CEDAR_NOT_A_UID, out, 16) == 9 && !memcmp(out, "not a uid.", 10));
+    CHECK(cedar_status_text(CEDAR_NOT_A_NAME, out, 5) == 10 && !memcmp(out, "not a uid.", 10));
+    CHECK(cedar_status_text(1000, out, 16) == 0 && cedar_status_text(UINT32_MAX, out, 16) == 0);
+    CHECK(!memcmp(out, "not a uid.", 10));
+    for (uint32_t status = 0; status <= CEDAR_NOT_A_NAME; status++) CHECK(cedar_status_text(status, out, 0) > 0);
+}
+
 /* ---- stores */
 
 static void closed_store(void) {
@@ -509,6 +560,9 @@ static void texts_of_sets_stay(void) {
 int main(void) {
     program();
     uid_texts();
+    uids_made();
+    uids_apart();
+    what_it_is();
     closed_store();
     closed_store_tells_nothing();
     one_store_closed();

@@ -38,6 +38,9 @@
 extern "C" {
 #endif
 
+/* The version that this header is of, as `cedar_version` tells that of the library. */
+#define CEDAR_VERSION 0x000100
+
 /* A store of entities, or nothing where all is zero. The fields are the library's. */
 typedef struct cedar_store {
     void *at;
@@ -62,8 +65,8 @@ typedef struct cedar_edge {
     size_t to;
 } cedar_edge;
 
-/* What a call answers. Each function names those that it gives. A refusal from 7 on has a text, which a handle keeps
- * until the next one that has: all statuses below 7, CEDAR_NO_MEMORY too, leave it as it was. */
+/* What a call answers. Each function names those that it gives. A refusal from 7 to 25 has a text, which a handle keeps
+ * until the next one that has: all other statuses, CEDAR_NO_MEMORY too, leave it as it was. */
 typedef enum cedar_status {
     CEDAR_OK = 0,
     CEDAR_NO_MEMORY = 1,    /* a request for memory was refused; from each call but those that take no memory */
@@ -92,7 +95,9 @@ typedef enum cedar_status {
     CEDAR_WITH_LINKS = 22,       /* the template has links */
     CEDAR_NOT_A_TEMPLATE = 23,   /* something else than a template is bound to it */
     CEDAR_NO_STATIC = 24,        /* no policy has this id of a static policy to remove */
-    CEDAR_NOT_STATIC = 25        /* it is a link's */
+    CEDAR_NOT_STATIC = 25,       /* it is a link's */
+    /* What is given, or asked for, is none. */
+    CEDAR_NOT_A_NAME = 27 /* a text is no name */
 } cedar_status;
 
 /* How a call on a store sees to it that ancestors are closed. What a call touches is what it puts in or takes out, and
@@ -120,6 +125,28 @@ uint32_t cedar_run(const uint8_t *input, size_t input_len, uint64_t seed, uint64
 
 /* Whether a text is a uid's: CEDAR_OK or CEDAR_NOT_A_UID, or CEDAR_NO_MEMORY. Any thread may call it. */
 uint32_t cedar_uid_check(const uint8_t *text, size_t text_len);
+
+/* The uid with a type, as `User` or `A::B`, and an id, which is any text and is not escaped, as `O'Brien`: writes as
+ * much of its text, as `User::"O\'Brien"`, as there is room for. `told` has the length of all of it. CEDAR_OK;
+ * CEDAR_NOT_A_NAME where the type is no name, CEDAR_NOT_UTF8, CEDAR_NO_MEMORY, which write nothing. Any thread may call
+ * it. */
+uint32_t cedar_uid_make(const uint8_t *type, size_t type_len, const uint8_t *id, size_t id_len, uint8_t *out,
+                        size_t room, size_t *told);
+
+/* Takes the text of a uid apart: writes the text of its type and the bytes of its id behind it, which is not escaped,
+ * as much of both as there is room for. `type_len` has the length of the first and `told` that of both. CEDAR_OK;
+ * CEDAR_NOT_A_UID, CEDAR_NO_MEMORY, which write nothing. Any thread may call it. */
+uint32_t cedar_uid_parts(const uint8_t *uid, size_t uid_len, uint8_t *out, size_t room, size_t *type_len,
+                         size_t *told);
+
+/* Copies out the words for a status, as `not a uid` and of CEDAR_OK `ok`, as much as there is room for, and tells how
+ * long they are: 0 for a number that is no status. A refusal that has a text begins with them. Takes no memory. Any
+ * thread may call it. */
+size_t cedar_status_text(uint32_t status, uint8_t *out, size_t room);
+
+/* The version of the library, in one number: 65536 for each of its first number, 256 for each of its second, and its
+ * third. Takes no memory. Any thread may call it. */
+uint32_t cedar_version(void);
 
 /* ---- stores */
 

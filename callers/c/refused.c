@@ -99,6 +99,24 @@ static uint32_t asks_above(held *h) {
     return truth(status, answer, true);
 }
 
+static uint32_t makes_uid(held *h) {
+    uint8_t out[16];
+    size_t length = 9;
+    (void)h;
+    uint32_t status = cedar_uid_make(TEXT("A::B"), TEXT("it's"), out, sizeof out, &length);
+    if (status == CEDAR_OK && (length != 13 || memcmp(out, "A::B::\"it\\'s\"", 13))) return 99;
+    return status;
+}
+
+static uint32_t takes_apart(held *h) {
+    uint8_t out[16];
+    size_t type_len = 9, length = 9;
+    (void)h;
+    uint32_t status = cedar_uid_parts(TEXT("A::B::\"it\\'s\""), out, sizeof out, &type_len, &length);
+    if (status == CEDAR_OK && (type_len != 4 || length != 8 || memcmp(out, "A::Bit's", 8))) return 99;
+    return status;
+}
+
 CALL(checks_uid, cedar_uid_check(TEXT("A::B::\"a\"")))
 CALL(checks_no_uid, cedar_uid_check(TEXT("A::B::\"\\n\\q\"")))
 CALL(news, new_store(&h->s))
@@ -150,6 +168,8 @@ static const call CALLS[] = {
     runs,
     checks_uid,
     checks_no_uid,
+    makes_uid,
+    takes_apart,
     news,
     builds,
     builds_enforced,
@@ -296,6 +316,7 @@ static void no_request(void) {
     CHECK(add_static(&h.p, "a", 1) == CEDAR_OCCUPIED && build(&h.t, "y y", CEDAR_COMPUTE) == CEDAR_CYCLE);
     due_in = 1;
     asked = 0;
+    CHECK(cedar_version() == CEDAR_VERSION && cedar_status_text(CEDAR_OCCUPIED, out, sizeof out) == 8);
     CHECK(cedar_store_len(&h.s) == 3 && equal(&h.s, &h.t) == 0);
     CHECK(cedar_store_answer(&h.s, 0, out, sizeof out) == 12 && cedar_store_answer_spans(&h.s, 0, spans, 8) == 2);
     CHECK(cedar_store_refusal(&h.t, out, sizeof out) == strlen("cycle at " U("y")));

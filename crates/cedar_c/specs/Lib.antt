@@ -3,6 +3,8 @@ pub mod Copying
 pub mod PoliciesHeld
 pub mod PolicyCalls
 pub mod Runs
+pub mod StatusCalls
 pub mod Statuses
 pub mod StoreCalls
 pub mod StoreHeld
+pub mod UidCalls

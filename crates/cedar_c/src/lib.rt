@@ -11,8 +11,10 @@ mod parts;
 mod policies;
 mod policies_handle;
 mod program;
+mod statuses;
 mod store;
 mod store_handle;
+mod uids;
 
 pub use policies::Policies;
 pub use store::Store;

@@ -1,4 +1,6 @@
 pub mod Answers
 pub mod Reasons
+pub mod StatusTexts
 pub mod Stops
 pub mod Texts
+pub mod Uids

@@ -6,10 +6,14 @@ pub mod answer;
 pub mod layout;
 pub mod reading;
 pub mod reason;
+pub mod status;
 pub mod texts;
+pub mod uids;
 
 pub use answer::Answer;
 pub use layout::{Edge, Span};
 pub use reading::{check_uid, id_of, text_at, uid_at, uid_of, uids_of};
 pub use reason::{Reason, status_of, tell};
+pub use status::{reason_with, status_text, tell_value};
 pub use texts::{push_uid, with_uid};
+pub use uids::{UidTexts, parts_of, type_of, uid_text, uid_with};

@@ -60,6 +60,10 @@ pub enum Reason {
     NotStatic,
     /// There is no body of an id.
     NoBody,
+    /// A text is no name.
+    NotAName,
+    /// What is given is nested too deep.
+    TooDeep,
 }
 
 impl Reason {
@@ -94,6 +98,8 @@ impl Reason {
             Reason::NoStatic => 24,
             Reason::NotStatic => 25,
             Reason::NoBody => 26,
+            Reason::NotAName => 27,
+            Reason::TooDeep => 28,
         }
     }
 
@@ -128,6 +134,8 @@ impl Reason {
             Reason::NoStatic => "no static policy",
             Reason::NotStatic => "not a static policy",
             Reason::NoBody => "no body",
+            Reason::NotAName => "not a name",
+            Reason::TooDeep => "too deep",
         }
     }
 }

@@ -1,0 +1,71 @@
+//! Values that calls tell beside their status, and the text of each status.
+ghost use Rattle.std.specs.Prelude.{◌≡◌};
+ghost use Rattle.std.specs.Option.{MatchOption};
+ghost use Rattle.cedar_c_lists.specs.Reasons.{number_of};
+ghost use Rattle.cedar_c_lists.specs.StatusTexts.{IsNoReason, IsStatusText, TellsValue};
+
+use crate::reason::Reason;
+
+/// The status of an answer that is a value, which is written where the call was made. Takes no memory.
+pub fn tell_value<T: Copy>(answer: Result<T, Reason>, out: &mut T) -> u32
+    ensures { TellsValue answer result out.old out.new }
+{
+    match answer {
+        Ok(value) => {
+            *out = value;
+            0
+        }
+        Err(reason) => reason.number(),
+    }
+}
+
+/// The reason with a number, if there is one. Takes no memory.
+pub fn reason_with(number: u32) -> Option<Reason>
+    ensures { MatchOption result (IsNoReason number) (λ w. number_of w ≡ number) }
+{
+    match number {
+        1 => Some(Reason::NoMemory),
+        2 => Some(Reason::Closed),
+        3 => Some(Reason::BadArgument),
+        4 => Some(Reason::NotAUid),
+        5 => Some(Reason::NotUtf8),
+        6 => Some(Reason::NoEntity),
+        7 => Some(Reason::Duplicate),
+        8 => Some(Reason::Cycle),
+        9 => Some(Reason::NotClosed),
+        10 => Some(Reason::SelfAncestor),
+        11 => Some(Reason::DuplicateAncestor),
+        12 => Some(Reason::ActionParentIsNotAction),
+        13 => Some(Reason::ReservedKey),
+        14 => Some(Reason::Occupied),
+        15 => Some(Reason::NoSuchTemplate),
+        16 => Some(Reason::Arity),
+        17 => Some(Reason::NotAnAction),
+        18 => Some(Reason::IdConflict),
+        19 => Some(Reason::NoLink),
+        20 => Some(Reason::NotALink),
+        21 => Some(Reason::NoTemplate),
+        22 => Some(Reason::WithLinks),
+        23 => Some(Reason::NotATemplate),
+        24 => Some(Reason::NoStatic),
+        25 => Some(Reason::NotStatic),
+        26 => Some(Reason::NoBody),
+        27 => Some(Reason::NotAName),
+        28 => Some(Reason::TooDeep),
+        _ => None,
+    }
+}
+
+/// The text of a status: `ok` of 0, the words of its reason of another, and no text of a number that is no status.
+/// Takes no memory.
+pub fn status_text(status: u32) -> &'static str
+    ensures { IsStatusText status result.now }
+{
+    if status == 0 {
+        return "ok";
+    }
+    match reason_with(status) {
+        Some(reason) => reason.words(),
+        None => "",
+    }
+}
