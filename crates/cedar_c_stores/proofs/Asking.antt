@@ -1,14 +1,15 @@
 -- What a plain store says of one of its entities.
-use Rattle.std.specs.Prelude.{◌≡◌, ◌↔◌, true, Some}
-use Rattle.std.proofs.Common.{ap, sym, ◌∙◌, subst}
+use Rattle.std.specs.Prelude.{◌≡◌, ◌↔◌, ◌||◌, Bool, true, false, Some}
+use Rattle.std.proofs.Common.{ap, sym, refl, ◌∙◌, subst}
 use Rattle.std.specs.Option.{option_map, IfSome}
 use Rattle.std.specs.FinMap as finmap
 use Rattle.std.specs.FinSet as set
 use Rattle.cedar_entity.specs.View.{EntityView, has_ancestor}
-use Rattle.cedar_entities.specs.Plain.{StoreView, IsPlainStore, parts_of}
+use Rattle.cedar_entities.specs.Plain.{StoreView, IsApart, IsPlainStore, parts_of}
 use Rattle.cedar_entities.specs.World.{World, graph, is_parent_in}
 use Rattle.cedar_graph.specs.Graph.{Reach}
 use Rattle.cedar_ids.specs.declared.entity.EntityUID.{EntityUID}
+use Rattle.cedar_c_stores.specs.Reads.{IsFarAbove, has_indirect}
 
 -- its ancestors are what it reaches
 pub above_held : (S : StoreView) (u v : EntityUID) (x : EntityView) → finmap.get S.held u ≡ Some x → (W : World)
@@ -20,3 +21,32 @@ above_held S u v x e W p =
 pub parent_held : (S : StoreView) (u v : EntityUID) (x : EntityView) → finmap.get S.held u ≡ Some x → (W : World)
     → IsPlainStore W S → graph W u v ≡ set.contains x.parents v
 parent_held S u v x e W p = ap (λ o. is_parent_in o v) (sym (p.holds u) ∙ ap (option_map parts_of) e)
+
+-- of two truths, of which the second is false where the first is so
+first_is_false : (a b : Bool) → (a ≡ true → b ≡ false) → b ≡ true → a ≡ false
+first_is_false false b apart second = refl
+first_is_false true b apart second = sym second ∙ apart refl
+
+second_is_enough : (a b : Bool) → b ≡ true → (a || b) ≡ true
+second_is_enough true b second = refl
+second_is_enough false b second = second
+
+second_is_left : (a b : Bool) → (a || b) ≡ true → a ≡ false → b ≡ true
+second_is_left true true either first = refl
+second_is_left true false either first = sym first
+second_is_left false b either first = either
+
+-- its indirect ancestors are what it reaches but for its parents
+pub far_above_held : (S : StoreView) (u v : EntityUID) (x : EntityView) → finmap.get S.held u ≡ Some x → (W : World)
+    → IsPlainStore W S → (has_indirect x v ≡ true) ↔ IsFarAbove W u v
+far_above_held S u v x e W p =
+    let above = above_held S u v x e W p in
+    let parent = parent_held S u v x e W p in
+    let apart : IsApart x = subst (λ o. IfSome o IsApart) e (p.apart u) in (
+      λ far. (
+        above.0 (second_is_enough (set.contains x.parents v) (set.contains x.indirect v) far),
+        parent ∙ first_is_false (set.contains x.parents v) (set.contains x.indirect v) (apart v) far,
+      ),
+      λ (reach, other). second_is_left (set.contains x.parents v) (set.contains x.indirect v) (above.1 reach)
+          (sym parent ∙ other),
+    )

@@ -1,3 +1,4 @@
 pub mod Lists
+pub mod Reads
 pub mod Stores
 pub mod laws

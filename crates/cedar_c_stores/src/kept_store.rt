@@ -1,12 +1,13 @@
 //! A store of entities with what its caller was answered last, and the calls on it.
-ghost use Rattle.std.specs.Prelude.{◌≡◌, [], ◌∷◌, ◌++◌, ◌↔◌, IfOk, MatchResult, IsTrue, List, ℕ};
+ghost use Rattle.std.specs.Prelude.{◌≡◌, [], ◌∷◌, ◌++◌, ◌↔◌, IfOk, MatchResult, IsTrue, List, ℕ, true};
 ghost use Rattle.cedar_entities.specs.Answers.{AreDeepEqual};
 ghost use Rattle.cedar_entities.specs.Plain.{IsPlainStore, entities_in};
-ghost use Rattle.cedar_entities.specs.World.{empty_world};
+ghost use Rattle.cedar_entities.specs.World.{World, empty_world};
 ghost use Rattle.cedar_entity.specs.View.{has_ancestor};
 ghost use Rattle.cedar_c_stores.specs.Stores.{Adds, Asks, AsksFor, Copies, IsAbove, IsParent, IsSlice, IsToldBy};
 ghost use Rattle.cedar_c_stores.specs.Stores.{IsUntold, KeepsGiven, KeepsTexts, Listing, Removes, SlicesAt, Upserts};
 ghost use Rattle.cedar_c_stores.specs.Stores.{Validates, empty_store, has_parent};
+ghost use Rattle.cedar_c_stores.specs.Reads.{MakesPartial};
 ghost use Rattle.cedar_c_lists.specs.Texts.{AreTextsOf, IsTextOf};
 ghost use Rattle.cedar_c_lists.specs.declared.reason.Reason.TheVariants as reasons;
 
@@ -50,7 +51,7 @@ fn texts_of_union(alloc: Global, uids: Union<'_>) -> Result<Answer, AllocError>
 }
 
 // The texts of parents.
-fn texts_of_set(alloc: Global, uids: Uids<'_>) -> Result<Answer, AllocError>
+pub(crate) fn texts_of_set(alloc: Global, uids: Uids<'_>) -> Result<Answer, AllocError>
     ensures { IfOk result (AreTextsOf uids.entry) }
 {
     let mut answer = Answer::new(alloc);
@@ -247,6 +248,23 @@ impl<S: BuildHasher + Copy> KeptStore<S> {
             Ok(_valid) => Ok(()),
             Err(error) => Err(self.refuse(alloc, error)),
         }
+    }
+
+    /// The store becomes partial; its entities, the answer and the last refusal stay. Takes no memory.
+    pub fn make_partial(&mut self, alloc: Global)
+        ensures partial { MakesPartial self.old self.new }
+        ensures plain { (W : World) → IsPlainStore W self.old.store →
+            IsPlainStore (record W { partial = true }) self.new.store }
+    {
+        let store = mem::replace(&mut self.store, Entities::with_hasher(alloc, self.hasher));
+        self.store = store.partial();
+    }
+
+    /// Whether the store is partial. Takes no memory.
+    pub fn is_partial(&self) -> bool
+        ensures { result ≡ self.now.store.partial }
+    {
+        self.store.is_partial()
     }
 
     // The slice of the store at some uids.

@@ -4,6 +4,7 @@
 
 pub mod kept_store;
 mod listing;
+mod reads;
 mod refusal;
 mod store_calls;
 
