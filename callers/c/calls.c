@@ -385,6 +385,105 @@ static void copies_and_slices(void) {
     cedar_store_free(&t);
 }
 
+/* Whether the answer is the uids of these names, in any order. */
+static bool answers_each(cedar_store *s, const char *names) {
+    const char *answer = store_answer(s);
+    char text[16];
+    for (const char *p = names; *p; p++) {
+        snprintf(text, sizeof text, "," U("%c"), *p);
+        if (!strstr(answer, text)) return false;
+    }
+    return strlen(answer) == strlen(names) * strlen("," U("a"));
+}
+
+static void reading_ancestors(void) {
+    cedar_store s = {0};
+    CHECK(new_store(&s) == CEDAR_OK && build(&s, "a b;b c;c de;x", CEDAR_COMPUTE) == CEDAR_OK);
+    CHECK(is_child(&s, U("a"), U("b")) == 1 && is_child(&s, U("a"), U("c")) == 0 && is_child(&s, U("a"), U("a")) == 0);
+    CHECK(is_far_below(&s, U("a"), U("b")) == 0 && is_far_below(&s, U("a"), U("c")) == 1);
+    CHECK(is_far_below(&s, U("a"), U("e")) == 1 && is_far_below(&s, U("x"), U("a")) == 0);
+    CHECK(is_child(&s, U("d"), U("a")) == 100 + CEDAR_NO_ENTITY && is_child(&s, "d", U("a")) == 100 + CEDAR_NOT_A_UID);
+    CHECK(is_child(&s, U("a"), "d") == 100 + CEDAR_NOT_A_UID);
+    CHECK(is_far_below(&s, U("d"), U("a")) == 100 + CEDAR_NO_ENTITY);
+    CHECK(is_far_below(&s, "d", U("a")) == 100 + CEDAR_NOT_A_UID && is_far_below(&s, U("a"), "d") == 104);
+    CHECK(cedar_store_indirect_ancestors(&s, TEXT(U("a"))) == CEDAR_OK);
+    CHECK(IS(store_answer(&s), "," U("c") "," U("d") "," U("e")));
+    CHECK(cedar_store_indirect_ancestors(&s, TEXT(U("d"))) == CEDAR_NO_ENTITY);
+    CHECK(cedar_store_indirect_ancestors(&s, TEXT("d")) == CEDAR_NOT_A_UID);
+    CHECK(IS(store_answer(&s), "," U("c") "," U("d") "," U("e")));
+    CHECK(cedar_store_indirect_ancestors(&s, TEXT(U("c"))) == CEDAR_OK && IS(store_answer(&s), ""));
+    CHECK(cedar_store_uids(&s) == CEDAR_OK && answers_each(&s, "abcx"));
+    CHECK(build(&s, "", CEDAR_COMPUTE) == CEDAR_OK && cedar_store_uids(&s) == CEDAR_OK && answers_each(&s, ""));
+    cedar_store_free(&s);
+}
+
+static void partial_stores(void) {
+    cedar_store s = {0}, t = {0};
+    CHECK(new_store(&s) == CEDAR_OK && build(&s, "a b", CEDAR_COMPUTE) == CEDAR_OK && parents(&s, U("a")) == CEDAR_OK);
+    CHECK(is_partial(&s) == 0 && found(&s, U("a")) == 2 && found(&s, U("b")) == 0);
+    CHECK(found(&s, "b") == 100 + CEDAR_NOT_A_UID);
+    CHECK(cedar_store_copy(&s, &t) == CEDAR_OK && cedar_store_partial(&s) == CEDAR_OK && is_partial(&s) == 1);
+    CHECK(found(&s, U("a")) == 2 && found(&s, U("b")) == 1 && cedar_store_len(&s) == 1 && has(&s, U("b")) == 0);
+    CHECK(IS(store_answer(&s), "," U("b")) && equal(&s, &t) == 0);
+    CHECK(cedar_store_partial(&s) == CEDAR_OK && cedar_store_partial(&t) == CEDAR_OK && equal(&s, &t) == 1);
+    CHECK(add(&s, "c a", CEDAR_COMPUTE) == CEDAR_OK && is_partial(&s) == 1 && descends(&s, U("c"), U("b")) == 1);
+    CHECK(cedar_store_copy(&s, &t) == CEDAR_OK && is_partial(&t) == 1);
+    CHECK(sliced(&s, &t, "a") == CEDAR_OK && is_partial(&t) == 0);
+    CHECK(build(&s, "a b", CEDAR_COMPUTE) == CEDAR_OK && is_partial(&s) == 0);
+    cedar_store_free(&s);
+    cedar_store_free(&t);
+}
+
+static void reading_entities(void) {
+    cedar_store s = {0}, t = {0};
+    CHECK(new_store(&s) == CEDAR_OK && build(&s, "a b;b c;x", CEDAR_COMPUTE) == CEDAR_OK);
+    CHECK(attributes(&s, U("a")) == 0 && tags(&s, U("a")) == 0);
+    CHECK(attributes(&s, U("c")) == 100 + CEDAR_NO_ENTITY && tags(&s, U("c")) == 100 + CEDAR_NO_ENTITY);
+    CHECK(attributes(&s, "c") == 100 + CEDAR_NOT_A_UID && tags(&s, "c") == 100 + CEDAR_NOT_A_UID);
+    CHECK(parents(&s, U("a")) == CEDAR_OK && cedar_store_keys(&s, TEXT(U("c"))) == CEDAR_NO_ENTITY);
+    CHECK(cedar_store_tag_keys(&s, TEXT(U("c"))) == CEDAR_NO_ENTITY);
+    CHECK(cedar_store_keys(&s, TEXT("c")) == CEDAR_NOT_A_UID && cedar_store_tag_keys(&s, TEXT("c")) == CEDAR_NOT_A_UID);
+    CHECK(IS(store_answer(&s), "," U("b")));
+    CHECK(cedar_store_keys(&s, TEXT(U("a"))) == CEDAR_OK && IS(store_answer(&s), ""));
+    CHECK(parents(&s, U("a")) == CEDAR_OK && cedar_store_tag_keys(&s, TEXT(U("a"))) == CEDAR_OK);
+    CHECK(IS(store_answer(&s), ""));
+    CHECK(new_store(&t) == CEDAR_OK && build(&t, "a bc;b;y", CEDAR_COMPUTE) == CEDAR_OK);
+    CHECK(entity_equal(&s, U("a"), &t) == 1 && entity_equal(&s, U("b"), &t) == 0);
+    CHECK(entity_equal(&s, U("x"), &t) == 100 + CEDAR_NO_ENTITY && entity_equal(&s, U("y"), &t) == 106);
+    CHECK(entity_equal(&s, "x", &t) == 100 + CEDAR_NOT_A_UID);
+    cedar_store_free(&s);
+    cedar_store_free(&t);
+}
+
+static void texts_of_stores(void) {
+    cedar_store s = {0};
+    CHECK(new_store(&s) == CEDAR_OK && cedar_store_text(&s) == CEDAR_OK);
+    CHECK(IS(store_answer(&s), ",<empty Entities>"));
+    CHECK(build(&s, "b c;a b", CEDAR_COMPUTE) == CEDAR_OK && cedar_store_entity_text(&s, TEXT(U("a"))) == CEDAR_OK);
+    CHECK(IS(store_answer(&s), "," U("a") ":\n  attrs:\n  ancestors:" U("b") ", " U("c")));
+    CHECK(cedar_store_entity_text(&s, TEXT(U("c"))) == CEDAR_NO_ENTITY);
+    CHECK(cedar_store_entity_text(&s, TEXT("c")) == CEDAR_NOT_A_UID);
+    CHECK(IS(store_answer(&s), "," U("a") ":\n  attrs:\n  ancestors:" U("b") ", " U("c")));
+    CHECK(cedar_store_text(&s) == CEDAR_OK);
+    CHECK(IS(store_answer(&s), "," U("a") ":\n  attrs:\n  ancestors:" U("b") ", " U("c") "\n" U("b")
+                               ":\n  attrs:\n  ancestors:" U("c") "\n"));
+    cedar_store_free(&s);
+}
+
+static void closed_store_is_not_read(void) {
+    cedar_store s = {0}, t = {0};
+    CHECK(new_store(&t) == CEDAR_OK && build(&t, "a", CEDAR_COMPUTE) == CEDAR_OK);
+    CHECK(found(&s, U("a")) == 102 && attributes(&s, U("a")) == 102 && tags(&s, U("a")) == 102);
+    CHECK(is_child(&s, U("a"), U("b")) == 102 && is_far_below(&s, U("a"), U("b")) == 102 && is_partial(&s) == 102);
+    CHECK(entity_equal(&s, U("a"), &t) == 102 && entity_equal(&t, U("a"), &s) == 102 && cedar_store_len(&t) == 1);
+    CHECK(cedar_store_uids(&s) == CEDAR_CLOSED && cedar_store_partial(&s) == CEDAR_CLOSED);
+    CHECK(cedar_store_indirect_ancestors(&s, TEXT(U("a"))) == CEDAR_CLOSED);
+    CHECK(cedar_store_keys(&s, TEXT(U("a"))) == CEDAR_CLOSED && cedar_store_tag_keys(&s, TEXT(U("a"))) == CEDAR_CLOSED);
+    CHECK(cedar_store_text(&s) == CEDAR_CLOSED && cedar_store_entity_text(&s, TEXT(U("a"))) == CEDAR_CLOSED);
+    CHECK(!s.is_open);
+    cedar_store_free(&t);
+}
+
 /* ---- policy sets */
 
 static void closed_set(void) {
@@ -579,6 +678,11 @@ int main(void) {
     actions();
     edits();
     copies_and_slices();
+    reading_ancestors();
+    partial_stores();
+    reading_entities();
+    texts_of_stores();
+    closed_store_is_not_read();
     closed_set();
     one_set_closed();
     joining();

@@ -96,7 +96,7 @@ typedef enum cedar_status {
     CEDAR_NOT_A_TEMPLATE = 23,   /* something else than a template is bound to it */
     CEDAR_NO_STATIC = 24,        /* no policy has this id of a static policy to remove */
     CEDAR_NOT_STATIC = 25,       /* it is a link's */
-    /* What is given, or asked for, is none. */
+    /* What is given is none. */
     CEDAR_NOT_A_NAME = 27 /* a text is no name */
 } cedar_status;
 
@@ -190,6 +190,11 @@ uint32_t cedar_store_upsert(cedar_store *s, const uint8_t *text, size_t text_len
 uint32_t cedar_store_remove(cedar_store *s, const uint8_t *text, size_t text_len, const cedar_span *uids,
                             size_t uids_len, uint32_t mode);
 
+/* The store becomes partial: an entity that it lacks is not known then, where in another store there is none. The
+ * entities, the answer and the last refusal stay. A store that is built anew, or a slice, is not partial; a copy is as
+ * its source. CEDAR_OK, CEDAR_CLOSED. Takes no memory. */
+uint32_t cedar_store_partial(cedar_store *s);
+
 /* How many entities there are; a closed handle has none. Takes no memory. */
 size_t cedar_store_len(cedar_store *s);
 
@@ -208,6 +213,56 @@ uint32_t cedar_store_is_descendant_of(cedar_store *s, const uint8_t *child, size
  * the answer. */
 uint32_t cedar_store_ancestors(cedar_store *s, const uint8_t *uid, size_t uid_len);
 uint32_t cedar_store_parents(cedar_store *s, const uint8_t *uid, size_t uid_len);
+
+/* The indirect ancestors become the answer as the ancestors do: those that are no parents, where the store was
+ * computed. */
+uint32_t cedar_store_indirect_ancestors(cedar_store *s, const uint8_t *uid, size_t uid_len);
+
+/* Whether the second uid is a parent of the entity with the first, or an indirect ancestor, in `answer`, which is
+ * written at CEDAR_OK alone. The statuses are those of `cedar_store_is_descendant_of`, which says whether it is one of
+ * both. */
+uint32_t cedar_store_is_child_of(cedar_store *s, const uint8_t *child, size_t child_len, const uint8_t *parent,
+                                 size_t parent_len, bool *answer);
+uint32_t cedar_store_is_indirect_descendant_of(cedar_store *s, const uint8_t *child, size_t child_len,
+                                               const uint8_t *ancestor, size_t ancestor_len, bool *answer);
+
+/* Whether the store is partial, in `answer`, which is written at CEDAR_OK alone. CEDAR_OK, CEDAR_CLOSED. Takes no
+ * memory. */
+uint32_t cedar_store_is_partial(cedar_store *s, bool *answer);
+
+/* What the store has with a uid, in `found`, which is written at CEDAR_OK alone: 2 where it has an entity; else 1 in a
+ * partial store, where that is not known, and 0 in another. CEDAR_OK, CEDAR_CLOSED, CEDAR_NOT_A_UID, CEDAR_NO_MEMORY.
+ */
+uint32_t cedar_store_entity(cedar_store *s, const uint8_t *uid, size_t uid_len, uint32_t *found);
+
+/* The uids of all entities become the answer of the handle: their texts, each once, in an order of the store's own,
+ * which the key picks. CEDAR_OK, CEDAR_CLOSED, CEDAR_NO_MEMORY; any but the first leaves the answer. */
+uint32_t cedar_store_uids(cedar_store *s);
+
+/* How many attributes, or tags, the entity with a uid has, in `count`, which is written at CEDAR_OK alone. CEDAR_OK,
+ * CEDAR_CLOSED, CEDAR_NOT_A_UID, CEDAR_NO_ENTITY, CEDAR_NO_MEMORY. */
+uint32_t cedar_store_attrs_len(cedar_store *s, const uint8_t *uid, size_t uid_len, size_t *count);
+uint32_t cedar_store_tags_len(cedar_store *s, const uint8_t *uid, size_t uid_len, size_t *count);
+
+/* The keys of the attributes, or of the tags, of the entity with a uid become the answer of the handle, in the order of
+ * their bytes. CEDAR_OK, CEDAR_CLOSED, CEDAR_NOT_A_UID, CEDAR_NO_ENTITY, CEDAR_NO_MEMORY; any but the first leaves the
+ * answer. */
+uint32_t cedar_store_keys(cedar_store *s, const uint8_t *uid, size_t uid_len);
+uint32_t cedar_store_tag_keys(cedar_store *s, const uint8_t *uid, size_t uid_len);
+
+/* Whether the entities that two stores have with a uid have the same attributes, tags and ancestors, in `answer`, which
+ * is written at CEDAR_OK alone. CEDAR_OK, CEDAR_CLOSED where one of the two is closed, CEDAR_NOT_A_UID, CEDAR_NO_ENTITY
+ * where one has no such entity, CEDAR_NO_MEMORY. */
+uint32_t cedar_store_entity_equal(cedar_store *s, const uint8_t *uid, size_t uid_len, cedar_store *other,
+                                  bool *answer);
+
+/* The text of the store, or of the entity with a uid, becomes the answer of the handle, which is one text: for people
+ * to read. An entity's has lines for its uid, its attributes and its ancestors; a store's has the texts of its
+ * entities, each with a line feed behind it, in the order of uids. What the texts are is tested, and not proved. The
+ * store's looks through all entities for each. CEDAR_OK, CEDAR_CLOSED, CEDAR_NO_MEMORY, of an entity CEDAR_NOT_A_UID
+ * and CEDAR_NO_ENTITY too; any but the first leaves the answer. */
+uint32_t cedar_store_text(cedar_store *s);
+uint32_t cedar_store_entity_text(cedar_store *s, const uint8_t *uid, size_t uid_len);
 
 /* Looks for what is wrong with the store: with its ancestors, as CEDAR_ENFORCE does, and then with the entity that has
  * the least uid of those with a fault. CEDAR_OK where nothing is; CEDAR_CLOSED, CEDAR_NO_MEMORY; else the status of the
@@ -230,9 +285,9 @@ uint32_t cedar_store_equal(cedar_store *one, cedar_store *other, bool *answer);
 
 /* Copies out the bytes of the texts of the last answer, one after another, from byte `from` on, as many as there is
  * room for; and where each text starts and ends in them, from text `from` on. Both tell how many there are in all; a
- * closed handle has none. The last answer is that of the last `cedar_store_ancestors` or `cedar_store_parents` at
- * CEDAR_OK: other calls leave it, `cedar_store_build` too, but behind `cedar_store_new`, and a `cedar_store_slice` or
- * `cedar_store_copy` into this handle, there is none. They take no memory. */
+ * closed handle has none. The last answer is that of the last call at CEDAR_OK of those that say so, as
+ * `cedar_store_ancestors`: other calls leave it, `cedar_store_build` too, but behind `cedar_store_new`, and a
+ * `cedar_store_slice` or `cedar_store_copy` into this handle, there is none. They take no memory. */
 size_t cedar_store_answer(cedar_store *s, size_t from, uint8_t *out, size_t room);
 size_t cedar_store_answer_spans(cedar_store *s, size_t from, cedar_span *out, size_t room);
 

@@ -42,7 +42,7 @@ static void set_up(held *h) {
     CHECK(new_store(&h->s) == CEDAR_OK && build(&h->s, "m m", CEDAR_COMPUTE) == CEDAR_CYCLE);
     CHECK(build(&h->s, "a b;b c;x c", CEDAR_COMPUTE) == CEDAR_OK);
     CHECK(new_store(&h->t) == CEDAR_OK && build(&h->t, "n n", CEDAR_COMPUTE) == CEDAR_CYCLE);
-    CHECK(build(&h->t, "y z", CEDAR_COMPUTE) == CEDAR_OK);
+    CHECK(build(&h->t, "y z", CEDAR_COMPUTE) == CEDAR_OK && cedar_store_partial(&h->t) == CEDAR_OK);
     CHECK(ancestors(&h->s, U("a")) == CEDAR_OK && parents(&h->t, U("y")) == CEDAR_OK);
     CHECK(new_set(&h->p) == CEDAR_OK && add_static(&h->p, "a", 0) == CEDAR_OK);
     CHECK(add_template(&h->p, "t", 5) == CEDAR_OK && add_template(&h->p, "u", 2) == CEDAR_OK);
@@ -117,6 +117,53 @@ static uint32_t takes_apart(held *h) {
     return status;
 }
 
+static uint32_t asks_child(held *h) {
+    bool answer = false;
+    uint32_t status = cedar_store_is_child_of(&h->s, TEXT(U("a")), TEXT(U("b")), &answer);
+    return truth(status, answer, true);
+}
+
+static uint32_t asks_far_above(held *h) {
+    bool answer = false;
+    uint32_t status = cedar_store_is_indirect_descendant_of(&h->s, TEXT(U("a")), TEXT(U("c")), &answer);
+    return truth(status, answer, true);
+}
+
+static uint32_t asks_entity_equal(held *h) {
+    bool answer = false;
+    uint32_t status = cedar_store_entity_equal(&h->s, TEXT(U("a")), &h->t, &answer);
+    return truth(status, answer, false);
+}
+
+/* 99 where a number that was not due was written, or another than the due one. */
+static uint32_t number(uint32_t status, size_t answer, size_t want) {
+    return answer == (status ? 9 : want) ? status : 99;
+}
+
+static uint32_t finds(held *h) {
+    uint32_t answer = 9;
+    uint32_t status = cedar_store_entity(&h->s, TEXT(U("a")), &answer);
+    return number(status, answer, 2);
+}
+
+static uint32_t finds_unknown(held *h) {
+    uint32_t answer = 9;
+    uint32_t status = cedar_store_entity(&h->t, TEXT(U("q")), &answer);
+    return number(status, answer, 1);
+}
+
+static uint32_t counts_attributes(held *h) {
+    size_t answer = 9;
+    uint32_t status = cedar_store_attrs_len(&h->s, TEXT(U("a")), &answer);
+    return number(status, answer, 0);
+}
+
+static uint32_t counts_tags(held *h) {
+    size_t answer = 9;
+    uint32_t status = cedar_store_tags_len(&h->s, TEXT(U("a")), &answer);
+    return number(status, answer, 0);
+}
+
 CALL(checks_uid, cedar_uid_check(TEXT("A::B::\"a\"")))
 CALL(checks_no_uid, cedar_uid_check(TEXT("A::B::\"\\n\\q\"")))
 CALL(news, new_store(&h->s))
@@ -137,6 +184,12 @@ CALL(removes_enforced, removed(&h->s, "bz", CEDAR_ENFORCE))
 CALL(lists_ancestors, ancestors(&h->s, U("a")))
 CALL(lists_parents, parents(&h->s, U("b")))
 CALL(lists_nothing, ancestors(&h->s, U("q")))
+CALL(lists_uids, cedar_store_uids(&h->s))
+CALL(lists_indirect, cedar_store_indirect_ancestors(&h->s, TEXT(U("a"))))
+CALL(lists_keys, cedar_store_keys(&h->s, TEXT(U("a"))))
+CALL(lists_tag_keys, cedar_store_tag_keys(&h->s, TEXT(U("a"))))
+CALL(writes_store, cedar_store_text(&h->s))
+CALL(writes_entity, cedar_store_entity_text(&h->s, TEXT(U("a"))))
 CALL(validates, cedar_store_validate(&h->s))
 CALL(slices, sliced(&h->s, &h->t, "ax"))
 CALL(copies, cedar_store_copy(&h->s, &h->t))
@@ -190,6 +243,19 @@ static const call CALLS[] = {
     lists_ancestors,
     lists_parents,
     lists_nothing,
+    asks_child,
+    asks_far_above,
+    asks_entity_equal,
+    finds,
+    finds_unknown,
+    counts_attributes,
+    counts_tags,
+    lists_uids,
+    lists_indirect,
+    lists_keys,
+    lists_tag_keys,
+    writes_store,
+    writes_entity,
     validates,
     slices,
     copies,
@@ -316,6 +382,7 @@ static void no_request(void) {
     CHECK(add_static(&h.p, "a", 1) == CEDAR_OCCUPIED && build(&h.t, "y y", CEDAR_COMPUTE) == CEDAR_CYCLE);
     due_in = 1;
     asked = 0;
+    CHECK(cedar_store_partial(&h.s) == CEDAR_OK && is_partial(&h.s) == 1);
     CHECK(cedar_version() == CEDAR_VERSION && cedar_status_text(CEDAR_OCCUPIED, out, sizeof out) == 8);
     CHECK(cedar_store_len(&h.s) == 3 && equal(&h.s, &h.t) == 0);
     CHECK(cedar_store_answer(&h.s, 0, out, sizeof out) == 12 && cedar_store_answer_spans(&h.s, 0, spans, 8) == 2);

@@ -134,6 +134,30 @@ static inline unsigned descends(cedar_store *s, const char *child, const char *a
     return told(status, answer);
 }
 
+static inline unsigned is_child(cedar_store *s, const char *child, const char *parent) {
+    bool answer = false;
+    uint32_t status = cedar_store_is_child_of(s, TEXT(child), TEXT(parent), &answer);
+    return told(status, answer);
+}
+
+static inline unsigned is_far_below(cedar_store *s, const char *child, const char *ancestor) {
+    bool answer = false;
+    uint32_t status = cedar_store_is_indirect_descendant_of(s, TEXT(child), TEXT(ancestor), &answer);
+    return told(status, answer);
+}
+
+static inline unsigned is_partial(cedar_store *s) {
+    bool answer = false;
+    uint32_t status = cedar_store_is_partial(s, &answer);
+    return told(status, answer);
+}
+
+static inline unsigned entity_equal(cedar_store *s, const char *uid, cedar_store *other) {
+    bool answer = false;
+    uint32_t status = cedar_store_entity_equal(s, TEXT(uid), other, &answer);
+    return told(status, answer);
+}
+
 static inline unsigned equal(cedar_store *one, cedar_store *other) {
     bool answer = false;
     uint32_t status = cedar_store_equal(one, other, &answer);
@@ -144,6 +168,27 @@ static inline unsigned sets_equal(cedar_policies *one, cedar_policies *other) {
     bool answer = false;
     uint32_t status = cedar_policies_equal(one, other, &answer);
     return told(status, answer);
+}
+
+/* A number, or 100 and the status. */
+static inline unsigned counted_as(uint32_t status, size_t count) { return status ? 100 + status : (unsigned)count; }
+
+static inline unsigned found(cedar_store *s, const char *uid) {
+    uint32_t answer = 9;
+    uint32_t status = cedar_store_entity(s, TEXT(uid), &answer);
+    return counted_as(status, answer);
+}
+
+static inline unsigned attributes(cedar_store *s, const char *uid) {
+    size_t count = 9;
+    uint32_t status = cedar_store_attrs_len(s, TEXT(uid), &count);
+    return counted_as(status, count);
+}
+
+static inline unsigned tags(cedar_store *s, const char *uid) {
+    size_t count = 9;
+    uint32_t status = cedar_store_tags_len(s, TEXT(uid), &count);
+    return counted_as(status, count);
 }
 
 static inline uint32_t new_set(cedar_policies *p) { return cedar_policies_new(p, 0x5eed, 0x6b6579); }

@@ -6,6 +6,8 @@ use Rattle.cedar_c_lists.specs.declared.reason.Reason.{Reason}
 use Rattle.cedar_c_lists.specs.declared.reason.Reason.TheVariants.{NoMemory}
 use Rattle.cedar_c.specs.Statuses.{ok}
 use Rattle.cedar_c.specs.StoreCalls.{Changes, FillsBy, IsFilled, Kept}
+use Rattle.cedar_c.specs.StoreReads.{BecomesPartial}
+use Rattle.cedar_c_stores.specs.Reads.{MakesPartial}
 use Rattle.cedar_c.specs.declared.store_handle.Inner.{Inner}
 use Rattle.std.specs.Option.{IsSomeAnd}
 
@@ -36,3 +38,10 @@ holds P k old new n so f zero = elim f.3 [
       subst (λ o. IsSomeAnd o (λ (i : Inner). P i.kept)) (sym g.1) (subst P (sym g.2) so)
   | inr is ↦ absurd (omega (arith, sym zero ∙ f.1 ∙ ap status_of is))
 ]
+
+-- the store that an open handle holds became partial, and was put back
+pub became_partial : (old new : Option Inner) (i k : Inner) (j : Kept) → Some i ≡ old → k ≡ i
+    → new ≡ Some (record { kept = j }) → MakesPartial k.kept j → BecomesPartial old 0 new
+became_partial old new i k j was is put p =
+    subst (λ o. BecomesPartial o 0 new) was
+    (refl, (record { kept = j }, put, subst (λ (x : Inner). MakesPartial x.kept j) is p))

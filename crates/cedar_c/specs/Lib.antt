@@ -7,4 +7,5 @@ pub mod StatusCalls
 pub mod Statuses
 pub mod StoreCalls
 pub mod StoreHeld
+pub mod StoreReads
 pub mod UidCalls

@@ -14,6 +14,7 @@ mod program;
 mod statuses;
 mod store;
 mod store_handle;
+mod store_reads;
 mod uids;
 
 pub use policies::Policies;

@@ -23,13 +23,13 @@ use std::mem;
 #[repr(C)]
 #[derive(Drop)]
 pub struct Store {
-    held: Held,
+    pub(crate) held: Held,
     is_open: bool,
     ghost agrees: { is_open ≡ is_some held.value },
 }
 
 // The status of a closed handle.
-const CLOSED: u32 = 2;
+pub(crate) const CLOSED: u32 = 2;
 
 // A closed one.
 fn closed(alloc: Global) -> Store
@@ -42,7 +42,7 @@ fn closed(alloc: Global) -> Store
 }
 
 // An open one.
-fn opened(inner: Box<Inner, Global>) -> Store
+pub(crate) fn opened(inner: Box<Inner, Global>) -> Store
     ensures { result.held.value ≡ Some inner.value }
 {
     Store {
@@ -52,7 +52,7 @@ fn opened(inner: Box<Inner, Global>) -> Store
 }
 
 // What a handle holds is taken out, and it is closed.
-fn take(alloc: Global, handle: &mut Store) -> Option<Box<Inner, Global>>
+pub(crate) fn take(alloc: Global, handle: &mut Store) -> Option<Box<Inner, Global>>
     ensures closed { handle.new.held.value ≡ None }
     ensures value { option_map (λ b. b.value) result ≡ handle.old.held.value }
 {

@@ -1,0 +1,254 @@
+//! Calls that read the store of a handle: what it has with a uid, one of its entities, and the texts of both.
+ghost use Rattle.std.specs.Prelude.{◌≡◌};
+ghost use Rattle.cedar_c_stores.specs.Stores.{Listing, has_parent};
+ghost use Rattle.cedar_c_stores.specs.Reads.{AnswersAt, AnswersOf, AreAllUids, AreKeysOf, AsksAbove, AsksOne};
+ghost use Rattle.cedar_c_stores.specs.Reads.{ComparesAt, FindsAt, IsFarAbove, IsOneText, attrs_count, attrs_of};
+ghost use Rattle.cedar_c_stores.specs.Reads.{has_indirect, tags_count, tags_of};
+ghost use Rattle.cedar_c.specs.StoreCalls.{AsksHandle, Changes};
+ghost use Rattle.cedar_c.specs.StoreReads.{AsksBoth, AsksPartial, BecomesPartial, CountsHandle};
+
+use crate::store::{CLOSED, Store, opened, take};
+use cedar_c_lists::{status_of, tell, tell_value};
+use std::alloc::Global;
+
+/// The uids of all entities become the answer, each once, in an order of the store's own.
+#[unsafe(no_mangle)]
+pub extern "C" fn cedar_store_uids(alloc: Global, handle: &mut Store) -> u32
+    ensures { Changes (AnswersOf AreAllUids) handle.old.held.value result handle.new.held.value }
+{
+    let Some(mut inner) = take(alloc, handle) else {
+        return CLOSED;
+    };
+    let answer = inner.kept.uids(alloc);
+    *handle = opened(inner);
+    status_of(answer)
+}
+
+/// What the store has with a uid, in `found`: 2 where it has an entity; else 1 in a partial store and 0 in another.
+#[unsafe(no_mangle)]
+pub extern "C" fn cedar_store_entity(
+    alloc: Global,
+    handle: &mut Store,
+    uid: &[u8],
+    found: &mut u32,
+) -> u32
+    ensures same { handle.new.held.value ≡ handle.old.held.value }
+    ensures tells { CountsHandle (λ S r. FindsAt S uid.now r) handle.old.held.value result found.old found.new }
+{
+    let Some(inner) = take(alloc, handle) else {
+        return CLOSED;
+    };
+    let told = inner.kept.entity(alloc, uid);
+    *handle = opened(inner);
+    tell_value(told, found)
+}
+
+/// The store becomes partial: an entity that it lacks is not known then.
+#[unsafe(no_mangle)]
+pub extern "C" fn cedar_store_partial(alloc: Global, handle: &mut Store) -> u32
+    ensures { BecomesPartial handle.old.held.value result handle.new.held.value }
+{
+    let Some(mut inner) = take(alloc, handle) else {
+        return CLOSED;
+    };
+    inner.kept.make_partial(alloc);
+    *handle = opened(inner);
+    0
+}
+
+/// Whether the store is partial, in `answer`.
+#[unsafe(no_mangle)]
+pub extern "C" fn cedar_store_is_partial(
+    alloc: Global,
+    handle: &mut Store,
+    answer: &mut bool,
+) -> u32
+    ensures same { handle.new.held.value ≡ handle.old.held.value }
+    ensures asks { AsksPartial handle.old.held.value result answer.old answer.new }
+{
+    let Some(inner) = take(alloc, handle) else {
+        return CLOSED;
+    };
+    *answer = inner.kept.is_partial();
+    *handle = opened(inner);
+    0
+}
+
+/// The indirect ancestors of the entity with a uid become the answer, in the order of uids.
+#[unsafe(no_mangle)]
+pub extern "C" fn cedar_store_indirect_ancestors(
+    alloc: Global,
+    handle: &mut Store,
+    uid: &[u8],
+) -> u32
+    ensures { Changes (Listing has_indirect IsFarAbove uid.now) handle.old.held.value result handle.new.held.value }
+{
+    let Some(mut inner) = take(alloc, handle) else {
+        return CLOSED;
+    };
+    let answer = inner.kept.indirect_ancestors(alloc, uid);
+    *handle = opened(inner);
+    status_of(answer)
+}
+
+/// Whether the second uid is a parent of the entity with the first, in `answer`.
+#[unsafe(no_mangle)]
+pub extern "C" fn cedar_store_is_child_of(
+    alloc: Global,
+    handle: &mut Store,
+    child: &[u8],
+    parent: &[u8],
+    answer: &mut bool,
+) -> u32
+    ensures same { handle.new.held.value ≡ handle.old.held.value }
+    ensures asks { AsksHandle (λ S r. AsksAbove has_parent S child.now parent.now r)
+        handle.old.held.value result answer.old answer.new }
+{
+    let Some(inner) = take(alloc, handle) else {
+        return CLOSED;
+    };
+    let told = inner.kept.is_child_of(alloc, child, parent);
+    *handle = opened(inner);
+    tell(told, answer)
+}
+
+/// Whether the second uid is an indirect ancestor of the entity with the first, in `answer`.
+#[unsafe(no_mangle)]
+pub extern "C" fn cedar_store_is_indirect_descendant_of(
+    alloc: Global,
+    handle: &mut Store,
+    child: &[u8],
+    ancestor: &[u8],
+    answer: &mut bool,
+) -> u32
+    ensures same { handle.new.held.value ≡ handle.old.held.value }
+    ensures asks { AsksHandle (λ S r. AsksAbove has_indirect S child.now ancestor.now r)
+        handle.old.held.value result answer.old answer.new }
+{
+    let Some(inner) = take(alloc, handle) else {
+        return CLOSED;
+    };
+    let told = inner.kept.is_indirect_descendant_of(alloc, child, ancestor);
+    *handle = opened(inner);
+    tell(told, answer)
+}
+
+/// The keys of the attributes of the entity with a uid become the answer, in byte order.
+#[unsafe(no_mangle)]
+pub extern "C" fn cedar_store_keys(alloc: Global, handle: &mut Store, uid: &[u8]) -> u32
+    ensures { Changes (AnswersAt (AreKeysOf attrs_of) uid.now) handle.old.held.value result handle.new.held.value }
+{
+    let Some(mut inner) = take(alloc, handle) else {
+        return CLOSED;
+    };
+    let answer = inner.kept.keys(alloc, uid);
+    *handle = opened(inner);
+    status_of(answer)
+}
+
+/// The keys of the tags of the entity with a uid become the answer, in byte order.
+#[unsafe(no_mangle)]
+pub extern "C" fn cedar_store_tag_keys(alloc: Global, handle: &mut Store, uid: &[u8]) -> u32
+    ensures { Changes (AnswersAt (AreKeysOf tags_of) uid.now) handle.old.held.value result handle.new.held.value }
+{
+    let Some(mut inner) = take(alloc, handle) else {
+        return CLOSED;
+    };
+    let answer = inner.kept.tag_keys(alloc, uid);
+    *handle = opened(inner);
+    status_of(answer)
+}
+
+/// How many attributes the entity with a uid has, in `count`.
+#[unsafe(no_mangle)]
+pub extern "C" fn cedar_store_attrs_len(
+    alloc: Global,
+    handle: &mut Store,
+    uid: &[u8],
+    count: &mut usize,
+) -> u32
+    ensures same { handle.new.held.value ≡ handle.old.held.value }
+    ensures tells { CountsHandle
+        (λ S r. AsksOne attrs_count S uid.now r) handle.old.held.value result count.old count.new }
+{
+    let Some(inner) = take(alloc, handle) else {
+        return CLOSED;
+    };
+    let told = inner.kept.attrs_len(alloc, uid);
+    *handle = opened(inner);
+    tell_value(told, count)
+}
+
+/// How many tags the entity with a uid has, in `count`.
+#[unsafe(no_mangle)]
+pub extern "C" fn cedar_store_tags_len(
+    alloc: Global,
+    handle: &mut Store,
+    uid: &[u8],
+    count: &mut usize,
+) -> u32
+    ensures same { handle.new.held.value ≡ handle.old.held.value }
+    ensures tells { CountsHandle
+        (λ S r. AsksOne tags_count S uid.now r) handle.old.held.value result count.old count.new }
+{
+    let Some(inner) = take(alloc, handle) else {
+        return CLOSED;
+    };
+    let told = inner.kept.tags_len(alloc, uid);
+    *handle = opened(inner);
+    tell_value(told, count)
+}
+
+/// Whether two stores have deeply equal entities with a uid, in `answer`.
+#[unsafe(no_mangle)]
+pub extern "C" fn cedar_store_entity_equal(
+    alloc: Global,
+    handle: &mut Store,
+    uid: &[u8],
+    other: &mut Store,
+    answer: &mut bool,
+) -> u32
+    ensures one { handle.new.held.value ≡ handle.old.held.value }
+    ensures other { other.new.held.value ≡ other.old.held.value }
+    ensures asks { AsksBoth (λ S T r. ComparesAt S T uid.now r)
+        handle.old.held.value other.old.held.value result answer.old answer.new }
+{
+    let Some(inner) = take(alloc, handle) else {
+        return CLOSED;
+    };
+    let Some(beside) = take(alloc, other) else {
+        *handle = opened(inner);
+        return CLOSED;
+    };
+    let told = inner.kept.entity_is_equal(alloc, uid, &beside.kept);
+    *handle = opened(inner);
+    *other = opened(beside);
+    tell(told, answer)
+}
+
+/// The text of the store becomes the answer.
+#[unsafe(no_mangle)]
+pub extern "C" fn cedar_store_text(alloc: Global, handle: &mut Store) -> u32
+    ensures { Changes (AnswersOf (λ _ texts. IsOneText texts)) handle.old.held.value result handle.new.held.value }
+{
+    let Some(mut inner) = take(alloc, handle) else {
+        return CLOSED;
+    };
+    let answer = inner.kept.text(alloc);
+    *handle = opened(inner);
+    status_of(answer)
+}
+
+/// The text of the entity with a uid becomes the answer.
+#[unsafe(no_mangle)]
+pub extern "C" fn cedar_store_entity_text(alloc: Global, handle: &mut Store, uid: &[u8]) -> u32
+    ensures { Changes
+        (AnswersAt (λ _ texts. IsOneText texts) uid.now) handle.old.held.value result handle.new.held.value }
+{
+    let Some(mut inner) = take(alloc, handle) else {
+        return CLOSED;
+    };
+    let answer = inner.kept.entity_text(alloc, uid);
+    *handle = opened(inner);
+    status_of(answer)
+}
