@@ -62,8 +62,6 @@ pub enum Reason {
     NoBody,
     /// A text is no name.
     NotAName,
-    /// What is given is nested too deep.
-    TooDeep,
 }
 
 impl Reason {
@@ -99,7 +97,6 @@ impl Reason {
             Reason::NotStatic => 25,
             Reason::NoBody => 26,
             Reason::NotAName => 27,
-            Reason::TooDeep => 28,
         }
     }
 
@@ -135,7 +132,6 @@ impl Reason {
             Reason::NotStatic => "not a static policy",
             Reason::NoBody => "no body",
             Reason::NotAName => "not a name",
-            Reason::TooDeep => "too deep",
         }
     }
 }

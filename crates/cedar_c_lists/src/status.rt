@@ -51,7 +51,6 @@ pub fn reason_with(number: u32) -> Option<Reason>
         25 => Some(Reason::NotStatic),
         26 => Some(Reason::NoBody),
         27 => Some(Reason::NotAName),
-        28 => Some(Reason::TooDeep),
         _ => None,
     }
 }
