@@ -26,12 +26,7 @@ fn first_loop<K: Clone + Eq + Hash, S: BuildHasher>(
     reached: &Reached,
     led: &[bool],
 ) -> Option<usize> {
-    for x in 0..read.fixed {
-        if led[x] && goes_back(reached, x) {
-            return Some(x);
-        }
-    }
-    None
+    (0..read.fixed).find(|x| led[*x] && goes_back(reached, *x))
 }
 
 // Refuses what was read where a number to fix reaches itself, by the key of the first that does.
