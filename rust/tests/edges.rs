@@ -92,15 +92,15 @@ fn stores_are_equal_where_their_uids_and_modes_are() {
 #[test]
 fn what_comes_with_indirect_ancestors_is_edited_by_what_is_held() {
     let name = |number: usize| uid(&format!(r#"A::"{number}""#));
-    let mut entities: Vec<Entity> = (0..100)
+    let entities: Vec<Entity> = (0..100)
         .map(|number| {
             let mut entity = Entity::with_uid(name(number));
             entity.add_parent(name(number + 1));
+            // one more ancestor than the parents imply
+            entity.add_indirect_ancestor(name(500));
             entity
         })
         .collect();
-    // one more ancestor than the parents imply, which has none
-    entities[0].add_indirect_ancestor(name(500));
     let mut store = Entities::from_entities(entities, TCComputation::ComputeNow).unwrap();
     // so many edits elsewhere that a store that is known to be plain lists who is a child of whom
     for number in 1_000..1_040 {
