@@ -75,8 +75,15 @@ def check_paths(page, text):
 
 
 def check_rows():
-    """Behind the name of a crate and a colon a row has files of that crate, up to the name of another or to a semicolon with none."""
-    for row in re.findall(r'(?m)^\| .*$', read('docs/MAP.md')):
+    """Behind the name of a crate and a colon a row has files of that crate, up to the name of another. What else the page calls by a name
+    alone is a file of some crate."""
+    text = read('docs/MAP.md')
+    names = {os.path.basename(path) for path in glob.glob('crates/**/*.*', recursive=True)}
+    for file in sorted(set(re.findall(r'`(\w+\.(?:rt|antt))`', text))):
+        holds(f'docs/MAP.md names {file}, which no crate has', file in names)
+    for row in re.findall(r'(?m)^\| .*$', text[text.index('## Where to change what'):]):
+        bare = re.findall(r'`([\w./+]+\.(?:rt|antt))`', re.split(r'`cedar_\w+`:', row)[0])
+        holds(f'docs/MAP.md names {bare} behind no crate', not bare)
         for crate, cell in re.findall(r'`(cedar_\w+)`:(.*?)(?=`cedar_\w+`:|\||$)', row):
             paths = glob.glob(f'crates/{crate}/**', recursive=True)
             holds(f'docs/MAP.md has files of {crate}, which is no crate', crate in crates())
