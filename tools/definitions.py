@@ -17,6 +17,9 @@ import signal
 import sys
 import textwrap
 
+sys.dont_write_bytecode = True
+from map import crates
+
 HEAD = re.compile(r'( *)(?:(?:abbrev|unfoldable) )*pub (?!use\b|mod\b)(?:(record|data) )?([^\s:{(]+)')
 MUTUAL = re.compile(r'(?:(?:abbrev|unfoldable) )*mutual\s*$')
 PART = re.compile(r'\s+(?:pub )?([^\s:]+) :')
@@ -27,12 +30,6 @@ class Definition:
 
     def __init__(self, path, line, name, comment):
         self.path, self.line, self.name, self.comment, self.lines, self.parts = path, line, name, comment, [], []
-
-
-def crates():
-    with open('crates.txt', encoding='utf-8') as lines:
-        heads = [line.split('#')[0].split(':')[0].split() for line in lines]
-    return [words[0] for words in heads if words]
 
 
 def files(crate):
