@@ -4,6 +4,7 @@
     python3 tools/definitions.py            each crate that has definitions, with its files and how many each has
     python3 tools/definitions.py CRATE..    each public definition of these crates: its name, its file, and the comment above it
     python3 tools/definitions.py WORD..     those whose names have one of the words, in capitals or small letters
+    python3 tools/definitions.py --bare     those that have no comment above them
 
 A definition is public, and stands in `specs/` of a crate but outside of `specs/laws/`, which has laws with their proofs. Words may stand
 beside crates: then only the definitions of these crates are looked through. A comment is the run of lines that begin with `--` right above
@@ -72,6 +73,10 @@ def all_of(names):
     return [one for name in names for path in files(name) for one in definitions(path)]
 
 
+def bare():
+    return [one for one in all_of(crates()) if not one.comment]
+
+
 def told(one):
     """A definition as it is printed, filled to 120 columns."""
     rows = [f'{one.name}  ({one.path}:{one.line})']
@@ -84,6 +89,9 @@ def told(one):
 
 def main(words):
     names = crates()
+    if words == ['--bare']:
+        print('\n'.join(told(one) for one in bare()))
+        return 0
     if not words:
         for name in names:
             counts = [(os.path.basename(path), len(definitions(path))) for path in files(name)]

@@ -102,11 +102,9 @@ def check_comments():
     for script in ('tools/map.py', 'tools/definitions.py'):
         for words in ([], ['cedar_entities']):
             holds(f'{script} {" ".join(words)} does not run', runs(script, *words))
-    found = definitions.all_of(crates())
-    lacking = [f'{one.path}:{one.line}: {one.name}' for one in found if not one.comment]
-    holds(f'{len(lacking)} definitions have no comment above them: {lacking}', len(lacking) <= WITHOUT_COMMENT)
-    bare = files_by_comment.bare()
-    holds(f'{len(bare)} files have no first comment: {bare}', len(bare) <= WITHOUT_FIRST_LINE)
+    lacking, bare = len(definitions.bare()), len(files_by_comment.bare())
+    holds(f'{lacking} definitions have no comment above them: tools/definitions.py --bare lists them', lacking <= WITHOUT_COMMENT)
+    holds(f'{bare} files have no first comment: tools/map.py --bare lists them', bare <= WITHOUT_FIRST_LINE)
 
 
 def squeezed(text):
