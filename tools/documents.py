@@ -1,23 +1,36 @@
 #!/usr/bin/env python3
 """Says where a document is not true of the files beside it: run at the top of the repository; nothing is proved. The last line is
-`N passed, M failed`. With `--unnamed` it lists the files of the crates that docs/MAP.md names nowhere, and no more.
+`N passed, M failed`.
 
 - each link to a file leads to one, and a link to a heading to a heading;
 - each path in backticks that begins with a folder of the repository is there;
-- each file of a table of docs/MAP.md that stands under a crate's heading is one of that crate;
+- each file that a row of docs/MAP.md names behind a crate is one of that crate, and no other file of it is called so;
+- `tools/map.py` and `tools/definitions.py` run. Each public definition of specs/ outside of specs/laws has a comment above it, and each
+  file a first comment, but for as many as lacked one before: a count that may fall and not grow;
 - what docs/CALLING.md quotes of Rattle stands in cedar_uses, or in the program's `main`, as it is quoted;
 - what docs/GUIDE.md quotes stands in the guide's program in its language, or in what an example writes; and docs/hierarchy.svg, which it
   shows, draws the uids and the edges of the text that it quotes;
-- each crate of crates.txt is named by docs/MAP.md, and each but the tests by docs/PROVED.md.
+- the crates of crates.txt are those of the picture of docs/MAP.md and of the tables of docs/PROVED.md and docs/GATE.md: all, and no other.
+  The picture leaves out crates of tests, the table of docs/PROVED.md those and what they stand on, that of docs/GATE.md the tests of one
+  crate. No page that speaks of the crates names one that is not there.
 """
 import glob
 import html
 import os
 import re
+import subprocess
 import sys
+
+sys.dont_write_bytecode = True
+import definitions
+import map as files_by_comment
 
 PASSED, FAILED = [0], []
 FOLDERS = ('docs', 'crates', 'callers', 'tools', 'rust', '.ci')
+# As many public definitions have no comment above them, and as many files no first comment. Whoever gives one theirs lowers the number.
+WITHOUT_COMMENT, WITHOUT_FIRST_LINE = 91, 5
+# what pages name that is called as a crate might be, and is a function of the library for C
+EXPORTS = {'cedar_run'}
 
 
 def holds(what, truth):
@@ -61,28 +74,37 @@ def check_paths(page, text):
             holds(f'{page} names {path}, which is not there', os.path.exists(path.rstrip('/.')))
 
 
-def files_of(crate):
-    kinds = ('src/**/*.rt', 'specs/**/*.antt', 'proofs/*.antt')
-    return [path for kind in kinds for path in glob.glob(f'crates/{crate}/{kind}', recursive=True)]
-
-
-def named(cell, folder):
-    """The files that a cell of a table names, the first with its folder and those behind it in the same."""
-    for text in re.findall(r'`([\w./]+\.(?:rt|antt))`', cell):
-        if '/' in text:
-            folder = os.path.dirname(text)
-            yield text
-        else:
-            yield f'{folder}/{text}' if folder else text
-
-
-def check_map():
+def check_rows():
+    """Behind the name of a crate and a colon a row has files of that crate, up to the name of another. What else the page calls by a name
+    alone is a file of some crate."""
     text = read('docs/MAP.md')
-    for head, body in re.findall(r'(?ms)^## `(\w+)`\n(.*?)(?=^## |\Z)', text):
-        for row in re.findall(r'(?m)^\| (`[^|]*) \|', body):
-            for file in named(row, ''):
-                there = any(os.path.exists(path) for path in (f'crates/{head}/{file}', f'crates/{file}'))
-                holds(f'docs/MAP.md names {file} of {head}, which is not there', there)
+    names = {os.path.basename(path) for path in glob.glob('crates/**/*.*', recursive=True)}
+    for file in sorted(set(re.findall(r'`(\w+\.(?:rt|antt))`', text))):
+        holds(f'docs/MAP.md names {file}, which no crate has', file in names)
+    for row in re.findall(r'(?m)^\| .*$', text[text.index('## Where to change what'):]):
+        bare = re.findall(r'`([\w./+]+\.(?:rt|antt))`', re.split(r'`cedar_\w+`:', row)[0])
+        holds(f'docs/MAP.md names {bare} behind no crate', not bare)
+        for crate, cell in re.findall(r'`(cedar_\w+)`:(.*?)(?=`cedar_\w+`:|\||$)', row):
+            paths = glob.glob(f'crates/{crate}/**', recursive=True)
+            holds(f'docs/MAP.md has files of {crate}, which is no crate', crate in crates())
+            for file in re.findall(r'`([\w./+]+\.(?:rt|antt)|stdin|stdout)`', cell):
+                if not file.startswith(('callers/', 'rust/', 'tools/', 'docs/')):
+                    count = sum(path.endswith(f'/{file}') and '/out/' not in path for path in paths)
+                    holds(f'docs/MAP.md names {file} of {crate}, of which there are {count}', count == 1)
+
+
+def runs(*words):
+    done = subprocess.run([sys.executable, '-B', *words], stdout=subprocess.PIPE, stderr=subprocess.STDOUT, check=False)
+    return done.returncode == 0 and done.stdout != b''
+
+
+def check_comments():
+    for script in ('tools/map.py', 'tools/definitions.py'):
+        for words in ([], ['cedar_entities']):
+            holds(f'{script} {" ".join(words)} does not run', runs(script, *words))
+    lacking, bare = len(definitions.bare()), len(files_by_comment.bare())
+    holds(f'{lacking} definitions have no comment above them: tools/definitions.py --bare lists them', lacking <= WITHOUT_COMMENT)
+    holds(f'{bare} files have no first comment: tools/map.py --bare lists them', bare <= WITHOUT_FIRST_LINE)
 
 
 def squeezed(text):
@@ -129,34 +151,41 @@ def check_guide():
 
 
 def crates():
-    heads = [line.split('#')[0].split(':')[0].split() for line in read('crates.txt').split('\n')]
-    return [words[0] for words in heads if words]
+    return files_by_comment.crates()
+
+
+def is_test_of_one(name):
+    return name.endswith('_tests') and name.removesuffix('_tests') in crates()
 
 
 def check_crates():
-    for page, names in (('docs/MAP.md', crates()), ('docs/PROVED.md', [name for name in crates() if not name.endswith('_tests')])):
-        text = read(page)
-        for name in names:
-            told = name in text or re.fullmatch(r'\w+_tests', name) and ('CRATE_tests' in text or 'cedar_refused_*_tests' in text)
-            holds(f'{page} does not name {name}', bool(told))
-
-
-def unnamed():
-    text = read('docs/MAP.md')
-    for crate in crates():
-        for path in sorted(files_of(crate)):
-            if os.path.basename(path) not in ('Lib.antt', 'lib.rt', 'main.rt', 'laws.antt') and os.path.basename(path) not in text:
-                print(path)
+    """The lists of crates that pages have are that of crates.txt."""
+    helpers = {'cedar_test_helpers', 'cedar_store_texts', 'cedar_refusals'}
+    all_names, tests = set(crates()), {name for name in crates() if name.endswith('_tests')}
+    picture = re.search(r'(?s)```text\n(.*?)```', read('docs/MAP.md'))[1]
+    table = re.findall(r'(?m)^\| (`cedar_.*)$', re.search(r'(?ms)^## The crates\n(.*?)^## ', read('docs/PROVED.md'))[1])
+    rows = re.findall(r'(?m)^\| (`cedar_[^|]*) \|', read('docs/GATE.md'))
+    lists = (
+        ('docs/MAP.md', set(re.findall(r'(?m)^ *(cedar_\w+)(?!\*)\b', picture)), tests),
+        ('docs/PROVED.md', set(re.findall(r'`(cedar_\w+)`', ' '.join(table))) - tests, tests | helpers),
+        ('docs/GATE.md', set(re.findall(r'`(cedar_\w+)`', ' '.join(rows))), {name for name in tests if is_test_of_one(name)}),
+    )
+    for page, named, left_out in lists:
+        due = all_names - left_out
+        holds(f'{page} does not list {sorted(due - named)} of crates.txt', due <= named)
+        holds(f'{page} lists {sorted(named - all_names)}, which crates.txt does not have', named <= all_names)
+    for page in ('README.md', 'CONTRIBUTING.md', 'docs/MAP.md', 'docs/PROVED.md', 'docs/GATE.md', 'docs/CALLING.md'):
+        named = set(re.findall(r'`(cedar_\w+)`', read(page))) - all_names - EXPORTS
+        holds(f'{page} names {sorted(named)}, which are no crates', not named)
 
 
 def main():
-    if sys.argv[1:] == ['--unnamed']:
-        return unnamed()
     for page in pages():
         text = read(page)
         check_links(page, text)
         check_paths(page, text)
-    check_map()
+    check_rows()
+    check_comments()
     check_quotes()
     check_guide()
     check_crates()
