@@ -10,9 +10,8 @@
 - what docs/CALLING.md quotes of Rattle stands in cedar_uses, or in the program's `main`, as it is quoted;
 - what docs/GUIDE.md quotes stands in the guide's program in its language, or in what an example writes; and docs/hierarchy.svg, which it
   shows, draws the uids and the edges of the text that it quotes;
-- the crates of crates.txt are those of the picture of docs/MAP.md and of the tables of docs/PROVED.md and docs/GATE.md: all, and no other.
-  The picture leaves out crates of tests, the table of docs/PROVED.md those and what they stand on, that of docs/GATE.md the tests of one
-  crate. No page that speaks of the crates names one that is not there.
+- the crates of crates.txt are those of the picture of docs/MAP.md, of the headings of docs/PROVED.md and of the table of docs/GATE.md:
+  all, and no other. The first two leave out crates of tests, that of docs/GATE.md the tests of one crate. No page that speaks of the crates names one that is not there.
 """
 import glob
 import html
@@ -28,7 +27,7 @@ import map as files_by_comment
 PASSED, FAILED = [0], []
 FOLDERS = ('docs', 'crates', 'callers', 'tools', 'rust', '.ci')
 # As many public definitions have no comment above them, and as many files no first comment. Whoever gives one theirs lowers the number.
-WITHOUT_COMMENT, WITHOUT_FIRST_LINE = 91, 5
+WITHOUT_COMMENT, WITHOUT_FIRST_LINE = 94, 5
 # what pages name that is called as a crate might be, and is a function of the library for C
 EXPORTS = {'cedar_run'}
 
@@ -160,14 +159,14 @@ def is_test_of_one(name):
 
 def check_crates():
     """The lists of crates that pages have are that of crates.txt."""
-    helpers = {'cedar_test_helpers', 'cedar_store_texts', 'cedar_refusals'}
     all_names, tests = set(crates()), {name for name in crates() if name.endswith('_tests')}
     picture = re.search(r'(?s)```text\n(.*?)```', read('docs/MAP.md'))[1]
-    table = re.findall(r'(?m)^\| (`cedar_.*)$', re.search(r'(?ms)^## The crates\n(.*?)^## ', read('docs/PROVED.md'))[1])
+    proved = re.search(r'(?ms)^## What is proved\n(.*?)^## ', read('docs/PROVED.md'))[1]
+    heads = re.findall(r'(?m)^### (.*)$', proved) + [proved[proved.index('### Programs and tests'):]]
     rows = re.findall(r'(?m)^\| (`cedar_[^|]*) \|', read('docs/GATE.md'))
     lists = (
         ('docs/MAP.md', set(re.findall(r'(?m)^ *(cedar_\w+)(?!\*)\b', picture)), tests),
-        ('docs/PROVED.md', set(re.findall(r'`(cedar_\w+)`', ' '.join(table))) - tests, tests | helpers),
+        ('docs/PROVED.md', set(re.findall(r'`(cedar_\w+)`', ' '.join(heads))) - tests, tests),
         ('docs/GATE.md', set(re.findall(r'`(cedar_\w+)`', ' '.join(rows))), {name for name in tests if is_test_of_one(name)}),
     )
     for page, named, left_out in lists:
