@@ -8,7 +8,7 @@ use Rattle.cedar_ids.specs.UidOf.{uid_parts}
 use Rattle.cedar_ids.specs.Views.{type_name}
 use Rattle.cedar_ids.specs.declared.entity.EntityType.{EntityType}
 use Rattle.cedar_ids.specs.declared.entity.EntityUID.{EntityUID}
-use Rattle.cedar_c_lists.specs.Texts.{IsReadOf, IsTextOf, IsUnread}
+use Rattle.cedar_c_lists.specs.Texts.{IsReadOf, IsTextOf}
 use Rattle.cedar_c_lists.specs.declared.reason.Reason.{Reason}
 use Rattle.cedar_c_lists.specs.declared.reason.Reason.TheVariants.{NoMemory, NotAName, NotUtf8}
 use Rattle.cedar_c_lists.specs.declared.uids.UidTexts.{UidTexts}

@@ -1,5 +1,4 @@
 use Rattle.std.proofs.Common.{Err, inr, refl, subst, sym}
-use Rattle.cedar_ids.specs.Name.{NameParts}
 use Rattle.cedar_ids.specs.Reads.{IsTextOfNone, IsTypeText, Reads}
 use Rattle.cedar_ids.specs.TextOf.{IsNameText}
 use Rattle.cedar_ids.specs.declared.entity.EntityType.TheVariants.{EntityType}
