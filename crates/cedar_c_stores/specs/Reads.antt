@@ -8,7 +8,7 @@ use Rattle.cedar_graph.specs.Graph.{Reach}
 use Rattle.cedar_entity.specs.Fields.{Fields, KeysAscend, field_keys}
 use Rattle.cedar_entity.specs.View.{EntityView, IsDeepEqual}
 use Rattle.cedar_entities.specs.Answers.{ListsHeld}
-use Rattle.cedar_entities.specs.Plain.{StoreView, IsPlainStore}
+use Rattle.cedar_entities.specs.Plain.{StoreView}
 use Rattle.cedar_entities.specs.World.{World, graph}
 use Rattle.cedar_c_lists.specs.Texts.{AreTextsOf, IsReadOf, IsUnread}
 use Rattle.cedar_c_lists.specs.declared.reason.Reason.{Reason}
