@@ -85,7 +85,11 @@ fn stores_are_equal_where_their_uids_and_modes_are() {
         store(&[r#"A::"b""#]),
         store(&[r#"A::"a""#, r#"A::"b""#]),
     );
-    assert!(one == one.clone() && one != other && one != more && more != one && one != one.clone().partial());
+    assert!(one == one.clone());
+    for unlike in [&other, &more, &one.clone().partial()] {
+        assert!(one != *unlike);
+        assert!(*unlike != one);
+    }
 }
 
 /// Entities that come with indirect ancestors: an edit of them goes by what is held, not down from the uids alone.
