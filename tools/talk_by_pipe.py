@@ -149,6 +149,12 @@ def help_is_told():
     with Talk() as talk:
         talk.answers(b"help\n", text.stdout)
         talk.answers(b"help \n", b"line 2: not a command\n")
+        parts = text.stdout.partition(b"static ID")
+        policies, fields, end = (parts[1] + parts[2]).partition(b"Fields are")
+        talk.answers(b"help store\n", parts[0])
+        talk.answers(b"help policies\n", policies)
+        talk.answers(b"help fields\n", fields + end)
+        talk.answers(b"help edits\n", b"line 6: not a command\n")
         talk.answers(b"build\n", b"ok 0\n")
         talk.ends(0)
 

@@ -147,7 +147,7 @@ pub mod program {
     pub use crate::cedar_store::{
         RunError, Session, push_not_command, run, run_and_leave, run_and_leave_with, run_with,
     };
-    pub use crate::cedar_talk::{Manner, TalkError, help_text, talk};
+    pub use crate::cedar_talk::{FIELD_HELP, Manner, POLICY_HELP, STORE_HELP, TalkError, help_texts, talk};
 }
 
 /// Lists of calls on a store and on a policy set.

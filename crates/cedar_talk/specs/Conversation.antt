@@ -4,7 +4,7 @@ use Rattle.std.specs.Io.KnownBytes.{Appends, Consumes}
 use Rattle.cedar_store.specs.Command.{Command, IsLine}
 use Rattle.cedar_store.specs.Output.{State, Gives, start, not_command}
 use Rattle.cedar_talk.specs.Heard.{Heard, IsHeard, all_lines}
-use Rattle.cedar_talk.specs.declared.help.TheConstants.{HELP}
+use Rattle.cedar_talk.specs.Help.{IsHelpOn, IsNoTopic, whole_help}
 use Rattle.cedar_talk.specs.declared.manner.Manner.{Manner}
 use Rattle.cedar_talk.specs.declared.manner.Manner.TheVariants.{Lenient, Strict}
 use Rattle.cedar_talk.specs.declared.talking.TalkError.{TalkError}
@@ -15,9 +15,12 @@ abbrev pub GoesOn : Manner → Type 0
 GoesOn Lenient = Unit {0}
 GoesOn Strict = ⊥
 
--- what is said of line n, which is no command: where it is `help` the lines of the program, and else that it is none
+-- what is said of line n, which is no command: where it is `help` the lines of the program, where it asks for one topic
+-- those of that, and else that it is none
 abbrev pub Says : ℕ → List ℕ → List ℕ → Type 0
-Says n line out = ((line ≡ codes "help") × (out ≡ HELP.now)) ⊎ ((line ≢ codes "help") × (out ≡ not_command n))
+Says n line out =
+    ((line ≡ codes "help") × (out ≡ whole_help))
+    ⊎ (IsHelpOn line out ⊎ ((line ≢ codes "help") × IsNoTopic line × (out ≡ not_command n)))
 
 -- line n is answered in the state s: as the command that it is, which gives the state t; or, where the conversation
 -- goes on after a line that is none, by what is said of that, and the state stays

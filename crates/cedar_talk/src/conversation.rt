@@ -3,9 +3,10 @@ ghost use Rattle.std.specs.Prelude.{◌≡◌, ◌++◌, ◌+◌, ◌^◌, ◌<�
 ghost use Rattle.cedar_store.specs.Output.{State};
 ghost use Rattle.cedar_store.specs.Sessions.{StandsAt};
 ghost use Rattle.cedar_talk.specs.Conversation.{Says};
+ghost use Rattle.cedar_talk.specs.Help.{whole_help};
 ghost use Rattle.cedar_talk.specs.laws.Hearing.{IsRefused, IsAnswered, Has, Hears, Closes};
 
-use crate::help::HELP;
+use crate::help::{help_on, help_texts};
 use crate::manner::Manner;
 use cedar_store::{Session, push_not_command};
 use std::alloc::{AllocError, Global};
@@ -21,14 +22,27 @@ pub(crate) struct Conversation<S: BuildHasher> {
     ended: usize,
 }
 
+// Adds all of the help.
+fn push_help(out: &mut Vec<u8>) -> Result<(), AllocError>
+    ensures { OnOk result (out.new.items ≡ out.old.items ++ whole_help) }
+{
+    let (store, policies, fields) = help_texts();
+    out.extend_from_slice(store.as_bytes())?;
+    out.extend_from_slice(policies.as_bytes())?;
+    out.extend_from_slice(fields.as_bytes())?;
+    Ok(())
+}
+
 // Adds what is said of a line that is no command, where the conversation goes on.
 fn say(alloc: Global, number: usize, line: &[u8], out: &mut Vec<u8>) -> Result<(), AllocError>
     ensures { OnOk result ((said : List ℕ) × Says number line.now said × (out.new.items ≡ out.old.items ++ said)) }
 {
     if line == b"help".as_slice() {
-        out.extend_from_slice(HELP.as_bytes())
-    } else {
-        push_not_command(alloc, out, number)
+        return push_help(out);
+    }
+    match help_on(line) {
+        Some(text) => out.extend_from_slice(text.as_bytes()),
+        None => push_not_command(alloc, out, number),
     }
 }
 

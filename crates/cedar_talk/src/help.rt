@@ -1,8 +1,10 @@
 //! The lines of the program, told to who asks.
 ghost use Rattle.std.specs.Prelude.{◌≡◌};
+ghost use Rattle.std.specs.Option.{MatchOption};
+ghost use Rattle.cedar_talk.specs.Help.{IsHelpOn, IsNoTopic};
 
-/// The lines of the program, as a line `help` and the program's `--help` tell them.
-pub const HELP: &str = "\
+/// The lines on a store of entities, as the line `help store` tells them.
+pub const STORE_HELP: &str = "\
 ent UID UID..         the entity of the first uid waits, with the others as its parents
 build                 the entities that wait become the store
 add                   they are added to the store
@@ -10,6 +12,10 @@ upsert                they are put over the store, each in the place of any with
 remove UID..          the entities with these uids go, and are no parents any more
 slice UID..           the store becomes its slice at these uids
 anc UID               asks for the ancestors of an entity
+";
+
+/// The lines on policy sets, as the line `help policies` tells them.
+pub const POLICY_HELP: &str = "\
 static ID EFFECT      a static policy joins the current set; EFFECT is permit or forbid
 template ID SLOTS     a template joins; SLOTS is none, principal, action, resource, both or all
 link ID ID BINDING..  a link of the template with the first id joins under the second;
@@ -18,13 +24,36 @@ unlink ID             the link with this id goes
 other                 the set aside becomes the current one, and that one goes aside
 merge HOW             the set aside is merged into the current one; HOW is keep or rename
 ids                   asks for the ids of the current set
-Fields are parted by one tab each. UID is a uid as A::\"a\", and ID any text without a tab.
-An empty line does nothing.
 ";
 
-/// The text of [`HELP`]. Takes no memory. It is this project's own.
-pub fn help_text() -> &'static str
-    ensures { result.now ≡ HELP.now }
+/// How a line is written, as the line `help fields` tells it.
+pub const FIELD_HELP: &str = "\
+Fields are parted by one tab each. UID is a uid as A::\"a\", and ID any text without a tab.
+An empty line does nothing.
+A line help store, help policies or help fields tells a part of this, and help all of it.
+";
+
+/// The three texts of the help, one after another what the line `help` is answered by and the program's `--help` tells.
+/// Takes no memory. It is this project's own.
+pub fn help_texts() -> (&'static str, &'static str, &'static str)
+    ensures store { result.0.now ≡ STORE_HELP.now }
+    ensures policies { result.1.now ≡ POLICY_HELP.now }
+    ensures fields { result.2.now ≡ FIELD_HELP.now }
 {
-    HELP
+    (STORE_HELP, POLICY_HELP, FIELD_HELP)
+}
+
+// The text that a line asks for, if it asks for help on one topic. Takes no memory.
+pub(crate) fn help_on(line: &[u8]) -> Option<&'static str>
+    ensures { MatchOption result (IsNoTopic line.now) (λ text. IsHelpOn line.now text.now) }
+{
+    if line == b"help store".as_slice() {
+        Some(STORE_HELP)
+    } else if line == b"help policies".as_slice() {
+        Some(POLICY_HELP)
+    } else if line == b"help fields".as_slice() {
+        Some(FIELD_HELP)
+    } else {
+        None
+    }
 }

@@ -13,6 +13,6 @@ mod manner;
 mod streams;
 mod talking;
 
-pub use help::{HELP, help_text};
+pub use help::{FIELD_HELP, POLICY_HELP, STORE_HELP, help_texts};
 pub use manner::Manner;
 pub use talking::{TalkError, talk};

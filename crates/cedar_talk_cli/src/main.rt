@@ -3,7 +3,7 @@
 #![tactic(auto)]
 
 use cedar_keyed_hash::KeyedState;
-use cedar_talk::{Manner, help_text, talk};
+use cedar_talk::{Manner, help_texts, talk};
 use std::env::{Env, FillError};
 use std::io;
 use std::process::ExitCode;
@@ -73,13 +73,25 @@ fn held(rt: &HostRuntime, manner: Manner) -> ExitCode {
     }
 }
 
+// Writes a text, and says whether that went well.
+fn is_written(rt: &HostRuntime, text: &str) -> bool {
+    print!(rt; "{}", text).is_ok()
+}
+
+// Writes the lines of the program.
+fn helped(rt: &HostRuntime) -> ExitCode {
+    let (store, policies, fields) = help_texts();
+    if is_written(rt, store) && is_written(rt, policies) && is_written(rt, fields) {
+        ExitCode::SUCCESS
+    } else {
+        fault(rt, "write fault")
+    }
+}
+
 fn main(rt: HostRuntime) -> ExitCode {
     match read_arguments(&rt) {
         Asked::Talk(manner) => held(&rt, manner),
-        Asked::Help => match print!(rt; "{}", help_text()) {
-            Ok(()) => ExitCode::SUCCESS,
-            Err(_) => fault(&rt, "write fault"),
-        },
+        Asked::Help => helped(&rt),
         Asked::Unknown => {
             let _ = eprintln!(rt; "usage: talk [--strict | --help]");
             ExitCode::from(2)

@@ -3,7 +3,7 @@ mod told;
 mod turns;
 
 use cedar_keyed_hash::KeyedState;
-use cedar_talk::help_text;
+use cedar_talk::help_texts;
 use std::alloc::{AllocError, Global};
 use std::hash::{BuildHasherDefault, FoldHasher};
 
@@ -21,7 +21,7 @@ fn keys() -> (KeyedState, KeyedState) {
 }
 
 // In a row stand a line and, behind an arrow, what is due for it: `;` for the end of a line, `>` for a tab, `~` for a
-// carriage return; `HELP` is the text of the lines.
+// carriage return; `HELP` is the text of the lines, and `STORE`, `POLICIES` and `FIELDS` are its three parts.
 
 // The byte that a byte of a row stands for.
 fn byte_of(byte: u8) -> u8 {
@@ -43,10 +43,17 @@ fn push_bytes(bytes: &mut Vec<u8>, text: &str) -> Result<(), AllocError> {
 
 // Adds what is due for a line.
 fn push_due(bytes: &mut Vec<u8>, due: &str) -> Result<(), AllocError> {
-    if due == "HELP" {
-        bytes.extend_from_slice(help_text().as_bytes())
-    } else {
-        push_bytes(bytes, due)
+    let (store, policies, fields) = help_texts();
+    match due {
+        "HELP" => {
+            bytes.extend_from_slice(store.as_bytes())?;
+            bytes.extend_from_slice(policies.as_bytes())?;
+            bytes.extend_from_slice(fields.as_bytes())
+        }
+        "STORE" => bytes.extend_from_slice(store.as_bytes()),
+        "POLICIES" => bytes.extend_from_slice(policies.as_bytes()),
+        "FIELDS" => bytes.extend_from_slice(fields.as_bytes()),
+        _ => push_bytes(bytes, due),
     }
 }
 

@@ -1,6 +1,6 @@
 //! Answers each line as it comes, at a terminal or between two pipes.
 use cedar_store::KeyedState;
-use cedar_store::program::{Manner, help_text, talk};
+use cedar_store::program::{Manner, help_texts, talk};
 use std::env;
 use std::io::{self, Write};
 use std::process::ExitCode;
@@ -10,14 +10,19 @@ fn main() -> ExitCode {
     match arguments.as_slice() {
         [] => held(Manner::Lenient),
         [only] if only == "--strict" => held(Manner::Strict),
-        [only] if only == "--help" => match write!(io::stdout(), "{}", help_text()) {
-            Ok(()) => ExitCode::SUCCESS,
-            Err(_) => fault("write fault"),
-        },
+        [only] if only == "--help" => helped(),
         _ => {
             eprintln!("usage: talk [--strict | --help]");
             ExitCode::from(2)
         }
+    }
+}
+
+fn helped() -> ExitCode {
+    let (store, policies, fields) = help_texts();
+    match write!(io::stdout(), "{store}{policies}{fields}") {
+        Ok(()) => ExitCode::SUCCESS,
+        Err(_) => fault("write fault"),
     }
 }
 

@@ -3,7 +3,7 @@
 //! A conversation: the bytes of an input in, the answers to the lines that they end out.
 
 use crate::cedar_store::{Session, push_not_command};
-use crate::cedar_talk::help::HELP;
+use crate::cedar_talk::help::{help_on, help_texts};
 use crate::cedar_talk::manner::Manner;
 use std::hash::BuildHasher;
 
@@ -16,12 +16,22 @@ pub(crate) struct Conversation<S: BuildHasher> {
     ended: usize,
 }
 
+// Adds all of the help.
+fn push_help(out: &mut Vec<u8>) {
+    let (store, policies, fields) = help_texts();
+    out.extend_from_slice(store.as_bytes());
+    out.extend_from_slice(policies.as_bytes());
+    out.extend_from_slice(fields.as_bytes());
+}
+
 // Adds what is said of a line that is no command, where the conversation goes on.
 fn say(number: usize, line: &[u8], out: &mut Vec<u8>) {
     if line == b"help".as_slice() {
-        out.extend_from_slice(HELP.as_bytes());
-    } else {
-        push_not_command(out, number);
+        return push_help(out);
+    }
+    match help_on(line) {
+        Some(text) => out.extend_from_slice(text.as_bytes()),
+        None => push_not_command(out, number),
     }
 }
 

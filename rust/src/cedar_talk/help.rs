@@ -2,8 +2,8 @@
 
 //! The lines of the program, told to who asks.
 
-/// The lines of the program, as a line `help` and the program's `--help` tell them.
-pub const HELP: &str = "\
+/// The lines on a store of entities, as the line `help store` tells them.
+pub const STORE_HELP: &str = "\
 ent UID UID..         the entity of the first uid waits, with the others as its parents
 build                 the entities that wait become the store
 add                   they are added to the store
@@ -11,6 +11,10 @@ upsert                they are put over the store, each in the place of any with
 remove UID..          the entities with these uids go, and are no parents any more
 slice UID..           the store becomes its slice at these uids
 anc UID               asks for the ancestors of an entity
+";
+
+/// The lines on policy sets, as the line `help policies` tells them.
+pub const POLICY_HELP: &str = "\
 static ID EFFECT      a static policy joins the current set; EFFECT is permit or forbid
 template ID SLOTS     a template joins; SLOTS is none, principal, action, resource, both or all
 link ID ID BINDING..  a link of the template with the first id joins under the second;
@@ -19,11 +23,17 @@ unlink ID             the link with this id goes
 other                 the set aside becomes the current one, and that one goes aside
 merge HOW             the set aside is merged into the current one; HOW is keep or rename
 ids                   asks for the ids of the current set
-Fields are parted by one tab each. UID is a uid as A::\"a\", and ID any text without a tab.
-An empty line does nothing.
 ";
 
-/// The text that the line `help` is answered by. It is this project's own.
+/// How a line is written, as the line `help fields` tells it.
+pub const FIELD_HELP: &str = "\
+Fields are parted by one tab each. UID is a uid as A::\"a\", and ID any text without a tab.
+An empty line does nothing.
+A line help store, help policies or help fields tells a part of this, and help all of it.
+";
+
+/// The three texts of the help, one after another what the line `help` is answered by and the program's `--help` tells.
+/// It is this project's own.
 ///
 /// ```
 /// # use cedar_store::{ast::*, entities::*};
@@ -44,13 +54,26 @@ An empty line does nothing.
 /// # fn permit(name: &str) -> StaticPolicy {
 /// #     StaticPolicy::try_from(template(name, PrincipalConstraint::any())).unwrap()
 /// # }
-/// use cedar_store::program::{Manner, help_text, talk};
+/// use cedar_store::program::{Manner, help_texts, talk};
 /// let key = cedar_store::KeyedState::with_keys(1, 2);
-/// let (mut lines, mut told) = (&b"build\nfrob\nhelp\n"[..], Vec::new());
+/// let (mut lines, mut told) = (&b"build\nfrob\nhelp store\n"[..], Vec::new());
 /// assert_eq!(talk(key, Manner::Lenient, &mut lines, &mut told)?, 0);
-/// assert_eq!(told, [b"ok 0\nline 2: not a command\n", help_text().as_bytes()].concat());
+/// assert_eq!(told, [b"ok 0\nline 2: not a command\n", help_texts().0.as_bytes()].concat());
 /// # Ok::<(), Box<dyn std::error::Error>>(())
 /// ```
-pub fn help_text() -> &'static str {
-    HELP
+pub fn help_texts() -> (&'static str, &'static str, &'static str) {
+    (STORE_HELP, POLICY_HELP, FIELD_HELP)
+}
+
+// The text that a line asks for, if it asks for help on one topic.
+pub(crate) fn help_on(line: &[u8]) -> Option<&'static str> {
+    if line == b"help store".as_slice() {
+        Some(STORE_HELP)
+    } else if line == b"help policies".as_slice() {
+        Some(POLICY_HELP)
+    } else if line == b"help fields".as_slice() {
+        Some(FIELD_HELP)
+    } else {
+        None
+    }
 }

@@ -8,7 +8,7 @@ mod manner;
 mod streams;
 mod talking;
 
-pub use help::help_text;
+pub use help::{FIELD_HELP, POLICY_HELP, STORE_HELP, help_texts};
 
 pub use manner::Manner;
 

@@ -112,11 +112,11 @@ fn converse<S: BuildHasher + Copy, R: Read, W: Write>(
 /// # fn permit(name: &str) -> StaticPolicy {
 /// #     StaticPolicy::try_from(template(name, PrincipalConstraint::any())).unwrap()
 /// # }
-/// use cedar_store::program::{Manner, help_text, talk};
+/// use cedar_store::program::{Manner, help_texts, talk};
 /// let key = cedar_store::KeyedState::with_keys(1, 2);
-/// let (mut lines, mut told) = (&b"build\nfrob\nhelp\n"[..], Vec::new());
+/// let (mut lines, mut told) = (&b"build\nfrob\nhelp store\n"[..], Vec::new());
 /// assert_eq!(talk(key, Manner::Lenient, &mut lines, &mut told)?, 0);
-/// assert_eq!(told, [b"ok 0\nline 2: not a command\n", help_text().as_bytes()].concat());
+/// assert_eq!(told, [b"ok 0\nline 2: not a command\n", help_texts().0.as_bytes()].concat());
 /// # Ok::<(), Box<dyn std::error::Error>>(())
 /// ```
 pub fn talk<S: BuildHasher + Copy, R: Read, W: Write>(

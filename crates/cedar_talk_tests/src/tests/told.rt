@@ -1,7 +1,7 @@
 // What a conversation writes for an input, beside what a run writes.
 use super::{due_of, fixed, keys, lines_of, push_bytes};
 use cedar_store::run;
-use cedar_talk::{Manner, TalkError, help_text, talk};
+use cedar_talk::{Manner, TalkError, help_texts, talk};
 use std::alloc::Global;
 use std::hash::BuildHasher;
 use std::test::Fail;
@@ -107,6 +107,14 @@ ent>A::\"x\">A::\"x\" =>
 frob => line 13: not a command;
 build => refused: cycle;
 anc>A::\"a\" => no entity;
+help => HELP
+help store => STORE
+help policies => POLICIES
+help fields => FIELDS
+help stores => line 20: not a command;
+help>store => line 21: not a command;
+help  store => line 22: not a command;
+help policies~ => line 23: not a command;
 help => HELP";
 
 #[test]
@@ -119,15 +127,13 @@ fn leniently_it_goes_on(rt: HostRuntime) {
 
 #[test]
 fn help_tells_lines_of_the_program(rt: HostRuntime) {
-    let text = help_text();
+    let (store, policies, fields) = help_texts();
     for word in [
-        "ent ",
-        "build ",
-        "add ",
-        "upsert ",
-        "remove ",
-        "slice ",
-        "anc ",
+        "ent ", "build ", "add ", "upsert ", "remove ", "slice ", "anc ",
+    ] {
+        assert!(rt; store.lines().any(|line| line.starts_with(word)), "{word}");
+    }
+    for word in [
         "static ",
         "template ",
         "link ",
@@ -136,8 +142,12 @@ fn help_tells_lines_of_the_program(rt: HostRuntime) {
         "merge ",
         "ids ",
     ] {
-        assert!(rt; text.lines().any(|line| line.starts_with(word)), "{word}");
+        assert!(rt;
+            policies.lines().any(|line| line.starts_with(word)),
+            "{word}"
+        );
     }
+    assert!(rt; fields.lines().any(|line| line.contains("help store")));
 }
 
 // Whether a fault has this text.
