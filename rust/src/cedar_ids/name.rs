@@ -315,7 +315,8 @@ impl Ord for Name {
 impl Hash for Name {
     fn hash<H: Hasher>(&self, state: &mut H) {
         self.basename.hash(state);
-        self.path.hash(state);
+        state.write_usize(self.path.len());
+        self.path.iter().for_each(|id| id.hash(state));
     }
 }
 

@@ -94,6 +94,17 @@ impl Hasher for KeyedHasher {
         }
         self.state = mixed(state ^ word_at(bytes, length - 8), self.key);
     }
+
+    #[inline]
+    fn write_u8(&mut self, byte: u8) {
+        let byte = byte as u64;
+        self.state = mixed(self.state ^ 1 ^ byte ^ byte << 8 ^ byte << 16, self.key);
+    }
+
+    #[inline]
+    fn write_usize(&mut self, number: usize) {
+        self.state = mixed(self.state ^ 8 ^ number as u64, self.key);
+    }
 }
 
 // The two halves of a product, joined.
@@ -106,14 +117,15 @@ fn mixed(a: u64, b: u64) -> u64 {
 // Eight bytes as a number, the first of them lowest.
 #[inline]
 fn word_at(bytes: &[u8], at: usize) -> u64 {
-    half_at(bytes, at) | half_at(bytes, at + 4) << 32
+    bytes[at..].first_chunk().map_or(0, |word| u64::from_le_bytes(*word))
 }
 
 // Four bytes as a number, the first of them lowest.
 #[inline]
 fn half_at(bytes: &[u8], at: usize) -> u64 {
-    let four = [bytes[at], bytes[at + 1], bytes[at + 2], bytes[at + 3]];
-    u32::from_le_bytes(four) as u64
+    bytes[at..]
+        .first_chunk()
+        .map_or(0, |half| u32::from_le_bytes(*half) as u64)
 }
 
 // Fewer than eight bytes as a number: no two texts of one length have the same.
