@@ -81,9 +81,10 @@ static void what_it_is(void) {
     CHECK(cedar_status_text(CEDAR_OK, out, 16) == 2 && !memcmp(out, "ok.", 3));
     CHECK(cedar_status_text(CEDAR_NOT_A_UID, out, 16) == 9 && !memcmp(out, "not a uid.", 10));
     CHECK(cedar_status_text(CEDAR_NOT_A_NAME, out, 5) == 10 && !memcmp(out, "not a uid.", 10));
+    CHECK(cedar_status_text(CEDAR_TOO_DEEP, out, 0) == 8 && cedar_status_text(CEDAR_TOO_DEEP + 1, out, 16) == 0);
     CHECK(cedar_status_text(1000, out, 16) == 0 && cedar_status_text(UINT32_MAX, out, 16) == 0);
     CHECK(!memcmp(out, "not a uid.", 10));
-    for (uint32_t status = 0; status <= CEDAR_NOT_A_NAME; status++) CHECK(cedar_status_text(status, out, 0) > 0);
+    for (uint32_t status = 0; status <= CEDAR_TOO_DEEP; status++) CHECK(cedar_status_text(status, out, 0) > 0);
 }
 
 /* ---- stores */
@@ -638,6 +639,85 @@ static void merging(void) {
     cedar_policies_free(&r);
 }
 
+static void reading_policies(void) {
+    cedar_policies p = {0};
+    some_policies(&p);
+    CHECK(add_static(&p, "f", 1) == CEDAR_OK && add_template(&p, "all", 7) == CEDAR_OK);
+    CHECK(link_id(&p, "u", "m", "", "Action::\"go\"", "") == CEDAR_OK);
+    CHECK(kind_of(&p, "s") == 1 && kind_of(&p, "l") == 2 && kind_of(&p, "t") == 3 && kind_of(&p, "x") == 0);
+    CHECK(kind_of(&p, "\xff") == 100 + CEDAR_NOT_UTF8);
+    CHECK(effect_of(&p, "s") == 0 && effect_of(&p, "f") == 1 && effect_of(&p, "l") == 0 && effect_of(&p, "t") == 0);
+    CHECK(effect_of(&p, "x") == 100 + CEDAR_NO_BODY && effect_of(&p, "\xff") == 100 + CEDAR_NOT_UTF8);
+    CHECK(slots_of(&p, "s") == 0 && slots_of(&p, "t") == 5 && slots_of(&p, "u") == 2 && slots_of(&p, "all") == 7);
+    CHECK(slots_of(&p, "l") == 100 + CEDAR_NO_BODY && slots_of(&p, "\xff") == 100 + CEDAR_NOT_UTF8);
+    CHECK(cedar_policies_env(&p, TEXT("l")) == CEDAR_OK && IS(policies_answer(&p), "," U("a") ",,B::\"b\""));
+    CHECK(cedar_policies_env(&p, TEXT("m")) == CEDAR_OK && IS(policies_answer(&p), ",,Action::\"go\","));
+    CHECK(cedar_policies_env(&p, TEXT("s")) == CEDAR_OK && IS(policies_answer(&p), ",,,"));
+    CHECK(cedar_policies_template_id(&p, TEXT("m")) == CEDAR_OK && IS(policies_answer(&p), ",u"));
+    CHECK(cedar_policies_template_id(&p, TEXT("s")) == CEDAR_OK && IS(policies_answer(&p), ",s"));
+    CHECK(link_id(&p, "t", "k", U("a"), "", U("a")) == CEDAR_OK);
+    CHECK(cedar_policies_linked(&p, TEXT("t")) == CEDAR_OK && IS(policies_answer(&p), ",l,k"));
+    CHECK(cedar_policies_linked(&p, TEXT("all")) == CEDAR_OK && IS(policies_answer(&p), ""));
+    CHECK(cedar_policies_linked(&p, TEXT("f")) == CEDAR_OK && IS(policies_answer(&p), ",f"));
+    CHECK(cedar_policies_env(&p, TEXT("t")) == CEDAR_NO_BODY && cedar_policies_env(&p, TEXT("x")) == CEDAR_NO_BODY);
+    CHECK(cedar_policies_template_id(&p, TEXT("t")) == CEDAR_NO_BODY);
+    CHECK(cedar_policies_linked(&p, TEXT("l")) == CEDAR_NO_BODY);
+    CHECK(cedar_policies_env(&p, TEXT("\xff")) == CEDAR_NOT_UTF8);
+    CHECK(cedar_policies_template_id(&p, TEXT("\xff")) == CEDAR_NOT_UTF8);
+    CHECK(cedar_policies_linked(&p, TEXT("\xff")) == CEDAR_NOT_UTF8);
+    CHECK(IS(policies_answer(&p), ",f") && IS(policies_refusal(&p), ""));
+    cedar_policies_free(&p);
+}
+
+static void reading_annotations(void) {
+    cedar_policies p = {0};
+    some_policies(&p);
+    CHECK(cedar_policies_ids(&p, 1) == CEDAR_OK && IS(policies_answer(&p), ",s,l"));
+    CHECK(annotated(&p, "s", "not a key") == 100 + CEDAR_NOT_A_NAME && annotated(&p, "s", "") == 127);
+    CHECK(annotated(&p, "s", "\xff") == 100 + CEDAR_NOT_A_NAME && annotated(&p, "\xff", "key") == 105);
+    CHECK(annotated(&p, "x", "key") == 100 + CEDAR_NO_BODY);
+    CHECK(cedar_policies_annotations(&p, TEXT("x")) == CEDAR_NO_BODY);
+    CHECK(cedar_policies_annotations(&p, TEXT("\xff")) == CEDAR_NOT_UTF8);
+    CHECK(IS(policies_answer(&p), ",s,l"));
+    CHECK(annotated(&p, "s", "key") == 0 && IS(policies_answer(&p), ""));
+    CHECK(annotated(&p, "l", "if") == 0 && annotated(&p, "t", "_1") == 0);
+    CHECK(cedar_policies_ids(&p, 1) == CEDAR_OK && cedar_policies_annotations(&p, TEXT("l")) == CEDAR_OK);
+    CHECK(IS(policies_answer(&p), ""));
+    cedar_policies_free(&p);
+}
+
+static void texts_of_policies(void) {
+    const char *body = "permit(\n  principal == ?principal,\n  action,\n  resource == ?resource\n);";
+    const char *link = "Template Instance of t, slots: [?principal -> A::\"a\",?resource -> B::\"b\"]";
+    char whole[256];
+    cedar_policies p = {0};
+    CHECK(new_set(&p) == CEDAR_OK && cedar_policies_text(&p) == CEDAR_OK);
+    CHECK(IS(policies_answer(&p), ",<empty policyset>"));
+    CHECK(add_template(&p, "t", 5) == CEDAR_OK && link_id(&p, "t", "l", U("a"), "", "B::\"b\"") == CEDAR_OK);
+    CHECK(cedar_policies_template_text(&p, TEXT("t")) == CEDAR_OK && IS(policies_answer(&p) + 1, body));
+    CHECK(cedar_policies_policy_text(&p, TEXT("l")) == CEDAR_OK && IS(policies_answer(&p) + 1, link));
+    CHECK(cedar_policies_template_text(&p, TEXT("l")) == CEDAR_NO_BODY);
+    CHECK(cedar_policies_policy_text(&p, TEXT("t")) == CEDAR_NO_BODY);
+    CHECK(cedar_policies_template_text(&p, TEXT("\xff")) == CEDAR_NOT_UTF8);
+    CHECK(cedar_policies_policy_text(&p, TEXT("\xff")) == CEDAR_NOT_UTF8);
+    CHECK(IS(policies_answer(&p) + 1, link) && cedar_policies_text(&p) == CEDAR_OK);
+    snprintf(whole, sizeof whole, "Templates:\n%s, Template Linked Policies:\n%s", body, link);
+    CHECK(IS(policies_answer(&p) + 1, whole));
+    CHECK(add_static(&p, "s", 1) == CEDAR_OK && cedar_policies_policy_text(&p, TEXT("s")) == CEDAR_OK);
+    CHECK(IS(policies_answer(&p) + 1, "forbid(\n  principal,\n  action,\n  resource\n);"));
+    cedar_policies_free(&p);
+}
+
+static void closed_set_is_not_read(void) {
+    cedar_policies p = {0};
+    CHECK(kind_of(&p, "s") == 102 && effect_of(&p, "s") == 102 && slots_of(&p, "s") == 102);
+    CHECK(annotated(&p, "s", "key") == 102 && cedar_policies_annotations(&p, TEXT("s")) == CEDAR_CLOSED);
+    CHECK(cedar_policies_env(&p, TEXT("s")) == CEDAR_CLOSED && cedar_policies_linked(&p, TEXT("s")) == CEDAR_CLOSED);
+    CHECK(cedar_policies_template_id(&p, TEXT("s")) == CEDAR_CLOSED && cedar_policies_text(&p) == CEDAR_CLOSED);
+    CHECK(cedar_policies_policy_text(&p, TEXT("s")) == CEDAR_CLOSED);
+    CHECK(cedar_policies_template_text(&p, TEXT("s")) == CEDAR_CLOSED && !p.is_open);
+}
+
 static void texts_of_sets_stay(void) {
     cedar_policies p = {0}, q = {0};
     some_policies(&p);
@@ -690,6 +770,10 @@ int main(void) {
     refused_to_join();
     refused_to_leave();
     merging();
+    reading_policies();
+    reading_annotations();
+    texts_of_policies();
+    closed_set_is_not_read();
     texts_of_sets_stay();
     return counted();
 }

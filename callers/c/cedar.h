@@ -73,7 +73,7 @@ typedef enum cedar_status {
     CEDAR_CLOSED = 2,       /* a handle is closed */
     CEDAR_BAD_ARGUMENT = 3, /* a part is not within its text, or a place, a mode or an effect is out of range */
     CEDAR_NOT_A_UID = 4,    /* a text is no uid's */
-    CEDAR_NOT_UTF8 = 5,     /* the bytes of an id are not UTF-8 */
+    CEDAR_NOT_UTF8 = 5,     /* the bytes of an id, of a key or of a string are not UTF-8 */
     CEDAR_NO_ENTITY = 6,    /* the store has no entity with this uid */
     /* The store refuses: the text of each is given by `cedar_store_refusal`, with the uids that it names. */
     CEDAR_DUPLICATE = 7,      /* two versions of an entity differ; its uid */
@@ -96,8 +96,10 @@ typedef enum cedar_status {
     CEDAR_NOT_A_TEMPLATE = 23,   /* something else than a template is bound to it */
     CEDAR_NO_STATIC = 24,        /* no policy has this id of a static policy to remove */
     CEDAR_NOT_STATIC = 25,       /* it is a link's */
-    /* What is given is none. */
-    CEDAR_NOT_A_NAME = 27 /* a text is no name */
+    /* What is asked for is not there, or what is given is none. */
+    CEDAR_NO_BODY = 26,    /* nothing of the kind that a call asks for is bound to this id */
+    CEDAR_NOT_A_NAME = 27, /* a text is no name; or, as the key of an annotation, no identifier */
+    CEDAR_TOO_DEEP = 28    /* a value or an expression has more than CEDAR_LEVELS levels */
 } cedar_status;
 
 /* How a call on a store sees to it that ancestors are closed. What a call touches is what it puts in or takes out, and
@@ -113,6 +115,73 @@ typedef enum cedar_mode {
     /* As CEDAR_ENFORCE, but nothing is checked: no cycle is refused, and what was not closed is not told. */
     CEDAR_ASSUME = 2
 } cedar_mode;
+
+/* ---- values and expressions */
+
+/* What a node is, and with it which of its fields say something. What stands below a node stands right before it, each
+ * thing with all below it, in order: so an array of nodes is one value, or one expression, and its last node is the
+ * top. `len` is how many things stand below where that is not the kind's own; a field that a kind does not use is not
+ * looked at, and is 0 in what is copied out.
+ *
+ *   kind              its fields                  right below it
+ *   CEDAR_BOOL        number: 0 or 1              nothing
+ *   CEDAR_LONG        number                      nothing
+ *   CEDAR_STRING      at: the string, in UTF-8    nothing
+ *   CEDAR_UID         at: the uid's text          nothing
+ *   CEDAR_SET         len                         len elements; of a value in any order, and equal ones are one
+ *   CEDAR_RECORD      len                         len times a key (CEDAR_STRING) and a value; the last of a key counts
+ *   CEDAR_CALL        at: the function's name     len arguments; of a value one CEDAR_STRING, as of decimal("1.5")
+ *   CEDAR_VAR         number: its place           nothing; 0 principal, 1 action, 2 resource, 3 context
+ *   CEDAR_SLOT        number: its place           nothing; 0 the principal's, 1 the action's, 2 the resource's
+ *   CEDAR_UNKNOWN     at: its name, any string    nothing where len is 0; where it is 1 a CEDAR_STRING, its type's name
+ *   CEDAR_NOT         none                        one expression
+ *   CEDAR_AND         none                        two, the left one first; so of CEDAR_EQ and CEDAR_IN
+ *   CEDAR_IS          at: the entity type's name  one
+ *   CEDAR_RESIDUAL    len: 1                      an expression, which is left over
+ *
+ * Values have the kinds up to CEDAR_CALL, and a call in them is a value of an extension type. Expressions have those up
+ * to CEDAR_IS, but no CEDAR_RECORD. A partial value, as attributes and tags have, is a value, or an expression and
+ * CEDAR_RESIDUAL as its last node. A node below which nothing stands has one level, each other one more than the most
+ * below it; CEDAR_RESIDUAL is none. */
+typedef enum cedar_kind {
+    CEDAR_BOOL = 0,
+    CEDAR_LONG = 1,
+    CEDAR_STRING = 2,
+    CEDAR_UID = 3,
+    CEDAR_SET = 4,
+    CEDAR_RECORD = 5,
+    CEDAR_CALL = 6,
+    CEDAR_VAR = 7,
+    CEDAR_SLOT = 8,
+    CEDAR_UNKNOWN = 9,
+    CEDAR_NOT = 10,
+    CEDAR_AND = 11,
+    CEDAR_EQ = 12,
+    CEDAR_IN = 13,
+    CEDAR_IS = 14,
+    CEDAR_RESIDUAL = 15
+} cedar_kind;
+
+/* The most levels that a value or an expression may have: comparing it, and letting go of it, recurses as deep. */
+#define CEDAR_LEVELS 1000
+
+/* One node of a value or of an expression. */
+typedef struct cedar_node {
+    uint32_t kind;
+    size_t len;
+    cedar_span at;
+    int64_t number;
+} cedar_node;
+
+/* One attribute or tag of the entity at place `of` of a list: its key is the part `key` of the text, and its value are
+ * the nodes from `from` up to, and without, `to`. `part` is 0 for an attribute and 1 for a tag. */
+typedef struct cedar_term {
+    size_t of;
+    uint32_t part;
+    cedar_span key;
+    size_t from;
+    size_t to;
+} cedar_term;
 
 /* ---- the program and uids: no handle */
 
@@ -159,7 +228,7 @@ void cedar_store_free(cedar_store *s);
 
 /* The store of some entities, in the place of that which the handle holds. The first `count` of the uids are the
  * entities'; an edge says that the uid at `to` is a parent of the entity at `from`. An entity that comes twice is one,
- * if both have the same parents. No attributes and no tags.
+ * if both have the same parents. No attributes and no tags: `cedar_store_build_with` takes these.
  *
  * CEDAR_OK: the ancestors of each entity are exactly the uids that it reaches over parents (in mode CEDAR_COMPUTE).
  * CEDAR_CLOSED.
@@ -182,6 +251,30 @@ uint32_t cedar_store_add(cedar_store *s, const uint8_t *text, size_t text_len, c
  * they leave there. */
 uint32_t cedar_store_upsert(cedar_store *s, const uint8_t *text, size_t text_len, const cedar_span *uids,
                             size_t uids_len, size_t count, const cedar_edge *edges, size_t edges_len, uint32_t mode);
+
+/* As the three above, of entities with content. An edge of `above` says that the uid at `to` is an indirect ancestor of
+ * the entity at `from`, where it is no parent. A term says an attribute or a tag, and of several with one key the last
+ * counts. The nodes of all values are one array, over the text of the uids; those of terms may overlap. Entities that
+ * come twice, or that the store has, are the same where they have the same ancestors, attributes and tags.
+ *
+ * The statuses are those of the call without content, and leave what they leave there; these leave the store as it was:
+ * CEDAR_BAD_ARGUMENT: also where an edge of `above` comes from no entity or leads to no uid, a term is of no entity or
+ *   no part, its key is not within the text or its nodes not within the nodes, or these are no partial value.
+ * CEDAR_NOT_A_UID, CEDAR_NOT_UTF8, CEDAR_NOT_A_NAME: also where the part of a CEDAR_UID is no uid's text; where a key,
+ *   or the part of a node that has a string or a name, is not UTF-8; where that of a name is none.
+ * CEDAR_TOO_DEEP: a value has too many levels. */
+uint32_t cedar_store_build_with(cedar_store *s, const uint8_t *text, size_t text_len, const cedar_span *uids,
+                                size_t uids_len, size_t count, const cedar_edge *edges, size_t edges_len,
+                                const cedar_edge *above, size_t above_len, const cedar_term *terms, size_t terms_len,
+                                const cedar_node *nodes, size_t nodes_len, uint32_t mode);
+uint32_t cedar_store_add_with(cedar_store *s, const uint8_t *text, size_t text_len, const cedar_span *uids,
+                              size_t uids_len, size_t count, const cedar_edge *edges, size_t edges_len,
+                              const cedar_edge *above, size_t above_len, const cedar_term *terms, size_t terms_len,
+                              const cedar_node *nodes, size_t nodes_len, uint32_t mode);
+uint32_t cedar_store_upsert_with(cedar_store *s, const uint8_t *text, size_t text_len, const cedar_span *uids,
+                                 size_t uids_len, size_t count, const cedar_edge *edges, size_t edges_len,
+                                 const cedar_edge *above, size_t above_len, const cedar_term *terms, size_t terms_len,
+                                 const cedar_node *nodes, size_t nodes_len, uint32_t mode);
 
 /* Takes the entities with these uids out; they are no parents either then. Uids that the store lacks change nothing.
  * CEDAR_OK, CEDAR_CLOSED; CEDAR_BAD_ARGUMENT and CEDAR_NOT_A_UID leave the store as it was; CEDAR_CYCLE and
@@ -250,6 +343,16 @@ uint32_t cedar_store_tags_len(cedar_store *s, const uint8_t *uid, size_t uid_len
 uint32_t cedar_store_keys(cedar_store *s, const uint8_t *uid, size_t uid_len);
 uint32_t cedar_store_tag_keys(cedar_store *s, const uint8_t *uid, size_t uid_len);
 
+/* Whether the entity with a uid has an attribute, or a tag, at a key, in `has`, which is written at CEDAR_OK alone.
+ * Where it has one, its partial value becomes the nodes of the handle, and the text that their parts are of the answer,
+ * which is one text; elements of a set ascend, and so do the keys of a record. Where it has none, both stay.
+ * CEDAR_OK, CEDAR_CLOSED, CEDAR_NOT_A_UID, CEDAR_NO_ENTITY, CEDAR_NOT_UTF8 where the key is not UTF-8, CEDAR_NO_MEMORY;
+ * any but the first leaves the answer and the nodes. */
+uint32_t cedar_store_get(cedar_store *s, const uint8_t *uid, size_t uid_len, const uint8_t *key, size_t key_len,
+                         bool *has);
+uint32_t cedar_store_get_tag(cedar_store *s, const uint8_t *uid, size_t uid_len, const uint8_t *key, size_t key_len,
+                             bool *has);
+
 /* Whether the entities that two stores have with a uid have the same attributes, tags and ancestors, in `answer`, which
  * is written at CEDAR_OK alone. CEDAR_OK, CEDAR_CLOSED where one of the two is closed, CEDAR_NOT_A_UID, CEDAR_NO_ENTITY
  * where one has no such entity, CEDAR_NO_MEMORY. */
@@ -290,6 +393,12 @@ uint32_t cedar_store_equal(cedar_store *one, cedar_store *other, bool *answer);
  * `cedar_store_slice` or `cedar_store_copy` into this handle, there is none. They take no memory. */
 size_t cedar_store_answer(cedar_store *s, size_t from, uint8_t *out, size_t room);
 size_t cedar_store_answer_spans(cedar_store *s, size_t from, cedar_span *out, size_t room);
+
+/* Copies out the nodes of the last value, from node `from` on, as many as there is room for, and tells how many there
+ * are in all; a closed handle has none. The last value is that of the last `cedar_store_get` or `cedar_store_get_tag`
+ * that told one, and the parts of its nodes are of the answer that this call left: other calls leave the nodes, also
+ * where they give another answer, but behind the calls that leave no last answer there are none. Takes no memory. */
+size_t cedar_store_answer_nodes(cedar_store *s, size_t from, cedar_node *out, size_t room);
 
 /* Copies out the text of the last refusal of the store, from CEDAR_DUPLICATE to CEDAR_RESERVED_KEY, as much as there is
  * room for, and tells how long it is: words, and behind a blank each the uids that the refusal names. A call at any
@@ -347,6 +456,55 @@ uint32_t cedar_policies_merge(cedar_policies *p, cedar_policies *other, bool ren
  * CEDAR_NO_MEMORY; any but the first leaves the answer. */
 uint32_t cedar_policies_ids(cedar_policies *p, uint32_t kind);
 
+/* What an id is bound to, in `kind`, which is written at CEDAR_OK alone: 1 for a static policy, 2 for a link, 3 for a
+ * template, 0 for nothing. CEDAR_OK, CEDAR_CLOSED, CEDAR_NOT_UTF8, CEDAR_NO_MEMORY. */
+uint32_t cedar_policies_get(cedar_policies *p, const uint8_t *id, size_t id_len, uint32_t *kind);
+
+/* The effect of what an id is bound to, in `effect`, which is written at CEDAR_OK alone: 0 permits, 1 forbids. A link
+ * has that of its template. CEDAR_OK, CEDAR_CLOSED, CEDAR_NOT_UTF8, CEDAR_NO_BODY where the id is bound to nothing,
+ * CEDAR_NO_MEMORY. */
+uint32_t cedar_policies_effect(cedar_policies *p, const uint8_t *id, size_t id_len, uint32_t *effect);
+
+/* The slots of the template with an id, in `slots`, which is written at CEDAR_OK alone, as the sum that
+ * `cedar_policies_add_template` takes. A static policy has none of them. CEDAR_OK, CEDAR_CLOSED, CEDAR_NOT_UTF8,
+ * CEDAR_NO_BODY where the id is no template's and no static policy's, CEDAR_NO_MEMORY. */
+uint32_t cedar_policies_slots(cedar_policies *p, const uint8_t *id, size_t id_len, uint32_t *slots);
+
+/* The annotation at a key, of what an id is bound to: `has`, which is written at CEDAR_OK alone, says whether there is
+ * one, and its value is the answer of the handle then; where there is none the answer has no text. A link has those of
+ * its template. CEDAR_OK, CEDAR_CLOSED, CEDAR_NOT_UTF8, CEDAR_NOT_A_NAME where the key is no identifier, CEDAR_NO_BODY
+ * where the id is bound to nothing, CEDAR_NO_MEMORY; any but the first leaves the answer. */
+uint32_t cedar_policies_annotation(cedar_policies *p, const uint8_t *id, size_t id_len, const uint8_t *key,
+                                   size_t key_len, bool *has);
+
+/* The annotations of what an id is bound to become the answer of the handle, in the order of the bytes of their keys:
+ * each key, and behind it its value. CEDAR_OK, CEDAR_CLOSED, CEDAR_NOT_UTF8, CEDAR_NO_BODY where the id is bound to
+ * nothing, CEDAR_NO_MEMORY; any but the first leaves the answer. */
+uint32_t cedar_policies_annotations(cedar_policies *p, const uint8_t *id, size_t id_len);
+
+/* What the principal's, the action's and the resource's slot are bound to, by the link with an id, becomes the answer
+ * of the handle: three texts of uids, an empty one where there is no such slot. A static policy binds nothing.
+ * CEDAR_OK, CEDAR_CLOSED, CEDAR_NOT_UTF8, CEDAR_NO_BODY where the id is no link's and no static policy's,
+ * CEDAR_NO_MEMORY; any but the first leaves the answer. */
+uint32_t cedar_policies_env(cedar_policies *p, const uint8_t *id, size_t id_len);
+
+/* The id of the template of the link with an id becomes the answer of the handle, one text; of a static policy it is
+ * its own. The statuses are those of `cedar_policies_env`. */
+uint32_t cedar_policies_template_id(cedar_policies *p, const uint8_t *id, size_t id_len);
+
+/* The ids of the links of the template with an id become the answer of the handle, in the order in which they joined;
+ * of a static policy it is its own id. CEDAR_OK, CEDAR_CLOSED, CEDAR_NOT_UTF8, CEDAR_NO_BODY where the id is no
+ * template's and no static policy's, CEDAR_NO_MEMORY; any but the first leaves the answer. */
+uint32_t cedar_policies_linked(cedar_policies *p, const uint8_t *id, size_t id_len);
+
+/* The text of the set; of the static policy or the link with an id; of the template or the static policy with an id:
+ * each becomes the answer of the handle, one text, for people to read. What it is, is proved where all that stands in
+ * it is ASCII. CEDAR_OK, CEDAR_CLOSED, CEDAR_NO_MEMORY; of the last two CEDAR_NOT_UTF8, and CEDAR_NO_BODY where the id
+ * is bound to nothing of the kind; any but the first leaves the answer. */
+uint32_t cedar_policies_text(cedar_policies *p);
+uint32_t cedar_policies_policy_text(cedar_policies *p, const uint8_t *id, size_t id_len);
+uint32_t cedar_policies_template_text(cedar_policies *p, const uint8_t *id, size_t id_len);
+
 /* A copy of a set goes into another handle of this thread, and what that held before is freed. CEDAR_OK, CEDAR_CLOSED
  * where `from` is closed, CEDAR_NO_MEMORY; any but the first leaves `to` as it was. */
 uint32_t cedar_policies_copy(cedar_policies *from, cedar_policies *to);
@@ -356,7 +514,7 @@ uint32_t cedar_policies_copy(cedar_policies *from, cedar_policies *to);
 uint32_t cedar_policies_equal(cedar_policies *one, cedar_policies *other, bool *answer);
 
 /* Copy out the last answer, the bytes of its texts and where each starts and ends in them, as the two of a store do.
- * The last answer is that of the last `cedar_policies_ids` or `cedar_policies_merge` at CEDAR_OK; behind
+ * The last answer is that of the last call at CEDAR_OK of those that say so, as `cedar_policies_ids`; behind
  * `cedar_policies_new`, and a `cedar_policies_copy` into this handle, there is none. They take no memory. */
 size_t cedar_policies_answer(cedar_policies *p, size_t from, uint8_t *out, size_t room);
 size_t cedar_policies_answer_spans(cedar_policies *p, size_t from, cedar_span *out, size_t room);

@@ -114,6 +114,29 @@ static bool answered(cedar_policies *set, answer *a) {
     return a->count <= 8 && cedar_policies_answer(set, 0, a->text, sizeof a->text) <= sizeof a->text;
 }
 
+static bool is_met(const answer *env, size_t slot, const char *uid) {
+    size_t len = env->ids[slot].end - env->ids[slot].start; /* 0 where there is no such slot */
+    return !len || (len == strlen(uid) && !memcmp(env->text + env->ids[slot].start, uid, len));
+}
+
+static uint32_t list_what_applies(cedar_policies *set, const char *principal, const char *action,
+                                  const char *resource) {
+    answer policies = {0}, env = {0};
+    uint32_t effect = 0, status = cedar_policies_ids(set, 1);
+    if (!status && !answered(set, &policies)) status = CEDAR_NO_MEMORY;
+    for (size_t at = 0; !status && at < policies.count; at++) {
+        const uint8_t *id = policies.text + policies.ids[at].start;
+        size_t len = policies.ids[at].end - policies.ids[at].start;
+        status = cedar_policies_env(set, id, len);
+        if (!status && !answered(set, &env)) status = CEDAR_NO_MEMORY;
+        if (!status) status = cedar_policies_effect(set, id, len, &effect);
+        if (!status && is_met(&env, 0, principal) && is_met(&env, 1, action) && is_met(&env, 2, resource)) {
+            printf("applies: %.*s (%s)\n", (int)len, id, effect ? "forbid" : "permit");
+        }
+    }
+    return status;
+}
+
 static uint32_t merge(cedar_policies *set, cedar_policies *other) {
     answer a = {0};
     uint32_t status = cedar_policies_merge(set, other, true);
@@ -203,6 +226,7 @@ static uint32_t sets(void) {
     uint32_t status = cedar_policies_new(&set, key[0], key[1]);
     if (!status) status = cedar_policies_new(&other, key[0], key[1]);
     if (!status) status = add_and_link(&set);
+    if (!status) status = list_what_applies(&set, STAFF, "Action::\"read\"", FOLDER);
     if (!status) status = cedar_policies_add_static(&set, TEXT("policy0"), 0);
     if (!status) status = cedar_policies_add_static(&other, TEXT("policy0"), 1);
     if (!status) status = cedar_policies_add_static(&other, TEXT("policy1"), 0);

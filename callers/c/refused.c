@@ -3,7 +3,7 @@
  * memory that it wants, and answers and leaves what it would have at once. Or it does without that memory, and does so
  * at once. Last come the calls that take no memory: they make no request. Prints what fails, and ends with `N passed, M
  * failed`. Built with `-Wl,--wrap=malloc -Wl,--wrap=realloc`. */
-#include "short.h"
+#include "nodes.h"
 
 /* ---- the refuser */
 
@@ -36,11 +36,24 @@ typedef struct held {
     cedar_policies p, q;
 } held;
 
-/* Each handle is open, and has an answer and the text of a refusal. */
+/* Of a, b and x the first has an attribute and a tag. */
+static content some_content(void) {
+    content c = with_entities("a b;b c;x c");
+    put_term(&c, 0, 0, "k", "'x '10.0.0.1 ip(1 'y @b 'z {2 [2");
+    put_term(&c, 0, 1, "k", "'User ~u:1 $0 = @c ^User & *");
+    return c;
+}
+
+static uint32_t build_some(cedar_store *s) {
+    content c = some_content();
+    return cedar_store_build_with(s, CONTENT(c), CEDAR_COMPUTE);
+}
+
+/* Each handle is open, and has an answer and the text of a refusal; the first has nodes. */
 static void set_up(held *h) {
     memset(h, 0, sizeof *h);
     CHECK(new_store(&h->s) == CEDAR_OK && build(&h->s, "m m", CEDAR_COMPUTE) == CEDAR_CYCLE);
-    CHECK(build(&h->s, "a b;b c;x c", CEDAR_COMPUTE) == CEDAR_OK);
+    CHECK(build_some(&h->s) == CEDAR_OK && IS(value_at(&h->s, U("a"), 1, "k"), "'User ~u:1 $0 = @c ^User & *"));
     CHECK(new_store(&h->t) == CEDAR_OK && build(&h->t, "n n", CEDAR_COMPUTE) == CEDAR_CYCLE);
     CHECK(build(&h->t, "y z", CEDAR_COMPUTE) == CEDAR_OK && cedar_store_partial(&h->t) == CEDAR_OK);
     CHECK(ancestors(&h->s, U("a")) == CEDAR_OK && parents(&h->t, U("y")) == CEDAR_OK);
@@ -155,13 +168,99 @@ static uint32_t finds_unknown(held *h) {
 static uint32_t counts_attributes(held *h) {
     size_t answer = 9;
     uint32_t status = cedar_store_attrs_len(&h->s, TEXT(U("a")), &answer);
-    return number(status, answer, 0);
+    return number(status, answer, 1);
 }
 
 static uint32_t counts_tags(held *h) {
     size_t answer = 9;
     uint32_t status = cedar_store_tags_len(&h->s, TEXT(U("a")), &answer);
+    return number(status, answer, 1);
+}
+
+static uint32_t gets(held *h) {
+    bool has = false;
+    uint32_t status = cedar_store_get(&h->s, TEXT(U("a")), TEXT("k"), &has);
+    if (status == CEDAR_OK && !IS(store_value(&h->s), "'x '10.0.0.1 ip(1 'y 'z @b {2 [2")) return 99;
+    return truth(status, has, true);
+}
+
+static uint32_t gets_nothing(held *h) {
+    bool has = false;
+    uint32_t status = cedar_store_get(&h->s, TEXT(U("b")), TEXT("k"), &has);
+    return truth(status, has, false);
+}
+
+static uint32_t gets_tag(held *h) {
+    bool has = false;
+    uint32_t status = cedar_store_get_tag(&h->s, TEXT(U("a")), TEXT("k"), &has);
+    return truth(status, has, true);
+}
+
+/* What is given besides: each kind of node, and an indirect ancestor. */
+static content more_content(const char *spec) {
+    content c = with_entities(spec);
+    put_term(&c, 0, 0, "k", "t 1 'one @a {4");
+    put_term(&c, 0, 0, "k", "'p 1 'q 'p f [1 [2");
+    put_term(&c, 0, 1, "j", "'x d(1");
+    put_term(&c, 0, 1, "i", "?0 ! $1 @a < & ~u:0 ^A 1 {1 g(2 {2 *");
+    put_term(&c, 0, 0, "h", "'User ~u:1 2 = *");
+    c.above[c.above_len++] = (cedar_edge){0, 1};
+    return c;
+}
+
+static uint32_t builds_with(held *h) {
+    content c = more_content("a b;b c;c de;f");
+    return cedar_store_build_with(&h->s, CONTENT(c), CEDAR_COMPUTE);
+}
+
+static uint32_t builds_cycle_with(held *h) {
+    content c = more_content("a b;b a");
+    return cedar_store_build_with(&h->s, CONTENT(c), CEDAR_COMPUTE);
+}
+
+static uint32_t builds_of_no_name(held *h) {
+    content c = more_content("a b;b a");
+    put_term(&c, 0, 0, "k", "'x 'y 1f(1 {2");
+    return cedar_store_build_with(&h->s, CONTENT(c), CEDAR_COMPUTE);
+}
+
+static uint32_t adds_with(held *h) {
+    content c = more_content("y x;z y");
+    return cedar_store_add_with(&h->s, CONTENT(c), CEDAR_COMPUTE);
+}
+
+static uint32_t adds_differing_with(held *h) {
+    content c = more_content("a b");
+    return cedar_store_add_with(&h->s, CONTENT(c), CEDAR_COMPUTE);
+}
+
+static uint32_t upserts_with(held *h) {
+    content c = more_content("b d;y b");
+    return cedar_store_upsert_with(&h->s, CONTENT(c), CEDAR_COMPUTE);
+}
+
+static uint32_t gets(held *h) {
+    uint32_t answer = 9;
+    uint32_t status = cedar_policies_get(&h->p, TEXT("l"), &answer);
+    return number(status, answer, 2);
+}
+
+static uint32_t asks_effect(held *h) {
+    uint32_t answer = 9;
+    uint32_t status = cedar_policies_effect(&h->p, TEXT("l"), &answer);
     return number(status, answer, 0);
+}
+
+static uint32_t asks_slots(held *h) {
+    uint32_t answer = 9;
+    uint32_t status = cedar_policies_slots(&h->p, TEXT("t"), &answer);
+    return number(status, answer, 5);
+}
+
+static uint32_t asks_annotation(held *h) {
+    bool answer = true;
+    uint32_t status = cedar_policies_annotation(&h->p, TEXT("a"), TEXT("key"), &answer);
+    return answer == (status != CEDAR_OK) ? status : 99;
 }
 
 CALL(checks_uid, cedar_uid_check(TEXT("A::B::\"a\"")))
@@ -213,6 +312,14 @@ CALL(merges, cedar_policies_merge(&h->p, &h->q, true))
 CALL(merges_keeping, cedar_policies_merge(&h->p, &h->q, false))
 CALL(lists_bodies, cedar_policies_ids(&h->p, 0))
 CALL(lists_policies, cedar_policies_ids(&h->p, 1))
+CALL(lists_annotations, cedar_policies_annotations(&h->p, TEXT("a")))
+CALL(lists_bindings, cedar_policies_env(&h->p, TEXT("l")))
+CALL(tells_template, cedar_policies_template_id(&h->p, TEXT("l")))
+CALL(lists_linked, cedar_policies_linked(&h->p, TEXT("t")))
+CALL(lists_none_linked, cedar_policies_linked(&h->p, TEXT("none")))
+CALL(writes_set, cedar_policies_text(&h->p))
+CALL(writes_policy, cedar_policies_policy_text(&h->p, TEXT("l")))
+CALL(writes_template, cedar_policies_template_text(&h->p, TEXT("t")))
 CALL(copies_set, cedar_policies_copy(&h->p, &h->q))
 
 typedef uint32_t (*call)(held *);
@@ -250,6 +357,15 @@ static const call CALLS[] = {
     finds_unknown,
     counts_attributes,
     counts_tags,
+    gets,
+    gets_nothing,
+    gets_tag,
+    builds_with,
+    builds_cycle_with,
+    builds_of_no_name,
+    adds_with,
+    adds_differing_with,
+    upserts_with,
     lists_uids,
     lists_indirect,
     lists_keys,
@@ -279,16 +395,42 @@ static const call CALLS[] = {
     merges_keeping,
     lists_bodies,
     lists_policies,
+    gets,
+    asks_effect,
+    asks_slots,
+    asks_annotation,
+    lists_annotations,
+    lists_bindings,
+    tells_template,
+    lists_linked,
+    lists_none_linked,
+    writes_set,
+    writes_policy,
+    writes_template,
     copies_set,
 };
 
 /* ---- each with its requests refused in turn */
 
+/* Whether two handles tell the same nodes. */
+static bool nodes_alike(held *h, held *like) {
+    cedar_node nodes[MOST_NODES], others[MOST_NODES];
+    size_t count = cedar_store_answer_nodes(&h->s, 0, nodes, MOST_NODES);
+    if (count > MOST_NODES || cedar_store_answer_nodes(&like->s, 0, others, MOST_NODES) != count) return false;
+    for (size_t k = 0; k < count; k++) {
+        const cedar_node *n = &nodes[k], *o = &others[k];
+        if (n->kind != o->kind || n->len != o->len || n->number != o->number || n->at.start != o->at.start ||
+            n->at.end != o->at.end)
+            return false;
+    }
+    return true;
+}
+
 /* Whether two handles tell the same answer. */
 static bool answer_alike(held *h, held *like) {
     char kept[ROOM];
     snprintf(kept, sizeof kept, "%s", store_answer(&h->s));
-    bool stores = IS(store_answer(&like->s), kept);
+    bool stores = IS(store_answer(&like->s), kept) && nodes_alike(h, like);
     snprintf(kept, sizeof kept, "%s", policies_answer(&h->p));
     return stores && IS(policies_answer(&like->p), kept);
 }
@@ -327,7 +469,7 @@ static bool left_well(held *h, held *before) {
 /* A store that was emptied is built anew, which leaves its answer and the text of its last refusal. */
 static void put_back(held *h, held *before) {
     if (cedar_store_len(&h->s) > 0) return;
-    CHECK(build(&h->s, "a b;b c;x c", CEDAR_COMPUTE) == CEDAR_OK && equal(&h->s, &before->s) == 1);
+    CHECK(build_some(&h->s) == CEDAR_OK && equal(&h->s, &before->s) == 1);
 }
 
 static bool ends_alike(held *h, held *after) {
@@ -378,6 +520,7 @@ static void no_request(void) {
     held h;
     uint8_t out[64];
     cedar_span spans[8];
+    cedar_node nodes[8];
     set_up(&h);
     CHECK(add_static(&h.p, "a", 1) == CEDAR_OCCUPIED && build(&h.t, "y y", CEDAR_COMPUTE) == CEDAR_CYCLE);
     due_in = 1;
@@ -386,6 +529,7 @@ static void no_request(void) {
     CHECK(cedar_version() == CEDAR_VERSION && cedar_status_text(CEDAR_OCCUPIED, out, sizeof out) == 8);
     CHECK(cedar_store_len(&h.s) == 3 && equal(&h.s, &h.t) == 0);
     CHECK(cedar_store_answer(&h.s, 0, out, sizeof out) == 12 && cedar_store_answer_spans(&h.s, 0, spans, 8) == 2);
+    CHECK(cedar_store_answer_nodes(&h.s, 0, nodes, 8) == 8 && nodes[7].kind == CEDAR_RESIDUAL);
     CHECK(cedar_store_refusal(&h.t, out, sizeof out) == strlen("cycle at " U("y")));
     CHECK(sets_equal(&h.p, &h.q) == 0);
     CHECK(cedar_policies_answer(&h.p, 0, out, sizeof out) == 3 && cedar_policies_answer_spans(&h.p, 0, spans, 8) == 3);

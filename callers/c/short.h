@@ -191,6 +191,30 @@ static inline unsigned tags(cedar_store *s, const char *uid) {
     return counted_as(status, count);
 }
 
+static inline unsigned kind_of(cedar_policies *p, const char *id) {
+    uint32_t kind = 9;
+    uint32_t status = cedar_policies_get(p, TEXT(id), &kind);
+    return counted_as(status, kind);
+}
+
+static inline unsigned effect_of(cedar_policies *p, const char *id) {
+    uint32_t effect = 9;
+    uint32_t status = cedar_policies_effect(p, TEXT(id), &effect);
+    return counted_as(status, effect);
+}
+
+static inline unsigned slots_of(cedar_policies *p, const char *id) {
+    uint32_t slots = 9;
+    uint32_t status = cedar_policies_slots(p, TEXT(id), &slots);
+    return counted_as(status, slots);
+}
+
+static inline unsigned annotated(cedar_policies *p, const char *id, const char *key) {
+    bool answer = false;
+    uint32_t status = cedar_policies_annotation(p, TEXT(id), TEXT(key), &answer);
+    return told(status, answer);
+}
+
 static inline uint32_t new_set(cedar_policies *p) { return cedar_policies_new(p, 0x5eed, 0x6b6579); }
 
 static inline uint32_t add_static(cedar_policies *p, const char *id, uint32_t effect) {

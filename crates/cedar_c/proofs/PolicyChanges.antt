@@ -1,11 +1,12 @@
 -- What the calls on handles of policy sets leave, from what the calls on what they hold do.
-use Rattle.std.specs.Prelude.{◌≡◌, ◌⊎◌, ℕ, Option, Some, None, Result, Ok, Err}
+use Rattle.std.specs.Prelude.{◌≡◌, ◌⊎◌, ℕ, Bool, Option, Some, None, Result, Ok, Err}
 use Rattle.std.proofs.Common.{ap, sym, refl, subst, ◌∙◌, inl, inr, arith}
-use Rattle.cedar_c_lists.specs.Reasons.{number_of, status_of}
+use Rattle.cedar_c_lists.specs.Reasons.{number_of, status_of, Tells}
 use Rattle.cedar_c_lists.specs.declared.reason.Reason.{Reason}
 use Rattle.cedar_c_lists.specs.declared.reason.Reason.TheVariants.{NoMemory}
 use Rattle.cedar_c.specs.Statuses.{ok}
 use Rattle.cedar_c.specs.PolicyCalls.{Changes, ChangesBy, FillsBy, IsFilled, Kept}
+use Rattle.cedar_c.specs.PolicyReads.{ChangesAndTells}
 use Rattle.cedar_c.specs.declared.policies_handle.Inner.{Inner}
 use Rattle.std.specs.Option.{IsSomeAnd}
 use Rattle.cedar_policy_set.specs.Boards.{Board}
@@ -47,3 +48,11 @@ changed_by P other old new o l i k j r n beside same was is put status p =
     (subst (λ x. ChangesBy P (Some o) x n new) was
     (changed (P o.kept.set) (Some i) new i k j r n refl is put status
     (subst (λ (x : Inner). P x.kept.set r k.kept j) same p)))
+
+-- the same where a truth is told beside
+pub changed_and_told : (P : Result Bool Reason → Kept → Kept → Type 0) (old new : Option Inner) (i k : Inner) (j : Kept)
+    (r : Result Bool Reason) (n : ℕ) (before told : Bool) → Some i ≡ old → k ≡ i → new ≡ Some (record { kept = j })
+    → Tells r n before told → P r k.kept j → ChangesAndTells P old n new before told
+changed_and_told P old new i k j r n before told was is put tells p =
+    subst (λ o. ChangesAndTells P o n new before told) was
+    (r, tells, (record { kept = j }, put, subst (λ (x : Inner). P r x.kept j) is p))

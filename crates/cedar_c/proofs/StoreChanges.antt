@@ -1,12 +1,13 @@
 -- What the calls on handles of stores leave, from what the calls on what they hold do.
-use Rattle.std.specs.Prelude.{◌≡◌, ◌⊎◌, ℕ, Option, Some, None, Result, Ok, Err}
+use Rattle.std.specs.Prelude.{◌≡◌, ◌⊎◌, ℕ, Bool, Option, Some, None, Result, Ok, Err}
 use Rattle.std.proofs.Common.{ap, sym, refl, subst, ◌∙◌, inl, inr, arith}
-use Rattle.cedar_c_lists.specs.Reasons.{number_of, status_of}
+use Rattle.cedar_c_lists.specs.Reasons.{Tells, number_of, status_of}
 use Rattle.cedar_c_lists.specs.declared.reason.Reason.{Reason}
 use Rattle.cedar_c_lists.specs.declared.reason.Reason.TheVariants.{NoMemory}
 use Rattle.cedar_c.specs.Statuses.{ok}
 use Rattle.cedar_c.specs.StoreCalls.{Changes, FillsBy, IsFilled, Kept}
 use Rattle.cedar_c.specs.StoreReads.{BecomesPartial}
+use Rattle.cedar_c.specs.StoreValues.{GetsFrom}
 use Rattle.cedar_c_stores.specs.Reads.{MakesPartial}
 use Rattle.cedar_c.specs.declared.store_handle.Inner.{Inner}
 use Rattle.std.specs.Option.{IsSomeAnd}
@@ -28,6 +29,14 @@ filled_not made w n old status (inr is) = (Err w, status, refl, inr (ap Err is))
 pub filled : (made : Result Kept Reason) (i : Inner) (old new : Option Inner) → made ≡ Ok i.kept → new ≡ Some i
     → FillsBy made old 0 new
 filled made i old new is put = (Ok i.kept, refl, (i, put, refl), inl (sym is))
+
+-- what an open handle holds was changed, and put back, and a truth was told of it
+pub changed_telling : (P : Result Bool Reason → Kept → Kept → Type 0) (old new : Option Inner) (i k : Inner) (j : Kept)
+    (r : Result Bool Reason) (n : ℕ) (was has : Bool) → Some i ≡ old → k ≡ i → new ≡ Some (record { kept = j })
+    → Tells r n was has → P r k.kept j → GetsFrom P old n new was has
+changed_telling P old new i k j r n was has held is put tells p =
+    subst (λ o. GetsFrom P o n new was has) held
+    (r, tells, (record { kept = j }, put, subst (λ (x : Inner). P r x.kept j) is p))
 
 -- what is so of a store that a handle is filled with is so of what it holds
 pub holds : (P : Kept → Type 0) (k : Kept) (old new : Option Inner) (n : ℕ) → P k → FillsBy (Ok k) old n new → n ≡ ok

@@ -2,10 +2,12 @@ pub mod Checks
 pub mod Copying
 pub mod PoliciesHeld
 pub mod PolicyCalls
+pub mod PolicyReads
 pub mod Runs
 pub mod StatusCalls
 pub mod Statuses
 pub mod StoreCalls
 pub mod StoreHeld
 pub mod StoreReads
+pub mod StoreValues
 pub mod UidCalls

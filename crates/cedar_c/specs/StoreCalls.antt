@@ -20,7 +20,7 @@ use Rattle.cedar_c.specs.Copying.{CopiesOut}
 use Rattle.cedar_c.specs.Statuses.{ok, closed}
 use Rattle.cedar_c.specs.declared.store_handle.Inner.{Inner}
 
--- what a handle keeps: a store that hashes with a key, its last answer and its last refusal
+-- what a handle keeps: a store that hashes with a key, its last answer, its last nodes and its last refusal
 abbrev pub Kept : Type 0
 Kept = KeptStore KeyedState KeyedHasher
 
@@ -28,7 +28,7 @@ Kept = KeptStore KeyedState KeyedHasher
 abbrev pub HasWorld : World → Option Inner → Type 0
 HasWorld W o = IsSomeAnd o (λ i. IsPlainStore W i.kept.store)
 
--- an open handle that has no last answer and no last refusal
+-- an open handle that has no last answer, no last nodes and no last refusal
 abbrev pub HasNoTexts : Option Inner → Type 0
 HasNoTexts o = IsSomeAnd o (λ i. IsUntold i.kept)
 

@@ -10,11 +10,13 @@ mod keys;
 mod parts;
 mod policies;
 mod policies_handle;
+mod policies_reads;
 mod program;
 mod statuses;
 mod store;
 mod store_handle;
 mod store_reads;
+mod store_values;
 mod uids;
 
 pub use policies::Policies;

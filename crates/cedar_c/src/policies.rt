@@ -22,13 +22,13 @@ use std::mem;
 #[repr(C)]
 #[derive(Drop)]
 pub struct Policies {
-    held: Held,
+    pub(crate) held: Held,
     is_open: bool,
     ghost agrees: { is_open ≡ is_some held.value },
 }
 
 // The status of a closed handle.
-const CLOSED: u32 = 2;
+pub(crate) const CLOSED: u32 = 2;
 
 // A closed one.
 fn closed(alloc: Global) -> Policies
@@ -41,7 +41,7 @@ fn closed(alloc: Global) -> Policies
 }
 
 // An open one.
-fn opened(inner: Box<Inner, Global>) -> Policies
+pub(crate) fn opened(inner: Box<Inner, Global>) -> Policies
     ensures { result.held.value ≡ Some inner.value }
 {
     Policies {
@@ -51,7 +51,7 @@ fn opened(inner: Box<Inner, Global>) -> Policies
 }
 
 // What a handle holds is taken out, and it is closed.
-fn take(alloc: Global, handle: &mut Policies) -> Option<Box<Inner, Global>>
+pub(crate) fn take(alloc: Global, handle: &mut Policies) -> Option<Box<Inner, Global>>
     ensures closed { handle.new.held.value ≡ None }
     ensures value { option_map (λ b. b.value) result ≡ handle.old.held.value }
 {

@@ -32,6 +32,7 @@ number_of reasons.NoStatic = 24
 number_of reasons.NotStatic = 25
 number_of reasons.NoBody = 26
 number_of reasons.NotAName = 27
+number_of reasons.TooDeep = 28
 
 -- the words of a reason, behind which its names stand
 abbrev pub words_of : Reason → List ℕ
@@ -62,6 +63,7 @@ words_of reasons.NoStatic = codes "no static policy"
 words_of reasons.NotStatic = codes "not a static policy"
 words_of reasons.NoBody = codes "no body"
 words_of reasons.NotAName = codes "not a name"
+words_of reasons.TooDeep = codes "too deep"
 
 -- the status of an answer: 0 where the call was made
 abbrev pub status_of : {A : Type 0} → Result A Reason → ℕ

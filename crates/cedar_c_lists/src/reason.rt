@@ -62,6 +62,8 @@ pub enum Reason {
     NoBody,
     /// A text is no name.
     NotAName,
+    /// A value or an expression has too many levels.
+    TooDeep,
 }
 
 impl Reason {
@@ -97,6 +99,7 @@ impl Reason {
             Reason::NotStatic => 25,
             Reason::NoBody => 26,
             Reason::NotAName => 27,
+            Reason::TooDeep => 28,
         }
     }
 
@@ -132,6 +135,7 @@ impl Reason {
             Reason::NotStatic => "not a static policy",
             Reason::NoBody => "no body",
             Reason::NotAName => "not a name",
+            Reason::TooDeep => "too deep",
         }
     }
 }

@@ -51,6 +51,7 @@ pub fn reason_with(number: u32) -> Option<Reason>
         25 => Some(Reason::NotStatic),
         26 => Some(Reason::NoBody),
         27 => Some(Reason::NotAName),
+        28 => Some(Reason::TooDeep),
         _ => None,
     }
 }

@@ -4,6 +4,7 @@
 
 pub mod kept_set;
 mod making;
+mod reads;
 mod telling;
 
 pub use kept_set::KeptSet;

@@ -23,7 +23,7 @@ use Rattle.cedar_c_lists.specs.declared.reason.Reason.{Reason}
 use Rattle.cedar_c_lists.specs.declared.reason.Reason.TheVariants.{NoMemory, BadArgument}
 
 -- an edge from another place gives no parent more
-none_more : (us : List EntityUID) (es : List Edge) (e : Edge) (i : ℕ) → (e.from ≡ i → ⊥)
+pub none_more : (us : List EntityUID) (es : List Edge) (e : Edge) (i : ℕ) → (e.from ≡ i → ⊥)
     → parents_at us (es ++ e ∷ []) i ≡ parents_at us es i
 none_more us es e i other =
     filter_map-append (parent_by us i) es (e ∷ [])
@@ -32,7 +32,7 @@ none_more us es e i other =
     ∙ append-nil (parents_at us es i)
 
 -- an edge from the place gives the uid that it leads to
-one_more : (us : List EntityUID) (es : List Edge) (e : Edge) (i : ℕ) (p : EntityUID) → e.from ≡ i
+pub one_more : (us : List EntityUID) (es : List Edge) (e : Edge) (i : ℕ) (p : EntityUID) → e.from ≡ i
     → slice_get us e.to ≡ Some p → parents_at us (es ++ e ∷ []) i ≡ parents_at us es i ++ p ∷ []
 one_more us es e i p same found =
     filter_map-append (parent_by us i) es (e ∷ [])
@@ -141,7 +141,7 @@ put_in [] k g h p l e s = absurd (omega (arith, l))
 put_in (x ∷ gs) zero g h p l e s = ap (λ y. y ∷ gs) (s ∙ ap (λ (y : Gathered). (y.0, y.1 ++ p ∷ [])) (sym e))
 put_in (x ∷ gs) (suc k) g h p l e s = ap (λ l. x ∷ l) (put_in gs k g h p (omega (arith, l)) e s)
 
-length_first : (us : List EntityUID) (n : ℕ) → n ≤ length us → length (take n us) ≡ n
+pub length_first : (us : List EntityUID) (n : ℕ) → n ≤ length us → length (take n us) ≡ n
 length_first us zero l = refl
 length_first [] (suc n) l = absurd (omega (arith, l))
 length_first (u ∷ us) (suc n) l = ap suc (length_first us n (omega (arith, l)))
@@ -150,7 +150,7 @@ length_bare : (us : List EntityUID) → length {A = Gathered} (map (λ u. (u, []
 length_bare [] = refl
 length_bare (u ∷ us) = ap suc (length_bare us)
 
-length_gathered : (us : List EntityUID) (n : ℕ) (first : List EntityUID) (gs : List Gathered) → n ≤ length us
+pub length_gathered : (us : List EntityUID) (n : ℕ) (first : List EntityUID) (gs : List Gathered) → n ≤ length us
     → first ≡ take n us → gs ≡ map (λ u. (u, [])) first → length gs ≡ n
 length_gathered us n first gs few front bare =
     ap length bare ∙ length_bare first ∙ ap length front ∙ length_first us n few
@@ -184,7 +184,7 @@ out_of_first us es n first gs w few front bare out =
     inr (subst (λ k. IsSomeEdgeOut k (length us) es w) (length_gathered us n first gs few front bare) out)
 
 -- uids are as many as the parts that they are read of
-length_read : (text : List ℕ) (us : List EntityUID) (spans : List Span) → AreReadAt text us spans
+pub length_read : (text : List ℕ) (us : List EntityUID) (spans : List Span) → AreReadAt text us spans
     → length us ≡ length spans
 length_read text [] [] r = refl
 length_read text [] (s ∷ spans) r = absurd r
@@ -192,7 +192,7 @@ length_read text (u ∷ us) [] r = absurd r
 length_read text (u ∷ us) (s ∷ spans) r = ap suc (length_read text us spans r.1)
 
 -- each part that a uid is read of lies within the text
-inside_read : (text : List ℕ) (us : List EntityUID) (spans : List Span) → AreReadAt text us spans
+pub inside_read : (text : List ℕ) (us : List EntityUID) (spans : List Span) → AreReadAt text us spans
     → (k : ℕ) (s : Span) → slice_get spans k ≡ Some s → IsInside text s
 inside_read text us [] r k s at = absurd (cc)
 inside_read text [] (x ∷ spans) r k s at = absurd r

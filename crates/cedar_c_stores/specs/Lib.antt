@@ -1,4 +1,6 @@
+pub mod Contents
 pub mod Lists
 pub mod Reads
 pub mod Stores
+pub mod Values
 pub mod laws

@@ -34,10 +34,11 @@ abbrev pub AsksOne : {X : Type 0} → (EntityView → X) → StoreView → List 
 AsksOne value S text (Ok x) = (e : EntityView) × IsHeldAt S text e × (x ≡ value e)
 AsksOne value S text (Err w) = IsUntoldOf S text w
 
--- how many attributes or tags it has
+-- how many attributes it has
 abbrev pub attrs_count : EntityView → ℕ
 attrs_count e = length e.attrs
 
+-- how many tags it has
 abbrev pub tags_count : EntityView → ℕ
 tags_count e = length e.tags
 
@@ -80,13 +81,14 @@ FindsAt S text (Err w) = IsUnread text w
 -- the store with the same entities, now partial; all else is as it was
 abbrev pub MakesPartial : {B H : Type 0} → KeptStore B H → KeptStore B H → Type 0
 MakesPartial i j = (j.store ≡ record i.store { partial = true }) × (j.answer ≡ i.answer)
-    × (j.refusal.items ≡ i.refusal.items)
+    × (j.nodes.items ≡ i.nodes.items) × (j.refusal.items ≡ i.refusal.items)
 
 -- ---- answers
 
--- texts become the answer, and the store and the last refusal are as they were
+-- texts become the answer, and the store, the nodes and the last refusal are as they were
 abbrev pub IsAnswered : {B H : Type 0} → (StoreView → List (List ℕ) → Type 0) → KeptStore B H → KeptStore B H → Type 0
-IsAnswered Are i j = (j.store ≡ i.store) × (j.refusal.items ≡ i.refusal.items) × Are i.store j.answer
+IsAnswered Are i j = (j.store ≡ i.store) × (j.refusal.items ≡ i.refusal.items) × (j.nodes.items ≡ i.nodes.items)
+    × Are i.store j.answer
 
 -- the uid of an entity
 abbrev pub uid_held : EntityView → EntityUID
@@ -117,8 +119,10 @@ AnswersAt Are text (Err w) i j = (j ≡ i) × ((w ≡ reasons.NoMemory) ⊎ IsUn
 abbrev pub AreKeysOf : (EntityView → Fields) → EntityView → List (List ℕ) → Type 0
 AreKeysOf fields e texts = (texts ≡ field_keys (fields e)) × KeysAscend (fields e)
 
+-- the attributes of an entity
 abbrev pub attrs_of : EntityView → Fields
 attrs_of e = e.attrs
 
+-- the tags of an entity
 abbrev pub tags_of : EntityView → Fields
 tags_of e = e.tags

@@ -87,10 +87,10 @@ IsToldBy e w text = (w ≡ reasons.NoMemory) ⊎ ((w ≡ reason_of e) × IsRefus
 abbrev pub empty_store : StoreView
 empty_store = record { held = no_entities; partial = false }
 
--- a call that lists nothing keeps the texts of the last answer, and that of the last refusal where it is made or memory
--- is refused
+-- a call that lists nothing keeps the texts of the last answer, the nodes of the last value, and the text of the last
+-- refusal where it is made or memory is refused
 abbrev pub KeepsTexts : {A B H : Type 0} → Result A Reason → KeptStore B H → KeptStore B H → Type 0
-KeepsTexts r i j = (j.answer ≡ i.answer) × KeepsRefusal r i.refusal.items j.refusal.items
+KeepsTexts r i j = (j.answer ≡ i.answer) × (j.nodes.items ≡ i.nodes.items) × KeepsRefusal r i.refusal.items j.refusal.items
 
 -- what a call gave is kept: the store; or the error is told, and what is kept is the store without entities
 abbrev pub KeepsGiven : {A B H : Type 0} → Result StoreView EntitiesError → Result A Reason → KeptStore B H → Type 0
@@ -202,7 +202,7 @@ pub record ListsThose (test : EntityView → EntityUID → Bool) (Related : Worl
 abbrev pub Listing : {A B H : Type 0} → (EntityView → EntityUID → Bool) → (World → EntityUID → EntityUID → Type 0)
     → List ℕ → Result A Reason → KeptStore B H → KeptStore B H → Type 0
 Listing test Related text (Ok a) i j =
-    (j.store ≡ i.store) × (j.refusal.items ≡ i.refusal.items)
+    (j.store ≡ i.store) × (j.refusal.items ≡ i.refusal.items) × (j.nodes.items ≡ i.nodes.items)
     × ((u : EntityUID) × IsReadOf u text × ListsThose test Related i.store u j.answer)
 Listing test Related text (Err w) i j =
     (j ≡ i) × ((w ≡ reasons.NoMemory) ⊎ (IsUnread text w
@@ -219,17 +219,18 @@ IsAbove W u q = Reach (graph W) u q
 abbrev pub IsParent : World → EntityUID → EntityUID → Type 0
 IsParent W u q = graph W u q ≡ true
 
--- the store is valid, and all is as it was; or its first fault is told, and the store and the answer are as they were,
--- as the text of the last refusal is where memory was refused
+-- the store is valid, and all is as it was; or its first fault is told, and the store, the answer and the nodes are as
+-- they were, as the text of the last refusal is where memory was refused
 abbrev pub Validates : {A B H : Type 0} → Result A Reason → KeptStore B H → KeptStore B H → Type 0
 Validates (Ok a) i j = IsValidStore i.store.held × (j ≡ i)
 Validates (Err w) i j =
-    (j.store ≡ i.store) × (j.answer ≡ i.answer) × (w ≡ reasons.NoMemory → j.refusal.items ≡ i.refusal.items)
+    (j.store ≡ i.store) × (j.answer ≡ i.answer) × (j.nodes.items ≡ i.nodes.items)
+    × (w ≡ reasons.NoMemory → j.refusal.items ≡ i.refusal.items)
     × ((w ≡ reasons.NoMemory) ⊎ ((e : EntitiesError) × IsStoreFault i.store.held e × IsToldBy e w j.refusal.items))
 
 -- no call has answered anything of what is kept, and none was refused
 abbrev pub IsUntold : {B H : Type 0} → KeptStore B H → Type 0
-IsUntold k = (k.answer ≡ []) × (k.refusal.items ≡ [])
+IsUntold k = (k.answer ≡ []) × (k.refusal.items ≡ []) × (k.nodes.items ≡ [])
 
 -- the slice of a store at uids
 pub record IsSlice (U : List EntityUID) (S N : StoreView) : Type 0 where

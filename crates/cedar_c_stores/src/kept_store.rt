@@ -13,6 +13,7 @@ ghost use Rattle.cedar_c_lists.specs.declared.reason.Reason.TheVariants as reaso
 
 use crate::refusal::told_by;
 use cedar_c_lists::{Answer, Reason, Span, uid_of, uids_of, with_uid};
+use cedar_c_trees::Node;
 use cedar_entities::{Entities, EntitiesError, Entity, TCComputation, Uids};
 use cedar_ids::entity::EntityUID;
 use cedar_slice::slice;
@@ -22,7 +23,7 @@ use std::hash::BuildHasher;
 use std::mem;
 use std::rc::Rc;
 
-/// A store of entities, the texts of the last answer, and the text of the last refusal.
+/// A store of entities, the texts of the last answer, the nodes of the last value, and the text of the last refusal.
 ///
 /// The store hashes uids by what `S` builds, and so do the stores that its calls make. No contract sees which builder a
 /// store has; but code that is generic in it makes none of its own, so each store here has the one that the caller
@@ -33,6 +34,8 @@ pub struct KeptStore<S: BuildHasher> {
     pub store: Entities<S>,
     /// The texts that the last call that lists gave.
     pub answer: Answer,
+    /// The nodes of the last attribute or tag that was read, over the text that was the answer then.
+    pub nodes: Vec<Node>,
     /// The text of the last refusal of a call on the store.
     pub refusal: Vec<u8>,
     // What builds the hashers of the next store.
@@ -67,11 +70,13 @@ impl<S: BuildHasher + Copy> KeptStore<S> {
     pub fn of(alloc: Global, hasher: S, store: Entities<S>) -> KeptStore<S>
         ensures store { result.store ≡ store }
         ensures answer { result.answer ≡ [] }
+        ensures nodes { result.nodes.items ≡ [] }
         ensures refusal { result.refusal.items ≡ [] }
     {
         KeptStore {
             store,
             answer: Answer::new(alloc),
+            nodes: Vec::new(alloc),
             refusal: Vec::new(alloc),
             hasher,
         }
@@ -82,6 +87,7 @@ impl<S: BuildHasher + Copy> KeptStore<S> {
         ensures store { result.store ≡ empty_store }
         ensures plain { IsPlainStore empty_world result.store }
         ensures answer { result.answer ≡ [] }
+        ensures nodes { result.nodes.items ≡ [] }
         ensures refusal { result.refusal.items ≡ [] }
     {
         KeptStore::of(alloc, hasher, Entities::with_hasher(alloc, hasher))
@@ -91,10 +97,13 @@ impl<S: BuildHasher + Copy> KeptStore<S> {
     fn refuse(&mut self, alloc: Global, error: EntitiesError) -> Reason
         ensures store { self.new.store ≡ self.old.store }
         ensures answer { self.new.answer ≡ self.old.answer }
+        ensures nodes { self.new.nodes.items ≡ self.old.nodes.items }
         ensures told { IsToldBy error result self.new.refusal.items }
         ensures kept { result ≡ reasons.NoMemory → self.new.refusal.items ≡ self.old.refusal.items }
     {
-        match told_by(alloc, &error) {
+        let told = told_by(alloc, &error);
+        drop(error);
+        match told {
             Ok(told) => {
                 self.refusal = told.text;
                 told.reason
@@ -250,7 +259,7 @@ impl<S: BuildHasher + Copy> KeptStore<S> {
         }
     }
 
-    /// The store becomes partial; its entities, the answer and the last refusal stay. Takes no memory.
+    /// The store becomes partial; its entities, the answer, the nodes and the last refusal stay. Takes no memory.
     pub fn make_partial(&mut self, alloc: Global)
         ensures partial { MakesPartial self.old self.new }
         ensures plain { (W : World) → IsPlainStore W self.old.store →

@@ -1,12 +1,19 @@
 //! The calls of the library for C on a store: the store with its last answer and its last refusal, and lists of
-//! entities as a caller lays them out. No handle is known here.
+//! entities as a caller lays them out, with content or without. No handle is known here.
 #![tactic(auto, using(cedar_ids::specs::laws::UidOfLaws::same_uid_decides))]
 
+mod content;
+mod content_calls;
 pub mod kept_store;
+mod keys;
+mod laid;
 mod listing;
 mod reads;
 mod refusal;
+mod rows;
 mod store_calls;
+mod values;
 
+pub use content::{Content, Term};
 pub use kept_store::KeptStore;
 pub use store_calls::EntityLists;

@@ -28,7 +28,7 @@ pub(crate) fn mode_of(number: u32) -> Result<TCComputation, Reason>
 }
 
 // The uids, to be shared.
-fn shared_all(alloc: Global, uids: Vec<EntityUID>) -> Result<Vec<SharedUid>, AllocError>
+pub(crate) fn shared_all(alloc: Global, uids: Vec<EntityUID>) -> Result<Vec<SharedUid>, AllocError>
     ensures { IfOk result (λ v. v.items ≡ uids.items) }
 {
     let mut shared = Vec::new(alloc);
@@ -40,7 +40,7 @@ fn shared_all(alloc: Global, uids: Vec<EntityUID>) -> Result<Vec<SharedUid>, All
 
 // A uid, to be that of an entity, and the parents that were gathered for it. Contracts see the two.
 #[derive(Drop)]
-struct Listed {
+pub(crate) struct Listed {
     uid: SharedUid,
     parents: Vec<SharedUid>,
 }
@@ -77,6 +77,15 @@ impl Listed {
         Ok(())
     }
 
+    // The uid and the parents. Takes no memory.
+    pub(crate) fn into_parts(self) -> (SharedUid, Vec<SharedUid>)
+        ensures uid { result.0 ≡ self.0 }
+        ensures parents { result.1.items ≡ self.1 }
+    {
+        let Listed { uid, parents } = self;
+        (uid, parents)
+    }
+
     // The entity with this uid and these parents.
     fn into_entity(self, alloc: Global) -> Result<Rc<Entity>, AllocError>
         ensures { IfOk result (λ e. e.value ≡ with_parents self.0 self.1) }
@@ -88,7 +97,7 @@ impl Listed {
 }
 
 // The uids, each without parents.
-fn without_parents(alloc: Global, uids: &[SharedUid]) -> Result<Vec<Listed>, AllocError>
+pub(crate) fn without_parents(alloc: Global, uids: &[SharedUid]) -> Result<Vec<Listed>, AllocError>
     ensures { IfOk result (λ v. v.items ≡ map (λ u. (u, [])) uids.now) }
 {
     let mut listed = Vec::new(alloc);
@@ -112,7 +121,7 @@ fn put_at(listed: &mut Vec<Listed>, place: usize, parent: SharedUid) -> Result<(
 }
 
 // The uid at a place, shared once more.
-fn uid_in(uids: &[SharedUid], place: usize) -> Result<SharedUid, Reason>
+pub(crate) fn uid_in(uids: &[SharedUid], place: usize) -> Result<SharedUid, Reason>
     ensures { MatchResult result (λ u. slice_get uids.now place ≡ Some u)
         (λ w. (w ≡ NoMemory) ⊎ ((w ≡ BadArgument) × (length uids.now ≤ place))) }
 {
@@ -123,7 +132,11 @@ fn uid_in(uids: &[SharedUid], place: usize) -> Result<SharedUid, Reason>
 }
 
 // The parents that the edges lead to go to the uids from which they come.
-fn put_edges(listed: &mut Vec<Listed>, uids: &[SharedUid], edges: &[Edge]) -> Result<(), Reason>
+pub(crate) fn put_edges(
+    listed: &mut Vec<Listed>,
+    uids: &[SharedUid],
+    edges: &[Edge],
+) -> Result<(), Reason>
     ensures ok { OnOk result ((us : List EntityUID) → listed.old.items ≡ listed_from uids.now [] 0 us →
         listed.new.items ≡ listed_from uids.now edges.now 0 us) }
     ensures range { OnOk result (AreEdgesOf (length listed.old.items) (length uids.now) edges.now) }
@@ -148,7 +161,7 @@ fn entities_with(alloc: Global, listed: Vec<Listed>) -> Result<Vec<Rc<Entity>>, 
 }
 
 // So many uids from the front.
-fn first_of(uids: &[SharedUid], count: usize) -> Result<&[SharedUid], Reason>
+pub(crate) fn first_of(uids: &[SharedUid], count: usize) -> Result<&[SharedUid], Reason>
     ensures { MatchResult result (λ f. (count ≤ length uids.now) × (f.now ≡ take count uids.now))
         (λ w. (w ≡ BadArgument) × (length uids.now < count)) }
 {

@@ -11,6 +11,7 @@ returns g c =
     let members = c.ancestors_in_order.ensures.members in (
       refl,
       refl,
+      refl,
       (
         u,
         c.in_ok-uid.ensures,

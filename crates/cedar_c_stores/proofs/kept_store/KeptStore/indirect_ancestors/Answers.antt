@@ -11,6 +11,7 @@ returns g c =
     let members = c.indirect_ancestors.ensures.lists.members in (
       refl,
       refl,
+      refl,
       (
         u,
         c.in_ok-uid.ensures,

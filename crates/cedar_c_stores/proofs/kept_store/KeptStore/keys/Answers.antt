@@ -5,6 +5,7 @@ pub returns : goal.returns
 returns g c = (
   refl,
   refl,
+  refl,
   (
     c.in-Some.entity.now,
     (c.in_ok-uid.uid, c.in_ok-uid.ensures, sym c.in-Some.ensures.value),

@@ -9,6 +9,7 @@ returns g c =
     let members = c.parents.ensures.lists.members in (
       refl,
       refl,
+      refl,
       (
         u,
         c.in_ok-uid.ensures,

@@ -7,5 +7,5 @@ returns-in-Ok g c = (
   subst (IsSlice c.args.uids.items c.args.self.now.store) (sym c.of.ensures.store)
       (subst (λ l. IsSlice l c.args.self.now.store c.in-Ok.store) c.deref.ensures.value
       (record { held = c.in-Ok.ensures.held; plain = c.in-Ok.ensures.plain })),
-  (c.of.ensures.answer, c.of.ensures.refusal),
+  (c.of.ensures.answer, c.of.ensures.refusal, c.of.ensures.nodes),
 )

@@ -1,0 +1,502 @@
+/* Gives entities with content and reads it back: worked values and expressions, each status of the calls that take or
+ * tell values, and random nodes, of which no more may come than a status. Prints what fails, and ends with `N passed, M
+ * failed`. */
+#include "nodes.h"
+
+#define BUILD(s, c, mode) cedar_store_build_with(s, CONTENT(c), mode)
+#define ADD(s, c, mode) cedar_store_add_with(s, CONTENT(c), mode)
+#define UPSERT(s, c, mode) cedar_store_upsert_with(s, CONTENT(c), mode)
+
+/* ---- worked values */
+
+/* What a value is read as, in words; or the status of giving it. */
+static const char *read_as(const char *words) {
+    static char text[16];
+    cedar_store s = {0};
+    content c = with_entities("a");
+    put_term(&c, 0, 0, "k", words);
+    CHECK(new_store(&s) == CEDAR_OK);
+    uint32_t status = BUILD(&s, c, CEDAR_COMPUTE);
+    snprintf(text, sizeof text, "%u", (unsigned)status);
+    const char *told = status ? text : value_at(&s, U("a"), 0, "k");
+    cedar_store_free(&s);
+    return told;
+}
+
+/* What is given, and what is read: the same where nothing is said of it. */
+static const char *const ROWS[][2] = {
+    {"t", ""},
+    {"f", ""},
+    {"0", ""},
+    {"-9223372036854775808", ""},
+    {"9223372036854775807", ""},
+    {"'", ""},
+    {"'abc", ""},
+    {"'\xc3\xa9", ""},
+    {"@a", ""},
+    {"{0", ""},
+    {"[0", ""},
+    {"1 2 1 {3", "1 2 {2"},
+    {"2 1 {2", "1 2 {2"},
+    {"'k 1 'j 2 [2", "'j 2 'k 1 [2"},
+    {"'k 1 'k 2 [2", "'k 2 [1"},
+    {"'a 'b t [1 [1", ""},
+    {"'a 1 'b 'c @x {2 [2", "'a 1 'b 'c @x {2 [2"},
+    {"'10.0.0.1 ip(1", ""},
+    {"'1.5 N::decimal(1", ""},
+    {"'k '10.0.0.1 ip(1 [1", ""},
+    {"~x:0 *", ""},
+    {"'User ~x:1 *", ""},
+    {"'A::B ~x:1 *", ""},
+    {"$0 $1 = *", ""},
+    {"$2 @a < *", ""},
+    {"$3 ! *", ""},
+    {"?0 ?1 & ?2 & *", ""},
+    {"$0 ^User *", ""},
+    {"$0 ^A::B *", ""},
+    {"2 1 1 {3 *", ""},
+    {"{0 *", ""},
+    {"g(0 *", ""},
+    {"1 2 g(2 *", ""},
+    {"'x *", ""},
+};
+
+static void worked_values(void) {
+    for (size_t k = 0; k < sizeof ROWS / sizeof *ROWS; k++) {
+        const char *given = ROWS[k][0], *due = ROWS[k][1], *told = read_as(given);
+        if (!IS(told, *due ? due : given)) printf("%s is read as %s\n", given, told);
+        CHECK(IS(told, *due ? due : given));
+    }
+}
+
+/* Attributes and tags of two entities, of which some have the same keys. */
+static void attributes_and_tags(void) {
+    cedar_store s = {0};
+    content c = with_entities("a b;b");
+    put_term(&c, 1, 0, "k", "1");
+    put_term(&c, 0, 0, "k", "2");
+    put_term(&c, 0, 1, "k", "3");
+    put_term(&c, 0, 0, "", "t");
+    put_term(&c, 0, 1, "z", "'z");
+    put_term(&c, 0, 0, "\xc3\xa9", "f");
+    CHECK(new_store(&s) == CEDAR_OK && BUILD(&s, c, CEDAR_COMPUTE) == CEDAR_OK && cedar_store_len(&s) == 2);
+    CHECK(attributes(&s, U("a")) == 3 && tags(&s, U("a")) == 2 && attributes(&s, U("b")) == 1 && tags(&s, U("b")) == 0);
+    CHECK(cedar_store_keys(&s, TEXT(U("a"))) == CEDAR_OK && IS(store_answer(&s), ",,k,\xc3\xa9"));
+    CHECK(cedar_store_tag_keys(&s, TEXT(U("a"))) == CEDAR_OK && IS(store_answer(&s), ",k,z"));
+    CHECK(IS(value_at(&s, U("a"), 0, "k"), "2") && IS(value_at(&s, U("a"), 1, "k"), "3"));
+    CHECK(IS(value_at(&s, U("b"), 0, "k"), "1") && IS(value_at(&s, U("b"), 1, "k"), "none"));
+    CHECK(IS(value_at(&s, U("a"), 0, ""), "t") && IS(value_at(&s, U("a"), 0, "\xc3\xa9"), "f"));
+    CHECK(IS(value_at(&s, U("a"), 0, "z"), "none") && IS(value_at(&s, U("a"), 1, "z"), "'z"));
+    CHECK(descends(&s, U("a"), U("b")) == 1);
+    cedar_store_free(&s);
+}
+
+static void the_last_of_a_key_counts(void) {
+    cedar_store s = {0};
+    content c = with_entities("a");
+    put_term(&c, 0, 0, "k", "1");
+    put_term(&c, 0, 1, "k", "2");
+    put_term(&c, 0, 0, "k", "3");
+    CHECK(new_store(&s) == CEDAR_OK && BUILD(&s, c, CEDAR_COMPUTE) == CEDAR_OK && attributes(&s, U("a")) == 1);
+    CHECK(IS(value_at(&s, U("a"), 0, "k"), "3") && IS(value_at(&s, U("a"), 1, "k"), "2"));
+    cedar_store_free(&s);
+}
+
+/* Sections of nodes may overlap: two terms have one value, and a third a part of it. */
+static void shared_nodes(void) {
+    cedar_store s = {0};
+    content c = with_entities("a");
+    cedar_term *first = put_term(&c, 0, 0, "k", "'x 1 [1");
+    cedar_term *other = put_term(&c, 0, 1, "j", ""), *inner = put_term(&c, 0, 1, "i", "");
+    other->from = first->from;
+    other->to = first->to;
+    inner->from = first->from + 1;
+    inner->to = first->from + 2;
+    CHECK(new_store(&s) == CEDAR_OK && BUILD(&s, c, CEDAR_COMPUTE) == CEDAR_OK);
+    CHECK(IS(value_at(&s, U("a"), 0, "k"), "'x 1 [1") && IS(value_at(&s, U("a"), 1, "j"), "'x 1 [1"));
+    CHECK(IS(value_at(&s, U("a"), 1, "i"), "1"));
+    cedar_store_free(&s);
+}
+
+static void put_above(content *c, size_t from, size_t to) { c->above[c->above_len++] = (cedar_edge){from, to}; }
+
+static void indirect_ancestors(void) {
+    cedar_store s = {0};
+    content c = with_entities("a b;b c"); /* the uids are a, b, b, c */
+    put_above(&c, 0, 3);
+    CHECK(new_store(&s) == CEDAR_OK && BUILD(&s, c, CEDAR_ENFORCE) == CEDAR_OK);
+    CHECK(is_child(&s, U("a"), U("b")) == 1 && is_child(&s, U("a"), U("c")) == 0);
+    CHECK(is_far_below(&s, U("a"), U("c")) == 1 && is_far_below(&s, U("a"), U("b")) == 0);
+    put_above(&c, 0, 2); /* b is a parent of a, and so no indirect ancestor */
+    put_above(&c, 0, 3);
+    CHECK(BUILD(&s, c, CEDAR_ENFORCE) == CEDAR_OK && cedar_store_validate(&s) == CEDAR_OK);
+    CHECK(cedar_store_indirect_ancestors(&s, TEXT(U("a"))) == CEDAR_OK && IS(store_answer(&s), "," U("c")));
+    CHECK(parents(&s, U("a")) == CEDAR_OK && IS(store_answer(&s), "," U("b")));
+    c.above_len = 0;
+    CHECK(BUILD(&s, c, CEDAR_ENFORCE) == CEDAR_NOT_CLOSED && cedar_store_len(&s) == 0);
+    cedar_store_free(&s);
+}
+
+/* With no content the calls are those without. */
+static void no_content(void) {
+    cedar_store s = {0}, t = {0};
+    content c = with_entities("a b;b c;c de;x");
+    CHECK(new_store(&s) == CEDAR_OK && new_store(&t) == CEDAR_OK);
+    CHECK(BUILD(&s, c, CEDAR_COMPUTE) == CEDAR_OK && build(&t, "a b;b c;c de;x", CEDAR_COMPUTE) == CEDAR_OK);
+    CHECK(equal(&s, &t) == 1);
+    c = with_entities("x a;y x");
+    CHECK(ADD(&s, c, CEDAR_COMPUTE) == CEDAR_DUPLICATE && IS(store_refusal(&s), "duplicate entity " U("x")));
+    CHECK(cedar_store_copy(&t, &s) == CEDAR_OK && UPSERT(&s, c, CEDAR_COMPUTE) == CEDAR_OK);
+    CHECK(upsert(&t, "x a;y x", CEDAR_COMPUTE) == CEDAR_OK && equal(&s, &t) == 1);
+    c = with_entities("a b;b a");
+    CHECK(BUILD(&s, c, CEDAR_COMPUTE) == CEDAR_CYCLE && cedar_store_len(&s) == 0);
+    cedar_store_free(&s);
+    cedar_store_free(&t);
+}
+
+static void edits_with_content(void) {
+    cedar_store s = {0}, t = {0};
+    content c = with_entities("a b"), d = with_entities("a b");
+    put_term(&c, 0, 0, "k", "1");
+    put_term(&d, 0, 0, "k", "2");
+    CHECK(new_store(&s) == CEDAR_OK && BUILD(&s, c, CEDAR_COMPUTE) == CEDAR_OK && cedar_store_copy(&s, &t) == CEDAR_OK);
+    CHECK(ADD(&s, c, CEDAR_COMPUTE) == CEDAR_OK && equal(&s, &t) == 1);
+    CHECK(UPSERT(&s, d, CEDAR_COMPUTE) == CEDAR_OK && IS(value_at(&s, U("a"), 0, "k"), "2"));
+    CHECK(equal(&s, &t) == 0 && entity_equal(&s, U("a"), &t) == 0 && IS(value_at(&t, U("a"), 0, "k"), "1"));
+    CHECK(ADD(&t, d, CEDAR_COMPUTE) == CEDAR_DUPLICATE && IS(store_refusal(&t), "duplicate entity " U("a")));
+    CHECK(cedar_store_copy(&s, &t) == CEDAR_OK && add(&t, "a b", CEDAR_COMPUTE) == CEDAR_DUPLICATE);
+    CHECK(sliced(&s, &t, "a") == CEDAR_OK && IS(value_at(&t, U("a"), 0, "k"), "2"));
+    c = with_entities("a;a");
+    put_term(&c, 0, 0, "k", "1");
+    CHECK(BUILD(&s, c, CEDAR_COMPUTE) == CEDAR_DUPLICATE);
+    put_term(&c, 1, 0, "k", "1");
+    CHECK(BUILD(&s, c, CEDAR_COMPUTE) == CEDAR_OK && cedar_store_len(&s) == 1);
+    c = with_entities("a");
+    put_term(&c, 0, 1, "k", "'__entity 1 [1");
+    CHECK(BUILD(&s, c, CEDAR_COMPUTE) == CEDAR_OK && cedar_store_validate(&s) == CEDAR_RESERVED_KEY);
+    CHECK(IS(store_refusal(&s), "reserved key __entity"));
+    cedar_store_free(&s);
+    cedar_store_free(&t);
+}
+
+/* ---- what is kept */
+
+static void values_stay(void) {
+    cedar_store s = {0}, t = {0};
+    cedar_node nodes[4];
+    uint8_t text[8];
+    bool has = true;
+    content c = with_entities("a b");
+    put_term(&c, 0, 0, "k", "'xy 1 [1");
+    CHECK(new_store(&s) == CEDAR_OK && BUILD(&s, c, CEDAR_COMPUTE) == CEDAR_OK);
+    CHECK(cedar_store_answer_nodes(&s, 0, nodes, 4) == 0);
+    CHECK(IS(value_at(&s, U("a"), 0, "k"), "'xy 1 [1") && IS(store_answer(&s), ",xy"));
+    CHECK(cedar_store_get(&s, TEXT(U("a")), TEXT("j"), &has) == CEDAR_OK && !has);
+    CHECK(cedar_store_get(&s, TEXT(U("q")), TEXT("k"), &has) == CEDAR_NO_ENTITY && !has);
+    has = true;
+    CHECK(cedar_store_get(&s, TEXT("q"), TEXT("k"), &has) == CEDAR_NOT_A_UID);
+    CHECK(cedar_store_get_tag(&s, TEXT(U("q")), TEXT("k"), &has) == CEDAR_NO_ENTITY);
+    CHECK(cedar_store_get_tag(&s, TEXT(U("a")), TEXT("\xff"), &has) == CEDAR_NOT_UTF8);
+    CHECK(cedar_store_get(&s, TEXT(U("a")), TEXT("\xff"), &has) == CEDAR_NOT_UTF8 && has);
+    CHECK(cedar_store_get_tag(&s, TEXT("q"), TEXT("k"), &has) == CEDAR_NOT_A_UID && has);
+    CHECK(IS(store_value(&s), "'xy 1 [1") && IS(store_answer(&s), ",xy"));
+    /* another answer leaves the nodes, and so does an edit */
+    CHECK(parents(&s, U("a")) == CEDAR_OK && add(&s, "z", CEDAR_COMPUTE) == CEDAR_OK);
+    CHECK(cedar_store_partial(&s) == CEDAR_OK && build(&s, "a a", CEDAR_COMPUTE) == CEDAR_CYCLE);
+    CHECK(cedar_store_answer_nodes(&s, 0, nodes, 4) == 3 && nodes[0].kind == CEDAR_STRING && nodes[0].at.end == 2);
+    CHECK(cedar_store_answer_nodes(&s, 2, nodes, 4) == 3 && nodes[0].kind == CEDAR_RECORD && nodes[0].len == 1);
+    CHECK(nodes[1].kind == CEDAR_LONG && nodes[1].number == 1 && nodes[1].len == 0 && nodes[1].at.end == 0);
+    CHECK(cedar_store_answer_nodes(&s, 3, nodes, 4) == 3 && cedar_store_answer_nodes(&s, SIZE_MAX, nodes, 4) == 3);
+    CHECK(cedar_store_answer_nodes(&s, 1, nodes, 1) == 3 && nodes[0].kind == CEDAR_LONG);
+    CHECK(cedar_store_answer_nodes(&s, 0, nodes, 0) == 3 && nodes[0].kind == CEDAR_LONG);
+    /* a number has no text: the answer is one empty text */
+    CHECK(BUILD(&s, c, CEDAR_COMPUTE) == CEDAR_OK && cedar_store_copy(&s, &t) == CEDAR_OK);
+    CHECK(cedar_store_answer_nodes(&t, 0, nodes, 4) == 0 && cedar_store_answer_nodes(&s, 0, nodes, 4) == 3);
+    c = with_entities("a");
+    put_term(&c, 0, 1, "k", "7");
+    CHECK(BUILD(&t, c, CEDAR_COMPUTE) == CEDAR_OK && IS(value_at(&t, U("a"), 1, "k"), "7"));
+    CHECK(IS(store_answer(&t), ",") && cedar_store_answer(&t, 0, text, 8) == 0);
+    CHECK(sliced(&s, &t, "a") == CEDAR_OK && cedar_store_answer_nodes(&t, 0, nodes, 4) == 0);
+    CHECK(new_store(&s) == CEDAR_OK && cedar_store_answer_nodes(&s, 0, nodes, 4) == 0);
+    cedar_store_free(&s);
+    cedar_store_free(&t);
+}
+
+static void closed_handles(void) {
+    cedar_store s = {0};
+    bool has = true;
+    cedar_node nodes[1] = {{9, 9, {9, 9}, 9}};
+    content c = with_entities("a");
+    CHECK(BUILD(&s, c, 0) == CEDAR_CLOSED && ADD(&s, c, 0) == CEDAR_CLOSED && UPSERT(&s, c, 0) == CEDAR_CLOSED);
+    CHECK(cedar_store_get(&s, TEXT(U("a")), TEXT("k"), &has) == CEDAR_CLOSED && has);
+    CHECK(cedar_store_get_tag(&s, TEXT(U("a")), TEXT("k"), &has) == CEDAR_CLOSED && has);
+    CHECK(cedar_store_answer_nodes(&s, 0, nodes, 1) == 0 && nodes[0].kind == 9 && !s.is_open);
+}
+
+/* ---- what is not read leaves the store */
+
+static cedar_store kept;
+
+/* Whether each of the three calls is refused by a status, and leaves what is kept. */
+static bool refused(content c, uint32_t status) {
+    return BUILD(&kept, c, 0) == status && ADD(&kept, c, 0) == status && UPSERT(&kept, c, 0) == status &&
+           cedar_store_len(&kept) == 1 && has(&kept, U("q")) == 1;
+}
+
+static void terms_out_of_range(void) {
+    const cedar_term wrong[] = {
+        {1, 0, {0, 1}, 0, 1},        {SIZE_MAX, 0, {0, 1}, 0, 1}, {0, 2, {0, 1}, 0, 1},
+        {0, UINT32_MAX, {0, 1}, 0, 1}, {0, 0, {1, 0}, 0, 1},        {0, 1, {0, SIZE_MAX}, 0, 1},
+        {0, 0, {0, 1}, 1, 0},        {0, 0, {0, 1}, 0, 2},        {0, 1, {0, 1}, SIZE_MAX, SIZE_MAX},
+        {0, 0, {0, 1}, 0, 0},        {0, 0, {0, 1}, 1, 1},
+    };
+    for (size_t k = 0; k < sizeof wrong / sizeof *wrong; k++) {
+        content c = with_entities("a b");
+        put_nodes(&c, "1");
+        c.terms[c.terms_len++] = wrong[k];
+        CHECK(refused(c, CEDAR_BAD_ARGUMENT));
+    }
+    const cedar_edge edges[] = {{1, 0}, {0, 2}, {SIZE_MAX, 0}, {0, SIZE_MAX}};
+    for (size_t k = 0; k < sizeof edges / sizeof *edges; k++) {
+        content c = with_entities("a b");
+        c.above[c.above_len++] = edges[k];
+        CHECK(refused(c, CEDAR_BAD_ARGUMENT));
+    }
+    content c = with_entities("a b");
+    CHECK(cedar_store_build_with(&kept, CONTENT(c), 3) == CEDAR_BAD_ARGUMENT);
+    c.l.edges[0].to = 9;
+    CHECK(refused(c, CEDAR_BAD_ARGUMENT));
+}
+
+/* Words that are no partial value, and why. */
+static const struct {
+    const char *words;
+    uint32_t status;
+} NONE[] = {
+    {"", CEDAR_BAD_ARGUMENT},           {"1 2", CEDAR_BAD_ARGUMENT},        {"1 {2", CEDAR_BAD_ARGUMENT},
+    {"1 2 {1", CEDAR_BAD_ARGUMENT},     {"1 [1", CEDAR_BAD_ARGUMENT},       {"1 2 [1", CEDAR_BAD_ARGUMENT},
+    {"'k [1", CEDAR_BAD_ARGUMENT},      {"1 ip(1", CEDAR_BAD_ARGUMENT},     {"ip(0", CEDAR_BAD_ARGUMENT},
+    {"'a 'b ip(2", CEDAR_BAD_ARGUMENT}, {"$0", CEDAR_BAD_ARGUMENT},         {"?0", CEDAR_BAD_ARGUMENT},
+    {"~x:0", CEDAR_BAD_ARGUMENT},       {"t !", CEDAR_BAD_ARGUMENT},        {"$4 *", CEDAR_BAD_ARGUMENT},
+    {"$-1 *", CEDAR_BAD_ARGUMENT},      {"?3 *", CEDAR_BAD_ARGUMENT},       {"~x:1 *", CEDAR_BAD_ARGUMENT},
+    {"1 ~x:1 *", CEDAR_BAD_ARGUMENT},   {"'User ~x:2 *", CEDAR_BAD_ARGUMENT}, {"'k 1 [1 *", CEDAR_BAD_ARGUMENT},
+    {"*", CEDAR_BAD_ARGUMENT},          {"1 * *", CEDAR_BAD_ARGUMENT},      {"1 & *", CEDAR_BAD_ARGUMENT},
+    {"! *", CEDAR_BAD_ARGUMENT},        {"1 {18446744073709551615", CEDAR_BAD_ARGUMENT},
+    {"[9223372036854775808", CEDAR_BAD_ARGUMENT},
+    {"'\xff", CEDAR_NOT_UTF8},          {"'x \xff(1", CEDAR_NOT_UTF8},      {"~\xff:0 *", CEDAR_NOT_UTF8},
+    {"'k \xff(0 *", CEDAR_NOT_UTF8},    {"1 ^\xff *", CEDAR_NOT_UTF8},      {"'\xff ~x:1 *", CEDAR_NOT_UTF8},
+    {"'x 1x(1", CEDAR_NOT_A_NAME},      {"'x A::(1", CEDAR_NOT_A_NAME},     {"'x (1", CEDAR_NOT_A_NAME},
+    {"1 ^if *", CEDAR_NOT_A_NAME},      {"'1 ~x:1 *", CEDAR_NOT_A_NAME},    {"' ~x:1 *", CEDAR_NOT_A_NAME},
+};
+
+static void words_that_are_no_value(void) {
+    for (size_t k = 0; k < sizeof NONE / sizeof *NONE; k++) {
+        content c = with_entities("a");
+        put_term(&c, 0, k & 1, "k", NONE[k].words);
+        bool so = refused(c, NONE[k].status);
+        if (!so) printf("%s: %u\n", NONE[k].words, BUILD(&kept, c, 0));
+        CHECK(so);
+    }
+}
+
+static void fields_that_are_no_value(void) {
+    content c = with_entities("a");
+    put_term(&c, 0, 0, "k", "t");
+    c.nodes[0].number = 2;
+    CHECK(refused(c, CEDAR_BAD_ARGUMENT));
+    c.nodes[0] = (cedar_node){16, 0, {0, 0}, 0};
+    CHECK(refused(c, CEDAR_BAD_ARGUMENT));
+    c.nodes[0].kind = UINT32_MAX;
+    CHECK(refused(c, CEDAR_BAD_ARGUMENT));
+    c.nodes[0] = (cedar_node){CEDAR_STRING, 0, {0, c.l.text_len + 1}, 0};
+    CHECK(refused(c, CEDAR_BAD_ARGUMENT));
+    c.nodes[0] = (cedar_node){CEDAR_UID, 0, {1, 6}, 0};
+    CHECK(refused(c, CEDAR_NOT_A_UID));
+    c.nodes[0].at.start = 7;
+    CHECK(refused(c, CEDAR_BAD_ARGUMENT));
+    c.nodes[0] = (cedar_node){CEDAR_UID, 9, {0, 6}, 9}; /* what a kind does not use is not looked at */
+    c.terms[0].key = put_bytes(&c, "\xc3", 1);
+    CHECK(refused(c, CEDAR_NOT_UTF8));
+    c.terms[0].key.end--;
+    CHECK(BUILD(&kept, c, 0) == CEDAR_OK && IS(value_at(&kept, U("a"), 0, ""), "@a"));
+    CHECK(build(&kept, "q", 0) == CEDAR_OK);
+    c = with_entities("a"); /* a mark that does not count one is none */
+    put_term(&c, 0, 0, "k", "t *");
+    c.nodes[1].len = 0;
+    CHECK(refused(c, CEDAR_BAD_ARGUMENT));
+    c.l.uids[0].end--;
+    CHECK(refused(c, CEDAR_NOT_A_UID));
+}
+
+static cedar_node deep[CEDAR_LEVELS + 2];
+
+/* Sets within sets, or negations of negations, of so many levels. */
+static uint32_t of_levels(size_t levels, uint32_t kind, bool left_over) {
+    content c = with_entities("a");
+    const cedar_span none = {0, 0};
+    size_t count = 0;
+    deep[count++] = (cedar_node){CEDAR_BOOL, 0, none, 1};
+    while (count < levels) deep[count++] = (cedar_node){kind, 1, none, 0};
+    if (left_over) deep[count++] = (cedar_node){CEDAR_RESIDUAL, 1, none, 0};
+    cedar_term term = {0, 0, {0, 0}, 0, count};
+    return cedar_store_build_with(&kept, ENTITIES(c.l), c.above, 0, &term, 1, deep, count, 0);
+}
+
+static void levels(void) {
+    cedar_node *read = malloc((CEDAR_LEVELS + 2) * sizeof *read);
+    bool has = false;
+    CHECK(of_levels(CEDAR_LEVELS + 1, CEDAR_SET, false) == CEDAR_TOO_DEEP && cedar_store_len(&kept) == 1);
+    CHECK(of_levels(CEDAR_LEVELS + 1, CEDAR_NOT, true) == CEDAR_TOO_DEEP && build(&kept, "q", 0) == CEDAR_OK);
+    CHECK(of_levels(CEDAR_LEVELS, CEDAR_NOT, true) == CEDAR_OK);
+    CHECK(cedar_store_get(&kept, TEXT(U("a")), TEXT(""), &has) == CEDAR_OK && has);
+    CHECK(cedar_store_answer_nodes(&kept, 0, read, CEDAR_LEVELS + 2) == CEDAR_LEVELS + 1);
+    CHECK(read[0].kind == CEDAR_BOOL && read[CEDAR_LEVELS - 1].kind == CEDAR_NOT);
+    CHECK(read[CEDAR_LEVELS].kind == CEDAR_RESIDUAL);
+    CHECK(of_levels(CEDAR_LEVELS, CEDAR_SET, false) == CEDAR_OK);
+    CHECK(cedar_store_get(&kept, TEXT(U("a")), TEXT(""), &has) == CEDAR_OK && has);
+    CHECK(cedar_store_answer_nodes(&kept, 0, read, CEDAR_LEVELS + 2) == CEDAR_LEVELS);
+    CHECK(read[CEDAR_LEVELS - 1].kind == CEDAR_SET && read[CEDAR_LEVELS - 1].len == 1);
+    CHECK(build(&kept, "q", 0) == CEDAR_OK);
+    free(read);
+}
+
+/* ---- random nodes */
+
+static uint64_t state = 0x2545f4914f6cdd1d;
+
+static uint32_t drawn(uint32_t below) {
+    state ^= state << 13;
+    state ^= state >> 7;
+    state ^= state << 17;
+    return (uint32_t)((state * 0x9e3779b97f4a7c15u) >> 33) % below;
+}
+
+/* Uids, names, strings, and bytes that are none of these. */
+static const char *const PARTS[] = {"A::\"a\"", "A::\"it\\'s\"", "ip", "N::f", "User", "x", "", "\xc3\xa9", "\xff",
+                                    "if", "A::\"", "a b", "A::\"\xc3\xa9\""};
+static cedar_span parts[sizeof PARTS / sizeof *PARTS];
+
+static cedar_span any_part(const content *c) {
+    if (drawn(40)) return parts[drawn(drawn(3) ? 7 : sizeof PARTS / sizeof *PARTS)];
+    return (cedar_span){drawn(c->l.text_len + 2), drawn(c->l.text_len + 2)};
+}
+
+/* Nodes of which each mostly finds below it as many as it wants, over a stack of `high`. */
+static void draw_nodes(content *c, size_t count) {
+    size_t high = 0;
+    for (size_t k = 0; k < count; k++) {
+        uint32_t kind = drawn(30) ? drawn(3) ? drawn(7) : drawn(15) : drawn(18);
+        size_t len = drawn(20) ? drawn(high + 1) : drawn(4) ? drawn(6) : SIZE_MAX - drawn(3);
+        int64_t number = drawn(10) ? drawn(4) : (int64_t)state;
+        cedar_span at = any_part(c);
+        if (kind == CEDAR_BOOL) number = drawn(20) ? number & 1 : number;
+        if (kind == CEDAR_UID && drawn(20)) at = parts[drawn(2)];
+        if (kind == CEDAR_UNKNOWN && drawn(8)) len = 0;
+        if (kind == CEDAR_RECORD && drawn(20)) len = len < 12 ? len / 2 : len;
+        if (kind == CEDAR_CALL && drawn(2)) len = 1;
+        if (kind == CEDAR_RECORD && high >= 2 && c->nodes_len >= 2 && drawn(2)) {
+            c->nodes[c->nodes_len - 2].kind = CEDAR_STRING;
+            len = 1;
+        }
+        size_t below = kind == CEDAR_SET || kind == CEDAR_CALL ? len
+                       : kind == CEDAR_RECORD                  ? 2 * len
+                       : kind >= CEDAR_AND && kind <= CEDAR_IN ? 2
+                       : kind == CEDAR_NOT || kind == CEDAR_IS ? 1
+                                                               : 0;
+        high = (high < below ? 0 : high - below) + 1;
+        put_node(c, kind, len, at, number);
+    }
+    if (high > 1 && drawn(8)) put_node(c, CEDAR_SET, high, parts[0], 0);
+    if (drawn(3) == 0) put_node(c, CEDAR_RESIDUAL, drawn(8) ? 1 : drawn(3), parts[0], 0);
+}
+
+static content drawn_content(void) {
+    content c = with_entities("a b;b");
+    for (size_t k = 0; k < sizeof PARTS / sizeof *PARTS; k++) parts[k] = put_bytes(&c, PARTS[k], strlen(PARTS[k]));
+    for (uint32_t k = drawn(3); k > 0; k--) {
+        size_t from = c.nodes_len;
+        draw_nodes(&c, drawn(10));
+        cedar_term term = {drawn(2), drawn(2), parts[5 + drawn(3)], from, c.nodes_len};
+        if (drawn(30) == 0) term = (cedar_term){drawn(4), drawn(4), any_part(&c), drawn(12), drawn(12)};
+        c.terms[c.terms_len++] = term;
+    }
+    if (drawn(10) == 0) put_above(&c, drawn(4), drawn(5));
+    return c;
+}
+
+/* The nodes that a store tells of a value, over the text that it tells, as a term of another content. */
+static void put_told(content *c, cedar_store *s, cedar_term term) {
+    uint8_t text[ROOM];
+    size_t len = cedar_store_answer(s, 0, text, sizeof text), from = c->nodes_len;
+    cedar_span at = put_bytes(c, (const char *)text, len);
+    c->nodes_len += cedar_store_answer_nodes(s, 0, c->nodes + from, MOST_NODES - from);
+    for (size_t k = from; k < c->nodes_len; k++) {
+        c->nodes[k].at.start += at.start;
+        c->nodes[k].at.end += at.start;
+    }
+    c->terms[c->terms_len++] = (cedar_term){term.of, term.part, term.key, from, c->nodes_len};
+}
+
+/* Whether what a store tells of each term, given to another store, makes the same entities there. */
+static bool told_alike(cedar_store *s, const content *c, cedar_store *t) {
+    content again = with_entities("a b;b");
+    for (size_t k = 0; k < sizeof PARTS / sizeof *PARTS; k++) put_bytes(&again, PARTS[k], strlen(PARTS[k]));
+    memcpy(again.above, c->above, sizeof again.above);
+    again.above_len = c->above_len;
+    for (size_t k = 0; k < c->terms_len; k++) {
+        const cedar_term *term = &c->terms[k];
+        const uint8_t *uid = term->of ? bytes(U("b")) : bytes(U("a")), *key = c->l.text + term->key.start;
+        size_t len = term->key.end - term->key.start;
+        bool told = false;
+        uint32_t status = term->part ? cedar_store_get_tag(s, uid, 6, key, len, &told)
+                                     : cedar_store_get(s, uid, 6, key, len, &told);
+        if (status || !told) return false;
+        put_told(&again, s, *term);
+    }
+    return BUILD(t, again, CEDAR_COMPUTE) == CEDAR_OK && equal(s, t) == 1 && entity_equal(s, U("a"), t) == 1 &&
+           entity_equal(s, U("b"), t) == 1;
+}
+
+static void random_nodes(long rounds) {
+    cedar_store s = {0}, t = {0};
+    long read = 0, unread = 0, others = 0;
+    CHECK(new_store(&s) == CEDAR_OK && new_store(&t) == CEDAR_OK);
+    for (long k = 0; k < rounds; k++) {
+        content c = drawn_content();
+        uint32_t status = BUILD(&s, c, CEDAR_COMPUTE);
+        if (status == CEDAR_OK) {
+            read++;
+            if (!told_alike(&s, &c, &t)) others++;
+        } else if (status == CEDAR_BAD_ARGUMENT || status == CEDAR_NOT_A_UID || status == CEDAR_NOT_UTF8 ||
+                   status == CEDAR_NOT_A_NAME) {
+            unread++;
+        } else if (status != CEDAR_CYCLE) {
+            others++;
+        }
+    }
+    printf("values.c: of %ld drawn, %ld were read and %ld were not\n", rounds, read, unread);
+    CHECK(others == 0);
+    CHECK(read > rounds / 20 && unread > rounds / 20);
+    cedar_store_free(&s);
+    cedar_store_free(&t);
+}
+
+int main(void) {
+    worked_values();
+    attributes_and_tags();
+    the_last_of_a_key_counts();
+    shared_nodes();
+    indirect_ancestors();
+    no_content();
+    edits_with_content();
+    values_stay();
+    closed_handles();
+    CHECK(new_store(&kept) == CEDAR_OK && build(&kept, "q", 0) == CEDAR_OK);
+    terms_out_of_range();
+    words_that_are_no_value();
+    fields_that_are_no_value();
+    levels();
+    cedar_store_free(&kept);
+    random_nodes(20000);
+    return counted();
+}

@@ -1,0 +1,27 @@
+-- What is found at an id that was read, and the annotation at a key that was.
+use Rattle.std.proofs.Common.{◌≡◌, ℕ, List, [], ◌∷◌, true, false, refl, subst, sym}
+use Rattle.std.specs.Prelude.{Option, Some, None}
+use Rattle.cedar_ids.specs.TextOf.{IsIdentifierText}
+use Rattle.cedar_annotation.specs.Annotations.{AnnotationsView, value_at}
+use Rattle.cedar_policy_set.specs.Boards.{Board}
+use Rattle.cedar_c_sets.specs.Reads.{IsValueTold}
+
+-- what is found at an id that was read is found at its bytes
+pub found : {X : Type 0} (at : Board → List ℕ → Option X) (b : Board) (i id : List ℕ) (x : X) → i ≡ id
+    → Some x ≡ at b i → at b id ≡ Some x
+found at b i id x is f = sym (subst (λ n. Some x ≡ at b n) is f)
+
+-- a key that was read is the text
+pub own_key : (k text : List ℕ) → IsIdentifierText k text → IsIdentifierText text text
+own_key k text r = subst (λ t. IsIdentifierText t t) (sym r.1) (r.0, refl)
+
+-- what is told of an annotation at a key that was read: that there is none, or its value
+pub told_none : (key k : List ℕ) (a : AnnotationsView) (texts : List (List ℕ)) → key ≡ k → None ≡ value_at k a
+    → texts ≡ [] → IsValueTold (value_at key a) false texts
+told_none key k a texts is f p =
+    subst (λ o. IsValueTold o false texts) (subst (λ n. None ≡ value_at n a) (sym is) f) (refl, p)
+
+pub told_one : (key k v : List ℕ) (a : AnnotationsView) (texts : List (List ℕ)) → key ≡ k → Some v ≡ value_at k a
+    → texts ≡ v ∷ [] → IsValueTold (value_at key a) true texts
+told_one key k v a texts is f p =
+    subst (λ o. IsValueTold o true texts) (subst (λ n. Some v ≡ value_at n a) (sym is) f) (refl, p)

@@ -1,0 +1,167 @@
+-- What the calls that read a policy set tell: of the set, and of what an id is bound to.
+use Rattle.std.specs.Prelude.{◌≡◌, ◌⊎◌, ℕ, List, [], ◌∷◌, Bool, true, false, Option, Some, None, Result, Ok, Err}
+use Rattle.std.specs.List.{find, flat_map}
+use Rattle.std.specs.Option.{IfSome, option_map}
+use Rattle.std.specs.Str.{IsUtf8}
+use Rattle.cedar_ids.specs.Printed.{uid_output}
+use Rattle.cedar_ids.specs.TextOf.{IsIdentifierText}
+use Rattle.cedar_ids.specs.Uid.{UidParts}
+use Rattle.cedar_terms.specs.declared.slot.SlotId.TheVariants.{Principal, Action, Resource}
+use Rattle.cedar_annotation.specs.Annotations.{KeysAscend, value_at}
+use Rattle.cedar_binding.specs.Bindings.{EnvParts, is_among}
+use Rattle.cedar_body.specs.Bodies.{BodyParts, body_slots}
+use Rattle.cedar_body.specs.BodyTexts.{body_output}
+use Rattle.cedar_policy.specs.Policies.{PolicyParts}
+use Rattle.cedar_policy.specs.PolicyTexts.{policy_output}
+use Rattle.cedar_policy_set.specs.BoardTexts.{board_output}
+use Rattle.cedar_policy_set.specs.Boards.{Board, Binding, Static, Template, Link, bound_at, is_body_at, is_policy_at}
+use Rattle.cedar_policy_set.specs.Steps.{get_linked_step, no_body}
+use Rattle.cedar_c_lists.specs.Texts.{IsNoId}
+use Rattle.cedar_c_lists.specs.declared.reason.Reason.{Reason}
+use Rattle.cedar_c_lists.specs.declared.reason.Reason.TheVariants as reasons
+use Rattle.cedar_c_sets.specs.Sets.{IsEffect, IsSlots, pair_of}
+use Rattle.cedar_c_sets.specs.declared.kept_set.KeptSet.{KeptSet}
+use Rattle.cedar_c_sets.specs.declared.making.SlotsNamed.{SlotsNamed}
+
+-- ---- what an id is bound to
+
+-- the body with an id, of a static policy or a template
+abbrev pub body_at : Board → List ℕ → Option BodyParts
+body_at b id = find (is_body_at id) b.bodies
+
+-- the policy with an id, a static policy or a link
+abbrev pub policy_at : Board → List ℕ → Option PolicyParts
+policy_at b id = find (is_policy_at id) b.policies
+
+-- the body of what is bound: of a link that of its template
+abbrev pub body_bound : Binding → BodyParts
+body_bound (Static t) = t
+body_bound (Template t) = t
+body_bound (Link l t e) = t
+
+-- the body of what an id is bound to
+abbrev pub bound_body : Board → List ℕ → Option BodyParts
+bound_body b id = option_map body_bound (bound_at b id)
+
+-- the number of what is bound: 1 for a static policy, 2 for a link, 3 for a template, 0 for nothing
+abbrev pub kind_number : Option Binding → ℕ
+kind_number None = 0
+kind_number (Some (Static t)) = 1
+kind_number (Some (Link l t e)) = 2
+kind_number (Some (Template t)) = 3
+
+-- the number of what an id is bound to; or why it is not told
+abbrev pub KindAt : Board → List ℕ → Result ℕ Reason → Type 0
+KindAt b id (Ok n) = IsUtf8 id × (n ≡ kind_number (bound_at b id))
+KindAt b id (Err w) = IsNoId id w
+
+-- ---- what is told
+
+-- why nothing is told of what was looked for at an id
+abbrev pub IsUntoldAt : {X : Type 0} → Option X → List ℕ → Reason → Type 0
+IsUntoldAt {X = X} found id w = IsNoId id w ⊎ ((w ≡ reasons.NoBody) × IsUtf8 id × (found ≡ None))
+
+-- a value of what is found at an id; or why it is not told
+abbrev pub AsksAt : {X V : Type 0} → (Board → List ℕ → Option X) → (V → X → Type 0) → Board → List ℕ → Result V Reason
+    → Type 0
+AsksAt {X = X} at Is b id (Ok v) = IsUtf8 id × ((x : X) × (at b id ≡ Some x) × Is v x)
+AsksAt at Is b id (Err w) = IsUntoldAt (at b id) id w
+
+-- the number of the effect of a body
+abbrev pub IsEffectOf : ℕ → BodyParts → Type 0
+IsEffectOf n t = IsEffect n t.effect
+
+-- the slots of a body
+abbrev pub slots_named : BodyParts → SlotsNamed
+slots_named t = record {
+  principal = is_among (body_slots t) Principal;
+  action = is_among (body_slots t) Action;
+  resource = is_among (body_slots t) Resource;
+}
+
+-- the number of them
+abbrev pub IsSlotsOf : ℕ → BodyParts → Type 0
+IsSlotsOf n t = IsSlots n (slots_named t)
+
+-- ---- answers
+
+-- texts become the answer, and the set and the last refusal are as they were
+abbrev pub IsAnswered : {B H : Type 0} → (List (List ℕ) → Type 0) → KeptSet B H → KeptSet B H → Type 0
+IsAnswered Are i j = (j.set ≡ i.set) × (j.refusal.items ≡ i.refusal.items) × Are j.answer
+
+-- texts of what is found at an id become the answer; or why they do not, and all is as it was
+abbrev pub AnswersAt : {X A B H : Type 0} → (Board → List ℕ → Option X) → (X → List (List ℕ) → Type 0) → List ℕ
+    → Result A Reason → KeptSet B H → KeptSet B H → Type 0
+AnswersAt {X = X} at Are id (Ok a) i j = IsUtf8 id × ((x : X) × (at i.set id ≡ Some x) × IsAnswered (Are x) i j)
+AnswersAt at Are id (Err w) i j = (j ≡ i) × IsUntoldAt (at i.set id) id w
+
+-- a text, of which that is known
+abbrev pub IsTextBy : Option (List ℕ) → List ℕ → Type 0
+IsTextBy output text = IfSome output (λ t. text ≡ t)
+
+-- there is one text, and what is known of it is this
+abbrev pub IsOneBy : Option (List ℕ) → List (List ℕ) → Type 0
+IsOneBy output texts = (t : List ℕ) × (texts ≡ t ∷ []) × IsTextBy output t
+
+-- the text of a body
+abbrev pub IsBodyText : BodyParts → List (List ℕ) → Type 0
+IsBodyText t texts = IsOneBy (body_output t) texts
+
+-- the text of a policy
+abbrev pub IsPolicyText : PolicyParts → List (List ℕ) → Type 0
+IsPolicyText p texts = IsOneBy (policy_output p) texts
+
+-- the id of the template of a policy
+abbrev pub IsTemplateId : PolicyParts → List (List ℕ) → Type 0
+IsTemplateId p texts = texts ≡ p.template.id ∷ []
+
+-- the annotations of a body, keys ascending: each key, and behind it its value
+abbrev pub AreAnnotations : BodyParts → List (List ℕ) → Type 0
+AreAnnotations t texts = (texts ≡ flat_map pair_of t.annotations) × KeysAscend t.annotations
+
+-- the text of what a slot is bound to: the empty one where it is not bound
+abbrev pub IsBoundText : Option UidParts → List ℕ → Type 0
+IsBoundText None text = text ≡ []
+IsBoundText (Some u) text = IsTextBy (uid_output u) text
+
+-- what the principal's, the action's and the resource's slot are bound to
+abbrev pub AreBoundBy : EnvParts → List (List ℕ) → Type 0
+AreBoundBy e texts =
+    (x : List ℕ) × (y : List ℕ) × (z : List ℕ) × (texts ≡ x ∷ y ∷ z ∷ []) × IsBoundText (e Principal) x
+    × IsBoundText (e Action) y × IsBoundText (e Resource) z
+
+-- what those of a policy are bound to
+abbrev pub AreBoundIn : PolicyParts → List (List ℕ) → Type 0
+AreBoundIn p texts = AreBoundBy p.env texts
+
+-- the text of a set becomes the answer; or memory was refused, and all is as it was
+abbrev pub AnswersText : {A B H : Type 0} → Result A Reason → KeptSet B H → KeptSet B H → Type 0
+AnswersText (Ok a) i j = IsAnswered (IsOneBy (board_output i.set)) i j
+AnswersText (Err w) i j = (j ≡ i) × (w ≡ reasons.NoMemory)
+
+-- the ids of the policies on a body become the answer; or why they do not, and all is as it was
+abbrev pub AnswersLinked : {A B H : Type 0} → List ℕ → Result A Reason → KeptSet B H → KeptSet B H → Type 0
+AnswersLinked id (Ok a) i j = IsUtf8 id × IsAnswered (λ ids. get_linked_step i.set id ≡ Ok ids) i j
+AnswersLinked id (Err w) i j =
+    (j ≡ i) × (IsNoId id w ⊎ ((w ≡ reasons.NoBody) × IsUtf8 id × (get_linked_step i.set id ≡ Err (no_body id))))
+
+-- ---- one annotation
+
+-- bytes are no identifier's text, and so the key of no annotation; and why they are not taken as one
+abbrev pub IsNoKey : List ℕ → Reason → Type 0
+IsNoKey key w =
+    (w ≡ reasons.NoMemory)
+    ⊎ ((w ≡ reasons.NotAName) × (IsUtf8 key → (k : List ℕ) → IsIdentifierText k key → ⊥))
+
+-- whether there is a value, which is the only text then; else there is no text
+abbrev pub IsValueTold : Option (List ℕ) → Bool → List (List ℕ) → Type 0
+IsValueTold None has texts = (has ≡ false) × (texts ≡ [])
+IsValueTold (Some v) has texts = (has ≡ true) × (texts ≡ v ∷ [])
+
+-- the annotation at a key, of the body of what an id is bound to, becomes the answer; or why not, and all is as it was
+abbrev pub AnswersAnnotation : {B H : Type 0} → List ℕ → List ℕ → Result Bool Reason → KeptSet B H → KeptSet B H
+    → Type 0
+AnswersAnnotation id key (Ok has) i j =
+    IsUtf8 id × IsIdentifierText key key × ((t : BodyParts) × (bound_body i.set id ≡ Some t)
+    × IsAnswered (IsValueTold (value_at key t.annotations) has) i j)
+AnswersAnnotation id key (Err w) i j = (j ≡ i) × (IsNoKey key w ⊎ IsUntoldAt (bound_body i.set id) id w)

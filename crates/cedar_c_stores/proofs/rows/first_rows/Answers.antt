@@ -1,0 +1,15 @@
+use Rattle.cedar_c_stores.proofs.Gathering.{out_of_first}
+use Rattle.cedar_c_stores.proofs.RowLaws.{first_by}
+use Rattle.cedar_c_stores.proofs.rows.first_rows.Goals as goal
+
+pub returns-in-Err : goal.returns-in-Err
+returns-in-Err c =
+    out_of_first c.args.uids.now c.args.edges.now c.args.count c.in_ok-first.first.now c.in_ok-listed.listed.items
+    c.in-Err.reason c.in_ok-first.ensures.0 c.in_ok-first.ensures.1
+    c.in_ok-listed.ensures c.in-Err.ensures.err
+
+pub returns-in_ok-rows_of-in-Ok : goal.returns-in_ok-rows_of-in-Ok
+returns-in_ok-rows_of-in-Ok c =
+    first_by c.args.uids.now c.args.edges.now c.args.count c.in_ok-first.first.now c.in_ok-listed.listed.items
+    c.put_edges.new.listed.items _ c.in_ok-first.ensures.0 c.in_ok-first.ensures.1
+    c.in_ok-listed.ensures c.in-Ok.ensures.ok c.in-Ok.ensures.range c.in_ok-rows_of-in-Ok.ensures

@@ -1,0 +1,31 @@
+//! Keys of attributes and tags, as a caller gives them.
+ghost use Rattle.std.specs.Prelude.{◌≡◌, MatchResult, string_bytes};
+ghost use Rattle.std.specs.Str.{IsUtf8};
+ghost use Rattle.cedar_c_trees.specs.Reads.{IsTextAt};
+ghost use Rattle.cedar_c_stores.specs.laws.Rows.{IsNoKeyAt};
+ghost use Rattle.cedar_c_lists.specs.declared.reason.Reason.TheVariants.{NotUtf8};
+
+use cedar_c_lists::{Reason, Span, text_at};
+use std::alloc::Global;
+use std::str;
+
+// The key that bytes are. `NotUtf8` comes where they are no text. Takes no memory.
+pub(crate) fn key_of(bytes: &[u8]) -> Result<&str, Reason>
+    ensures { MatchResult result (λ k. IsUtf8 bytes.now × (k.now ≡ bytes.now))
+        (λ w. (w ≡ NotUtf8) × (IsUtf8 bytes.now → ⊥)) }
+{
+    match str::from_utf8(bytes) {
+        Ok(key) => Ok(key),
+        Err(_error) => Err(Reason::NotUtf8),
+    }
+}
+
+// A copy of the key in a part of a text.
+pub(crate) fn key_at(alloc: Global, text: &[u8], at: Span) -> Result<String, Reason>
+    ensures { MatchResult result (λ k. IsTextAt text.now at (string_bytes k)) (IsNoKeyAt text.now at) }
+{
+    let bytes = text_at(text, at)?;
+    let key = key_of(bytes)?;
+    let copy = String::from_str(alloc, key)?;
+    Ok(copy)
+}

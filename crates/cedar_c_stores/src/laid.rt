@@ -1,0 +1,52 @@
+//! Entities from the lists and the content of a caller.
+ghost use Rattle.std.specs.Prelude.{MatchResult};
+ghost use Rattle.cedar_entities.specs.Plain.{entities_in};
+ghost use Rattle.cedar_c_stores.specs.Contents.{AreLaid, IsUnlaid, laid_by};
+ghost use Rattle.cedar_c_stores.specs.laws.Rows.{AreSaid, IsUnsaid};
+
+use crate::content::Content;
+use crate::listing::shared_all;
+use crate::rows::{Row, entities_said, first_rows, put_above, put_terms};
+use crate::store_calls::EntityLists;
+use cedar_c_lists::{Reason, uids_of};
+use cedar_entities::Entity;
+use cedar_uid_sets::SharedUid;
+use std::alloc::Global;
+use std::rc::Rc;
+
+// What lists and content say of the entities with the first of some uids.
+fn rows_laid(
+    alloc: Global,
+    uids: &[SharedUid],
+    lists: EntityLists<'_>,
+    content: Content<'_>,
+) -> Result<Vec<Row>, Reason>
+    ensures { MatchResult result (λ v. AreSaid uids.now (laid_by lists.entry content.entry) v.items)
+        (IsUnsaid uids.now (laid_by lists.entry content.entry)) }
+{
+    let mut rows = first_rows(alloc, uids, lists.count, lists.edges)?;
+    put_above(&mut rows, uids, content.above)?;
+    put_terms(alloc, &mut rows, lists.text, content.nodes, content.terms)?;
+    Ok(rows)
+}
+
+// The entities that lists and content say.
+//
+// Beside what `entities_of` refuses, `BadArgument` comes where an edge to an indirect ancestor leads from no entity or
+// to no uid, and where a term is of no entity or no part, or its key or its nodes are out of range; `NotUtf8` where a
+// key is no text; and what `partial_value_of` refuses where nodes are no value. Takes memory. It reads each uid, each
+// edge, each term and each node once, and sorts the parents, the ancestors and the keys of each entity.
+pub(crate) fn entities_laid(
+    alloc: Global,
+    lists: EntityLists<'_>,
+    content: Content<'_>,
+) -> Result<Vec<Rc<Entity>>, Reason>
+    ensures { MatchResult result (λ v. AreLaid (laid_by lists.entry content.entry) (entities_in v.items))
+        (IsUnlaid (laid_by lists.entry content.entry)) }
+{
+    let uids = shared_all(alloc, uids_of(alloc, lists.text, lists.uids)?)?;
+    match rows_laid(alloc, &uids, lists, content) {
+        Ok(rows) => Ok(entities_said(alloc, rows)?),
+        Err(reason) => Err(reason),
+    }
+}

@@ -1,0 +1,21 @@
+-- An expression that nodes say is read of them, and nothing else is.
+use Rattle.std.proofs.Common.{◌≤◌, ℕ, List, sym}
+use Rattle.cedar_terms.specs.ExprTree.{ExprTree}
+use Rattle.cedar_c_trees.specs.Items.{Joins, flat, tree_levels}
+use Rattle.cedar_c_trees.specs.Ordered.{IsOnlyRead}
+use Rattle.cedar_c_trees.specs.Plans.{HasNames, expr_items, expr_plan}
+use Rattle.cedar_c_trees.specs.Reads.{AllSay}
+use Rattle.cedar_c_trees.specs.Writes.{AreAscii}
+use Rattle.cedar_c_trees.specs.declared.levels.TheConstants.{CEDAR_LEVELS}
+use Rattle.cedar_c_trees.specs.declared.node.Node.{Node}
+use Rattle.cedar_c_trees.proofs.ExprBack.{read_back}
+use Rattle.cedar_c_trees.proofs.SameItem.{same_items}
+
+-- of nodes that say what an expression is written as, that expression is read and no other
+pub expr_back : (e : ExprTree) (text : List ℕ) (ns : List Node) → HasNames e → AreAscii (expr_items e)
+    → tree_levels (expr_plan e) ≤ CEDAR_LEVELS → AllSay text ns (expr_items e) → IsOnlyRead Joins text ns e
+expr_back e text ns n a l s = record {
+  read = record { tree = expr_plan e; says = s; levels = l; value = (read_back e n).planned };
+  only =
+      λ d r. (read_back e n).only r.tree d (sym (same_items text ns (expr_items e) (flat r.tree) a s r.says)) r.value;
+}

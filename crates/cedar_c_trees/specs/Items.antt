@@ -1,0 +1,113 @@
+-- Trees as lists: the item of each node, behind those of all below it.
+use Rattle.std.specs.Prelude.{◌≡◌, ℕ, ◌+◌, max, ℤ, List, [], ◌∷◌, ◌++◌, Bool, length, Option, Some, None}
+use Rattle.cedar_ids.specs.Name.{NameParts}
+use Rattle.cedar_ids.specs.Uid.{UidParts}
+use Rattle.cedar_terms.specs.Fields.{IsRecordOf, IsSetOf}
+use Rattle.cedar_terms.specs.LiteralTree.{bool_literal, long_literal, string_literal, uid_literal}
+use Rattle.cedar_ids.specs.TextOf.{IsNameText}
+use Rattle.cedar_terms.specs.ExprTree.{Operator, ExprTree, val_node, var_node, slot_node, unknown_node, set_node}
+use Rattle.cedar_terms.specs.ExprTree.{call_node, not_node, binary_node, is_node, expr_trees}
+use Rattle.cedar_terms.specs.declared.slot.SlotId.{SlotId}
+use Rattle.cedar_terms.specs.declared.var.Var.{Var}
+use Rattle.cedar_terms.specs.ValueTree.{ValueTree, literal_value, extension_value}
+
+-- what one node says: a literal; a set of so many; a record of so many pairs; a call of a function on so many; a
+-- variable; a slot; an unknown of this name, below which its type stands or nothing; a negation; two joined; and a test
+-- whether what stands below is of a type
+pub data Item : Type 0 where
+  bool_item : Bool → Item
+  long_item : ℤ → Item
+  text_item : List ℕ → Item
+  uid_item : UidParts → Item
+  set_item : ℕ → Item
+  record_item : ℕ → Item
+  call_item : NameParts → ℕ → Item
+  var_item : Var → Item
+  slot_item : SlotId → Item
+  unknown_item : List ℕ → ℕ → Item
+  not_item : Item
+  binary_item : Operator → Item
+  is_item : NameParts → Item
+
+mutual
+  -- a node and what stands below it, in any order and with repeats
+  pub data Tree : Type 0 where
+    node : Item → Trees → Tree
+
+  -- a list of trees
+  pub data Trees : Type 0 where
+    no_trees : Trees
+    tree_then : Tree → Trees → Trees
+
+-- the items of a tree: those of all below its node, and that of the node behind them
+abbrev mutual
+  pub flat : Tree → List Item
+  flat (node i ts) = flats ts ++ i ∷ []
+
+  -- of some trees, one after another
+  pub flats : Trees → List Item
+  flats no_trees = []
+  flats (tree_then t ts) = flat t ++ flats ts
+
+-- how many levels a tree has: one more than the most of those below its node
+abbrev mutual
+  pub tree_levels : Tree → ℕ
+  tree_levels (node i ts) = 1 + most_levels ts
+
+  -- the most levels of some trees, and 0 of none
+  pub most_levels : Trees → ℕ
+  most_levels no_trees = 0
+  most_levels (tree_then t ts) = max (tree_levels t) (most_levels ts)
+
+-- the keys and values of some pairs, one after another, a key as a text
+abbrev pub pairs_listed : List (List ℕ × ValueTree) → List ValueTree
+pairs_listed [] = []
+pairs_listed (p ∷ ps) = literal_value (string_literal p.0) ∷ p.1 ∷ pairs_listed ps
+
+-- v is made of a tree, where C says what a node makes of what is made below it
+abbrev mutual
+  pub IsMadeOf : {V : Type 0} → (Item → List V → V → Type 0) → Tree → V → Type 0
+  IsMadeOf {V = V} C (node i ts) v = (vs : List V) × AreMadeOf C ts vs × C i vs v
+
+  -- the values are made of some trees, one each
+  pub AreMadeOf : {V : Type 0} → (Item → List V → V → Type 0) → Trees → List V → Type 0
+  AreMadeOf C no_trees [] = Unit {0}
+  AreMadeOf C no_trees (v ∷ vs) = ⊥
+  AreMadeOf C (tree_then t ts) [] = ⊥
+  AreMadeOf C (tree_then t ts) (v ∷ vs) = IsMadeOf C t v × AreMadeOf C ts vs
+
+-- v is what a node that says i makes of the values below it
+abbrev pub Combines : Item → List ValueTree → ValueTree → Type 0
+Combines (bool_item b) vs v = (vs ≡ []) × (v ≡ literal_value (bool_literal b))
+Combines (long_item n) vs v = (vs ≡ []) × (v ≡ literal_value (long_literal n))
+Combines (text_item s) vs v = (vs ≡ []) × (v ≡ literal_value (string_literal s))
+Combines (uid_item u) vs v = (vs ≡ []) × (v ≡ literal_value (uid_literal u))
+Combines (set_item n) vs v = (length vs ≡ n) × IsSetOf vs v
+Combines (record_item n) vs v =
+    (ps : List (List ℕ × ValueTree)) × (vs ≡ pairs_listed ps) × (length ps ≡ n) × IsRecordOf ps v
+Combines (call_item f n) vs v =
+    (a : List ℕ) × (n ≡ 1) × (vs ≡ literal_value (string_literal a) ∷ []) × (v ≡ extension_value f a)
+Combines i vs v = ⊥
+
+-- the type of an unknown: none, or what the one text below it names
+abbrev pub IsTypeBelow : Option NameParts → ℕ → List ExprTree → Type 0
+IsTypeBelow None n es = (n ≡ 0) × (es ≡ [])
+IsTypeBelow (Some t) n es =
+    (text : List ℕ) × (n ≡ 1) × (es ≡ val_node (string_literal text) ∷ []) × IsNameText t text
+
+-- e is what a node that says i makes of the expressions below it
+abbrev pub Joins : Item → List ExprTree → ExprTree → Type 0
+Joins (bool_item b) es e = (es ≡ []) × (e ≡ val_node (bool_literal b))
+Joins (long_item n) es e = (es ≡ []) × (e ≡ val_node (long_literal n))
+Joins (text_item s) es e = (es ≡ []) × (e ≡ val_node (string_literal s))
+Joins (uid_item u) es e = (es ≡ []) × (e ≡ val_node (uid_literal u))
+Joins (set_item n) es e = (length es ≡ n) × (e ≡ set_node (expr_trees es))
+Joins (record_item n) es e = ⊥
+Joins (call_item f n) es e = (length es ≡ n) × (e ≡ call_node f (expr_trees es))
+Joins (var_item v) es e = (es ≡ []) × (e ≡ var_node v)
+Joins (slot_item s) es e = (es ≡ []) × (e ≡ slot_node s)
+Joins (unknown_item name n) es e = (t : Option NameParts) × IsTypeBelow t n es
+    × (e ≡ unknown_node (record { name = name; annotation = t }))
+Joins not_item es e = (x : ExprTree) × (es ≡ x ∷ []) × (e ≡ not_node x)
+Joins (binary_item o) es e = (x : ExprTree) × (y : ExprTree) × (es ≡ x ∷ y ∷ []) × (e ≡ binary_node o x y)
+Joins (is_item t) es e = (x : ExprTree) × (es ≡ x ∷ []) × (e ≡ is_node x t)

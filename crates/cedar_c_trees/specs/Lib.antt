@@ -1,0 +1,10 @@
+pub mod Drafts
+pub mod Items
+pub mod Ordered
+pub mod Partials
+pub mod Plans
+pub mod Reads
+pub mod Refusals
+pub mod Shapes
+pub mod Writes
+pub mod laws

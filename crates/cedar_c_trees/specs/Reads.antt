@@ -1,0 +1,63 @@
+-- The items that nodes over a text are, and the values that they are read as.
+use Rattle.std.specs.Prelude.{◌≡◌, ℕ, ◌+◌, ◌≤◌, ℤ, pos, List, Bool, true, false}
+use Rattle.std.specs.List.{AllZip}
+use Rattle.std.specs.Str.{IsUtf8}
+use Rattle.cedar_ids.specs.Name.{NameParts}
+use Rattle.cedar_ids.specs.TextOf.{IsNameText}
+use Rattle.cedar_ids.specs.UidOf.{uid_parts}
+use Rattle.cedar_ids.specs.declared.entity.EntityUID.{EntityUID}
+use Rattle.cedar_c_lists.specs.Answers.{part}
+use Rattle.cedar_c_lists.specs.Texts.{IsInside, IsReadAt}
+use Rattle.cedar_c_lists.specs.declared.layout.Span.{Span}
+use Rattle.cedar_terms.specs.ExprTree.{operator_index}
+use Rattle.cedar_terms.specs.SlotTree.{slot_index}
+use Rattle.cedar_terms.specs.VarTree.{var_index}
+use Rattle.cedar_c_trees.specs.Items.{Item, bool_item, long_item, text_item, uid_item, set_item, record_item}
+use Rattle.cedar_c_trees.specs.Items.{call_item, var_item, slot_item, unknown_item, not_item, binary_item, is_item, Tree, flat, IsMadeOf}
+use Rattle.cedar_c_trees.specs.Items.{tree_levels}
+use Rattle.cedar_c_trees.specs.declared.levels.TheConstants.{CEDAR_LEVELS}
+use Rattle.cedar_c_trees.specs.declared.node.Node.{Node}
+
+-- a truth value as a number
+abbrev pub truth_number : Bool → ℤ
+truth_number true = pos 1
+truth_number false = pos 0
+
+-- a text in UTF-8, which a part of a text is
+abbrev pub IsTextAt : List ℕ → Span → List ℕ → Type 0
+IsTextAt text at s = IsInside text at × IsUtf8 (part text at) × (s ≡ part text at)
+
+-- a name, which a part of a text is
+abbrev pub IsNameAt : List ℕ → Span → NameParts → Type 0
+IsNameAt text at n = IsInside text at × IsNameText n (part text at)
+
+-- a uid, which is read of a part of a text
+abbrev pub IsUidAt : List ℕ → Span → EntityUID → Type 0
+IsUidAt text at u = IsReadAt text u at
+
+-- what a node over a text says
+abbrev pub Says : List ℕ → Node → Item → Type 0
+Says text n (bool_item b) = (n.kind ≡ 0) × (n.number ≡ truth_number b)
+Says text n (long_item z) = (n.kind ≡ 1) × (n.number ≡ z)
+Says text n (text_item s) = (n.kind ≡ 2) × IsTextAt text n.at s
+Says text n (uid_item u) = (n.kind ≡ 3) × ((e : EntityUID) × IsReadAt text e n.at × (uid_parts e ≡ u))
+Says text n (set_item k) = (n.kind ≡ 4) × (n.len ≡ k)
+Says text n (record_item k) = (n.kind ≡ 5) × (n.len ≡ k)
+Says text n (call_item f k) = (n.kind ≡ 6) × (n.len ≡ k) × IsNameAt text n.at f
+Says text n (var_item v) = (n.kind ≡ 7) × (n.number ≡ pos (var_index v))
+Says text n (slot_item s) = (n.kind ≡ 8) × (n.number ≡ pos (slot_index s))
+Says text n (unknown_item s k) = (n.kind ≡ 9) × (n.len ≡ k) × IsTextAt text n.at s
+Says text n not_item = n.kind ≡ 10
+Says text n (binary_item o) = n.kind ≡ 11 + operator_index o
+Says text n (is_item t) = (n.kind ≡ 14) × IsNameAt text n.at t
+
+-- the nodes say the items, one each
+abbrev pub AllSay : List ℕ → List Node → List Item → Type 0
+AllSay text ns is = AllZip (Says text) ns is
+
+-- the nodes are those of a tree of no more levels than a tree may have, and v is made of it
+pub record IsReadAs {V : Type 0} (C : Item → List V → V → Type 0) (text : List ℕ) (ns : List Node) (v : V) : Type 0 where
+  pub tree : Tree
+  pub says : AllSay text ns (flat tree)
+  pub levels : tree_levels tree ≤ CEDAR_LEVELS
+  pub value : IsMadeOf C tree v

@@ -1,0 +1,105 @@
+-- Which trees nodes may be, whatever their texts say.
+use Rattle.std.specs.Prelude.{◌≡◌, ◌⊎◌, ℕ, ◌+◌, pos, List, [], ◌∷◌, Bool, true, false, length}
+use Rattle.std.specs.List.{AllZip}
+use Rattle.cedar_c_lists.specs.Texts.{IsInside}
+use Rattle.cedar_terms.specs.ExprTree.{operator_index}
+use Rattle.cedar_terms.specs.SlotTree.{slot_index}
+use Rattle.cedar_terms.specs.VarTree.{var_index}
+use Rattle.cedar_c_trees.specs.Items.{Item, bool_item, long_item, text_item, uid_item, set_item, record_item, call_item}
+use Rattle.cedar_c_trees.specs.Items.{var_item, slot_item, unknown_item, not_item, binary_item, is_item}
+use Rattle.cedar_c_trees.specs.Items.{Tree, node, Trees, no_trees, tree_then}
+use Rattle.cedar_c_trees.specs.Reads.{truth_number}
+use Rattle.cedar_c_trees.specs.declared.node.Node.{Node}
+
+-- the number of the kind of the nodes that say an item
+abbrev pub kind_number : Item → ℕ
+kind_number (bool_item b) = 0
+kind_number (long_item z) = 1
+kind_number (text_item s) = 2
+kind_number (uid_item u) = 3
+kind_number (set_item k) = 4
+kind_number (record_item k) = 5
+kind_number (call_item f k) = 6
+kind_number (var_item v) = 7
+kind_number (slot_item s) = 8
+kind_number (unknown_item s k) = 9
+kind_number not_item = 10
+kind_number (binary_item o) = 11 + operator_index o
+kind_number (is_item t) = 14
+
+-- the number, the count and the place in a node are as the item asks, whatever is written at that place
+abbrev pub IsFilled : List ℕ → Node → Item → Type 0
+IsFilled text n (bool_item b) = n.number ≡ truth_number b
+IsFilled text n (long_item z) = n.number ≡ z
+IsFilled text n (text_item s) = IsInside text n.at
+IsFilled text n (uid_item u) = IsInside text n.at
+IsFilled text n (set_item k) = n.len ≡ k
+IsFilled text n (record_item k) = n.len ≡ k
+IsFilled text n (call_item f k) = (n.len ≡ k) × IsInside text n.at
+IsFilled text n (var_item v) = n.number ≡ pos (var_index v)
+IsFilled text n (slot_item s) = n.number ≡ pos (slot_index s)
+IsFilled text n (unknown_item s k) = (n.len ≡ k) × IsInside text n.at
+IsFilled text n not_item = Unit {0}
+IsFilled text n (binary_item o) = Unit {0}
+IsFilled text n (is_item t) = IsInside text n.at
+
+-- a node over a text is one for the item, but for what is written in its part of the text
+pub record Fits (text : List ℕ) (n : Node) (i : Item) : Type 0 where
+  pub kind : n.kind ≡ kind_number i
+  pub filled : IsFilled text n i
+
+-- the nodes are such for the items, one each
+abbrev pub AllFit : List ℕ → List Node → List Item → Type 0
+AllFit text ns is = AllZip (Fits text) ns is
+
+-- whether an item is a text
+abbrev pub is_text : Item → Bool
+is_text (text_item s) = true
+is_text i = false
+
+-- which of some trees are texts
+abbrev pub which_texts : Trees → List Bool
+which_texts no_trees = []
+which_texts (tree_then (node i us) ts) = is_text i ∷ which_texts ts
+
+-- which are texts of keys, which are, and values, one after another
+abbrev pub keyed : List Bool → List Bool
+keyed [] = []
+keyed (b ∷ bs) = true ∷ b ∷ keyed bs
+
+-- an item may stand in a value, right above some of which these are texts
+abbrev pub StandsInValue : Item → List Bool → Type 0
+StandsInValue (bool_item b) under = under ≡ []
+StandsInValue (long_item z) under = under ≡ []
+StandsInValue (text_item s) under = under ≡ []
+StandsInValue (uid_item u) under = under ≡ []
+StandsInValue (set_item k) under = length under ≡ k
+StandsInValue (record_item k) under = (bs : List Bool) × (length bs ≡ k) × (under ≡ keyed bs)
+StandsInValue (call_item f k) under = (k ≡ 1) × (under ≡ true ∷ [])
+StandsInValue i under = ⊥
+
+-- an item may stand in an expression, right above some of which these are texts
+abbrev pub StandsInExpr : Item → List Bool → Type 0
+StandsInExpr (bool_item b) under = under ≡ []
+StandsInExpr (long_item z) under = under ≡ []
+StandsInExpr (text_item s) under = under ≡ []
+StandsInExpr (uid_item u) under = under ≡ []
+StandsInExpr (set_item k) under = length under ≡ k
+StandsInExpr (record_item k) under = ⊥
+StandsInExpr (call_item f k) under = length under ≡ k
+StandsInExpr (var_item v) under = under ≡ []
+StandsInExpr (slot_item s) under = under ≡ []
+StandsInExpr (unknown_item s k) under = ((k ≡ 0) × (under ≡ [])) ⊎ ((k ≡ 1) × (under ≡ true ∷ []))
+StandsInExpr not_item under = length under ≡ 1
+StandsInExpr (binary_item o) under = length under ≡ 2
+StandsInExpr (is_item t) under = length under ≡ 1
+
+-- each item of a tree stands where S says that it may
+abbrev mutual
+  pub IsPlan : (Item → List Bool → Type 0) → Tree → Type 0
+  IsPlan S (node i ts) = S i (which_texts ts) × ArePlans S ts
+
+  -- so does each item of some trees
+  pub ArePlans : (Item → List Bool → Type 0) → Trees → Type 0
+  ArePlans S no_trees = Unit {0}
+  ArePlans S (tree_then t ts) = IsPlan S t × ArePlans S ts

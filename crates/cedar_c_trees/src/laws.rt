@@ -1,0 +1,23 @@
+//! Laws of what is read and written.
+ghost use Rattle.std.specs.Prelude.{◌≡◌, List, ℕ};
+ghost use Rattle.cedar_terms.specs.ExprTree.{ExprTree};
+ghost use Rattle.cedar_terms.specs.ValueTree.{ValueTree};
+ghost use Rattle.cedar_c_trees.specs.Items.{Combines, Joins};
+ghost use Rattle.cedar_c_trees.specs.Plans.{HasNames, IsReadBack};
+ghost use Rattle.cedar_c_trees.specs.Reads.{IsReadAs};
+ghost use Rattle.cedar_c_trees.specs.Refusals.{IsPlanned};
+ghost use Rattle.cedar_c_trees.specs.Shapes.{StandsInExpr, StandsInValue};
+ghost use Rattle.cedar_c_trees.specs.declared.node.Node.{Node};
+
+/// What an expression is written as is read as that expression and as no other. Does nothing.
+pub fn written_is_read_back()
+    ensures { (e : ExprTree) → HasNames e → IsReadBack e }
+{}
+
+/// Nodes that are read are such as are refused neither as a bad argument nor as too deep. Does nothing.
+pub fn what_is_read_is_planned()
+    ensures value { (text : List ℕ) (ns : List Node) (v : ValueTree) → IsReadAs Combines text ns v
+        → IsPlanned StandsInValue text ns }
+    ensures expr { (text : List ℕ) (ns : List Node) (e : ExprTree) → IsReadAs Joins text ns e
+        → IsPlanned StandsInExpr text ns }
+{}
