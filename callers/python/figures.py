@@ -1,4 +1,5 @@
 """What a tree of 50,000 entities costs through this package: the least of three runs, in time of the processor."""
+import pickle
 import time
 
 from cedar_store import Policies, Store
@@ -50,7 +51,13 @@ def main():
     told("a million is_descendant_of, of one entity", least(ask_of_one)[0], ASKED)
     told("100,000 uids asked by `in`", least(lambda: [child in store for child, _ in pairs])[0], len(pairs))
     told("100,000 lists of ancestors", least(lambda: [store.ancestors(child) for child, _ in pairs])[0], len(pairs))
+    told("a list of all uids", least(store.uids)[0])
     told("a copy of it", least(store.copy)[0])
+    seconds, pickled = least(lambda: pickle.dumps(store))
+    told("pickling it", seconds)
+    told("making it of that", least(lambda: len(pickle.loads(pickled)))[0])
+    with store.slice(list(entities)[:1000]) as part:
+        told(f"the text of a store of {len(part)} entities", least(lambda: str(part))[0])
     policies = Policies()
     for number in range(20_000):
         policies.add_static(f"p{number}")

@@ -51,6 +51,13 @@ def add_and_link(policies: Policies) -> None:
     policies.link("readers", "staff read reports", principal='Group::"staff"', resource='Folder::"reports"')
 
 
+def list_what_applies(policies: Policies, principal: str, action: str, resource: str) -> None:
+    for id in policies.policies():
+        bound = policies.env(id)
+        if all(slot in (None, uid) for slot, uid in zip(bound, (principal, action, resource))):
+            print(f"applies: {id} ({policies.effect(id).name.lower()})")
+
+
 def merge(policies: Policies, other: Policies) -> None:
     for old, new in policies.merge(other, rename=True).items():
         print(f"{old} of the other set is {new} here")
@@ -98,6 +105,7 @@ def main() -> None:
         with slice_for(store, 'User::"alice"', 'Action::"read"', 'File::"q3"') as part:
             print("the slice:", len(part), "of", len(store), "entities")
         add_and_link(policies)
+        list_what_applies(policies, 'Group::"staff"', 'Action::"read"', 'Folder::"reports"')
         policies.add_static("policy0")
         other.add_static("policy0", Effect.FORBID)
         other.add_static("policy1")

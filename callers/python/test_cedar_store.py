@@ -3,6 +3,7 @@ import concurrent.futures
 import copy
 import gc
 import io
+import multiprocessing
 import os
 import pickle
 import re
@@ -15,7 +16,22 @@ import unittest
 import warnings
 
 import cedar_store
-from cedar_store import Closed, Effect, Mode, Policies, Refused, Store, WrongThread, is_uid, run
+from cedar_store import (
+    Closed,
+    Effect,
+    Entity,
+    EntityUid,
+    Mode,
+    Policies,
+    Refused,
+    Store,
+    Unknown,
+    WrongThread,
+    is_uid,
+    run,
+    status_text,
+    version,
+)
 
 ZEROS = bytes(16)
 
@@ -129,61 +145,154 @@ class Stores(unittest.TestCase):
         self.assertEqual(len(store), 1)
 
 
-class Sets(unittest.TestCase):
-    def test_joins_and_leaves(self):
-        with Policies() as policies:
-            policies.add_static("s", Effect.FORBID)
-            policies.add_template("t", principal=True, action=True, resource=True)
-            policies.link("t", "l", principal=uid("a"), action='Action::"go"', resource=uid("b"))
-            self.assertEqual((policies.bodies(), policies.policies()), (["s", "t"], ["s", "l"]))
-            policies.unlink("l")
-            policies.remove_template("t")
-            policies.remove_static("s")
-            self.assertEqual((policies.bodies(), policies.policies()), ([], []))
+class Reads(unittest.TestCase):
+    def test_iterates(self):
+        store = Store(made(("a", "b"), ("b", "c"), ("x", "")))
+        self.assertEqual(sorted(store), [uid("a"), uid("b"), uid("x")])
+        self.assertEqual((set(store), len(list(store))), (set(store.uids()), len(store)))
+        for name in store:
+            store.remove([name])
+        self.assertEqual((len(store), list(store), bool(store)), (0, [], False))
 
-    def test_refuses(self):
-        policies = Policies()
-        policies.add_template("t", principal=True)
-        policies.link("t", "l", principal=uid("a"))
-        for call, text in (
-            (lambda: policies.add_static("l"), "occupied l"),
-            (lambda: policies.link("x", "m"), "no template to link x"),
-            (lambda: policies.link("t", "t", principal=uid("a")), "occupied t"),
-            (lambda: policies.unlink("t"), "not a link t"),
-            (lambda: policies.remove_static("l"), "not a static policy l"),
-            (lambda: policies.remove_template("t"), "template with links t"),
-        ):
-            with self.assertRaises(Refused) as caught:
-                call()
-            self.assertEqual(str(caught.exception), text)
-        self.assertEqual((policies.bodies(), policies.policies()), (["t"], ["l"]))
+    def test_iterates_over_many(self):
+        entities = {f'A::"n{k}é"': [] for k in range(5000)}
+        self.assertEqual(set(Store(entities)), set(entities))
 
-    def test_takes_any_id(self):
-        policies = Policies(key=ZEROS)
-        for id in ("", "it's", "\0", "é"):
-            policies.add_static(id)
-        self.assertEqual(policies.policies(), ["", "it's", "\0", "é"])
+    def test_entity(self):
+        store = Store(made(("a", "b"), ("b", "c")))
+        self.assertEqual(store.entity(uid("a")), Entity(uid("a"), [uid("b")], indirect_ancestors=[uid("c")]))
+        self.assertEqual(store.entity(uid("a")).ancestors, {uid("b"), uid("c")})
+        self.assertIsNone(store.entity(uid("c")))
+        self.assertFalse(store.is_partial())
+        store.partial()
+        self.assertTrue(store.is_partial() and store.copy().is_partial())
+        self.assertIs(store.entity(uid("c")), Unknown.UNKNOWN)
+        self.assertEqual((store.entity(uid("b")).parents, uid("c") in store), ({uid("c")}, False))
+        self.assertFalse(store.slice([uid("a")]).is_partial())
+        self.assertEqual(len({store.entity(uid("a")), store.entity(uid("a"))}), 1)
         with self.assertRaises(Refused) as caught:
-            policies.add_static("\ud800")
-        self.assertEqual(caught.exception.reason, "not UTF-8")
-        policies.add_template("t", principal=True)
-        for value, reason in (("", "not a uid"), ("a", "not a uid"), (None, "arity")):
-            with self.assertRaises(Refused) as caught:
-                policies.link("t", "l", principal=value)
-            self.assertEqual(caught.exception.reason, reason)
+            store.entity("c")
+        self.assertEqual(caught.exception.reason, "not a uid")
 
-    def test_merges(self):
-        one, other = Policies(), Policies()
-        one.add_static("p")
-        other.add_static("p", Effect.FORBID)
-        before = one.copy()
-        with self.assertRaises(Refused):
-            one.merge(other)
-        self.assertTrue(one == before)
-        self.assertEqual(one.merge(one), {})
-        self.assertTrue(one == before)
-        self.assertEqual(one.merge(other, rename=True), {"p": "policy0"})
-        self.assertFalse(one == before)
+    def test_ancestors(self):
+        store = Store(made(("a", "b"), ("b", "c"), ("c", "d")))
+        self.assertEqual(store.indirect_ancestors(uid("a")), [uid("c"), uid("d")])
+        for name, child, far in (("b", True, False), ("c", False, True), ("a", False, False)):
+            self.assertEqual(store.is_child_of(uid("a"), uid(name)), child)
+            self.assertEqual(store.is_indirect_descendant_of(uid("a"), uid(name)), far)
+        for call in (store.is_child_of, store.is_indirect_descendant_of):
+            for pair, reason in (((uid("z"), uid("a")), "no entity"), ((uid("a"), "b"), "not a uid")):
+                with self.assertRaises(Refused) as caught:
+                    call(*pair)
+                self.assertEqual((caught.exception.reason, str(caught.exception)), (reason, reason))
+
+    def test_attributes_and_tags(self):
+        store = Store(made(("a", "b")))
+        for call, due in (
+            (store.keys, []),
+            (store.tag_keys, []),
+            (store.attrs_len, 0),
+            (store.tags_len, 0),
+        ):
+            self.assertEqual(call(uid("a")), due)
+            with self.assertRaises(Refused) as caught:
+                call(uid("b"))
+            self.assertEqual(caught.exception.reason, "no entity")
+
+    def test_equal_entities(self):
+        store, other = Store(made(("a", "b"), ("b", "c"))), Store(made(("a", "bc"), ("b", "")))
+        self.assertTrue(store.entity_equal(uid("a"), other) and store.entity_equal(uid("a"), store))
+        self.assertFalse(store.entity_equal(uid("b"), other))
+        for its in (other, store):
+            with self.assertRaises(Refused) as caught:
+                store.entity_equal(uid("c"), its)
+            self.assertEqual(caught.exception.reason, "no entity")
+        with self.assertRaises(TypeError):
+            store.entity_equal(uid("a"), None)
+        other.close()
+        with self.assertRaises(Closed):
+            store.entity_equal(uid("a"), other)
+
+    def test_texts(self):
+        store = Store(made(("b", "c"), ("a", "b")))
+        one, other = 'A::"a":\n  attrs:\n  ancestors:A::"b", A::"c"', 'A::"b":\n  attrs:\n  ancestors:A::"c"'
+        self.assertEqual((store.entity_text(uid("a")), str(store)), (one, f"{one}\n{other}\n"))
+        self.assertEqual((f"{store}", str(Store())), (str(store), "<empty Entities>"))
+        many = Store({f'{"BA"[k % 2]}::"n{k}é"': [uid(k)] for k in range(300)})
+        many._call(cedar_store._store._text)
+        due = many._answered()
+        self.assertEqual(str(many), due[0])
+        self.assertEqual(repr(store), "<Store of 2 entities>")
+        self.assertEqual(on_thread(lambda: repr(store)), "<Store of another thread>")
+        store.close()
+        self.assertEqual(repr(store), "<Store, closed>")
+
+    def test_closed(self):
+        store = Store(made(("a", "b")))
+        store.close()
+        for call in (
+            store.uids,
+            store.partial,
+            store.is_partial,
+            lambda: list(store),
+            lambda: str(store),
+            lambda: store.entity(uid("a")),
+            lambda: store.keys(uid("a")),
+            lambda: store.attrs_len(uid("a")),
+            lambda: store.is_child_of(uid("a"), uid("b")),
+            lambda: pickle.dumps(store),
+        ):
+            with self.assertRaises(Closed):
+                call()
+
+    def test_another_thread(self):
+        store = Store(made(("a", "b")))
+        for call in (store.uids, store.partial, store.is_partial, lambda: str(store), lambda: store.entity(uid("a"))):
+            with self.assertRaises(WrongThread):
+                on_thread(call)
+
+
+class Uids(unittest.TestCase):
+    def test_made_and_taken_apart(self):
+        for type, id, text in (
+            ("User", "alice", 'User::"alice"'),
+            ("A::B", "O'Brien", 'A::B::"O\\\'Brien"'),
+            ("A", "", 'A::""'),
+            ("A", 'a"b\n\\', 'A::"a\\"b\\n\\\\"'),
+            ("A", "\0" * 100, f'A::"{chr(92) + "0"}"'.replace("\\0", "\\0" * 100)),
+            ("A", "é🦀", 'A::"é🦀"'),
+        ):
+            made = EntityUid.make(type, id)
+            self.assertEqual((made, made.type, made.id), (text, type, id))
+            self.assertEqual((EntityUid(text), EntityUid.escape(id)), (made, text[len(type) + 3 : -1]))
+            self.assertTrue(made in Store({made: []}) and text in Store({made: []}))
+
+    def test_long_escapes(self):
+        id = "\x01\u200b" * 500
+        self.assertEqual(EntityUid.make("A", id).parts, ("A", id))
+
+    def test_refused(self):
+        for type in ("", "A B", "if", "A::", "1", "A::\"a\"", "\ud800"):
+            with self.assertRaises(Refused) as caught:
+                EntityUid.make(type, "a")
+            self.assertEqual((caught.exception.reason, str(caught.exception)), ("not a name", "not a name"))
+        with self.assertRaises(Refused) as caught:
+            EntityUid.make("A", "\ud800")
+        self.assertEqual(caught.exception.reason, "not UTF-8")
+        for text in ("", "a", "A::a", 'A::"a" '):
+            with self.assertRaises(Refused) as caught:
+                EntityUid(text)
+            self.assertEqual(caught.exception.reason, "not a uid")
+        for call in (lambda: EntityUid(5), lambda: EntityUid.make("A", 5), lambda: EntityUid.make(None, "a")):
+            with self.assertRaises(TypeError):
+                call()
+
+    def test_is_a_text(self):
+        one = EntityUid(uid("a"))
+        self.assertEqual((one, {one: 1}[uid("a")], f"{one}"), (uid("a"), 1, uid("a")))
+        self.assertIs(type(Store({one: []}).uids()[0]), EntityUid)
+        for again in (copy.copy(one), copy.deepcopy(one), pickle.loads(pickle.dumps(one, 0)), on_thread(lambda: one)):
+            self.assertEqual((type(again), again.id), (EntityUid, "a"))
 
 
 class Copies(unittest.TestCase):
@@ -227,6 +336,61 @@ def refuses(entities):
     Store(entities)
 
 
+def edited(store, name):
+    store.add({name: [uid("a")]})
+    return store
+
+
+class Refusals(unittest.TestCase):
+    def test_uids(self):
+        for entities, mode, names in (
+            (made(("a", "a")), Mode.COMPUTE, "a"),
+            (made(("a", "b"), ("a", "c")), Mode.COMPUTE, "a"),
+            (made(("a", "b"), ("b", "c")), Mode.ENFORCE, "abc"),
+        ):
+            with self.assertRaises(Refused) as caught:
+                Store(entities, mode)
+            uids = caught.exception.uids
+            self.assertEqual(uids, tuple(map(uid, names)))
+            self.assertEqual((type(uids), type(uids[0]), uids[0].id), (tuple, EntityUid, "a"))
+            self.assertEqual(pickle.loads(pickle.dumps(caught.exception)).uids, uids)
+        # A uid that has blanks, quotes and what looks like another uid in its id.
+        name = EntityUid.make("N::A", 'x " A::"b" \\')
+        with self.assertRaises(Refused) as caught:
+            Store({name: [name]})
+        self.assertEqual(caught.exception.uids, (name,))
+        with self.assertRaises(Refused) as caught:
+            Store({'Action::"go"': [uid("a")]}).validate()
+        self.assertEqual(caught.exception.uids, ('Action::"go"', uid("a")))
+
+    def test_no_uids(self):
+        policies = Policies()
+        policies.add_static(uid("a"))
+        with self.assertRaises(Refused) as caught:
+            policies.add_static(uid("a"))
+        self.assertEqual((str(caught.exception), caught.exception.uids), ('occupied A::"a"', ()))
+        with self.assertRaises(Refused) as caught:
+            Store().parents("a")
+        self.assertEqual(caught.exception.uids, ())
+        policies.add_template("t", action=True)
+        with self.assertRaises(Refused) as caught:
+            policies.link("t", "l", action=uid("a"))
+        self.assertEqual((caught.exception.reason, caught.exception.uids), ("not an action", (uid("a"),)))
+
+    def test_words(self):
+        reasons = cedar_store._refusals.REASONS
+        self.assertEqual((reasons[26], reasons[27], reasons[28]), ("no body", "not a name", "too deep"))
+        self.assertEqual(set(reasons), set(range(3, 29)))
+        store = Store(made(("a", "b")))
+        with self.assertRaises(Refused):
+            store.add(made(("b", "a")))
+        # These have no text: that of the last refusal is not theirs.
+        for status in (26, 27, 28):
+            with self.assertRaises(Refused) as caught:
+                store._refuse(status)
+            self.assertEqual((caught.exception.reason, str(caught.exception)), (reasons[status], reasons[status]))
+
+
 class Pickles(unittest.TestCase):
     def test_refusals(self):
         for error in (Refused("cycle", 'cycle at A::"a"'), Closed("gone"), WrongThread("a store")):
@@ -242,11 +406,82 @@ class Pickles(unittest.TestCase):
                 pool.submit(refuses, made(("a", "a"))).result()
             self.assertEqual(caught.exception.reason, "cycle")
 
-    def test_stores_and_sets_are_refused(self):
-        for held in (Store(made(("a", "b"))), Policies()):
+    def test_sets_are_refused(self):
+        for protocol in range(pickle.HIGHEST_PROTOCOL + 1):
+            with self.assertRaisesRegex(TypeError, "cannot be pickled"):
+                pickle.dumps(Policies(), protocol)
+
+    def test_stores(self):
+        entities = made(("a", "b"), ("b", "c"), ("x", "bc"), ("é", ""))
+        computed, assumed = Store(entities), Store(entities, Mode.ASSUME)
+        cycle = Store(made(("a", "b"), ("b", "a")), Mode.ASSUME)
+        partial = Store(entities)
+        partial.partial()
+        for store in (Store(), computed, computed.slice([uid("a")]), assumed, cycle, partial):
             for protocol in range(pickle.HIGHEST_PROTOCOL + 1):
-                with self.assertRaisesRegex(TypeError, "cannot be pickled"):
-                    pickle.dumps(held, protocol)
+                again = pickle.loads(pickle.dumps(store, protocol))
+                self.assertTrue(again == store and again is not store)
+                self.assertEqual(again.is_partial(), store.is_partial())
+                for name in store:
+                    self.assertEqual(again.entity(name), store.entity(name))
+
+    def test_stores_that_no_mode_makes(self):
+        store = Store(made(("a", "b"), ("b", "c")), Mode.ASSUME)
+        store.upsert(made(("x", "y"), ("y", "z")))
+        if cedar_store._library.has("store_build_with"):
+            again = pickle.loads(pickle.dumps(store))
+            self.assertEqual([again.entity(uid) for uid in again], [store.entity(uid) for uid in again])
+        else:
+            with self.assertRaisesRegex(TypeError, "no mode makes"):
+                pickle.dumps(store)
+        self.assertEqual(len(store), 4)
+
+    def test_portable_stores(self):
+        store = Store(made(("a", "b"), ("b", "c")))
+        carried = store.portable()
+        self.assertEqual(repr(carried), "<Store that no thread has called yet>")
+        self.assertEqual(on_thread(lambda: carried.ancestors(uid("a"))), [uid("b"), uid("c")])
+        for call in (lambda: len(carried), lambda: carried == store, lambda: pickle.dumps(carried)):
+            with self.assertRaises(WrongThread):
+                call()
+        for call in (
+            lambda other: other == store and store == other,
+            lambda other: uid("a") in other,
+            lambda other: other.is_descendant_of(uid("a"), uid("c")),
+            lambda other: len(other) == 2,
+            lambda other: other.copy() == store,
+            lambda other: not other.is_partial(),
+            lambda other: not other.attrs_len(uid("a")),
+            lambda other: store.entity_equal(uid("a"), other) and other.entity_equal(uid("b"), store),
+            lambda other: on_thread(lambda: pickle.loads(pickle.dumps(other))) == store,
+        ):
+            self.assertTrue(call(store.portable()))
+        other = store.portable()
+        other.close()
+        with self.assertRaises(Closed):
+            other.uids()
+
+    def test_a_portable_store_that_cannot_be_made(self):
+        carried = cedar_store._store._not_made(Store, {uid("a"): [uid("a")]}, Mode.COMPUTE, False)
+        opened = len(cedar_store._held.LOCAL.thread.opened)
+        for call in (carried.uids, lambda: on_thread(carried.uids)):
+            with self.assertRaises(Refused) as caught:
+                call()
+            self.assertEqual(caught.exception.reason, "cycle")
+        self.assertEqual(len(cedar_store._held.LOCAL.thread.opened), opened)
+
+    def test_stores_cross_processes(self):
+        store = Store(made(("a", "b"), ("b", "c")))
+        with concurrent.futures.ProcessPoolExecutor(1) as pool:
+            again = pool.submit(edited, store.portable(), uid("x")).result()
+            # A pool pickles on a thread of its own.
+            with self.assertRaisesRegex(WrongThread, "portable"):
+                pool.submit(edited, store, uid("x")).result()
+        self.assertEqual((set(again), again.parents(uid("x"))), ({uid("a"), uid("b"), uid("x")}, [uid("a")]))
+        self.assertTrue(again.is_descendant_of(uid("x"), uid("c")))
+        self.assertEqual(len(store), 2)
+        with multiprocessing.Pool(1) as pool:
+            self.assertEqual(len(pool.apply(edited, (store.portable(), uid("x")))), 3)
 
 
 class Arguments(unittest.TestCase):
@@ -449,6 +684,7 @@ class Package(unittest.TestCase):
             self.assertEqual(told(), "True\n")
 
     def test_version(self):
+        self.assertEqual(version(), cedar_store.__version__)
         with open(os.path.join(os.path.dirname(os.path.abspath(__file__)), "pyproject.toml")) as project:
             self.assertEqual(re.findall('^version = "(.*)"$', project.read(), re.M), [cedar_store.__version__])
 
@@ -459,6 +695,10 @@ class Package(unittest.TestCase):
 
 
 class Others(unittest.TestCase):
+    def test_status_texts(self):
+        self.assertEqual((status_text(0), status_text(4), status_text(27)), ("ok", "not a uid", "not a name"))
+        self.assertEqual([status_text(number) for number in (1000, -1, 1 << 32, 1 << 64)], [""] * 4)
+
     def test_uids(self):
         self.assertTrue(is_uid(uid("a")))
         self.assertFalse(is_uid("A::a"))
@@ -474,6 +714,8 @@ class Others(unittest.TestCase):
 
 if __name__ == "__main__":
     tests = unittest.defaultTestLoader.loadTestsFromModule(sys.modules["__main__"])
+    for further in ("test_policies", "test_values"):
+        tests.addTests(unittest.defaultTestLoader.loadTestsFromName(further))
     told = io.StringIO()
     result = unittest.TextTestRunner(stream=told, verbosity=0).run(tests)
     ill = len(result.failures) + len(result.errors)

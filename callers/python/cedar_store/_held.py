@@ -4,13 +4,13 @@ from __future__ import annotations
 import ctypes
 import threading
 import warnings
-from typing import Any, Callable, Dict, List, NoReturn, Optional, Tuple, TypeVar
+from typing import Any, Callable, Dict, List, NoReturn, Optional, Tuple, Type, TypeVar
 
 from ._library import SIZES, Handle, halves
-from ._refusals import FIRST_WITH_TEXT, WrongThread, refuse
+from ._refusals import WITH_TEXT, WrongThread, refuse
 
 _ROOM = 4096
-_NOTHING = ctypes.c_size_t(0)
+_NOTHING = SIZES[0]
 _Frees = Callable[[Any], None]
 
 
@@ -24,6 +24,8 @@ class Thread:
         self.left: List[int] = []
         self.truth = ctypes.c_bool(False)
         self.truth_at = ctypes.byref(self.truth)
+        self.number = ctypes.c_size_t(0)
+        self.number_at = ctypes.byref(self.number)
         self.bytes = (ctypes.c_char * _ROOM)()
         self.places = (ctypes.c_size_t * (_ROOM // 4))()
 
@@ -63,6 +65,10 @@ class _Local(threading.local):
 
 LOCAL = _Local()
 
+# Whose a handle is that no thread has opened yet. It frees nothing.
+NOBODY = Thread()
+NOBODY.has_ended = True
+
 _Kind = TypeVar("_Kind", bound="Held")
 
 
@@ -83,14 +89,28 @@ class Held:
     _thread: Thread
 
     def __new__(cls, *_: Any, **__: Any) -> Any:
-        made = super().__new__(cls)
-        made._thread = thread = LOCAL.thread
-        if thread.left:
-            thread.sweep()
+        made = cls._of_nobody()
+        made._open()
+        return made
+
+    @classmethod
+    def _of_nobody(cls: Type[_Kind]) -> _Kind:
+        """A closed one, which is of no thread yet."""
+        made = object.__new__(cls)
+        made._thread = NOBODY
         made._handle = handle = Handle()
         made._at = ctypes.byref(handle)
-        thread.opened[ctypes.addressof(handle)] = handle, cls._free
         return made
+
+    def _open(self) -> None:
+        """It becomes this thread's."""
+        self._thread = thread = LOCAL.thread
+        if thread.left:
+            thread.sweep()
+        thread.opened[ctypes.addressof(self._handle)] = self._handle, self._free
+
+    def _first(self) -> None:
+        """Makes what is of no thread yet this thread's."""
 
     def __init__(self, *, key: Optional[bytes] = None) -> None:
         drawn = halves(key)
@@ -102,9 +122,11 @@ class Held:
     def _mine(self) -> None:
         """Sees to it that the call is on the thread of the handle, and frees what other threads let go of."""
         thread = self._thread
-        if thread is not LOCAL.thread:
+        if thread is NOBODY:
+            self._first()
+        elif thread is not LOCAL.thread:
             raise WrongThread(f"{self._kind} of another thread")
-        if thread.left:
+        elif thread.left:
             thread.sweep()
 
     def _call(self, function: Any, *arguments: Any) -> None:
@@ -116,30 +138,34 @@ class Held:
 
     def _refuse(self, status: int) -> NoReturn:
         text = ""
-        if status >= FIRST_WITH_TEXT:
+        if status in WITH_TEXT:
             length = self._refusal(self._at, b"", 0)
             out = ctypes.create_string_buffer(max(length, 1))
             self._refusal(self._at, out, length)
             text = out.raw[:length].decode("utf-8", "replace")
         refuse(status, text)
 
-    def _answered(self) -> List[str]:
-        """The texts of the last answer."""
-        thread = self._thread
-        out: Any = thread.bytes
+    def _answer_bytes(self) -> bytes:
+        """The bytes of the texts of the last answer."""
+        out: Any = self._thread.bytes
         length = self._answer(self._at, _NOTHING, out, SIZES[_ROOM])
         if length > _ROOM:
             out = (ctypes.c_char * length)()
             self._answer(self._at, _NOTHING, out, SIZES[length])
-        places: Any = thread.places
+        laid: bytes = out[:length]
+        return laid
+
+    def _answered(self) -> List[str]:
+        """The texts of the last answer."""
+        laid = self._answer_bytes()
+        places: Any = self._thread.places
         count = self._answer_spans(self._at, _NOTHING, places, SIZES[_ROOM // 8])
         if count > _ROOM // 8:
             places = (ctypes.c_size_t * (2 * count))()
             self._answer_spans(self._at, _NOTHING, places, SIZES[count])
-        laid = out[:length]
         flat = places[: 2 * count]
         text = laid.decode("utf-8", "replace")
-        if len(text) == length:
+        if len(text) == len(laid):
             return [text[start:end] for start, end in zip(flat[::2], flat[1::2])]
         return [laid[start:end].decode("utf-8", "replace") for start, end in zip(flat[::2], flat[1::2])]
 
@@ -155,7 +181,7 @@ class Held:
     def __deepcopy__(self: _Kind, _: Dict[int, Any]) -> _Kind:
         return self.copy()
 
-    def __reduce__(self) -> NoReturn:
+    def __reduce__(self) -> Tuple[Any, ...]:
         raise TypeError(f"{self._kind} cannot be pickled: no call lists all that it holds. Pickle what it is made of")
 
     def __eq__(self, other: object) -> bool:
@@ -163,6 +189,7 @@ class Held:
             return NotImplemented
         if self is other:
             return True
+        self._mine()
         other._mine()
         self._call(self._equal, other._at, self._thread.truth_at)
         return self._thread.truth.value

@@ -10,9 +10,9 @@ import os
 import struct
 from array import array
 from itertools import accumulate
-from typing import Any, Dict, Iterable, List, Optional, Tuple
+from typing import Any, Dict, Iterable, List, NoReturn, Optional, Tuple
 
-from ._refusals import NOT_A_UID, refuse
+from ._refusals import refuse
 
 
 class Handle(ctypes.Structure):
@@ -29,11 +29,20 @@ _LISTS = _TEXT + [_P, _N, _N, _P, _N, _U]
 _DECLARED: Dict[str, Tuple[Any, List[Any]]] = {
     "run": (_U, _TEXT + _KEY + [_P, _N, _P, _P]),
     "uid_check": (_U, _TEXT),
+    "uid_make": (_U, _TEXT + _TEXT + [_P, _N, _P]),
+    "uid_parts": (_U, _TEXT + [_P, _N, _P, _P]),
+    "status_text": (_N, [_U, _P, _N]),
+    "version": (_U, []),
     "store_build": (_U, [_P] + _LISTS),
     "store_add": (_U, [_P] + _LISTS),
     "store_upsert": (_U, [_P] + _LISTS),
     "store_remove": (_U, [_P] + _TEXT + [_P, _N, _U]),
+    "store_get": (_U, [_P] + _TEXT + _TEXT + [_P]),
+    "store_get_tag": (_U, [_P] + _TEXT + _TEXT + [_P]),
+    "store_answer_nodes": (_N, [_P, _N, _P, _N]),
     "store_validate": (_U, [_P]),
+    "store_uids": (_U, [_P]),
+    "store_text": (_U, [_P]),
     "store_slice": (_U, [_P, _P] + _TEXT + [_P, _N]),
     "policies_add_static": (_U, [_P] + _TEXT + [_U]),
     "policies_add_template": (_U, [_P] + _TEXT + [_U, _U]),
@@ -43,7 +52,15 @@ _DECLARED: Dict[str, Tuple[Any, List[Any]]] = {
     "policies_remove_template": (_U, [_P] + _TEXT),
     "policies_merge": (_U, [_P, _P, ctypes.c_bool]),
     "policies_ids": (_U, [_P, _U]),
+    "policies_annotation": (_U, [_P] + _TEXT + _TEXT + [_P]),
+    "policies_text": (_U, [_P]),
 }
+for _read in ("get", "effect", "slots"):
+    _DECLARED[f"policies_{_read}"] = (_U, [_P] + _TEXT + [_P])
+for _read in ("annotations", "env", "template_id", "linked", "policy_text", "template_text"):
+    _DECLARED[f"policies_{_read}"] = (_U, [_P] + _TEXT)
+for _change in ("build", "add", "upsert"):
+    _DECLARED[f"store_{_change}_with"] = (_U, [_P] + _TEXT + [_P, _N, _N] + [_P, _N] * 4 + [_U])
 for _kind in ("store_", "policies_"):
     _DECLARED[_kind + "new"] = (_U, [_P] + _KEY)
     _DECLARED[_kind + "free"] = (None, [_P])
@@ -86,14 +103,30 @@ def quick(name: str, result: Any = _U) -> Any:
     return found
 
 
+def newer(name: str) -> Any:
+    """A function that not every library has. Where this one lacks it, calling it says so."""
+    if has(name):
+        return function(name)
+
+    def lacking(*_: object) -> NoReturn:
+        raise NotImplementedError(f"the library that is loaded, {_LIBRARY._name}, has no cedar_{name}")
+
+    return lacking
+
+
+def has(name: str) -> bool:
+    """Whether the library has a function."""
+    return hasattr(_LIBRARY, "cedar_" + name)
+
+
 class _Sizes(Dict[int, Any]):
-    """Numbers as `size_t`, those of short texts made once."""
+    """Numbers as a call takes a `size_t`, those of short texts made once."""
 
     def __missing__(self, size: int) -> Any:
-        return ctypes.c_size_t(size)
+        return _N.from_param(size)
 
 
-SIZES = _Sizes({size: ctypes.c_size_t(size) for size in range(513)})
+SIZES = _Sizes({size: _N.from_param(size) for size in range(513)})
 
 
 def encoded(text: str) -> bytes:
@@ -153,15 +186,22 @@ def halves(key: Optional[bytes]) -> Tuple[int, int]:
     return seed, other
 
 
-_run, _uid_check = function("run"), function("uid_check")
+_run, _status_text, _version = function("run"), function("status_text"), function("version")
 
 
-def is_uid(text: str) -> bool:
-    """Whether a text is a uid's."""
-    status = _uid_check(*text_of(text))
-    if status and status != NOT_A_UID:
-        refuse(status)
-    return not status
+def status_text(status: int) -> str:
+    """The words for a status of `cedar.h`, as `not a uid`; none for a number that is no status."""
+    if not 0 <= status < 1 << 32:
+        return ""
+    out = ctypes.create_string_buffer(256)
+    length = _status_text(status, out, 256)
+    return out.raw[:length].decode()
+
+
+def version() -> str:
+    """The version of the library that is loaded, as `0.1.0`."""
+    number = _version()
+    return f"{number >> 16}.{number >> 8 & 255}.{number & 255}"
 
 
 def run(lines: bytes, *, key: Optional[bytes] = None) -> Tuple[bytes, int]:

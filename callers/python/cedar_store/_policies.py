@@ -3,16 +3,22 @@ from __future__ import annotations
 
 import ctypes
 import enum
-from typing import Dict, List, Optional
+from typing import Any, Dict, FrozenSet, List, NamedTuple, Optional
 
 from ._held import Held
-from ._library import Laid, function, quick, text_of
+from ._library import Laid, function, newer, quick, text_of
 from ._refusals import NOT_A_UID, number_of, refuse
+from ._uids import EntityUid
 
 _add_static, _add_template = function("policies_add_static"), function("policies_add_template")
 _link, _unlink = function("policies_link"), function("policies_unlink")
 _remove_static, _remove_template = function("policies_remove_static"), function("policies_remove_template")
 _merge, _ids = function("policies_merge"), function("policies_ids")
+_get, _effect, _slots = newer("policies_get"), newer("policies_effect"), newer("policies_slots")
+_annotation, _annotations = newer("policies_annotation"), newer("policies_annotations")
+_env, _template_id, _linked = newer("policies_env"), newer("policies_template_id"), newer("policies_linked")
+_text, _policy_text = newer("policies_text"), newer("policies_policy_text")
+_template_text = newer("policies_template_text")
 
 
 class Effect(enum.IntEnum):
@@ -20,6 +26,25 @@ class Effect(enum.IntEnum):
 
     PERMIT = 0
     FORBID = 1
+
+
+class Bound(enum.IntEnum):
+    """What an id of a set is bound to."""
+
+    STATIC = 1
+    LINK = 2
+    TEMPLATE = 3
+
+
+class Env(NamedTuple):
+    """What a policy's slots are bound to; None where there is no such slot."""
+
+    principal: Optional[EntityUid]
+    action: Optional[EntityUid]
+    resource: Optional[EntityUid]
+
+
+_SLOTS = {1: "principal", 2: "action", 4: "resource"}
 
 
 class Policies(Held):
@@ -98,3 +123,61 @@ class Policies(Held):
         """The ids of static policies and links, in the order in which they joined."""
         self._call(_ids, 1)
         return self._answered()
+
+    def _number(self, call: Any, id: str) -> int:
+        number = ctypes.c_uint32(0)
+        self._call(call, *text_of(id), ctypes.byref(number))
+        return number.value
+
+    def _texts(self, call: Any, *arguments: Any) -> List[str]:
+        self._call(call, *arguments)
+        return self._answered()
+
+    def get(self, id: str) -> Optional[Bound]:
+        """What an id is bound to, or None."""
+        bound = self._number(_get, id)
+        return Bound(bound) if bound else None
+
+    def effect(self, id: str) -> Effect:
+        """The effect of what an id is bound to; a link has that of its template."""
+        return Effect(self._number(_effect, id))
+
+    def slots(self, id: str) -> FrozenSet[str]:
+        """The slots of a template, of `principal`, `action` and `resource`; a static policy has none."""
+        slots = self._number(_slots, id)
+        return frozenset(name for bit, name in _SLOTS.items() if slots & bit)
+
+    def annotation(self, id: str, key: str) -> Optional[str]:
+        """The annotation at a key, or None; a link has those of its template."""
+        has = ctypes.c_bool(False)
+        self._call(_annotation, *text_of(id), *text_of(key), ctypes.byref(has))
+        return "".join(self._answered()) if has.value else None
+
+    def annotations(self, id: str) -> Dict[str, str]:
+        """All annotations, in the order of the bytes of their keys."""
+        texts = self._texts(_annotations, *text_of(id))
+        return dict(zip(texts[::2], texts[1::2]))
+
+    def env(self, id: str) -> Env:
+        """What the slots of a link are bound to; a static policy binds none."""
+        return Env(*(EntityUid(uid) if uid else None for uid in self._texts(_env, *text_of(id))))
+
+    def template_id(self, id: str) -> str:
+        """The id of a link's template; a static policy's is its own."""
+        return "".join(self._texts(_template_id, *text_of(id)))
+
+    def linked(self, id: str) -> List[str]:
+        """The ids of a template's links, in the order in which they joined; of a static policy it is its own."""
+        return self._texts(_linked, *text_of(id))
+
+    def policy_text(self, id: str) -> str:
+        """The text of a static policy or a link, for people to read."""
+        return "".join(self._texts(_policy_text, *text_of(id)))
+
+    def template_text(self, id: str) -> str:
+        """The text of a template or a static policy, for people to read."""
+        return "".join(self._texts(_template_text, *text_of(id)))
+
+    def __str__(self) -> str:
+        """The text of the set, for people to read."""
+        return "".join(self._texts(_text))

@@ -2,7 +2,11 @@
 from __future__ import annotations
 
 import enum
-from typing import Any, NoReturn, Tuple, Type
+import re
+from typing import TYPE_CHECKING, Any, NoReturn, Tuple, Type
+
+if TYPE_CHECKING:
+    from ._uids import EntityUid
 
 # The words for the statuses of `cedar.h`, from 3 on.
 REASONS = dict(
@@ -10,13 +14,22 @@ REASONS = dict(
         (
             "bad argument, not a uid, not UTF-8, no entity, duplicate, cycle, not closed, self ancestor, "
             "duplicate ancestor, action parent, reserved key, occupied, no such template, arity, not an action, "
-            "id conflict, no link, not a link, no template, with links, not a template, no static, not static"
+            "id conflict, no link, not a link, no template, with links, not a template, no static, not static, "
+            "no body, not a name, too deep"
         ).split(", "),
         3,
     )
 )
 
-NO_MEMORY, CLOSED, NOT_A_UID, FIRST_WITH_TEXT = 1, 2, 4, 7
+# The reasons whose texts name uids; all others name an id, a key or slots, or nothing.
+_NAME_UIDS = frozenset(
+    ("duplicate", "cycle", "not closed", "self ancestor", "duplicate ancestor", "action parent", "not an action")
+)
+_UID = re.compile(r'[^\s"]+::"(?:[^"\\]|\\.)*"', re.DOTALL)
+
+NO_MEMORY, CLOSED, NOT_A_UID, NO_ENTITY = 1, 2, 4, 6
+# Those that have a text.
+WITH_TEXT = range(7, 26)
 
 
 class Closed(Exception):
@@ -36,6 +49,13 @@ class Refused(Exception):
         super().__init__(text)
         self.reason = reason
 
+    @property
+    def uids(self) -> Tuple[EntityUid, ...]:
+        """The uids that the text names, in its order: of `not closed` the entity, its ancestor and the missing one."""
+        from ._uids import named
+
+        return tuple(named(_UID.findall(str(self)) if self.reason in _NAME_UIDS else ()))
+
     def __reduce__(self) -> Tuple[Any, ...]:
         return type(self), (self.reason, str(self)), self.__dict__.copy()
 
@@ -46,7 +66,7 @@ def refuse(status: int, text: str = "") -> NoReturn:
         raise MemoryError("out of memory")
     if status == CLOSED:
         raise Closed("it was let go of before")
-    reason = REASONS.get(status, "refused")
+    reason = REASONS.get(status, f"status {status}")
     raise Refused(reason, text or reason)
 
 

@@ -3,19 +3,46 @@ from __future__ import annotations
 
 import ctypes
 import enum
-from typing import Any, Iterable, List, Mapping, Optional, Tuple, Union
+from typing import Any, Dict, Iterable, Iterator, List, Mapping, Optional, Tuple, Type, TypeVar, Union
 
-from ._held import LOCAL, Held
-from ._library import SIZES, Laid, encoded, function, laid_edges, listed, quick
-from ._refusals import NOT_A_UID, number_of
+from ._content import Content
+from ._entity import Entity, Unknown
+from ._held import LOCAL, NOBODY, Held
+from ._library import SIZES, Laid, encoded, function, has, laid_edges, listed, newer, quick, text_of
+from ._refusals import NOT_A_UID, Refused, WrongThread, number_of
+from ._uids import EntityUid, named
+from .values import NODE_SIZE, Term, from_nodes, unpacked
 
-# Entities as they are handed in: uids with their parents.
-Entities = Union[Mapping[str, Iterable[str]], Iterable[Tuple[str, Iterable[str]]]]
+# Entities as they are handed in: uids with their parents, or those that have more than that.
+Entities = Union[
+    Mapping[str, Iterable[str]],
+    Mapping[EntityUid, Iterable[str]],
+    Iterable[Union[Tuple[str, Iterable[str]], Entity]],
+]
 
-_build, _add, _upsert, _remove = [function("store_" + name) for name in ("build", "add", "upsert", "remove")]
+# Each change by uids and parents alone, and by all that entities have.
+_build, _add, _upsert = [
+    (function("store_" + name), newer(f"store_{name}_with")) for name in ("build", "add", "upsert")
+]
+_remove = function("store_remove")
+_get, _get_tag, _answer_nodes = newer("store_get"), newer("store_get_tag"), newer("store_answer_nodes")
 _validate, _slice = function("store_validate"), function("store_slice")
-_len, _has, _is_below = quick("store_len", ctypes.c_size_t), quick("store_has"), quick("store_is_descendant_of")
-_ancestors, _parents = quick("store_ancestors"), quick("store_parents")
+_uids, _text = function("store_uids"), function("store_text")
+_len, _has, _entity = quick("store_len", ctypes.c_size_t), quick("store_has"), quick("store_entity")
+_partial, _is_partial = quick("store_partial"), quick("store_is_partial")
+_is_below, _is_child = quick("store_is_descendant_of"), quick("store_is_child_of")
+_is_far_below = quick("store_is_indirect_descendant_of")
+_ancestors, _parents, _indirect = [
+    quick("store_" + name) for name in ("ancestors", "parents", "indirect_ancestors")
+]
+_keys, _tag_keys, _entity_text = quick("store_keys"), quick("store_tag_keys"), quick("store_entity_text")
+_attrs_len, _tags_len = quick("store_attrs_len"), quick("store_tags_len")
+_entity_equal = quick("store_entity_equal")
+
+
+# As many entities are written by one call of the library.
+_FEW = 100
+_Kind = TypeVar("_Kind", bound="Store")
 
 
 class Mode(enum.IntEnum):
@@ -37,9 +64,9 @@ def _laid(entities: Entities) -> Tuple[Laid, int, List[int]]:
     """Entities as a list of uids, theirs first and then those of their other parents; how many they are; edges."""
     above: Iterable[Iterable[str]]
     if isinstance(entities, Mapping):
-        uids, above = list(entities), entities.values()
+        uids, above = [*entities], entities.values()
     else:
-        pairs = list(entities)
+        pairs: List[Any] = list(entities)
         uids, above = [uid for uid, _ in pairs], [parents for _, parents in pairs]
     count = len(uids)
     places = dict(zip(uids, range(count)))
@@ -65,8 +92,10 @@ class Store(Held):
     argument that is none leave it as it was, and `MemoryError` the one or the other. `copy` before keeps the old one.
     """
 
-    __slots__ = ()
+    __slots__ = ("_made_of",)
     _kind = "a store"
+    # While it is of no thread: the entities, the mode and whether it is partial.
+    _made_of: List[Tuple[Entities, int, bool]]
     _new, _free, _copy = function("store_new"), function("store_free"), function("store_copy")
     _equal, _refusal = function("store_equal"), function("store_refusal")
     _answer = quick("store_answer", ctypes.c_size_t)
@@ -77,8 +106,23 @@ class Store(Held):
         super().__init__(key=key)
         self._changed(_build, entities, mode)
 
-    def _changed(self, call: Any, entities: Entities, mode: int) -> None:
+    @classmethod
+    def build(cls: Type[_Kind], entities: Entities, mode: int = Mode.COMPUTE, *, key: Optional[bytes] = None) -> _Kind:
+        """The store of some entities, as the class itself makes it."""
+        return cls(entities, mode, key=key)
+
+    def _changed(self, calls: Tuple[Any, Any], entities: Entities, mode: int) -> None:
         number = number_of(mode, Mode)
+        call, call_with = calls
+        if not isinstance(entities, Mapping):
+            entities = list(entities)
+            if Entity in set(map(type, entities)):
+                rows = [one if isinstance(one, Entity) else Entity(*one) for one in entities]
+                if any(row.has_content for row in rows):
+                    content = Content(rows)
+                    self._call(call_with, *content.arguments(), number)
+                    return
+                entities = [(row.uid, row.parents) for row in rows]
         laid, count, edges = _laid(entities)
         crossing = laid_edges(edges)
         address, length = crossing.buffer_info()
@@ -107,6 +151,7 @@ class Store(Held):
         thread = self._thread
         if thread is not LOCAL.thread or thread.left:
             self._mine()
+            thread = self._thread
         if not isinstance(uid, str):
             return False
         laid = encoded(uid)
@@ -125,6 +170,7 @@ class Store(Held):
         thread = self._thread
         if thread is not LOCAL.thread or thread.left:
             self._mine()
+            thread = self._thread
         try:
             one, other = child.encode(), ancestor.encode()
         except (AttributeError, UnicodeEncodeError):
@@ -134,21 +180,221 @@ class Store(Held):
             self._refuse(status)
         return thread.truth.value
 
-    def _asked(self, call: Any, uid: str) -> List[str]:
+    def _is(self, call: Any, child: str, other: str) -> bool:
         self._mine()
-        laid = encoded(uid)
-        status = call(self._at, laid, SIZES[len(laid)])
+        one, two = encoded(child), encoded(other)
+        status = call(self._at, one, SIZES[len(one)], two, SIZES[len(two)], self._thread.truth_at)
         if status:
             self._refuse(status)
-        return self._answered()
+        return self._thread.truth.value
+
+    def is_child_of(self, child: str, parent: str) -> bool:
+        """Whether a uid is a parent of an entity."""
+        return self._is(_is_child, child, parent)
+
+    def is_indirect_descendant_of(self, child: str, ancestor: str) -> bool:
+        """Whether a uid is an ancestor of an entity and, in a store that was computed, no parent of it."""
+        return self._is(_is_far_below, child, ancestor)
+
+    def _asked(self, call: Any, uid: str, *more: Any) -> None:
+        """A call about one uid."""
+        self._mine()
+        laid = encoded(uid)
+        status = call(self._at, laid, SIZES[len(laid)], *more)
+        if status:
+            self._refuse(status)
 
     def ancestors(self, uid: str) -> List[str]:
         """The ancestors of an entity, in the order of uids."""
-        return self._asked(_ancestors, uid)
+        self._asked(_ancestors, uid)
+        return self._answered()
 
     def parents(self, uid: str) -> List[str]:
         """The parents of an entity, in the order of uids."""
-        return self._asked(_parents, uid)
+        self._asked(_parents, uid)
+        return self._answered()
+
+    def indirect_ancestors(self, uid: str) -> List[str]:
+        """The ancestors of an entity that are, in a store that was computed, no parents of it, in the order of uids."""
+        self._asked(_indirect, uid)
+        return self._answered()
+
+    def uids(self) -> List[EntityUid]:
+        """The uids of all entities, each once, in no order that means anything."""
+        self._call(_uids)
+        return named(self._answered())
+
+    def __iter__(self) -> Iterator[EntityUid]:
+        """The uids that the store has now: what changes it meanwhile does not change them."""
+        return iter(self.uids())
+
+    def entity(self, uid: str) -> Union[Entity, Unknown, None]:
+        """The entity with a uid as it is now; without one None or, in a partial store, `Unknown.UNKNOWN`."""
+        found = ctypes.c_uint32(0)
+        self._asked(_entity, uid, ctypes.byref(found))
+        if found.value == 2:
+            return self._read(uid, self.indirect_ancestors(uid))
+        return Unknown.UNKNOWN if found.value else None
+
+    def _read(self, uid: str, indirect_ancestors: Iterable[str] = ()) -> Entity:
+        attrs, tags = self._terms(_get, uid, self.keys(uid)), self._terms(_get_tag, uid, self.tag_keys(uid))
+        return Entity(uid, self.parents(uid), attrs=attrs, tags=tags, indirect_ancestors=indirect_ancestors)
+
+    def _terms(self, call: Any, uid: str, keys: List[str]) -> Dict[str, Term]:
+        terms = {}
+        for key in keys:
+            term = self._got(call, uid, key)
+            if term is not None:
+                terms[key] = term
+        return terms
+
+    def partial(self) -> None:
+        """The store becomes partial: what it lacks is not known then. A slice is not, a copy is as its source."""
+        self._call(_partial)
+
+    def is_partial(self) -> bool:
+        """Whether the store is partial."""
+        self._mine()
+        self._call(_is_partial, self._thread.truth_at)
+        return self._thread.truth.value
+
+    def keys(self, uid: str) -> List[str]:
+        """The keys of an entity's attributes, in the order of their bytes."""
+        self._asked(_keys, uid)
+        return self._answered()
+
+    def tag_keys(self, uid: str) -> List[str]:
+        """The keys of an entity's tags, in the order of their bytes."""
+        self._asked(_tag_keys, uid)
+        return self._answered()
+
+    def _got(self, call: Any, uid: str, key: str) -> Optional[Term]:
+        self._mine()
+        thread = self._thread
+        self._call(call, *text_of(uid), *text_of(key), thread.truth_at)
+        if not thread.truth.value:
+            return None
+        count = _answer_nodes(self._at, 0, b"", 0)
+        out = ctypes.create_string_buffer(NODE_SIZE * count)
+        _answer_nodes(self._at, 0, out, count)
+        return from_nodes(self._answer_bytes(), unpacked(out.raw))
+
+    def get(self, uid: str, key: str) -> Optional[Term]:
+        """The attribute of an entity at a key: a value, or an expression that is left over. None where it has none."""
+        return self._got(_get, uid, key)
+
+    def get_tag(self, uid: str, key: str) -> Optional[Term]:
+        """The tag of an entity at a key, as `get` gives an attribute."""
+        return self._got(_get_tag, uid, key)
+
+    def attrs_len(self, uid: str) -> int:
+        """How many attributes an entity has."""
+        self._mine()
+        self._asked(_attrs_len, uid, self._thread.number_at)
+        return self._thread.number.value
+
+    def tags_len(self, uid: str) -> int:
+        """How many tags an entity has."""
+        self._mine()
+        self._asked(_tags_len, uid, self._thread.number_at)
+        return self._thread.number.value
+
+    def entity_equal(self, uid: str, other: Store) -> bool:
+        """Whether the entities that two stores have with a uid have the same attributes, tags and ancestors."""
+        if not isinstance(other, Store):
+            raise TypeError(f"a store is wanted, and this is a {type(other).__name__}")
+        if other is self:
+            self.attrs_len(uid)
+            return True
+        self._mine()
+        other._mine()
+        self._asked(_entity_equal, uid, other._at, self._thread.truth_at)
+        return self._thread.truth.value
+
+    def entity_text(self, uid: str) -> str:
+        """The text of an entity, for people to read: its uid, its attributes and its ancestors."""
+        self._asked(_entity_text, uid)
+        return "".join(self._answered())
+
+    def __str__(self) -> str:
+        """The texts of all entities in the order of uids, each with a line feed behind it, for people to read."""
+        if len(self) <= _FEW:
+            self._call(_text)
+            return "".join(self._answered())
+        # That call looks through all entities for each. The parents of one are listed in the order of uids.
+        uids = self.uids()
+        with Store({uids[0]: uids}, Mode.ASSUME) as order:
+            return "".join([self.entity_text(uid) + "\n" for uid in order.parents(uids[0])])
+
+    def __repr__(self) -> str:
+        """How many entities there are. It raises nothing."""
+        if self._thread is NOBODY:
+            return "<Store that no thread has called yet>"
+        if self._thread is not LOCAL.thread:
+            return "<Store of another thread>"
+        return f"<Store of {len(self)} entities>" if self._handle.is_open else "<Store, closed>"
+
+    def portable(self: _Kind) -> _Kind:
+        """A store of the same entities, partial as this one is, which is of the thread that calls it first.
+
+        It is for other threads, and for a pool of processes, which pickles what it is handed on a thread of its own. It
+        has a key of its own. `TypeError` where the store cannot be made again.
+        """
+        entities, mode = self._recipe()
+        return _not_made(type(self), entities, mode, self.is_partial())
+
+    def __reduce__(self) -> Tuple[Any, ...]:
+        """What `portable` answers is pickled: the uids with their parents, a mode, and whether it is partial."""
+        source = self
+        if self._thread is not NOBODY:
+            if self._thread is not LOCAL.thread:
+                raise WrongThread("a store of another thread, as a pool pickles it: hand over its `portable()`")
+            source = self.portable()
+        for made_of in source._made_of:
+            return (_not_made, (type(self), *made_of))
+        raise WrongThread("a store of another thread")
+
+    def _first(self) -> None:
+        try:
+            made_of = self._made_of.pop()
+        except IndexError:
+            raise WrongThread("a store of another thread") from None
+        self._open()
+        try:
+            entities, mode, is_partial = made_of
+            Store.__init__(self, entities, mode)
+            if is_partial:
+                self.partial()
+        except BaseException:
+            self._thread.free(ctypes.addressof(self._handle))
+            self._thread = NOBODY
+            self._made_of.append(made_of)
+            raise
+
+    def _recipe(self) -> Tuple[Entities, int]:
+        """Entities and a mode that make this store. It makes the store to see that."""
+        uids = list(map(str, self.uids()))
+        entities: Entities = self._with_parents(uids)
+        if has("store_build_with") and any(self.attrs_len(uid) or self.tags_len(uid) for uid in uids):
+            entities = [self._read(uid) for uid in uids]
+        for mode in (Mode.COMPUTE, Mode.ASSUME):
+            if self._is_made_of(entities, mode):
+                return entities, int(mode)
+        if not has("store_build_with"):
+            raise TypeError("a store cannot be pickled whose ancestors no mode makes of its parents")
+        return [self._read(uid, self.indirect_ancestors(uid)) for uid in uids], int(Mode.ASSUME)
+
+    def _with_parents(self, uids: List[str]) -> Dict[str, List[str]]:
+        # Each text is one object, which is pickled once.
+        texts = dict(zip(uids, uids))
+        return {uid: [texts.setdefault(parent, parent) for parent in self.parents(uid)] for uid in uids}
+
+    def _is_made_of(self, entities: Entities, mode: int) -> bool:
+        try:
+            with _not_made(type(self), entities, mode, self.is_partial()) as again:
+                return again == self
+        except Refused:
+            return False
 
     def validate(self) -> None:
         """Raises the first fault of the store, if there is one."""
@@ -161,3 +407,10 @@ class Store(Held):
         fresh: Store = Store.__new__(type(self))
         self._call(_slice, fresh._at, *laid.arguments())
         return fresh
+
+
+def _not_made(kind: Type[_Kind], entities: Entities, mode: int, is_partial: bool) -> _Kind:
+    """A store that is made by the first call on it."""
+    store = kind._of_nobody()
+    store._made_of = [(entities, mode, is_partial)]
+    return store

@@ -27,6 +27,9 @@ type Tells = unsafe extern "C" fn(*mut Handle, usize, *mut u8, usize) -> usize;
 type Places = unsafe extern "C" fn(*mut Handle, usize, *mut Span, usize) -> usize;
 type Words = unsafe extern "C" fn(*mut Handle, *mut u8, usize) -> usize;
 type ById = unsafe extern "C" fn(*mut Handle, *const u8, usize) -> u32;
+type Counts = unsafe extern "C" fn(*mut Handle, *const u8, usize, *mut usize) -> u32;
+type Judges =
+    unsafe extern "C" fn(*mut Handle, *const u8, usize, *const u8, usize, *mut bool) -> u32;
 type Change = unsafe extern "C" fn(
     *mut Handle,
     *const u8,
@@ -51,6 +54,23 @@ extern "C" {
         ended: *mut u32,
     ) -> u32;
     fn cedar_uid_check(text: *const u8, len: usize) -> u32;
+    fn cedar_uid_make(
+        ty: *const u8,
+        ty_len: usize,
+        id: *const u8,
+        id_len: usize,
+        out: *mut u8,
+        room: usize,
+        told: *mut usize,
+    ) -> u32;
+    fn cedar_uid_parts(
+        uid: *const u8,
+        len: usize,
+        out: *mut u8,
+        room: usize,
+        ty_len: *mut usize,
+        told: *mut usize,
+    ) -> u32;
 
     fn cedar_store_new(s: *mut Handle, seed: u64, key: u64) -> u32;
     fn cedar_store_free(s: *mut Handle);
@@ -105,8 +125,42 @@ extern "C" {
         ancestor_len: usize,
         answer: *mut bool,
     ) -> u32;
+    fn cedar_store_is_child_of(
+        s: *mut Handle,
+        child: *const u8,
+        child_len: usize,
+        parent: *const u8,
+        parent_len: usize,
+        answer: *mut bool,
+    ) -> u32;
+    fn cedar_store_is_indirect_descendant_of(
+        s: *mut Handle,
+        child: *const u8,
+        child_len: usize,
+        ancestor: *const u8,
+        ancestor_len: usize,
+        answer: *mut bool,
+    ) -> u32;
     fn cedar_store_ancestors(s: *mut Handle, uid: *const u8, len: usize) -> u32;
     fn cedar_store_parents(s: *mut Handle, uid: *const u8, len: usize) -> u32;
+    fn cedar_store_indirect_ancestors(s: *mut Handle, uid: *const u8, len: usize) -> u32;
+    fn cedar_store_partial(s: *mut Handle) -> u32;
+    fn cedar_store_is_partial(s: *mut Handle, answer: *mut bool) -> u32;
+    fn cedar_store_entity(s: *mut Handle, uid: *const u8, len: usize, found: *mut u32) -> u32;
+    fn cedar_store_uids(s: *mut Handle) -> u32;
+    fn cedar_store_attrs_len(s: *mut Handle, uid: *const u8, len: usize, count: *mut usize) -> u32;
+    fn cedar_store_tags_len(s: *mut Handle, uid: *const u8, len: usize, count: *mut usize) -> u32;
+    fn cedar_store_keys(s: *mut Handle, uid: *const u8, len: usize) -> u32;
+    fn cedar_store_tag_keys(s: *mut Handle, uid: *const u8, len: usize) -> u32;
+    fn cedar_store_entity_equal(
+        s: *mut Handle,
+        uid: *const u8,
+        len: usize,
+        other: *mut Handle,
+        answer: *mut bool,
+    ) -> u32;
+    fn cedar_store_text(s: *mut Handle) -> u32;
+    fn cedar_store_entity_text(s: *mut Handle, uid: *const u8, len: usize) -> u32;
     fn cedar_store_validate(s: *mut Handle) -> u32;
     fn cedar_store_slice(
         from: *mut Handle,
@@ -163,6 +217,61 @@ extern "C" {
 /// Whether a text is a uid's, as a status.
 pub(crate) fn check_uid(text: &str) -> u32 {
     unsafe { cedar_uid_check(text.as_ptr(), text.len()) }
+}
+
+// Bytes that the library wrote, all of which stand in UTF-8.
+fn written(bytes: Vec<u8>) -> String {
+    String::from_utf8(bytes).expect("the library writes UTF-8")
+}
+
+/// The text of the uid with a type and an id, or the status of the call.
+pub(crate) fn make_uid(ty: &str, id: &str) -> Result<String, u32> {
+    let mut out = vec![0; ty.len() + 2 * id.len() + 16];
+    loop {
+        let mut told = 0;
+        let status = unsafe {
+            cedar_uid_make(
+                ty.as_ptr(),
+                ty.len(),
+                id.as_ptr(),
+                id.len(),
+                out.as_mut_ptr(),
+                out.len(),
+                &mut told,
+            )
+        };
+        if status != 0 {
+            return Err(status);
+        }
+        let room = out.len();
+        out.resize(told, 0);
+        if told <= room {
+            return Ok(written(out));
+        }
+    }
+}
+
+/// The type and the id of a uid, or the status of the call.
+pub(crate) fn uid_parts(uid: &str) -> Result<(String, String), u32> {
+    let mut out = vec![0; uid.len()];
+    let (mut ty_len, mut told) = (0, 0);
+    let status = unsafe {
+        cedar_uid_parts(
+            uid.as_ptr(),
+            uid.len(),
+            out.as_mut_ptr(),
+            out.len(),
+            &mut ty_len,
+            &mut told,
+        )
+    };
+    if status != 0 {
+        return Err(status);
+    }
+    // Both are shorter than the text of the uid.
+    out.truncate(told);
+    let id = out.split_off(ty_len);
+    Ok((written(out), written(id)))
 }
 
 /// The program on an input, into some room: the length of all that it writes and the status of its run, or the status of the call.
@@ -375,30 +484,122 @@ impl Held<Stores> {
         (status, answer)
     }
 
-    /// Whether an entity is a descendant of a uid.
-    pub(crate) fn is_descendant_of(&self, child: &str, ancestor: &str) -> (u32, bool) {
+    fn judged(&self, judge: Judges, child: &str, other: &str) -> (u32, bool) {
         let mut answer = false;
         let status = unsafe {
-            cedar_store_is_descendant_of(
+            judge(
                 self.at(),
                 child.as_ptr(),
                 child.len(),
-                ancestor.as_ptr(),
-                ancestor.len(),
+                other.as_ptr(),
+                other.len(),
                 &mut answer,
             )
         };
         (status, answer)
     }
 
+    /// Whether an entity is a descendant of a uid.
+    pub(crate) fn is_descendant_of(&self, child: &str, ancestor: &str) -> (u32, bool) {
+        self.judged(cedar_store_is_descendant_of, child, ancestor)
+    }
+
+    /// Whether a uid is a parent of an entity.
+    pub(crate) fn is_child_of(&self, child: &str, parent: &str) -> (u32, bool) {
+        self.judged(cedar_store_is_child_of, child, parent)
+    }
+
+    /// Whether a uid is an indirect ancestor of an entity.
+    pub(crate) fn is_indirect_descendant_of(&self, child: &str, ancestor: &str) -> (u32, bool) {
+        self.judged(cedar_store_is_indirect_descendant_of, child, ancestor)
+    }
+
+    /// What the store has with a uid: 2 for an entity, 1 where that is not known, 0 for nothing.
+    pub(crate) fn entity(&self, uid: &str) -> (u32, u32) {
+        let mut found = 0;
+        let status = unsafe { cedar_store_entity(self.at(), uid.as_ptr(), uid.len(), &mut found) };
+        (status, found)
+    }
+
+    fn asked(&self, call: ById, uid: &str) -> u32 {
+        unsafe { call(self.at(), uid.as_ptr(), uid.len()) }
+    }
+
     /// The ancestors of an entity become the answer.
     pub(crate) fn ancestors(&self, uid: &str) -> u32 {
-        unsafe { cedar_store_ancestors(self.at(), uid.as_ptr(), uid.len()) }
+        self.asked(cedar_store_ancestors, uid)
     }
 
     /// The parents of an entity become the answer.
     pub(crate) fn parents(&self, uid: &str) -> u32 {
-        unsafe { cedar_store_parents(self.at(), uid.as_ptr(), uid.len()) }
+        self.asked(cedar_store_parents, uid)
+    }
+
+    /// The indirect ancestors of an entity become the answer.
+    pub(crate) fn indirect_ancestors(&self, uid: &str) -> u32 {
+        self.asked(cedar_store_indirect_ancestors, uid)
+    }
+
+    /// The keys of an entity's attributes become the answer.
+    pub(crate) fn keys(&self, uid: &str) -> u32 {
+        self.asked(cedar_store_keys, uid)
+    }
+
+    /// The keys of an entity's tags become the answer.
+    pub(crate) fn tag_keys(&self, uid: &str) -> u32 {
+        self.asked(cedar_store_tag_keys, uid)
+    }
+
+    /// The text of an entity becomes the answer.
+    pub(crate) fn entity_text(&self, uid: &str) -> u32 {
+        self.asked(cedar_store_entity_text, uid)
+    }
+
+    fn counted(&self, call: Counts, uid: &str) -> (u32, usize) {
+        let mut count = 0;
+        let status = unsafe { call(self.at(), uid.as_ptr(), uid.len(), &mut count) };
+        (status, count)
+    }
+
+    /// How many attributes an entity has.
+    pub(crate) fn attrs_len(&self, uid: &str) -> (u32, usize) {
+        self.counted(cedar_store_attrs_len, uid)
+    }
+
+    /// How many tags an entity has.
+    pub(crate) fn tags_len(&self, uid: &str) -> (u32, usize) {
+        self.counted(cedar_store_tags_len, uid)
+    }
+
+    /// Whether this store and another one, which is not this one, have equal entities with a uid.
+    pub(crate) fn has_equal(&self, uid: &str, other: &Held<Stores>) -> (u32, bool) {
+        let mut answer = false;
+        let status = unsafe {
+            cedar_store_entity_equal(self.at(), uid.as_ptr(), uid.len(), other.at(), &mut answer)
+        };
+        (status, answer)
+    }
+
+    /// The uids of all entities become the answer.
+    pub(crate) fn uids(&self) -> u32 {
+        unsafe { cedar_store_uids(self.at()) }
+    }
+
+    /// The text of the store becomes the answer.
+    pub(crate) fn text(&self) -> u32 {
+        unsafe { cedar_store_text(self.at()) }
+    }
+
+    /// The store becomes partial.
+    pub(crate) fn partial(&mut self) {
+        unsafe { cedar_store_partial(self.at()) };
+    }
+
+    /// Whether the store is partial.
+    pub(crate) fn is_partial(&self) -> bool {
+        let mut answer = false;
+        unsafe { cedar_store_is_partial(self.at(), &mut answer) };
+        answer
     }
 
     /// The status of the first fault.

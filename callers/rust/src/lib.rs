@@ -3,13 +3,15 @@
 //! The calls are those of a static library whose functions are proved, up to the boundary that `cedar.h` describes; this crate
 //! lays lists out for it, copies answers out of it, and lets go of what it holds. It is tested, not proved.
 //!
-//! Uids are texts as `A::B::"c"`: a type, and an eid in quotes, escaped. Ids of policies are any text.
+//! Uids are texts as `A::B::"c"`: a type, and an id in quotes, escaped; an [`EntityUID`] is one that was read. Ids of policies are
+//! any text.
 //!
 //! What has a name of the package `cedar-store` means what it means there, over texts and with refusals for want of memory; the
 //! crate's page says what differs.
 #![warn(missing_docs)]
 #![deny(unsafe_code)]
 
+mod entity;
 #[allow(unsafe_code)]
 mod ffi;
 mod key;
@@ -17,20 +19,35 @@ mod lists;
 mod policy_set;
 mod refusal;
 mod stored;
+mod uid;
 
+pub use entity::{Dereference, Entity, StoredEntity};
 pub use key::Key;
 pub use policy_set::{Effect, PolicySet, SlotEnv, Slots};
 pub use refusal::{Reason, Refusal};
-pub use stored::{Entities, Entity, StoredEntity, TCComputation};
+pub use stored::{Entities, IntoIter, Iter, TCComputation};
+pub use uid::{Eid, EntityType, EntityUID};
 
-/// Entities and policy sets, at the paths that they have in the package `cedar-store`.
+/// Uids, entities and policy sets, at the paths that they have in the package `cedar-store`. Each type of error is [`Refusal`] here.
 pub mod ast {
-    pub use crate::{Effect, Entity, PolicySet, SlotEnv};
+    pub use crate::{Effect, Eid, Entity, EntityType, EntityUID, PolicySet, SlotEnv};
+    pub use crate::{
+        Refusal as LinkingError, Refusal as ParseErrors, Refusal as PolicySetError,
+        Refusal as PolicySetPolicyRemovalError, Refusal as PolicySetTemplateRemovalError,
+        Refusal as PolicySetUnlinkError,
+    };
 }
 
-/// Stores of entities, at the paths that they have in the package `cedar-store`.
+/// Stores of entities, at the paths that they have in the package `cedar-store`. The type of error is [`Refusal`] here.
 pub mod entities {
-    pub use crate::{Entities, TCComputation};
+    pub use crate::{
+        Dereference, Entities, IntoIter, Iter, Refusal as EntitiesError, TCComputation,
+    };
+
+    /// Why a call on a store is refused.
+    pub mod err {
+        pub use crate::Refusal as EntitiesError;
+    }
 }
 
 // The program of the page is tried too.

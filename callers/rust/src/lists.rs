@@ -1,5 +1,5 @@
 //! Lists as the library takes them: one text, the part of it that is each uid, and edges to parents.
-use crate::stored::Entity;
+use crate::entity::Entity;
 use std::borrow::Borrow;
 use std::collections::HashMap;
 

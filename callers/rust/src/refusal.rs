@@ -1,4 +1,5 @@
 //! Why a call was refused.
+use crate::uid::EntityUID;
 use std::fmt;
 
 /// Why a call was refused, one for each status of `cedar.h`.
@@ -51,6 +52,12 @@ pub enum Reason {
     NoStatic,
     /// It is a link's.
     NotStatic,
+    /// Nothing of the kind that is asked for is bound to an id.
+    NoBody,
+    /// A text is no name.
+    NotAName,
+    /// Something has too many levels.
+    TooDeep,
 }
 
 impl Reason {
@@ -78,6 +85,9 @@ impl Reason {
             23 => Reason::NotATemplate,
             24 => Reason::NoStatic,
             25 => Reason::NotStatic,
+            26 => Reason::NoBody,
+            27 => Reason::NotAName,
+            28 => Reason::TooDeep,
             _ => Reason::BadArgument,
         }
     }
@@ -116,6 +126,9 @@ impl Refusal {
             Reason::BadArgument => String::from("bad argument"),
             Reason::NotAUid => String::from("not a uid"),
             Reason::NoEntity => String::from("no entity"),
+            Reason::NoBody => String::from("no body"),
+            Reason::NotAName => String::from("not a name"),
+            Reason::TooDeep => String::from("too deep"),
             _ => String::from_utf8_lossy(&text()).into_owned(),
         };
         Refusal { reason, text }
@@ -125,6 +138,48 @@ impl Refusal {
     pub fn reason(&self) -> Reason {
         self.reason
     }
+
+    /// The uids that the text names, in its order: of `NotClosed` the entity, its ancestor, and the one that is missing. None for what
+    /// names an id or a key.
+    ///
+    /// ```
+    /// use cedar_store_proved::{Entities, Entity, TCComputation};
+    /// let entities = [Entity::with_uid("A::\"a\"").with_parent("A::\"a\"")];
+    /// let refusal = Entities::from_entities(entities, TCComputation::ComputeNow).err().unwrap();
+    /// assert_eq!(refusal.uids(), ["A::\"a\""]);
+    /// ```
+    pub fn uids(&self) -> Vec<EntityUID> {
+        match self.reason {
+            Reason::Duplicate
+            | Reason::Cycle
+            | Reason::NotClosed
+            | Reason::SelfAncestor
+            | Reason::DuplicateAncestor
+            | Reason::ActionParentIsNotAction
+            | Reason::NotAnAction => named(&self.text),
+            _ => Vec::new(),
+        }
+    }
+}
+
+// The uids that stand behind the words of a text, with blanks between them. A blank of an id stands in quotes.
+fn named(text: &str) -> Vec<EntityUID> {
+    let mut uids = Vec::new();
+    let (mut start, mut is_quoted, mut is_escaped) = (0, false, false);
+    for (at, c) in text.char_indices() {
+        match c {
+            _ if is_escaped => is_escaped = false,
+            '\\' => is_escaped = true,
+            ' ' if !is_quoted => start = at + 1,
+            '"' if is_quoted => {
+                is_quoted = false;
+                uids.push(EntityUID::written(text[start..=at].to_owned()));
+            }
+            '"' => is_quoted = true,
+            _ => {}
+        }
+    }
+    uids
 }
 
 impl fmt::Display for Refusal {
@@ -134,3 +189,27 @@ impl fmt::Display for Refusal {
 }
 
 impl std::error::Error for Refusal {}
+
+#[cfg(test)]
+mod tests {
+    use super::*;
+
+    #[test]
+    fn what_has_no_text_has_words() {
+        for (status, reason, text) in [
+            (1, Reason::Memory, "out of memory"),
+            (4, Reason::NotAUid, "not a uid"),
+            (6, Reason::NoEntity, "no entity"),
+            (26, Reason::NoBody, "no body"),
+            (27, Reason::NotAName, "not a name"),
+            (28, Reason::TooDeep, "too deep"),
+        ] {
+            let refusal = Refusal::new(status, || panic!("no text is asked for"));
+            assert_eq!(
+                (refusal.reason(), refusal.to_string()),
+                (reason, text.into())
+            );
+            assert!(refusal.uids().is_empty());
+        }
+    }
+}

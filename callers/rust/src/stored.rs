@@ -1,10 +1,19 @@
 //! Stores of entities.
+use crate::entity::{Dereference, Entity, StoredEntity};
 use crate::ffi::{Held, Stores};
 use crate::key::Key;
 use crate::lists::Lists;
 use crate::refusal::Refusal;
+use crate::uid::EntityUID;
 use std::borrow::Borrow;
 use std::fmt;
+use std::vec;
+
+// As many entities are written by one call of the library.
+const FEW: usize = 100;
+
+// What is said where a call that cannot tell a refusal is refused memory.
+const MEMORY: &str = "memory for what a store has";
 
 /// How a call sees to it that ancestors are closed.
 ///
@@ -23,66 +32,20 @@ pub enum TCComputation {
     AssumeAlreadyComputed,
 }
 
-/// An entity to be handed to a store: its uid, as `A::B::"c"`, and its parents. Attributes and tags do not cross.
+/// A store of entities. `==` looks at the uids alone and at whether it is partial; [`Entities::deep_eq`] looks at the ancestors too.
+///
+/// What iterates over it, compares it by `==` or collects its entities ends the program where memory is refused, as std's own lists
+/// do; all other calls are refused by `Memory`. It is collected of entities, computed, as a `Result`:
 ///
 /// ```
-/// use cedar_store_proved::Entity;
-/// let entity = Entity::with_uid("User::\"alice\"").with_parent("Group::\"staff\"");
-/// assert_eq!(entity.uid(), "User::\"alice\"");
-/// assert_eq!(entity.parents().collect::<Vec<_>>(), ["Group::\"staff\""]);
+/// use cedar_store_proved::{Entities, Entity, Refusal};
+/// let uids = ["A::\"a\"", "A::\"b\""];
+/// let store: Result<Entities, Refusal> = uids.map(Entity::with_uid).into_iter().collect();
+/// let store = store.unwrap();
+/// for entity in &store {
+///     assert!(uids.contains(&entity.uid().as_str()));
+/// }
 /// ```
-#[derive(Clone, Debug, PartialEq, Eq, Hash)]
-pub struct Entity {
-    uid: String,
-    parents: Vec<String>,
-}
-
-impl Entity {
-    /// An entity without parents.
-    pub fn with_uid(uid: impl Into<String>) -> Entity {
-        Entity {
-            uid: uid.into(),
-            parents: Vec::new(),
-        }
-    }
-
-    /// The entity with one more parent.
-    pub fn with_parent(mut self, parent: impl Into<String>) -> Entity {
-        self.parents.push(parent.into());
-        self
-    }
-
-    /// The entity with these parents too.
-    pub fn with_parents<P: Into<String>>(mut self, parents: impl IntoIterator<Item = P>) -> Entity {
-        self.parents.extend(parents.into_iter().map(Into::into));
-        self
-    }
-
-    /// One more parent.
-    pub fn add_parent(&mut self, parent: impl Into<String>) {
-        self.parents.push(parent.into());
-    }
-
-    /// The uid.
-    pub fn uid(&self) -> &str {
-        &self.uid
-    }
-
-    /// The parents, in the order in which they were given.
-    pub fn parents(&self) -> impl Iterator<Item = &str> {
-        self.parents.iter().map(String::as_str)
-    }
-}
-
-impl<P: Into<String>> Extend<P> for Entity {
-    /// These parents too.
-    fn extend<I: IntoIterator<Item = P>>(&mut self, parents: I) {
-        self.parents.extend(parents.into_iter().map(Into::into));
-    }
-}
-
-/// A store of entities. It has no `==`, which looks at the uids alone in the package `cedar-store`: [`Entities::deep_eq`] looks at
-/// their ancestors too. It is not iterated, since no call of the library lists its uids.
 ///
 /// It is of the thread that made it: neither `Send` nor `Sync`.
 ///
@@ -231,8 +194,8 @@ impl Entities {
     }
 
     /// Whether there is an entity with a uid. Refused by `NotAUid` and `Memory`.
-    pub fn contains(&self, uid: &str) -> Result<bool, Refusal> {
-        let (status, answer) = self.held.has(uid);
+    pub fn contains(&self, uid: impl AsRef<str>) -> Result<bool, Refusal> {
+        let (status, answer) = self.held.has(uid.as_ref());
         self.judged(status)?;
         Ok(answer)
     }
@@ -240,36 +203,171 @@ impl Entities {
     /// The entity with a uid, if there is one. Refused by `NotAUid` and `Memory`.
     ///
     /// ```
-    /// use cedar_store_proved::{Entities, Entity, TCComputation};
+    /// use cedar_store_proved::{Dereference, Entities, Entity, TCComputation};
     /// let entities = [Entity::with_uid("A::\"a\"").with_parent("A::\"b\"")];
     /// let store = Entities::from_entities(entities, TCComputation::ComputeNow).unwrap();
     /// let entity = store.entity("A::\"a\"").unwrap().unwrap();
     /// assert!(entity.is_descendant_of("A::\"b\"").unwrap());
-    /// assert!(store.entity("A::\"b\"").unwrap().is_none());
+    /// assert!(matches!(store.entity("A::\"b\"").unwrap(), Dereference::NoSuchEntity));
+    /// let store = store.partial();
+    /// assert!(matches!(store.entity("A::\"b\"").unwrap(), Dereference::Residual(_)));
     /// ```
-    pub fn entity<'a>(&'a self, uid: &'a str) -> Result<Option<StoredEntity<'a>>, Refusal> {
-        let held = self.contains(uid)?;
-        Ok(held.then_some(StoredEntity { store: self, uid }))
+    pub fn entity(&self, uid: impl AsRef<str>) -> Result<Dereference<StoredEntity<'_>>, Refusal> {
+        let (status, found) = self.held.entity(uid.as_ref());
+        self.judged(status)?;
+        let named = || EntityUID::written(uid.as_ref().to_owned());
+        Ok(match found {
+            0 => Dereference::NoSuchEntity,
+            1 => Dereference::Residual(named()),
+            _ => Dereference::Data(StoredEntity::of(self, named())),
+        })
+    }
+
+    /// The store, which is partial now: an entity that it lacks is not known then. A copy of it is partial, a slice is not.
+    pub fn partial(mut self) -> Entities {
+        self.held.partial();
+        self
+    }
+
+    /// Whether it is partial.
+    pub fn is_partial(&self) -> bool {
+        self.held.is_partial()
     }
 
     /// Whether an entity is a descendant of a uid, over parents, however many. Refused by `NoEntity` where the store has no entity
     /// with the first uid, by `NotAUid` and `Memory`.
-    pub fn is_descendant_of(&self, child: &str, ancestor: &str) -> Result<bool, Refusal> {
-        let (status, answer) = self.held.is_descendant_of(child, ancestor);
+    pub fn is_descendant_of(
+        &self,
+        child: impl AsRef<str>,
+        ancestor: impl AsRef<str>,
+    ) -> Result<bool, Refusal> {
+        let (status, answer) = self
+            .held
+            .is_descendant_of(child.as_ref(), ancestor.as_ref());
         self.judged(status)?;
         Ok(answer)
     }
 
-    /// The ancestors of an entity, in the order of uids. Refused as [`Entities::is_descendant_of`] is.
-    pub fn ancestors(&self, uid: &str) -> Result<Vec<String>, Refusal> {
-        self.judged(self.held.ancestors(uid))?;
+    /// Whether a uid is a parent of an entity. Refused as [`Entities::is_descendant_of`] is.
+    pub fn is_child_of(
+        &self,
+        child: impl AsRef<str>,
+        parent: impl AsRef<str>,
+    ) -> Result<bool, Refusal> {
+        let (status, answer) = self.held.is_child_of(child.as_ref(), parent.as_ref());
+        self.judged(status)?;
+        Ok(answer)
+    }
+
+    /// Whether a uid is an ancestor of an entity and, in a store that was computed, no parent of it. Refused as
+    /// [`Entities::is_descendant_of`] is.
+    pub fn is_indirect_descendant_of(
+        &self,
+        child: impl AsRef<str>,
+        ancestor: impl AsRef<str>,
+    ) -> Result<bool, Refusal> {
+        let (status, answer) = self
+            .held
+            .is_indirect_descendant_of(child.as_ref(), ancestor.as_ref());
+        self.judged(status)?;
+        Ok(answer)
+    }
+
+    // The texts of the answer that a call made, as uids.
+    fn named(&self, status: u32) -> Result<Vec<EntityUID>, Refusal> {
+        self.judged(status)?;
+        let texts = self.held.answer().into_iter();
+        Ok(texts.map(EntityUID::written).collect())
+    }
+
+    // The texts of the answer that a call made.
+    fn told(&self, status: u32) -> Result<Vec<String>, Refusal> {
+        self.judged(status)?;
         Ok(self.held.answer())
     }
 
+    /// The ancestors of an entity, in the order of uids. Refused as [`Entities::is_descendant_of`] is.
+    pub fn ancestors(&self, uid: impl AsRef<str>) -> Result<Vec<EntityUID>, Refusal> {
+        self.named(self.held.ancestors(uid.as_ref()))
+    }
+
     /// The parents of an entity, in the order of uids. Refused as [`Entities::is_descendant_of`] is.
-    pub fn parents(&self, uid: &str) -> Result<Vec<String>, Refusal> {
-        self.judged(self.held.parents(uid))?;
-        Ok(self.held.answer())
+    pub fn parents(&self, uid: impl AsRef<str>) -> Result<Vec<EntityUID>, Refusal> {
+        self.named(self.held.parents(uid.as_ref()))
+    }
+
+    /// The ancestors of an entity that are, in a store that was computed, no parents of it, in the order of uids. Refused as
+    /// [`Entities::is_descendant_of`] is.
+    pub fn indirect_ancestors(&self, uid: impl AsRef<str>) -> Result<Vec<EntityUID>, Refusal> {
+        self.named(self.held.indirect_ancestors(uid.as_ref()))
+    }
+
+    /// The uids of all entities, each once, in an order that the key picks. Refused by `Memory` alone.
+    pub fn uids(&self) -> Result<Vec<EntityUID>, Refusal> {
+        self.named(self.held.uids())
+    }
+
+    /// The entities, each once, in an order that the key picks. Ends the program where memory is refused; [`Entities::uids`] does not.
+    pub fn iter(&self) -> Iter<'_> {
+        Iter {
+            store: self,
+            uids: self.uids().expect(MEMORY).into_iter(),
+        }
+    }
+
+    /// The keys of an entity's attributes, in the order of their bytes. Refused as [`Entities::is_descendant_of`] is.
+    pub fn keys(&self, uid: impl AsRef<str>) -> Result<Vec<String>, Refusal> {
+        self.told(self.held.keys(uid.as_ref()))
+    }
+
+    /// The keys of an entity's tags, in the order of their bytes. Refused as [`Entities::is_descendant_of`] is.
+    pub fn tag_keys(&self, uid: impl AsRef<str>) -> Result<Vec<String>, Refusal> {
+        self.told(self.held.tag_keys(uid.as_ref()))
+    }
+
+    /// How many attributes an entity has. Refused as [`Entities::is_descendant_of`] is.
+    pub fn attrs_len(&self, uid: impl AsRef<str>) -> Result<usize, Refusal> {
+        let (status, count) = self.held.attrs_len(uid.as_ref());
+        self.judged(status)?;
+        Ok(count)
+    }
+
+    /// How many tags an entity has. Refused as [`Entities::is_descendant_of`] is.
+    pub fn tags_len(&self, uid: impl AsRef<str>) -> Result<usize, Refusal> {
+        let (status, count) = self.held.tags_len(uid.as_ref());
+        self.judged(status)?;
+        Ok(count)
+    }
+
+    // Whether both stores have equal entities with a uid. One has the same as itself.
+    pub(crate) fn has_equal(&self, uid: &EntityUID, other: &Entities) -> Result<bool, Refusal> {
+        if std::ptr::eq(self, other) {
+            return Ok(true);
+        }
+        let (status, answer) = self.held.has_equal(uid.as_str(), &other.held);
+        self.judged(status)?;
+        Ok(answer)
+    }
+
+    // The text of the store, in parts. The call that makes the whole looks through all entities for each, so it is asked for few; the
+    // parents of one entity are listed in the order of uids.
+    fn texts(&self) -> Result<Vec<String>, Refusal> {
+        if self.len() <= FEW {
+            return self.told(self.held.text());
+        }
+        let uids = self.uids()?;
+        let below = Entity::with_uid(&uids[0]).with_parents(&uids);
+        let order = Entities::from_entities([below], TCComputation::AssumeAlreadyComputed)?;
+        let ordered = order.parents(&uids[0])?;
+        ordered
+            .iter()
+            .map(|uid| Ok(self.text_of(uid)? + "\n"))
+            .collect()
+    }
+
+    // The text of the entity with a uid.
+    pub(crate) fn text_of(&self, uid: &EntityUID) -> Result<String, Refusal> {
+        Ok(self.told(self.held.entity_text(uid.as_str()))?.concat())
     }
 
     /// Looks for what is wrong with the store: with its ancestors, and then with the entity that has the least uid of those with a
@@ -313,6 +411,98 @@ impl Entities {
     }
 }
 
+/// The entities of a store, each once.
+#[derive(Clone, Debug)]
+pub struct Iter<'a> {
+    store: &'a Entities,
+    uids: vec::IntoIter<EntityUID>,
+}
+
+impl<'a> Iterator for Iter<'a> {
+    type Item = StoredEntity<'a>;
+
+    fn next(&mut self) -> Option<StoredEntity<'a>> {
+        let uid = self.uids.next()?;
+        Some(StoredEntity::of(self.store, uid))
+    }
+
+    fn size_hint(&self) -> (usize, Option<usize>) {
+        self.uids.size_hint()
+    }
+}
+
+impl ExactSizeIterator for Iter<'_> {}
+
+/// The entities of a store that is taken apart, each once, with their parents.
+#[derive(Debug)]
+pub struct IntoIter {
+    store: Entities,
+    uids: vec::IntoIter<EntityUID>,
+}
+
+impl Iterator for IntoIter {
+    type Item = Entity;
+
+    fn next(&mut self) -> Option<Entity> {
+        let stored = StoredEntity::of(&self.store, self.uids.next()?);
+        Some(stored.to_entity().expect(MEMORY))
+    }
+
+    fn size_hint(&self) -> (usize, Option<usize>) {
+        self.uids.size_hint()
+    }
+}
+
+impl ExactSizeIterator for IntoIter {}
+
+impl<'a> IntoIterator for &'a Entities {
+    type Item = StoredEntity<'a>;
+    type IntoIter = Iter<'a>;
+
+    fn into_iter(self) -> Iter<'a> {
+        self.iter()
+    }
+}
+
+impl IntoIterator for Entities {
+    type Item = Entity;
+    type IntoIter = IntoIter;
+
+    fn into_iter(self) -> IntoIter {
+        let uids = self.uids().expect(MEMORY).into_iter();
+        IntoIter { store: self, uids }
+    }
+}
+
+impl FromIterator<Entity> for Result<Entities, Refusal> {
+    /// The store of entities, computed, as [`Entities::from_entities`] makes it.
+    fn from_iter<I: IntoIterator<Item = Entity>>(entities: I) -> Self {
+        Entities::from_entities(entities, TCComputation::ComputeNow)
+    }
+}
+
+impl PartialEq for Entities {
+    /// Whether both have the same uids and both are partial or neither is. It looks each uid of one up in the other.
+    fn eq(&self, other: &Entities) -> bool {
+        self.len() == other.len()
+            && self.is_partial() == other.is_partial()
+            && (self.deep_eq(other)
+                || self
+                    .iter()
+                    .all(|entity| other.contains(entity.uid()).expect(MEMORY)))
+    }
+}
+
+impl Eq for Entities {}
+
+impl fmt::Display for Entities {
+    /// Writes the texts of all entities in the order of uids, each with a line feed behind it.
+    fn fmt(&self, f: &mut fmt::Formatter<'_>) -> fmt::Result {
+        let texts = self.texts().map_err(|_| fmt::Error)?;
+        texts.iter().try_for_each(|text| f.write_str(text))
+    }
+}
+
 impl Default for Entities {
     fn default() -> Entities {
         Entities::new()
@@ -324,40 +514,5 @@ impl fmt::Debug for Entities {
         f.debug_struct("Entities")
             .field("len", &self.len())
             .finish_non_exhaustive()
-    }
-}
-
-/// An entity that a store has.
-#[derive(Clone, Copy, Debug)]
-pub struct StoredEntity<'a> {
-    store: &'a Entities,
-    uid: &'a str,
-}
-
-impl<'a> StoredEntity<'a> {
-    /// The uid.
-    pub fn uid(&self) -> &'a str {
-        self.uid
-    }
-
-    /// Whether it is a descendant of a uid, over parents, however many. Refused by `NotAUid` and `Memory`.
-    pub fn is_descendant_of(&self, ancestor: &str) -> Result<bool, Refusal> {
-        self.store.is_descendant_of(self.uid, ancestor)
-    }
-
-    /// The ancestors, in the order of uids. Refused by `Memory` alone.
-    pub fn ancestors(&self) -> Result<Vec<String>, Refusal> {
-        self.store.ancestors(self.uid)
-    }
-
-    /// The parents, in the order of uids. Refused by `Memory` alone.
-    pub fn parents(&self) -> Result<Vec<String>, Refusal> {
-        self.store.parents(self.uid)
-    }
-}
-
-impl fmt::Display for StoredEntity<'_> {
-    fn fmt(&self, f: &mut fmt::Formatter<'_>) -> fmt::Result {
-        f.write_str(self.uid)
     }
 }

@@ -358,19 +358,13 @@ fn what_is_not_there_has_no_ancestors() {
         Reason::NoEntity,
         "no entity",
     );
-    assert!(held.entity(&uid("b")).unwrap().is_none());
-    let child = uid("a");
-    let entity = held.entity(&child).unwrap().unwrap();
-    assert_eq!(
-        (
-            entity.uid(),
-            entity.ancestors().unwrap(),
-            entity.parents().unwrap()
-        ),
-        (child.as_str(), uids("b"), uids("b"))
-    );
+    assert!(held.entity(uid("b")).unwrap().data().is_none());
+    let entity = held.entity(uid("a")).unwrap().unwrap();
+    assert_eq!(*entity.uid(), uid("a"));
+    assert_eq!(entity.ancestors().unwrap(), uids("b"));
+    assert_eq!(entity.parents().unwrap(), uids("b"));
     assert!(
-        entity.is_descendant_of(&uid("b")).unwrap() && !entity.is_descendant_of(&uid("a")).unwrap()
+        entity.is_descendant_of(uid("b")).unwrap() && !entity.is_descendant_of(uid("a")).unwrap()
     );
 }
 

@@ -1,6 +1,7 @@
 //! Lines of the program, drawn; and the same lines taken one by one through the crate.
 use cedar_store_proved::{
-    Effect, Entities, Entity, PolicySet, Reason, Refusal, SlotEnv, Slots, TCComputation,
+    Dereference, Effect, Entities, Entity, PolicySet, Reason, Refusal, SlotEnv, Slots,
+    TCComputation,
 };
 use std::fmt;
 
@@ -239,7 +240,7 @@ fn well(given: Result<(), Refusal>) -> String {
     given.map_or_else(told, |()| String::from("ok\n"))
 }
 
-fn tabbed(word: &str, fields: impl IntoIterator<Item = String>) -> String {
+fn tabbed(word: &str, fields: impl IntoIterator<Item = impl fmt::Display>) -> String {
     let fields = fields.into_iter().map(|field| format!("\t{field}"));
     format!("{word}{}\n", fields.collect::<String>())
 }
@@ -260,12 +261,12 @@ impl Session {
     }
 
     fn check_modes(&self) {
-        let rows: Vec<Entity> = UIDS
-            .into_iter()
-            .filter_map(|uid| {
-                Some(Entity::with_uid(uid).with_parents(self.store.ancestors(uid).ok()?))
-            })
+        let rows: Vec<Entity> = self
+            .store
+            .iter()
+            .map(|entity| Entity::with_uid(entity.uid()).with_parents(entity.ancestors().unwrap()))
             .collect();
+        assert_eq!(rows.len(), self.store.len());
         for mode in MODES {
             let again = Entities::from_entities(&rows, mode).unwrap();
             assert!(again.deep_eq(&self.store) && self.store.deep_eq(&again));
@@ -290,23 +291,24 @@ impl Session {
 
     // The ancestors of an entity are those that it is a descendant of, and its parents are among them.
     fn asked(&self, uid: Uid) -> String {
-        let Some(entity) = self.store.entity(uid).unwrap() else {
+        let Dereference::Data(entity) = self.store.entity(uid).unwrap() else {
             assert_eq!(
                 self.store.ancestors(uid).unwrap_err().reason(),
                 Reason::NoEntity
             );
             return String::from("no entity\n");
         };
-        let ancestors = entity.ancestors().unwrap();
+        let (ancestors, parents) = (entity.ancestors().unwrap(), entity.parents().unwrap());
+        let far = entity.indirect_ancestors().unwrap();
         for other in UIDS {
             let above = ancestors.iter().any(|one| one == other);
             assert_eq!(entity.is_descendant_of(other).unwrap(), above);
+            let is_child = entity.is_child_of(other).unwrap();
+            assert_eq!(is_child, parents.iter().any(|one| one == other));
+            let is_far_below = entity.is_indirect_descendant_of(other).unwrap();
+            assert_eq!(is_far_below, far.iter().any(|one| one == other));
+            assert_eq!(above, is_child || is_far_below);
         }
-        assert!(entity
-            .parents()
-            .unwrap()
-            .iter()
-            .all(|parent| ancestors.contains(parent)));
         tabbed("anc", ancestors)
     }
 

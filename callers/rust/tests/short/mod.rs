@@ -1,7 +1,7 @@
 //! Stores, sets and what they answer by short texts. A name x of one letter is the uid `A::"x"`.
 #![allow(dead_code)]
 use cedar_store_proved::{
-    Effect, Entities, Entity, PolicySet, Reason, Refusal, SlotEnv, Slots, TCComputation,
+    Effect, Entities, Entity, EntityUID, PolicySet, Reason, Refusal, SlotEnv, Slots, TCComputation,
 };
 
 pub const NOW: TCComputation = TCComputation::ComputeNow;
@@ -32,18 +32,21 @@ pub fn store(spec: &str) -> Entities {
 }
 
 // The names of uids, one behind the other.
-fn names(uids: Vec<String>) -> String {
-    let name = |uid: String| String::from(uid.trim_start_matches("A::").trim_matches('"'));
-    uids.into_iter().map(name).collect()
+fn names(uids: Vec<EntityUID>) -> String {
+    uids.iter().map(|uid| uid.eid().to_string()).collect()
 }
 
 /// The names of an entity's ancestors, in their order. It is a descendant of these, and not of the others of some.
 pub fn above(store: &Entities, name: &str) -> String {
-    let ancestors = store.ancestors(&uid(name)).unwrap();
-    let others = uids("abcdefghxyz");
-    for other in ancestors.iter().chain(&others) {
-        let answer = store.is_descendant_of(&uid(name), other).unwrap();
-        assert_eq!(answer, ancestors.contains(other), "{name} below {other}");
+    let ancestors = store.ancestors(uid(name)).unwrap();
+    for other in ancestors
+        .iter()
+        .map(String::from)
+        .chain(uids("abcdefghxyz"))
+    {
+        let answer = store.is_descendant_of(uid(name), &other).unwrap();
+        let is_above = ancestors.iter().any(|one| *one == other);
+        assert_eq!(answer, is_above, "{name} below {other}");
     }
     names(ancestors)
 }

@@ -1,0 +1,320 @@
+"""Expressions: small things that do not change, and that are equal where all of them is."""
+from __future__ import annotations
+
+from typing import Any, List, NoReturn, Optional, Tuple, Union
+
+from ._uids import EntityUid
+
+Literal = Union[bool, int, str]
+
+
+class Expr:
+    """An expression. `~` negates it, `&` joins two; `eq`, `is_in` and `is_type` ask of it.
+
+    `==` says whether two expressions are the same one; an expression has no truth.
+    """
+
+    __slots__ = ("_says", "below", "_hash")
+    _says: Tuple[Any, ...]
+    below: Tuple[Expr, ...]
+    _hash: int
+
+    def __new__(cls, *_: Any, **__: Any) -> Any:
+        if cls is Expr:
+            raise TypeError("an expression is of one of the kinds")
+        return super().__new__(cls)
+
+    def _made(self, says: Tuple[Any, ...], *below: Expr) -> None:
+        """Fills it: what it says itself, and the expressions below it."""
+        set_field = object.__setattr__
+        set_field(self, "_says", says)
+        set_field(self, "below", below)
+        set_field(self, "_hash", hash((type(self), says, tuple(map(hash, below)))))
+
+    def __setattr__(self, _: str, __: object) -> NoReturn:
+        raise AttributeError("an expression does not change")
+
+    def __delattr__(self, _: str) -> NoReturn:
+        raise AttributeError("an expression does not change")
+
+    def __invert__(self) -> Expr:
+        return Not(self)
+
+    def __and__(self, other: Operand) -> Expr:
+        return And(self, other)
+
+    def __rand__(self, other: Operand) -> Expr:
+        return And(other, self)
+
+    def eq(self, other: Operand) -> Expr:
+        """Whether it equals another one."""
+        return Eq(self, other)
+
+    def is_in(self, other: Operand) -> Expr:
+        """Whether it is an entity, or a descendant of an entity or of one of a set."""
+        return In(self, other)
+
+    def is_type(self, type: str) -> Expr:
+        """Whether it is an entity of a type."""
+        return Is(self, type)
+
+    def __bool__(self) -> bool:
+        raise TypeError("an expression has no truth: join by & and ~, compare by eq")
+
+    def __hash__(self) -> int:
+        return self._hash
+
+    def __eq__(self, other: object) -> bool:
+        if not isinstance(other, Expr):
+            return NotImplemented
+        pairs = [(self, other)]
+        while pairs:
+            one, two = pairs.pop()
+            if one is two:
+                continue
+            if one._hash != two._hash or type(one) is not type(two) or one._says != two._says:
+                return False
+            if len(one.below) != len(two.below):
+                return False
+            pairs += zip(one.below, two.below)
+        return True
+
+    def __reduce__(self) -> Tuple[Any, ...]:
+        from .values import expr_from_nodes, expr_to_nodes
+
+        text, nodes = expr_to_nodes(self)
+        return expr_from_nodes, (text, nodes)
+
+    def __str__(self) -> str:
+        """The text of the expression, for people to read."""
+        order: List[Expr] = []
+        pending: List[Expr] = [self]
+        while pending:
+            one = pending.pop()
+            order.append(one)
+            pending += one.below
+        texts: List[str] = []
+        for one in reversed(order):
+            first = len(texts) - len(one.below)
+            texts[first:] = [one._text(texts[first:])]
+        return texts[0]
+
+    def __repr__(self) -> str:
+        return f"<{type(self).__name__} {self}>"
+
+    def _text(self, below: List[str]) -> str:
+        """Its text, of those of the expressions below it."""
+        raise NotImplementedError
+
+
+Operand = Union[Expr, Literal]
+
+
+def expr_of(operand: Operand) -> Expr:
+    """An expression as it is, and a truth, a number, a text or a uid as a literal."""
+    return operand if isinstance(operand, Expr) else Lit(operand)
+
+
+def _quoted(text: str) -> str:
+    return '"' + EntityUid.escape(text) + '"'
+
+
+class Lit(Expr):
+    """A truth, a number, a text or a uid."""
+
+    __slots__ = ()
+
+    def __init__(self, value: Literal) -> None:
+        if isinstance(value, bool):
+            self._made((bool, value))
+        elif isinstance(value, int):
+            self._made((int, int(value)))
+        elif isinstance(value, EntityUid):
+            self._made((EntityUid, value))
+        elif isinstance(value, str):
+            self._made((str, str(value)))
+        else:
+            raise TypeError(f"a {type(value).__name__} is no literal")
+
+    @property
+    def value(self) -> Literal:
+        found: Literal = self._says[1]
+        return found
+
+    def _text(self, below: List[str]) -> str:
+        if isinstance(self.value, bool):
+            return "true" if self.value else "false"
+        if isinstance(self.value, EntityUid) or not isinstance(self.value, str):
+            return str(self.value)
+        return _quoted(self.value)
+
+
+class _Named(Expr):
+    """One of a few names."""
+
+    __slots__ = ()
+    _names: Tuple[str, ...] = ()
+
+    def __init__(self, name: str) -> None:
+        if name not in self._names:
+            raise ValueError(f"{type(self).__name__} is one of {', '.join(self._names)}")
+        self._made((name,))
+
+    @classmethod
+    def at(cls, place: int) -> Any:
+        """The one with a place."""
+        if not 0 <= place < len(cls._names):
+            raise ValueError(f"{cls.__name__} has no place {place}")
+        return cls(cls._names[place])
+
+    @property
+    def name(self) -> str:
+        found: str = self._says[0]
+        return found
+
+    @property
+    def place(self) -> int:
+        """The number by which it crosses."""
+        return self._names.index(self.name)
+
+    def _text(self, below: List[str]) -> str:
+        return self.name
+
+
+class Var(_Named):
+    """A variable of a request: `principal`, `action`, `resource` or `context`."""
+
+    __slots__ = ()
+    _names = ("principal", "action", "resource", "context")
+
+
+class Slot(_Named):
+    """A slot of a template: `?principal`, `?action` or `?resource`."""
+
+    __slots__ = ()
+    _names = ("?principal", "?action", "?resource")
+
+
+class UnknownExpr(Expr):
+    """What is not known, by a name; the type of the entity that it will be, where that is known."""
+
+    __slots__ = ()
+
+    def __init__(self, name: str, type: Optional[str] = None) -> None:
+        self._made((_text_only(name),), *([] if type is None else [Lit(_text_only(type))]))
+
+    @property
+    def name(self) -> str:
+        found: str = self._says[0]
+        return found
+
+    @property
+    def type(self) -> Optional[str]:
+        for one in self.below:
+            if isinstance(one, Lit):
+                return str(one.value)
+        return None
+
+    def _text(self, below: List[str]) -> str:
+        return f"unknown({_quoted(self.name)})"
+
+
+class SetOf(Expr):
+    """A set of what some expressions are, in their order."""
+
+    __slots__ = ()
+
+    def __init__(self, *elements: Operand) -> None:
+        self._made((), *map(expr_of, elements))
+
+    def _text(self, below: List[str]) -> str:
+        return "[" + ", ".join(below) + "]"
+
+
+class Call(Expr):
+    """A call of an extension function."""
+
+    __slots__ = ()
+
+    def __init__(self, function: str, *arguments: Operand) -> None:
+        self._made((_text_only(function),), *map(expr_of, arguments))
+
+    @property
+    def function(self) -> str:
+        found: str = self._says[0]
+        return found
+
+    def _text(self, below: List[str]) -> str:
+        return f"{self.function}({', '.join(below)})"
+
+
+class Not(Expr):
+    """A negation."""
+
+    __slots__ = ()
+
+    def __init__(self, operand: Operand) -> None:
+        self._made((), expr_of(operand))
+
+    def _text(self, below: List[str]) -> str:
+        return f"!({below[0]})"
+
+
+class _Joined(Expr):
+    """Two expressions that are joined."""
+
+    __slots__ = ()
+    _sign = ""
+
+    def __init__(self, left: Operand, right: Operand) -> None:
+        self._made((), expr_of(left), expr_of(right))
+
+    def _text(self, below: List[str]) -> str:
+        return f"({below[0]} {self._sign} {below[1]})"
+
+
+class And(_Joined):
+    """Whether both are true."""
+
+    __slots__ = ()
+    _sign = "&&"
+
+
+class Eq(_Joined):
+    """Whether both are equal."""
+
+    __slots__ = ()
+    _sign = "=="
+
+
+class In(_Joined):
+    """Whether the left is an entity, or a descendant of an entity or of one of a set, on the right."""
+
+    __slots__ = ()
+    _sign = "in"
+
+
+class Is(Expr):
+    """Whether an expression is an entity of a type."""
+
+    __slots__ = ()
+
+    def __init__(self, operand: Operand, type: str) -> None:
+        self._made((_text_only(type),), expr_of(operand))
+
+    @property
+    def type(self) -> str:
+        found: str = self._says[0]
+        return found
+
+    def _text(self, below: List[str]) -> str:
+        return f"({below[0]} is {self.type})"
+
+
+def _text_only(text: str) -> str:
+    if not isinstance(text, str):
+        raise TypeError(f"a text is a str, and this is a {type(text).__name__}")
+    return str(text)
+
+
+PRINCIPAL, ACTION, RESOURCE, CONTEXT = [Var(name) for name in Var._names]
