@@ -27,7 +27,7 @@ import map as files_by_comment
 PASSED, FAILED = [0], []
 FOLDERS = ('docs', 'crates', 'callers', 'tools', 'rust', '.ci')
 # As many public definitions have no comment above them, and as many files no first comment. Whoever gives one theirs lowers the number.
-WITHOUT_COMMENT, WITHOUT_FIRST_LINE = 94, 5
+WITHOUT_COMMENT, WITHOUT_FIRST_LINE = 91, 5
 # what pages name that is called as a crate might be, and is a function of the library for C
 EXPORTS = {'cedar_run'}
 
