@@ -177,7 +177,7 @@ static uint32_t counts_tags(held *h) {
     return number(status, answer, 1);
 }
 
-static uint32_t gets(held *h) {
+static uint32_t gets_value(held *h) {
     bool has = false;
     uint32_t status = cedar_store_get(&h->s, TEXT(U("a")), TEXT("k"), &has);
     if (status == CEDAR_OK && !IS(store_value(&h->s), "'x '10.0.0.1 ip(1 'y 'z @b {2 [2")) return 99;
@@ -357,7 +357,7 @@ static const call CALLS[] = {
     finds_unknown,
     counts_attributes,
     counts_tags,
-    gets,
+    gets_value,
     gets_nothing,
     gets_tag,
     builds_with,
