@@ -1,5 +1,5 @@
 // Conversations, and sessions that take lines one by one. In a row an input and an output are written with `;` for the
-// end of a line and `>` for a tab, and `HELP` is the text of the lines. What is given to a conversation begins with
+// end of a line and `>` for a tab, and `HELP` is the text of the lines, `STORE` its first part. What is given to a conversation begins with
 // its manner; before its output stands the status, or which fault ended it. A session takes all lines but the last
 // with ample memory.
 use super::runs::{Kept, Parts, bytes_of, output_of, writer};
@@ -8,7 +8,7 @@ use cedar_refusals::{
     Answer, Calls, Row, Tried, ample_if, both, memory_if, owned, refuse, relent, tried_rows, unmade,
 };
 use cedar_store::{Session, push_not_command};
-use cedar_talk::{Manner, TalkError, help_text, talk};
+use cedar_talk::{Manner, TalkError, help_texts, talk};
 use std::alloc::{AllocError, Global};
 
 // What a conversation answered and wrote, of which is known what is due. Where memory was wanting, a part of that was
@@ -44,12 +44,24 @@ fn held(alloc: Global, number: usize, input: &[u8], out: Kept, due: &[u8], row: 
     Tried { answer, refused }
 }
 
+// The bytes of all of the help.
+fn whole_help(alloc: Global) -> Option<Vec<u8>> {
+    let (store, policies, fields) = help_texts();
+    let mut bytes = Vec::new(alloc);
+    for text in [store, policies, fields] {
+        if bytes.extend_from_slice(text.as_bytes()).is_err() {
+            return None;
+        }
+    }
+    Some(bytes)
+}
+
 // The bytes that are due.
 fn due_of(alloc: Global, output: &str) -> Option<Vec<u8>> {
-    if output == "HELP" {
-        owned(alloc, help_text()).map(|text| text.into_bytes())
-    } else {
-        bytes_of(alloc, output)
+    match output {
+        "HELP" => whole_help(alloc),
+        "STORE" => owned(alloc, help_texts().0).map(|text| text.into_bytes()),
+        _ => bytes_of(alloc, output),
     }
 }
 
@@ -154,6 +166,7 @@ struct OnTalks;
 const TALKS: &str = "
     talk | lenient ent>A::\"a\">A::\"b\";ent>A::\"b\">A::\"c\";build;anc>A::\"a\";frob;anc>A::\"c\"; | 0 ok 2;anc>A::\"b\">A::\"c\";line 5: not a command;no entity;
     talk | lenient help; | 0 HELP
+    talk | lenient help store; | 0 STORE
     talk | lenient static>a>permit;template>t>principal;link>t>l>principal=A::\"x\";other;static>a>forbid;other;merge>keep;merge>rename;ids;unlink>l | 0 ok;ok;ok;ok;ok;ok;refused: occupied a;ok>a>policy0;bodies>a>t>policy0;policies>a>l>policy0;ok;
     talk | lenient ent>A::\"a\";build;ids | read ok 1;
     talk | lenient ent>A::\"a\";build; | write
