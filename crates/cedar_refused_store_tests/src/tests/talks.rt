@@ -1,7 +1,7 @@
 // Conversations, and sessions that take lines one by one. In a row an input and an output are written with `;` for the
-// end of a line and `>` for a tab, and `HELP` is the text of the lines, `STORE` its first part. What is given to a conversation begins with
-// its manner; before its output stands the status, or which fault ended it. A session takes all lines but the last
-// with ample memory.
+// end of a line and `>` for a tab; `HELP` is the text of the lines, and `STORE` its first part. What is given to a
+// conversation begins with its manner; before its output stands the status, or which fault ended it. A session takes
+// all lines but the last with ample memory.
 use super::runs::{Kept, Parts, bytes_of, output_of, writer};
 use cedar_keyed_hash::KeyedState;
 use cedar_refusals::{
