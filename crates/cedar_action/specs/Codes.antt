@@ -25,6 +25,7 @@ rule_with-parts (just u) = refl
 rule_with-parts among_slot = refl
 rule_with-parts just_slot = refl
 
+-- how a proof tells the constraints of an action apart
 abbrev pub rule_code : Coded ActionRule
 rule_code =
     code_by (ℕ × List UidParts) (coded× coded_ℕ (coded_list uid_parts_code))

@@ -12,6 +12,7 @@ use Rattle.cedar_action.specs.RuleReads.{rule_kind, rule_uids}
 abbrev pub rule_cmp : ActionRule → ActionRule → Ordering
 rule_cmp = then_cmp (on rule_kind nat_cmp) (on rule_uids (slice_cmp uid_cmp))
 
+-- whether two constraints of an action are the same
 abbrev pub same_rule : ActionRule → ActionRule → Bool
 same_rule = eq_by_cmp rule_cmp
 

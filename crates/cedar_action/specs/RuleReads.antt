@@ -28,6 +28,7 @@ uids_given (just u) = u ∷ []
 uids_given among_slot = []
 uids_given just_slot = []
 
+-- whether a uid is that of no action
 abbrev pub is_no_action : UidParts → Bool
 is_no_action u = not (is_action_uid u)
 

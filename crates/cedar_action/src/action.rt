@@ -10,7 +10,8 @@ ghost use Rattle.cedar_ids.specs.NonEmpties.{all_of};
 ghost use Rattle.cedar_ids.specs.Printed.{printed_uid};
 ghost use Rattle.cedar_ids.specs.Uid.{UidParts, name_part};
 ghost use Rattle.cedar_ids.specs.UidOf.{uid_parts};
-ghost use Rattle.cedar_terms.specs.ExprTree.{set_node, slot_node, expr_trees};
+ghost use Rattle.cedar_terms.specs.ExprTree.{eq_node, expr_trees, in_node, set_node, slot_node, var_node};
+ghost use Rattle.cedar_terms.specs.declared.var.Var.TheVariants as vars;
 ghost use Rattle.cedar_terms.specs.declared.slot.SlotId.TheVariants.{Action};
 ghost use Rattle.cedar_action.specs.Rules.{any_action, among, just, among_slot, just_slot};
 ghost use Rattle.cedar_action.specs.RuleReads.{rule_kind, rule_uids, rule_has_slot, uids_given, is_no_action};
@@ -175,26 +176,13 @@ impl ActionConstraint {
     {
         match self {
             ActionConstraint::Any => Expr::val(alloc, Literal::Bool(true)),
-            ActionConstraint::In(euids) => {
-                let left = Expr::var(alloc, Var::Action)?;
-                let right = euids_into_expr(alloc, euids)?;
-                Expr::is_in(alloc, left, right)
-            }
+            ActionConstraint::In(euids) => action_is_in(alloc, euids_into_expr(alloc, euids)?),
             ActionConstraint::Eq(euid) => {
-                let left = Expr::var(alloc, Var::Action)?;
-                let right = Expr::val(alloc, Literal::EntityUID(euid.clone()?))?;
-                Expr::is_eq(alloc, left, right)
+                let uid = Expr::val(alloc, Literal::EntityUID(euid.clone()?))?;
+                action_is_eq(alloc, uid)
             }
-            ActionConstraint::InSlot(loc) => {
-                let left = Expr::var(alloc, Var::Action)?;
-                let right = slot_at(alloc, loc)?;
-                Expr::is_in(alloc, left, right)
-            }
-            ActionConstraint::EqSlot(loc) => {
-                let left = Expr::var(alloc, Var::Action)?;
-                let right = slot_at(alloc, loc)?;
-                Expr::is_eq(alloc, left, right)
-            }
+            ActionConstraint::InSlot(loc) => action_is_in(alloc, slot_at(alloc, loc)?),
+            ActionConstraint::EqSlot(loc) => action_is_eq(alloc, slot_at(alloc, loc)?),
         }
     }
 
@@ -322,6 +310,22 @@ fn slot_at(alloc: Global, loc: &Option<Loc>) -> Result<Expr, AllocError>
 {
     let expr = Expr::slot(alloc, SlotId::Action)?;
     Ok(expr.with_maybe_source_loc(loc.clone()?))
+}
+
+// That the action lies in what an expression is.
+fn action_is_in(alloc: Global, right: Expr) -> Result<Expr, AllocError>
+    ensures { IfOk result (λ e. e ≡ in_node (var_node vars.Action) right) }
+{
+    let left = Expr::var(alloc, Var::Action)?;
+    Expr::is_in(alloc, left, right)
+}
+
+// That the action is what an expression is.
+fn action_is_eq(alloc: Global, right: Expr) -> Result<Expr, AllocError>
+    ensures { IfOk result (λ e. e ≡ eq_node (var_node vars.Action) right) }
+{
+    let left = Expr::var(alloc, Var::Action)?;
+    Expr::is_eq(alloc, left, right)
 }
 
 // The set of some uids.

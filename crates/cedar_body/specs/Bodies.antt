@@ -27,9 +27,11 @@ pub record BodyParts : Type 0 where
 abbrev pub principal_expr : BodyParts → ExprTree
 principal_expr b = constraint_expr variables.Principal b.principal
 
+-- the expression of a body's constraint of the action
 abbrev pub action_expr : BodyParts → ExprTree
 action_expr b = rule_expr b.action
 
+-- the expression of its constraint of the resource
 abbrev pub resource_expr : BodyParts → ExprTree
 resource_expr b = constraint_expr variables.Resource b.resource
 

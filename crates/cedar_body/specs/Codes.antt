@@ -24,10 +24,12 @@ abbrev pub effect_where : Bool → Effect
 effect_where true = Permit
 effect_where false = Forbid
 
+-- an effect is made again of whether it permits
 pub effect_where-is_permit : (e : Effect) → effect_where (is_permit e) ≡ e
 effect_where-is_permit Permit = refl
 effect_where-is_permit Forbid = refl
 
+-- how a proof tells effects apart
 abbrev pub effect_code : Coded Effect
 effect_code = code_by Bool coded_bool is_permit effect_where effect_where-is_permit
 
@@ -35,6 +37,7 @@ effect_code = code_by Bool coded_bool is_permit effect_where effect_where-is_per
 abbrev pub BodyRow : Type 0
 BodyRow = List ℕ × (AnnotationsView × (Effect × (Constraint × (ActionRule × (Constraint × Option ExprTree)))))
 
+-- the parts of a body, as pairs
 abbrev pub body_row : BodyParts → BodyRow
 body_row b = (b.id, (b.annotations, (b.effect, (b.principal, (b.action, (b.resource, b.clause))))))
 
@@ -52,6 +55,7 @@ body_with p =
       clause = p.1.1.1.1.1.1;
     }
 
+-- how a proof tells bodies apart
 abbrev pub body_code : Coded BodyParts
 body_code =
     code_by BodyRow

@@ -319,13 +319,34 @@ impl TemplateBody {
     pub fn condition(&self, alloc: Global) -> Result<Expr, AllocError>
         ensures { IfOk result (λ e. e ≡ condition (body_of self.now)) }
     {
+        let rest = self.clause_expr(alloc)?;
+        let rest = self.resource_and(alloc, rest)?;
+        let rest = self.action_and(alloc, rest)?;
+        self.principal_and(alloc, rest)
+    }
+
+    // That the principal's constraint and the rest hold.
+    fn principal_and(&self, alloc: Global, rest: Expr) -> Result<Expr, AllocError>
+        ensures { IfOk result (λ e. e ≡ and_node (principal_expr (body_of self.now)) rest) }
+    {
         let principal = self.principal_constraint_expr(alloc)?;
-        let action = self.action_constraint_expr(alloc)?;
-        let resource = self.resource_constraint_expr(alloc)?;
-        let clause = self.clause_expr(alloc)?;
-        let rest = self.both(alloc, resource, clause)?;
-        let rest = self.both(alloc, action, rest)?;
         self.both(alloc, principal, rest)
+    }
+
+    // That the action's constraint and the rest hold.
+    fn action_and(&self, alloc: Global, rest: Expr) -> Result<Expr, AllocError>
+        ensures { IfOk result (λ e. e ≡ and_node (action_expr (body_of self.now)) rest) }
+    {
+        let action = self.action_constraint_expr(alloc)?;
+        self.both(alloc, action, rest)
+    }
+
+    // That the resource's constraint and the rest hold.
+    fn resource_and(&self, alloc: Global, rest: Expr) -> Result<Expr, AllocError>
+        ensures { IfOk result (λ e. e ≡ and_node (resource_expr (body_of self.now)) rest) }
+    {
+        let resource = self.resource_constraint_expr(alloc)?;
+        self.both(alloc, resource, rest)
     }
 
     // The clause, `true` where there is none.

@@ -43,6 +43,7 @@ ghost use Rattle.cedar_graph.specs.laws.Writings.{
   StartsAt,
   TakesKey,
   Writes,
+  listed,
 };
 
 use crate::arcs::{FixReading, Reading, read_arcs, read_fix};
@@ -137,6 +138,21 @@ fn add_row<K: Clone + Eq + Hash, V: TCNode<K>, S: BuildHasher>(
     Ok(1)
 }
 
+// The numbers that number x reaches, as they are listed for its component.
+pub(crate) fn listed_for<'a, K: Clone + Eq + Hash, S: BuildHasher>(
+    read: &Reading<K, S>,
+    reached: &'a Reached,
+    x: usize,
+) -> &'a [usize]
+    requires reach { IsReachOf read.now reached.now }
+    requires within { x < length read.now.keys.keys }
+    ensures listed { result.now ≡ listed reached.now x }
+    ensures below { AllBelow (length read.now.keys.keys) result.now }
+{
+    let component = reached.component[x];
+    &reached.lists[reached.start[component]..reached.start[component + 1]]
+}
+
 // Adds to the node of number x an edge to the key of each number that it reaches, and says how
 // many nodes it found. It has those to known numbers already, and no others.
 fn write_number<K: Clone + Eq + Hash, V: TCNode<K>, S: BuildHasher>(
@@ -159,9 +175,7 @@ fn write_number<K: Clone + Eq + Hash, V: TCNode<K>, S: BuildHasher>(
         (HasNodes K.eq nodes.old (IsKeyAt K.eq read.now.keys.keys x))) }
 {
     let keys = read.keys.as_slice();
-    let p = reached.component[x];
-    let numbers = &reached.lists[reached.start[p]..reached.start[p + 1]];
-    let mut row = pick_row(alloc, keys, numbers, known)?;
+    let mut row = pick_row(alloc, keys, listed_for(read, reached, x), known)?;
     add_row(alloc, nodes, &keys[x], &mut row)
 }
 
@@ -208,9 +222,7 @@ pub(crate) fn goes_back<K: Clone + Eq + Hash, S: BuildHasher>(
     ensures none { result ≡ false → Goes (IsArc read.now) x x → ⊥ }
     ensures some { result ≡ true → Goes (IsArc read.now) x x }
 {
-    let component = reached.component[x];
-    let numbers = &reached.lists[reached.start[component]..reached.start[component + 1]];
-    numbers.contains(&x)
+    listed_for(read, reached, x).contains(&x)
 }
 
 // What was done, and whether a number to fix may reach itself: one was seen to, or none was looked at.

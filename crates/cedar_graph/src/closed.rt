@@ -1,17 +1,17 @@
 //! The check that a graph is closed.
-ghost use Rattle.std.specs.Prelude.{◌≡◌, ℕ, ◌<◌, true, None, IfErr, IfOk, OnOk, length, slice_index};
+ghost use Rattle.std.specs.Prelude.{◌≡◌, ℕ, ◌<◌, ◌≤◌, true, None, IfErr, IfOk, OnOk, length, slice_index};
 ghost use Rattle.std.specs.Option.{IfSome};
 ghost use Rattle.std.specs.Set.{ClonesAreEqual};
 ghost use Rattle.cedar_components.specs.Reach.{AreArcs, Goes};
 ghost use Rattle.cedar_graph.specs.Graph.{graph_of, IsClosed};
 ghost use Rattle.cedar_graph.specs.Faults.{BreaksClosed, MatchFault};
-ghost use Rattle.cedar_graph.specs.laws.Arcs.{IsKeyAt};
-ghost use Rattle.cedar_graph.specs.laws.Checks.{IsClosedAt, KeepsKnown, LacksAt, Leaks};
+ghost use Rattle.cedar_graph.specs.laws.Arcs.{Ascends, IsKeyAt};
+ghost use Rattle.cedar_graph.specs.laws.Checks.{AreClosedBelow, IsClosedAt, KeepsKnown, LacksAt, Leaks, SomeLacks};
 ghost use Rattle.cedar_graph.specs.laws.Readings.{IsArc};
 ghost use Rattle.cedar_graph.specs.laws.Writings.{IsReachOf, KnowsTargets};
 
-use crate::arcs::{Reading, read_arcs};
-use crate::close::{Known, mark_targets, reach_of};
+use crate::arcs::{FixReading, Reading, read_arcs};
+use crate::close::{Known, listed_for, mark_targets, reach_of};
 use crate::err::{MissingTcEdge, Result, TcError};
 use crate::transitive_closure::TCNode;
 use cedar_components::Reached;
@@ -33,8 +33,7 @@ fn knows_reached<K: Clone + Eq + Hash, S: BuildHasher>(
     ensures { result ≡ true → (y : ℕ) → Goes (IsArc read.now) x y
         → slice_index known.now.marks.items y ≡ known.now.mark }
 {
-    let component = reached.component[x];
-    for y in &reached.lists[reached.start[component]..reached.start[component + 1]] {
+    for y in listed_for(read, reached, x) {
         if known.marks[*y] != known.mark {
             return false;
         }
@@ -129,6 +128,35 @@ fn check_number<K: Clone + Eq + Hash + Debug + Display, S: BuildHasher>(
     Err(missing(read.keys.as_slice(), x, parent, grandparent)?)
 }
 
+// Refuses the first number to fix that has no arc to a target of one of its targets.
+fn check_numbers<K: Clone + Eq + Hash + Debug + Display, S: BuildHasher>(
+    alloc: Global,
+    read: &FixReading<K, S>,
+    reached: &Reached,
+) -> Result<(), K>
+    requires copies { ClonesAreEqual K.eq K.is_clone }
+    requires arcs { AreArcs read.now.reading.from.items read.now.reading.to.items
+        (length read.now.reading.keys.keys) }
+    requires ascending { Ascends read.now.reading.from.items }
+    requires fixed { read.now.fixed ≤ length read.now.reading.keys.keys }
+    requires reach { IsReachOf read.now.reading reached.now }
+    ensures ok { OnOk result (AreClosedBelow (IsArc read.now.reading) read.now.fixed) }
+    ensures err { IfErr result (λ e. MatchFault e (SomeLacks K.eq read.now.reading) (λ _. ⊥)) }
+{
+    let arcs = &read.reading;
+    let mut known = Known {
+        marks: vec![in alloc; 0; arcs.keys.len()]?,
+        mark: 0,
+        count: 0,
+    };
+    let mut place = 0;
+    for x in 0..read.fixed {
+        place = mark_targets(&arcs.from, &arcs.to, &mut known, x, place);
+        check_number(arcs, reached, x, &known)?;
+    }
+    Ok(())
+}
+
 // Whether the graph is closed: whether each number has an arc to each number that it reaches. What it reaches is known
 // by its strong component, and only where one of that is missing are the arcs looked through for three keys that show
 // it.
@@ -144,17 +172,6 @@ pub(crate) fn enforce_tc<
         (λ _. ⊥)) }
 {
     let read = read_arcs(alloc, nodes)?;
-    let arcs = &read.reading;
-    let reached = reach_of::<K, V, S>(alloc, arcs)?;
-    let mut known = Known {
-        marks: vec![in alloc; 0; arcs.keys.len()]?,
-        mark: 0,
-        count: 0,
-    };
-    let mut place = 0;
-    for x in 0..read.fixed {
-        place = mark_targets(&arcs.from, &arcs.to, &mut known, x, place);
-        check_number(arcs, &reached, x, &known)?;
-    }
-    Ok(())
+    let reached = reach_of::<K, V, S>(alloc, &read.reading)?;
+    check_numbers(alloc, &read, &reached)
 }

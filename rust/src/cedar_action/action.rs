@@ -308,26 +308,13 @@ impl ActionConstraint {
     pub fn as_expr(&self) -> Expr {
         match self {
             Self::Any => Expr::val(Literal::Bool(true)),
-            Self::In(euids) => {
-                let left = Expr::var(Var::Action);
-                let right = euids_into_expr(euids);
-                Expr::is_in(left, right)
-            }
+            Self::In(euids) => action_is_in(euids_into_expr(euids)),
             Self::Eq(euid) => {
-                let left = Expr::var(Var::Action);
-                let right = Expr::val(Literal::EntityUID(euid.clone()));
-                Expr::is_eq(left, right)
+                let uid = Expr::val(Literal::EntityUID(euid.clone()));
+                action_is_eq(uid)
             }
-            Self::InSlot(loc) => {
-                let left = Expr::var(Var::Action);
-                let right = slot_at(loc);
-                Expr::is_in(left, right)
-            }
-            Self::EqSlot(loc) => {
-                let left = Expr::var(Var::Action);
-                let right = slot_at(loc);
-                Expr::is_eq(left, right)
-            }
+            Self::InSlot(loc) => action_is_in(slot_at(loc)),
+            Self::EqSlot(loc) => action_is_eq(slot_at(loc)),
         }
     }
 
@@ -529,6 +516,18 @@ fn shared(euids: impl IntoIterator<Item = EntityUID>) -> Vec<Arc<EntityUID>> {
 fn slot_at(loc: &Option<Loc>) -> Expr {
     let expr = Expr::slot(SlotId::Action);
     expr.with_maybe_source_loc(loc.clone())
+}
+
+// That the action lies in what an expression is.
+fn action_is_in(right: Expr) -> Expr {
+    let left = Expr::var(Var::Action);
+    Expr::is_in(left, right)
+}
+
+// That the action is what an expression is.
+fn action_is_eq(right: Expr) -> Expr {
+    let left = Expr::var(Var::Action);
+    Expr::is_eq(left, right)
 }
 
 // The set of some uids.

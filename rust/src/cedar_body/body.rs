@@ -887,13 +887,28 @@ impl TemplateBody {
     /// assert_eq!(body.condition().to_string(), "(principal == ?principal) && (true && (true && true))");
     /// ```
     pub fn condition(&self) -> Expr {
+        let rest = self.clause_expr();
+        let rest = self.resource_and(rest);
+        let rest = self.action_and(rest);
+        self.principal_and(rest)
+    }
+
+    // That the principal's constraint and the rest hold.
+    fn principal_and(&self, rest: Expr) -> Expr {
         let principal = self.principal_constraint_expr();
-        let action = self.action_constraint_expr();
-        let resource = self.resource_constraint_expr();
-        let clause = self.clause_expr();
-        let rest = self.both(resource, clause);
-        let rest = self.both(action, rest);
         self.both(principal, rest)
+    }
+
+    // That the action's constraint and the rest hold.
+    fn action_and(&self, rest: Expr) -> Expr {
+        let action = self.action_constraint_expr();
+        self.both(action, rest)
+    }
+
+    // That the resource's constraint and the rest hold.
+    fn resource_and(&self, rest: Expr) -> Expr {
+        let resource = self.resource_constraint_expr();
+        self.both(resource, rest)
     }
 
     // The clause, `true` where there is none.

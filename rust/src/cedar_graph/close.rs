@@ -59,6 +59,12 @@ fn add_row<K: Clone + Eq + Hash, V: TCNode<K>, S: BuildHasher>(
     1
 }
 
+// The numbers that number x reaches, as they are listed for its component.
+pub(crate) fn listed_for(reached: &Reached, x: usize) -> &[usize] {
+    let component = reached.component[x];
+    &reached.lists[reached.start[component]..reached.start[component + 1]]
+}
+
 // Adds to the node of number x an edge to the key of each number that it reaches, and says how
 // many nodes it found. It has those to known numbers already, and no others.
 fn write_number<K: Clone + Eq + Hash, V: TCNode<K>, S: BuildHasher>(
@@ -69,9 +75,7 @@ fn write_number<K: Clone + Eq + Hash, V: TCNode<K>, S: BuildHasher>(
     known: &Known,
 ) -> usize {
     let keys = read.keys.as_slice();
-    let p = reached.component[x];
-    let numbers = &reached.lists[reached.start[p]..reached.start[p + 1]];
-    let mut row = pick_row(keys, numbers, known);
+    let mut row = pick_row(keys, listed_for(reached, x), known);
     add_row(nodes, &keys[x], &mut row)
 }
 
@@ -89,9 +93,7 @@ pub(crate) fn mark_targets(from: &[usize], to: &[usize], known: &mut Known, x: u
 
 // Whether number x reaches itself.
 pub(crate) fn goes_back(reached: &Reached, x: usize) -> bool {
-    let component = reached.component[x];
-    let numbers = &reached.lists[reached.start[component]..reached.start[component + 1]];
-    numbers.contains(&x)
+    listed_for(reached, x).contains(&x)
 }
 
 // What was done, and whether a number to fix may reach itself: one was seen to, or none was looked at.

@@ -3,8 +3,8 @@
 //! The check that a graph is closed.
 
 use crate::cedar_components::Reached;
-use crate::cedar_graph::arcs::{Reading, read_arcs};
-use crate::cedar_graph::close::{Known, mark_targets, reach_of};
+use crate::cedar_graph::arcs::{FixReading, Reading, read_arcs};
+use crate::cedar_graph::close::{Known, listed_for, mark_targets, reach_of};
 use crate::cedar_graph::err::{MissingTcEdge, Result, TcError};
 use crate::cedar_graph::transitive_closure::TCNode;
 use std::collections::HashMap;
@@ -13,8 +13,7 @@ use std::hash::{BuildHasher, Hash};
 
 // Whether each number that number x reaches is a known one.
 fn knows_reached(reached: &Reached, x: usize, known: &Known) -> bool {
-    let component = reached.component[x];
-    for y in &reached.lists[reached.start[component]..reached.start[component + 1]] {
+    for y in listed_for(reached, x) {
         if known.marks[*y] != known.mark {
             return false;
         }
@@ -75,15 +74,12 @@ fn check_number<K: Clone + Eq + Hash + Debug + Display, S: BuildHasher>(
     Err(missing(read.keys.as_slice(), x, parent, grandparent))
 }
 
-// Whether the graph is closed: whether each number has an arc to each number that it reaches. What it reaches is known
-// by its strong component, and only where one of that is missing are the arcs looked through for three keys that show
-// it.
-pub(crate) fn enforce_tc<K: Clone + Eq + Hash + Debug + Display, V: TCNode<K>, S: BuildHasher + Clone>(
-    nodes: &HashMap<K, V, S>,
+// Refuses the first number to fix that has no arc to a target of one of its targets.
+fn check_numbers<K: Clone + Eq + Hash + Debug + Display, S: BuildHasher>(
+    read: &FixReading<K, S>,
+    reached: &Reached,
 ) -> Result<(), K> {
-    let read = read_arcs(nodes);
     let arcs = &read.reading;
-    let reached = reach_of::<K, V, S>(arcs);
     let mut known = Known {
         marks: vec![0; arcs.keys.len()],
         mark: 0,
@@ -92,7 +88,18 @@ pub(crate) fn enforce_tc<K: Clone + Eq + Hash + Debug + Display, V: TCNode<K>, S
     let mut place = 0;
     for x in 0..read.fixed {
         place = mark_targets(&arcs.from, &arcs.to, &mut known, x, place);
-        check_number(arcs, &reached, x, &known)?;
+        check_number(arcs, reached, x, &known)?;
     }
     Ok(())
+}
+
+// Whether the graph is closed: whether each number has an arc to each number that it reaches. What it reaches is known
+// by its strong component, and only where one of that is missing are the arcs looked through for three keys that show
+// it.
+pub(crate) fn enforce_tc<K: Clone + Eq + Hash + Debug + Display, V: TCNode<K>, S: BuildHasher + Clone>(
+    nodes: &HashMap<K, V, S>,
+) -> Result<(), K> {
+    let read = read_arcs(nodes);
+    let reached = reach_of::<K, V, S>(&read.reading);
+    check_numbers(&read, &reached)
 }

@@ -14,6 +14,14 @@ abbrev pub LacksAt : {K S H : Type 0} → (K → K → Bool) → Reading K S H �
 LacksAt eq s x p q r = (b : ℕ) × (c : ℕ) × IsArc s x b × IsArc s b c × (IsArc s x c → ⊥) × IsKeyAt eq s.keys.keys x p
     × IsKeyAt eq s.keys.keys b q × IsKeyAt eq s.keys.keys c r
 
+-- the numbers below n are closed so
+abbrev pub AreClosedBelow : (ℕ → ℕ → Type 0) → ℕ → Type 0
+AreClosedBelow E n = (a : ℕ) → a < n → IsClosedAt E a
+
+-- p, q and r are the keys by which a number lacks an arc
+abbrev pub SomeLacks : {K S H : Type 0} → (K → K → Bool) → Reading K S H → K → K → K → Type 0
+SomeLacks eq s p q r = (x : ℕ) × LacksAt eq s x p q r
+
 -- the arc at place k leads from a known number to one that is not
 pub record Leaks {K S H : Type 0} (s : Reading K S H) (known : Known) (k : ℕ) : Type 0 where
   pub within : k < length s.from.items

@@ -1,6 +1,7 @@
 -- What is written into a map of nodes: edges to the keys of the numbers that a number reaches.
 use Rattle.std.specs.Prelude.{◌≡◌, ℕ, ◌<◌, ◌≤◌, ◌⊎◌, Bool, true, false, List, length, slice_get, slice_index, Some}
-use Rattle.std.specs.Prelude.{is_some, Result, OnOk}
+use Rattle.std.specs.Prelude.{◌+◌, is_some, Result, OnOk}
+use Rattle.std.specs.List.{slice_range}
 use Rattle.std.specs.Set.{is_member}
 use Rattle.std.specs.HashMap.{HashMap, get}
 use Rattle.cedar_components.specs.Reach.{Goes, HasArc, IsReach}
@@ -91,6 +92,11 @@ IsFixEdge eq read = IsRowEdgeBelow eq read.fixed read.reading.keys.keys (IsArc r
 abbrev pub IsReachOf : {K S H : Type 0} → Reading K S H → Reached → Type 0
 IsReachOf s reached = IsReach (IsArc s) (length s.keys.keys) reached.component.items reached.start.items
     reached.lists.items
+
+-- the numbers that are listed for the component of number x
+abbrev pub listed : Reached → ℕ → List ℕ
+listed r x = slice_range r.lists.items (slice_index r.start.items (slice_index r.component.items x))
+    (slice_index r.start.items (slice_index r.component.items x + 1))
 
 -- no number below n to which an arc leads from one that is not above it reaches itself
 abbrev pub NoneGoesBack : (ℕ → ℕ → Type 0) → ℕ → Type 0

@@ -1,9 +1,5 @@
-use Rattle.std.proofs.Common.{◌+◌, ◌≤◌, inl, inr, arith, sym, subst, ◌∙◌, length}
-use Rattle.std.proofs.lemmas.Bool.{cases_eq}
-use Rattle.std.proofs.lemmas.Result.{err_from_is_err_and}
-use Rattle.cedar_graph.specs.laws.Checks.{IsClosedAt}
+use Rattle.std.proofs.lemmas.Result.{IfErr-weaker, on_ok_weaker}
 use Rattle.cedar_graph.specs.laws.Readings.{IsArc}
-use Rattle.cedar_graph.specs.laws.Writings.{StartsAt}
 use Rattle.cedar_graph.proofs.Checking.{breaks, closed_from}
 use Rattle.cedar_graph.proofs.Members.{MatchFault-weaker}
 use Rattle.cedar_graph.proofs.closed.enforce_tc.Goals as goal
@@ -12,41 +8,16 @@ pub returns-clause-ok : goal.returns-clause-ok
 returns-clause-ok g c =
     let f = c.in_ok-read.ensures in
     let s = c.in_ok-read.read in
-    closed_from g.met.K.Eq.laws g.V.TCNode.edges g.met.V.TCNode.respects_eq c.args.nodes.now s.reading.keys.keys
-    (IsArc s.reading) f.same s.fixed f.all
-    (λ n h. c.loop-x.invariant.closed n (omega (arith, h, c.loop-x-test.false)))
+    on_ok_weaker c.check_numbers.result
+    (closed_from g.met.K.Eq.laws g.V.TCNode.edges g.met.V.TCNode.respects_eq c.args.nodes.now s.reading.keys.keys
+    (IsArc s.reading) f.same s.fixed f.all) c.check_numbers.ensures.ok
 
-pub mark_targets-place-requires-clause-before : goal.mark_targets-place-requires-clause-before
-mark_targets-place-requires-clause-before g c = c.loop-x.invariant.marks_below
-
-pub mark_targets-place-requires-clause-place : goal.mark_targets-place-requires-clause-place
-mark_targets-place-requires-clause-place g c = subst (λ v. c.loop-x.place ≤ length v)
-    (sym c.deref.ensures.value) c.loop-x.invariant.place
-
-pub loop-x-preserved : goal.loop-x-preserved
-loop-x-preserved g c =
-    let marked = c.mark_targets-place.ensures in
-    let i = c.loop-x.invariant in
-    let x = c.loop-x.x in
-    let E = IsArc c.in_ok-read.read.reading in
-    record {
-      marks_len = marked.len ∙ i.marks_len;
-      marks_below = marked.below;
-      place = subst (λ v. c.mark_targets-place.result ≤ length v) c.deref.ensures.value marked.place;
-      starts = subst (λ v. StartsAt v (x + 1) c.mark_targets-place.result) c.deref.ensures.value marked.starts;
-      closed = λ n h. elim (cases_eq n x) [
-        | inl same ↦ subst (λ m. IsClosedAt E m) (sym same) c.in_ok-check_number.ensures.ok
-        | inr other ↦ i.closed n (omega (arith, h, other))
-      ];
-    }
-
-pub returns-in_err-check_number-clause-err : goal.returns-in_err-check_number-clause-err
-returns-in_err-check_number-clause-err g c =
-    let s = c.in_ok-read.read in
+pub returns-clause-err : goal.returns-clause-err
+returns-clause-err g c =
     let f = c.in_ok-read.ensures in
-    let p = err_from_is_err_and c.from_residual-in_err-check_number.result
-    c.from_residual-in_err-check_number.ensures.1 in
-    rw (p.1, p.2) (MatchFault-weaker c.in_err-check_number.field-0.0 _ _ _ _
+    let s = c.in_ok-read.read in
+    IfErr-weaker c.check_numbers.result _ _ (λ e.
+    MatchFault-weaker e _ _ _ _
     (λ a b d l. breaks g.met.K.Eq.laws g.V.TCNode.edges g.met.V.TCNode.respects_eq c.args.nodes.now
-    s.reading.keys.keys (IsArc s.reading) f.same f.unique c.loop-x.x l.0 l.1 a b d l.2 l.3 l.4 l.5 l.6 l.7)
-    (λ _ none. none) c.in_err-check_number.ensures.err)
+    s.reading.keys.keys (IsArc s.reading) f.same f.unique l.0 l.1.0 l.1.1 a b d l.1.2 l.1.3 l.1.4 l.1.5 l.1.6
+    l.1.7) (λ _ none. none)) c.check_numbers.ensures.err

@@ -1,8 +1,8 @@
-use Rattle.std.proofs.Common.{◌≡◌, ℕ, ◌<◌, ◌≤◌, length}
-use Rattle.cedar_graph.specs.laws.Checks.{IsClosedAt}
+use Rattle.std.proofs.Common.{◌≡◌, ◌≤◌, length}
+use Rattle.cedar_graph.specs.laws.Checks.{AreClosedBelow}
 use Rattle.cedar_graph.specs.laws.Readings.{IsArc}
 use Rattle.cedar_graph.specs.laws.Writings.{AreAtMost, StartsAt}
-use Rattle.cedar_graph.proofs.closed.enforce_tc.Given as goal
+use Rattle.cedar_graph.proofs.closed.check_numbers.Given as goal
 
 abbrev pub invariant-loop-x : goal.invariant-loop-x
 invariant-loop-x g l = record {
@@ -10,5 +10,5 @@ invariant-loop-x g l = record {
   marks_below : AreAtMost l.x l.known.marks.items;
   place : l.place ≤ length l.arcs.from.items;
   starts : StartsAt l.arcs.from.items l.x l.place;
-  closed : (n : ℕ) → n < l.x → IsClosedAt (IsArc l.arcs) n;
+  closed : AreClosedBelow (IsArc l.arcs) l.x;
 }
