@@ -4,12 +4,10 @@ use Rattle.std.specs.Prelude.{Some, map, take, length}
 use Rattle.std.proofs.Common.{ap, sym, refl, ◌∙◌, get_or, Bor}
 use Rattle.std.proofs.lemmas.List.Folds.{list_any_more, list_any-append}
 use Rattle.std.specs.Set.{is_member}
-use Rattle.std.specs.FinSet as set
+use Rattle.std.specs.HashSet.{HashSet, Updates, UpdatesBy, contains}
 use Rattle.cedar_ids.specs.UidOf.{same_uid}
-use Rattle.cedar_ids.specs.laws.UidOfLaws.{same_uid_decides, same_uid_equiv, uid_order_total}
+use Rattle.cedar_ids.specs.laws.UidOfLaws.{same_uid_decides, same_uid_equiv}
 use Rattle.cedar_ids.specs.declared.entity.EntityUID.{EntityUID}
-use Rattle.cedar_uid_sets.specs.UidSets.{UidValues}
-use Rattle.cedar_uid_sets.specs.laws.Sets.{same_tests}
 use Rattle.cedar_children.specs.Children.{is_in}
 
 pub or_off : (b : Bool) → (b || false) ≡ b
@@ -56,9 +54,10 @@ member_more xs i x q within is =
     ∙ ap (λ b. is_member same_uid (take i xs) q || b) (ap (same_uid q) (sym is) ∙ same_uid_equiv.symm q x)
 
 -- the set of one parent is another now, with one child more
-pub added_at : (f g : EntityUID → Option UidValues) (parent child : EntityUID) (t : UidValues)
+pub added_at : {S : Type 0} (f g : EntityUID → Option (HashSet EntityUID S)) (parent child : EntityUID)
+    (t : HashSet EntityUID S)
     → ((p : EntityUID) → g p ≡ cond (same_uid parent p) (Some t) (f p))
-    → ((q : EntityUID) → set.contains t q ≡ (is_in (f parent) q || same_uid child q))
+    → ((q : EntityUID) → contains same_uid t q ≡ (is_in (f parent) q || same_uid child q))
     → (p q : EntityUID) → is_in (g p) q ≡ (is_in (f p) q || (same_uid parent p && same_uid child q))
 added_at f g parent child t updates has p q = ap (λ o. is_in o q) (updates p) ∙ at (same_uid parent p) refl
   where
@@ -68,9 +67,10 @@ added_at f g parent child t updates has p q = ap (λ o. is_in o q) (updates p) �
     at false is = sym (or_off (is_in (f p) q))
 
 -- or with one child less
-pub taken_at : (f g : EntityUID → Option UidValues) (parent child : EntityUID) (t : UidValues)
+pub taken_at : {S : Type 0} (f g : EntityUID → Option (HashSet EntityUID S)) (parent child : EntityUID)
+    (t : HashSet EntityUID S)
     → ((p : EntityUID) → g p ≡ cond (same_uid parent p) (Some t) (f p))
-    → ((q : EntityUID) → set.contains t q ≡ (is_in (f parent) q && not (same_uid child q)))
+    → ((q : EntityUID) → contains same_uid t q ≡ (is_in (f parent) q && not (same_uid child q)))
     → (p q : EntityUID) → is_in (g p) q ≡ (is_in (f p) q && not (same_uid parent p && same_uid child q))
 taken_at f g parent child t updates has p q = ap (λ o. is_in o q) (updates p) ∙ at (same_uid parent p) refl
   where
@@ -79,34 +79,27 @@ taken_at f g parent child t updates has p q = ap (λ o. is_in o q) (updates p) �
     at true is = has q ∙ ap (λ u. is_in (f u) q && not (same_uid child q)) ((same_uid_decides parent p).0 is)
     at false is = sym (and_on (is_in (f p) q))
 
-or_turn : (a b : Bool) → (a || b) ≡ (b || a)
-or_turn true true = refl
-or_turn true false = refl
-or_turn false true = refl
-or_turn false false = refl
+or_on : (b : Bool) → true ≡ (b || true)
+or_on true = refl
+or_on false = refl
 
-pub and_turn : (a b : Bool) → (a && b) ≡ (b && a)
-and_turn true true = refl
-and_turn true false = refl
-and_turn false true = refl
-and_turn false false = refl
-
--- what a set has with one more
-pub inserted : (s : UidValues) (u q : EntityUID) → set.contains (set.insert s u) q ≡ (set.contains s q || same_uid u q)
-inserted s u q =
-    set.contains-insert uid_order_total s u q
-    ∙ ap (λ b. b || set.contains s q) (ap (λ (f : EntityUID → EntityUID → Bool). f q u) same_tests
-    ∙ same_uid_equiv.symm q u)
-    ∙ or_turn (same_uid u q) (set.contains s q)
+-- a set with one more
+pub inserted : {S : Type 0} (s t : HashSet EntityUID S) (u : EntityUID) → Updates same_uid s t u true → (q : EntityUID)
+    → contains same_uid t q ≡ (contains same_uid s q || same_uid u q)
+inserted s t u w q = w.0 q ∙ at (same_uid u q)
+  where
+    at : (b : Bool) → cond b true (contains same_uid s q) ≡ (contains same_uid s q || b)
+    at true = or_on (contains same_uid s q)
+    at false = sym (or_off (contains same_uid s q))
 
 -- and with one less
-pub removed : (s : UidValues) (u q : EntityUID)
-    → set.contains (set.remove s u) q ≡ (set.contains s q && not (same_uid u q))
-removed s u q =
-    set.contains-remove uid_order_total s u q
-    ∙ ap (λ b. not b && set.contains s q) (ap (λ (f : EntityUID → EntityUID → Bool). f q u) same_tests
-    ∙ same_uid_equiv.symm q u)
-    ∙ and_turn (not (same_uid u q)) (set.contains s q)
+pub removed : {S : Type 0} (s t : HashSet EntityUID S) (u : EntityUID) → UpdatesBy same_uid (same_uid u) s t false
+    → (q : EntityUID) → contains same_uid t q ≡ (contains same_uid s q && not (same_uid u q))
+removed s t u w q = w.0 q ∙ at (same_uid u q)
+  where
+    at : (b : Bool) → cond b false (contains same_uid s q) ≡ (contains same_uid s q && not b)
+    at true = sym (and_off (contains same_uid s q))
+    at false = sym (and_on (contains same_uid s q))
 
 pub more_parents : (a m s c : Bool) → ((a || (m && c)) || (s && c)) ≡ (a || ((m || s) && c))
 more_parents true m s c = refl

@@ -1,18 +1,17 @@
 -- Who is a child of whom in an index of children, and what lies below some uids.
 use Rattle.std.specs.Prelude.{◌≡◌, ◌⊎◌, Bool, true, false, List, Option, Some, None}
-use Rattle.std.specs.FinSet as set
 use Rattle.std.specs.HashMap.{get}
+use Rattle.std.specs.HashSet.{HashSet, contains}
 use Rattle.std.specs.Set.{is_member}
 use Rattle.cedar_graph.specs.Graph.{Reach}
 use Rattle.cedar_ids.specs.UidOf.{same_uid}
 use Rattle.cedar_ids.specs.declared.entity.EntityUID.{EntityUID}
-use Rattle.cedar_uid_sets.specs.UidSets.{UidValues}
 use Rattle.cedar_children.specs.declared.children.Children.{Children}
 
 -- whether q is in the set that was found; where none was, it is not
-abbrev pub is_in : Option UidValues → EntityUID → Bool
+abbrev pub is_in : {S : Type 0} → Option (HashSet EntityUID S) → EntityUID → Bool
 is_in None q = false
-is_in (Some s) q = set.contains s q
+is_in (Some s) q = contains same_uid s q
 
 -- whether p has the child q
 abbrev pub is_child : {S H : Type 0} → Children S H → EntityUID → EntityUID → Bool

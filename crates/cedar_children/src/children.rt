@@ -8,7 +8,7 @@ ghost use Rattle.cedar_children.specs.Children.{IsBelow, is_child, is_parent};
 
 use crate::walk::walk;
 use cedar_entity::entity::Entity;
-use cedar_uid_sets::{SharedUid, UidSet};
+use cedar_uid_sets::SharedUid;
 use std::alloc::{AllocError, Global};
 use std::collections::{HashMap, HashSet};
 use std::hash::BuildHasher;
@@ -16,10 +16,11 @@ use std::hash::BuildHasher;
 /// The children of each uid that is a parent, whether it is a uid of an entity or not. A uid without children takes no
 /// room.
 ///
-/// It is the project's own. It takes a pointer for each parent of each entity, and a set for each parent.
+/// It is the project's own. It takes a pointer for each parent of each entity, and a hashed set for each parent, so what a
+/// child costs that comes or goes does not hang on how many its parent has.
 #[derive(Drop)]
 pub struct Children<S: BuildHasher> {
-    pub(crate) sets: HashMap<SharedUid, UidSet, S>,
+    pub(crate) sets: HashMap<SharedUid, HashSet<SharedUid, S>, S>,
 }
 
 impl<S: BuildHasher> Children<S> {
@@ -31,9 +32,11 @@ impl<S: BuildHasher> Children<S> {
             sets: HashMap::with_hasher(alloc, hasher),
         }
     }
+}
 
-    /// Takes an entity from the children of each of its parents. It takes no memory. It looks each parent up, finds the
-    /// place among its children, and moves the pointers to those that stand behind it.
+impl<S: BuildHasher + Clone> Children<S> {
+    /// Takes an entity from the children of each of its parents. It takes no memory. It looks each parent up, and the
+    /// entity among the children of each.
     pub fn remove(&mut self, child: &SharedUid, entity: &Entity)
         ensures { (p q : EntityUID) → is_child self.new p q
             ≡ (is_child self.old p q && not (same_uid child.now q && set.contains entity.now.parents p)) }
@@ -49,39 +52,6 @@ impl<S: BuildHasher> Children<S> {
             ≡ (not (same_uid parent.now p) && is_child self.old p q) }
     {
         let _children = self.sets.remove(parent);
-    }
-
-    // Puts a child in under a parent.
-    fn put(
-        &mut self,
-        alloc: Global,
-        parent: &SharedUid,
-        child: &SharedUid,
-    ) -> Result<(), AllocError>
-        ensures { OnOk result ((p q : EntityUID) → is_child self.new p q
-            ≡ (is_child self.old p q || (same_uid parent.now p && same_uid child.now q))) }
-    {
-        if let Some(set) = self.sets.get_mut(parent) {
-            return set.insert(child.clone()?);
-        }
-        self.put_first(alloc, parent, child)
-    }
-
-    // Puts a child in under a parent that has none.
-    fn put_first(
-        &mut self,
-        alloc: Global,
-        parent: &SharedUid,
-        child: &SharedUid,
-    ) -> Result<(), AllocError>
-        requires { (q : EntityUID) → is_child self.old parent.now q ≡ false }
-        ensures { OnOk result ((p q : EntityUID) → is_child self.new p q
-            ≡ (is_child self.old p q || (same_uid parent.now p && same_uid child.now q))) }
-    {
-        let mut set = UidSet::new(alloc);
-        set.insert(child.clone()?)?;
-        self.sets.insert(parent.clone()?, set)?;
-        Ok(())
     }
 
     // Takes a child from under a parent, and the parent with the last of its children.
@@ -102,19 +72,51 @@ impl<S: BuildHasher> Children<S> {
     {
         match self.sets.get_mut(parent) {
             Some(set) => {
-                set.remove_shared(child);
+                set.remove(child);
                 set.is_empty()
             }
             None => false,
         }
     }
-}
 
-impl<S: BuildHasher + Clone> Children<S> {
+    // Puts a child in under a parent.
+    fn put(
+        &mut self,
+        alloc: Global,
+        parent: &SharedUid,
+        child: &SharedUid,
+    ) -> Result<(), AllocError>
+        ensures { OnOk result ((p q : EntityUID) → is_child self.new p q
+            ≡ (is_child self.old p q || (same_uid parent.now p && same_uid child.now q))) }
+    {
+        if let Some(set) = self.sets.get_mut(parent) {
+            set.insert(child.clone()?)?;
+            return Ok(());
+        }
+        self.put_first(alloc, parent, child)
+    }
+
+    // Puts a child in under a parent that has none.
+    fn put_first(
+        &mut self,
+        alloc: Global,
+        parent: &SharedUid,
+        child: &SharedUid,
+    ) -> Result<(), AllocError>
+        requires { (q : EntityUID) → is_child self.old parent.now q ≡ false }
+        ensures { OnOk result ((p q : EntityUID) → is_child self.new p q
+            ≡ (is_child self.old p q || (same_uid parent.now p && same_uid child.now q))) }
+    {
+        let mut set = HashSet::with_hasher(alloc, self.sets.hasher().clone()?);
+        set.insert(child.clone()?)?;
+        self.sets.insert(parent.clone()?, set)?;
+        Ok(())
+    }
+
     /// The index with an entity too, as a child of each of its parents.
     ///
     /// It takes memory, and is refused only where that is; a refusal gives no index back. It looks each parent up, and
-    /// finds the place among its children.
+    /// hashes the entity for each.
     pub fn with(
         self,
         alloc: Global,

@@ -7,7 +7,7 @@ ghost use Rattle.cedar_ids.specs.UidOf.{same_uid};
 ghost use Rattle.cedar_ids.specs.declared.entity.EntityUID.{EntityUID};
 ghost use Rattle.cedar_children.specs.Children.{IsBelow, is_in};
 
-use cedar_uid_sets::{SharedUid, UidSet};
+use cedar_uid_sets::SharedUid;
 use std::alloc::{AllocError, Global};
 use std::collections::{HashMap, HashSet};
 use std::hash::BuildHasher;
@@ -53,11 +53,31 @@ fn see_all<S: BuildHasher>(
     Ok(())
 }
 
+// Notes each of a set of uids.
+fn see_each<S: BuildHasher>(
+    seen: &mut HashSet<SharedUid, S>,
+    todo: &mut Vec<SharedUid>,
+    uids: &HashSet<SharedUid, S>,
+) -> Result<(), AllocError>
+    ensures seen { OnOk result ((q : EntityUID) → contains same_uid seen.new q
+        ≡ (contains same_uid seen.old q || contains same_uid uids.now q)) }
+    ensures todo { OnOk result ((q : EntityUID) → is_member same_uid todo.new.items q
+        ≡ (is_member same_uid todo.old.items q || (not (contains same_uid seen.old q)
+        && contains same_uid uids.now q))) }
+    ensures count { OnOk result (hash_set_len seen.new + length todo.old.items
+        ≡ hash_set_len seen.old + length todo.new.items) }
+{
+    for uid in uids {
+        see(seen, todo, uid)?;
+    }
+    Ok(())
+}
+
 // Notes the children of a uid.
 fn see_children<S: BuildHasher>(
     seen: &mut HashSet<SharedUid, S>,
     todo: &mut Vec<SharedUid>,
-    sets: &HashMap<SharedUid, UidSet, S>,
+    sets: &HashMap<SharedUid, HashSet<SharedUid, S>, S>,
     uid: &SharedUid,
 ) -> Result<(), AllocError>
     ensures seen { OnOk result ((q : EntityUID) → contains same_uid seen.new q
@@ -69,7 +89,7 @@ fn see_children<S: BuildHasher>(
         ≡ hash_set_len seen.old + length todo.new.items) }
 {
     match sets.get(uid) {
-        Some(set) => see_all(seen, todo, set.pointers()),
+        Some(set) => see_each(seen, todo, set),
         None => Ok(()),
     }
 }
@@ -91,7 +111,7 @@ fn listed<S: BuildHasher>(
 // Some uids and what lies below them.
 pub(crate) fn walk<S: BuildHasher + Clone>(
     alloc: Global,
-    sets: &HashMap<SharedUid, UidSet, S>,
+    sets: &HashMap<SharedUid, HashSet<SharedUid, S>, S>,
     uids: &HashSet<SharedUid, S>,
 ) -> Result<HashSet<SharedUid, S>, AllocError>
     ensures { IfOk result (λ s. (q : EntityUID) → (contains same_uid s q ≡ true)

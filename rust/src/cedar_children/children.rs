@@ -4,16 +4,17 @@
 
 use crate::cedar_children::walk::walk;
 use crate::cedar_entity::entity::Entity;
-use crate::cedar_uid_sets::{SharedUid, UidSet};
+use crate::cedar_uid_sets::SharedUid;
 use std::collections::{HashMap, HashSet};
 use std::hash::BuildHasher;
 
 /// The children of each uid that is a parent, whether it is a uid of an entity or not. A uid without children takes no
 /// room.
 ///
-/// It is the project's own. It takes a pointer for each parent of each entity, and a set for each parent.
+/// It is the project's own. It takes a pointer for each parent of each entity, and a hashed set for each parent, so what a
+/// child costs that comes or goes does not hang on how many its parent has.
 pub struct Children<S: BuildHasher> {
-    pub(crate) sets: HashMap<SharedUid, UidSet, S>,
+    pub(crate) sets: HashMap<SharedUid, HashSet<SharedUid, S>, S>,
 }
 
 impl<S: BuildHasher> Children<S> {
@@ -23,9 +24,11 @@ impl<S: BuildHasher> Children<S> {
             sets: HashMap::with_hasher(hasher),
         }
     }
+}
 
-    /// Takes an entity from the children of each of its parents. It looks each parent up, finds the place among its
-    /// children, and moves the pointers to those that stand behind it.
+impl<S: BuildHasher + Clone> Children<S> {
+    /// Takes an entity from the children of each of its parents. It looks each parent up, and the entity among the
+    /// children of each.
     pub fn remove(&mut self, child: &SharedUid, entity: &Entity) {
         for parent in entity.shared_parents() {
             self.take(parent, child);
@@ -35,21 +38,6 @@ impl<S: BuildHasher> Children<S> {
     /// Takes a uid out as a parent: it has no children any more. It is one look-up.
     pub fn remove_parent(&mut self, parent: &SharedUid) {
         self.sets.remove(parent);
-    }
-
-    // Puts a child in under a parent.
-    fn put(&mut self, parent: &SharedUid, child: &SharedUid) {
-        if let Some(set) = self.sets.get_mut(parent) {
-            return set.insert(child.clone());
-        }
-        self.put_first(parent, child);
-    }
-
-    // Puts a child in under a parent that has none.
-    fn put_first(&mut self, parent: &SharedUid, child: &SharedUid) {
-        let mut set = UidSet::new();
-        set.insert(child.clone());
-        self.sets.insert(parent.clone(), set);
     }
 
     // Takes a child from under a parent, and the parent with the last of its children.
@@ -63,18 +51,32 @@ impl<S: BuildHasher> Children<S> {
     fn take_one(&mut self, parent: &SharedUid, child: &SharedUid) -> bool {
         match self.sets.get_mut(parent) {
             Some(set) => {
-                set.remove_shared(child);
+                set.remove(child);
                 set.is_empty()
             }
             None => false,
         }
     }
-}
 
-impl<S: BuildHasher + Clone> Children<S> {
+    // Puts a child in under a parent.
+    fn put(&mut self, parent: &SharedUid, child: &SharedUid) {
+        if let Some(set) = self.sets.get_mut(parent) {
+            set.insert(child.clone());
+            return;
+        }
+        self.put_first(parent, child);
+    }
+
+    // Puts a child in under a parent that has none.
+    fn put_first(&mut self, parent: &SharedUid, child: &SharedUid) {
+        let mut set = HashSet::with_hasher(self.sets.hasher().clone());
+        set.insert(child.clone());
+        self.sets.insert(parent.clone(), set);
+    }
+
     /// The index with an entity too, as a child of each of its parents.
     ///
-    /// It looks each parent up, and finds the place among its children.
+    /// It looks each parent up, and hashes the entity for each.
     pub fn with(self, child: &SharedUid, entity: &Entity) -> Self {
         let mut children = self;
         for parent in entity.shared_parents() {

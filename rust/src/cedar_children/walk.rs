@@ -2,7 +2,7 @@
 
 //! The walk from some uids to all that lies below them.
 
-use crate::cedar_uid_sets::{SharedUid, UidSet};
+use crate::cedar_uid_sets::SharedUid;
 use std::collections::{HashMap, HashSet};
 use std::hash::BuildHasher;
 
@@ -22,15 +22,22 @@ fn see_all<S: BuildHasher>(seen: &mut HashSet<SharedUid, S>, todo: &mut Vec<Shar
     }
 }
 
+// Notes each of a set of uids.
+fn see_each<S: BuildHasher>(seen: &mut HashSet<SharedUid, S>, todo: &mut Vec<SharedUid>, uids: &HashSet<SharedUid, S>) {
+    for uid in uids {
+        see(seen, todo, uid);
+    }
+}
+
 // Notes the children of a uid.
 fn see_children<S: BuildHasher>(
     seen: &mut HashSet<SharedUid, S>,
     todo: &mut Vec<SharedUid>,
-    sets: &HashMap<SharedUid, UidSet, S>,
+    sets: &HashMap<SharedUid, HashSet<SharedUid, S>, S>,
     uid: &SharedUid,
 ) {
     if let Some(set) = sets.get(uid) {
-        see_all(seen, todo, set.pointers());
+        see_each(seen, todo, set);
     }
 }
 
@@ -41,7 +48,7 @@ fn listed<S: BuildHasher>(uids: &HashSet<SharedUid, S>) -> Vec<SharedUid> {
 
 // Some uids and what lies below them.
 pub(crate) fn walk<S: BuildHasher + Clone>(
-    sets: &HashMap<SharedUid, UidSet, S>,
+    sets: &HashMap<SharedUid, HashSet<SharedUid, S>, S>,
     uids: &HashSet<SharedUid, S>,
 ) -> HashSet<SharedUid, S> {
     let from = listed(uids);

@@ -1,9 +1,7 @@
 use Rattle.std.proofs.Common.{◌≡◌, ◌∙◌, ◌||◌, Some, IsSome, ap, refl, subst}
-use Rattle.std.proofs.lemmas.Result.{on_ok_weaker}
-use Rattle.std.specs.FinSet as set
 use Rattle.std.specs.HashMap.{get}
+use Rattle.std.specs.HashSet.{contains}
 use Rattle.cedar_ids.specs.UidOf.{same_uid}
-use Rattle.cedar_uid_sets.specs.UidSets.{UidValues}
 use Rattle.cedar_children.specs.Children.{is_in}
 use Rattle.cedar_children.proofs.Sets.{added_at, inserted}
 use Rattle.cedar_children.proofs.children.Children.put.Goals as goal
@@ -17,7 +15,7 @@ returns-in-Some g c =
     let t = c.insert.new.self in
     let value : Some s ≡ get same_uid m parent = c.in-Some.ensures.value in
     let updates = ((c.get_mut.follows.holds t).3 (subst (λ o. IsSome o) value refl)).0 in
-    on_ok_weaker c.insert.result
-    (λ h. added_at (get same_uid m) (get same_uid (c.get_mut.follows.lender t)) parent child t updates
-    (λ q. ap (λ (v : UidValues). set.contains v q) (h ∙ ap (set.insert s) c.in_ok-clone.ensures.cases)
-    ∙ inserted s child q ∙ ap (λ o. is_in o q || same_uid child q) value)) c.insert.ensures.ok
+    added_at (get same_uid m) (get same_uid (c.get_mut.follows.lender t)) parent child t updates
+    (λ q. inserted s t c.in_ok-clone.field-0 c.in_ok-insert.ensures.updates q
+    ∙ ap (λ u. contains same_uid s q || same_uid u q) c.in_ok-clone.ensures.cases
+    ∙ ap (λ o. is_in o q || same_uid child q) value)
