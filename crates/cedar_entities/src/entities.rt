@@ -31,7 +31,7 @@ use crate::sought::listed;
 use crate::store_iters::{IntoIter, Iter};
 use crate::store_same::{have_deep_equals, have_keys_of};
 use crate::store_valid::check_each;
-use crate::touching::{absent_uids, held_uids, losses_by, note_all, pointers_of, strip_each};
+use crate::touching::{absent_uids, held_uids, losses_among, note_all, pointers_of, strip_each};
 use cedar_entity::entity::Entity;
 use cedar_entity::err::EntitiesError;
 use cedar_entity::node::SharedEntity;
@@ -445,7 +445,7 @@ impl<S: BuildHasher + Clone> Entities<S> {
         note_all(&mut applied, uids)?;
         list_if_it_pays(alloc, &entities, &mut index);
         let touched = touched_by(alloc, &entities, &index, &applied)?;
-        let losses = losses_by(alloc, &entities, &applied, &touched, index.plain)?;
+        let losses = losses_among(alloc, &entities, &applied, &touched, index.plain)?;
         let joining = listed(alloc, &applied)?;
         leave(&mut index, &entities, &joining);
         let none = UidSet::new(alloc);
@@ -491,7 +491,7 @@ impl<S: BuildHasher + Clone> Entities<S> {
         note_all(&mut applied, copies)?;
         list_if_it_pays(alloc, &entities, &mut index);
         let touched = touched_by(alloc, &entities, &index, &applied)?;
-        let losses = losses_by(alloc, &entities, &applied, &touched, index.plain)?;
+        let losses = losses_among(alloc, &entities, &applied, &touched, index.plain)?;
         forget(&mut index, &entities, gone.pointers());
         strip_each(&mut entities, losses, &gone)?;
         take_out(&mut entities, gone.into_pointers());

@@ -200,7 +200,7 @@ pub(crate) fn touched_by<S: BuildHasher + Clone>(
 }
 
 // Takes the entity at a uid from the children.
-fn leave_at<S: BuildHasher>(
+fn leave_at<S: BuildHasher + Clone>(
     children: &mut Children<S>,
     entities: &HashMap<SharedUid, SharedEntity, S>,
     uid: &SharedUid,
@@ -214,7 +214,7 @@ fn leave_at<S: BuildHasher>(
 }
 
 // Takes the entities at some uids from the children.
-fn leave_all<S: BuildHasher>(
+fn leave_all<S: BuildHasher + Clone>(
     children: &mut Children<S>,
     entities: &HashMap<SharedUid, SharedEntity, S>,
     uids: &[SharedUid],
@@ -228,7 +228,7 @@ fn leave_all<S: BuildHasher>(
 }
 
 // Takes some uids out as parents.
-fn forget_all<S: BuildHasher>(children: &mut Children<S>, uids: &[SharedUid])
+fn forget_all<S: BuildHasher + Clone>(children: &mut Children<S>, uids: &[SharedUid])
     ensures { (p q : EntityUID) → is_child children.new p q
         ≡ (not (is_member same_uid uids.now p) && is_child children.old p q) }
 {
@@ -238,7 +238,7 @@ fn forget_all<S: BuildHasher>(children: &mut Children<S>, uids: &[SharedUid])
 }
 
 // Takes the entities at some uids from the children that are listed, before they are overwritten.
-pub(crate) fn leave<S: BuildHasher>(
+pub(crate) fn leave<S: BuildHasher + Clone>(
     index: &mut Index<S>,
     entities: &HashMap<SharedUid, SharedEntity, S>,
     uids: &[SharedUid],
@@ -255,7 +255,7 @@ pub(crate) fn leave<S: BuildHasher>(
 
 // Takes the entities at some uids from the children that are listed, and these uids as parents, before they are
 // removed.
-pub(crate) fn forget<S: BuildHasher>(
+pub(crate) fn forget<S: BuildHasher + Clone>(
     index: &mut Index<S>,
     entities: &HashMap<SharedUid, SharedEntity, S>,
     uids: &[SharedUid],

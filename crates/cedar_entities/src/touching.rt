@@ -71,7 +71,7 @@ fn with_ancestors(
 }
 
 // The uid and its ancestors, where the map holds it, and else nothing.
-fn lost_with<S: BuildHasher>(
+fn with_ancestors_at<S: BuildHasher>(
     alloc: Global,
     entities: &HashMap<SharedUid, SharedEntity, S>,
     uid: &SharedUid,
@@ -222,7 +222,7 @@ fn by_most<S: BuildHasher>(
 }
 
 // Adds what goes with a uid. Where ancestors are transitive, one that has gone already takes nothing more with it.
-fn add_lost<S: BuildHasher>(
+fn insert_with_ancestors<S: BuildHasher>(
     alloc: Global,
     entities: &HashMap<SharedUid, SharedEntity, S>,
     lost: &mut HashSet<SharedUid, S>,
@@ -237,11 +237,11 @@ fn add_lost<S: BuildHasher>(
     if transitive && lost.contains(uid) {
         return Ok(());
     }
-    insert_all(lost, lost_with(alloc, entities, uid)?)
+    insert_all(lost, with_ancestors_at(alloc, entities, uid)?)
 }
 
 // What goes with some uids.
-fn lost_by<S: BuildHasher + Clone>(
+fn all_with_ancestors<S: BuildHasher + Clone>(
     alloc: Global,
     entities: &HashMap<SharedUid, SharedEntity, S>,
     uids: &[SharedUid],
@@ -253,14 +253,14 @@ fn lost_by<S: BuildHasher + Clone>(
 {
     let mut lost = HashSet::with_hasher(alloc, entities.hasher().clone()?);
     for uid in uids {
-        add_lost(alloc, entities, &mut lost, uid, transitive)?;
+        insert_with_ancestors(alloc, entities, &mut lost, uid, transitive)?;
     }
     Ok(lost)
 }
 
 // What goes with some uids, as a set. What most go with is read first, so that where ancestors are transitive the
 // others are mostly passed over.
-fn lost_with_all<S: BuildHasher + Clone>(
+fn uid_set_with_ancestors<S: BuildHasher + Clone>(
     alloc: Global,
     entities: &HashMap<SharedUid, SharedEntity, S>,
     uids: &[SharedUid],
@@ -271,10 +271,10 @@ fn lost_with_all<S: BuildHasher + Clone>(
         ≡ list_any (λ u. takes (held entities.now) u w) uids.now) }
 {
     if uids.len() == 1 {
-        return UidSet::from_pointers(lost_with(alloc, entities, &uids[0])?);
+        return UidSet::from_pointers(with_ancestors_at(alloc, entities, &uids[0])?);
     }
     let sorted = by_most(alloc, entities, uids)?;
-    let lost = lost_by(alloc, entities, &sorted, transitive)?;
+    let lost = all_with_ancestors(alloc, entities, &sorted, transitive)?;
     UidSet::from_pointers(listed(alloc, &lost)?)
 }
 
@@ -293,13 +293,13 @@ fn loss_of<S: BuildHasher + Clone>(
         ≡ list_any (λ u. has_ancestor entity.now u && takes (held entities.now) u w) uids.now) }
 {
     let hits = uids.hits(alloc, entity)?;
-    let lost = lost_with_all(alloc, entities, &hits, transitive)?;
+    let lost = uid_set_with_ancestors(alloc, entities, &hits, transitive)?;
     let uid = key.clone()?;
     Ok(Loss { uid, lost })
 }
 
 // Notes what goes from an entity by some uids, where something does.
-fn note_loss<S: BuildHasher + Clone>(
+fn push_loss<S: BuildHasher + Clone>(
     entities: &HashMap<SharedUid, SharedEntity, S>,
     key: &SharedUid,
     entity: &Entity,
@@ -324,7 +324,7 @@ fn note_loss<S: BuildHasher + Clone>(
 }
 
 // Notes what goes from the entity at a uid by some uids, where there is one and something does.
-fn note_loss_at<S: BuildHasher + Clone>(
+fn push_loss_at<S: BuildHasher + Clone>(
     entities: &HashMap<SharedUid, SharedEntity, S>,
     key: &SharedUid,
     uids: &Sought<'_, S>,
@@ -339,14 +339,14 @@ fn note_loss_at<S: BuildHasher + Clone>(
         → AllByRecursion (IsLossOf (held entities.now) uids.now) losses.new.items) }
 {
     match entities.get(key) {
-        Some(node) => note_loss(entities, key, &node.0, uids, losses, transitive),
+        Some(node) => push_loss(entities, key, &node.0, uids, losses, transitive),
         None => Ok(()),
     }
 }
 
 // What goes by some uids from each entity that is none of them and has one of them among its ancestors. All these are
 // among the entities that are touched.
-pub(crate) fn losses_by<S: BuildHasher + Clone>(
+pub(crate) fn losses_among<S: BuildHasher + Clone>(
     alloc: Global,
     entities: &HashMap<SharedUid, SharedEntity, S>,
     uids: &HashSet<SharedUid, S>,
@@ -363,7 +363,7 @@ pub(crate) fn losses_by<S: BuildHasher + Clone>(
     let sought = Sought::of(alloc, uids)?;
     let mut losses = Vec::new(alloc);
     for key in touched {
-        note_loss_at(entities, key, &sought, &mut losses, transitive)?;
+        push_loss_at(entities, key, &sought, &mut losses, transitive)?;
     }
     Ok(losses)
 }

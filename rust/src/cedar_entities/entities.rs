@@ -10,7 +10,7 @@ use crate::cedar_entities::sought::listed;
 use crate::cedar_entities::store_iters::{IntoIter, Iter};
 use crate::cedar_entities::store_same::{have_deep_equals, have_keys_of};
 use crate::cedar_entities::store_valid::check_each;
-use crate::cedar_entities::touching::{absent_uids, held_uids, losses_by, note_all, pointers_of, strip_each};
+use crate::cedar_entities::touching::{absent_uids, held_uids, losses_among, note_all, pointers_of, strip_each};
 use crate::cedar_entity::entity::Entity;
 use crate::cedar_entity::err::EntitiesError;
 use crate::cedar_entity::node::SharedEntity;
@@ -474,7 +474,7 @@ impl<S: BuildHasher + Clone> Entities<S> {
         note_all(&mut applied, uids);
         list_if_it_pays(&entities, &mut index);
         let touched = touched_by(&entities, &index, &applied);
-        let losses = losses_by(&entities, &applied, &touched, index.plain);
+        let losses = losses_among(&entities, &applied, &touched, index.plain);
         let joining = listed(&applied);
         leave(&mut index, &entities, &joining);
         let none = UidSet::new();
@@ -541,7 +541,7 @@ impl<S: BuildHasher + Clone> Entities<S> {
         note_all(&mut applied, copies);
         list_if_it_pays(&entities, &mut index);
         let touched = touched_by(&entities, &index, &applied);
-        let losses = losses_by(&entities, &applied, &touched, index.plain);
+        let losses = losses_among(&entities, &applied, &touched, index.plain);
         forget(&mut index, &entities, gone.pointers());
         strip_each(&mut entities, losses, &gone);
         take_out(&mut entities, gone.into_pointers());

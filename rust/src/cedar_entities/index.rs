@@ -136,7 +136,7 @@ pub(crate) fn touched_by<S: BuildHasher + Clone>(
 }
 
 // Takes the entity at a uid from the children.
-fn leave_at<S: BuildHasher>(
+fn leave_at<S: BuildHasher + Clone>(
     children: &mut Children<S>,
     entities: &HashMap<SharedUid, SharedEntity, S>,
     uid: &SharedUid,
@@ -147,7 +147,7 @@ fn leave_at<S: BuildHasher>(
 }
 
 // Takes the entities at some uids from the children.
-fn leave_all<S: BuildHasher>(
+fn leave_all<S: BuildHasher + Clone>(
     children: &mut Children<S>,
     entities: &HashMap<SharedUid, SharedEntity, S>,
     uids: &[SharedUid],
@@ -158,14 +158,14 @@ fn leave_all<S: BuildHasher>(
 }
 
 // Takes some uids out as parents.
-fn forget_all<S: BuildHasher>(children: &mut Children<S>, uids: &[SharedUid]) {
+fn forget_all<S: BuildHasher + Clone>(children: &mut Children<S>, uids: &[SharedUid]) {
     for uid in uids {
         children.remove_parent(uid);
     }
 }
 
 // Takes the entities at some uids from the children that are listed, before they are overwritten.
-pub(crate) fn leave<S: BuildHasher>(
+pub(crate) fn leave<S: BuildHasher + Clone>(
     index: &mut Index<S>,
     entities: &HashMap<SharedUid, SharedEntity, S>,
     uids: &[SharedUid],
@@ -177,7 +177,7 @@ pub(crate) fn leave<S: BuildHasher>(
 
 // Takes the entities at some uids from the children that are listed, and these uids as parents, before they are
 // removed.
-pub(crate) fn forget<S: BuildHasher>(
+pub(crate) fn forget<S: BuildHasher + Clone>(
     index: &mut Index<S>,
     entities: &HashMap<SharedUid, SharedEntity, S>,
     uids: &[SharedUid],

@@ -42,7 +42,10 @@ fn with_ancestors(uid: &SharedUid, entity: &Entity) -> Vec<SharedUid> {
 }
 
 // The uid and its ancestors, where the map holds it, and else nothing.
-fn lost_with<S: BuildHasher>(entities: &HashMap<SharedUid, SharedEntity, S>, uid: &SharedUid) -> Vec<SharedUid> {
+fn with_ancestors_at<S: BuildHasher>(
+    entities: &HashMap<SharedUid, SharedEntity, S>,
+    uid: &SharedUid,
+) -> Vec<SharedUid> {
     match entities.get(uid) {
         Some(node) => with_ancestors(uid, &node.0),
         None => Vec::new(),
@@ -140,7 +143,7 @@ fn by_most<S: BuildHasher>(entities: &HashMap<SharedUid, SharedEntity, S>, uids:
 }
 
 // Adds what goes with a uid. Where ancestors are transitive, one that has gone already takes nothing more with it.
-fn add_lost<S: BuildHasher>(
+fn insert_with_ancestors<S: BuildHasher>(
     entities: &HashMap<SharedUid, SharedEntity, S>,
     lost: &mut HashSet<SharedUid, S>,
     uid: &SharedUid,
@@ -149,34 +152,34 @@ fn add_lost<S: BuildHasher>(
     if transitive && lost.contains(uid) {
         return;
     }
-    insert_all(lost, lost_with(entities, uid));
+    insert_all(lost, with_ancestors_at(entities, uid));
 }
 
 // What goes with some uids.
-fn lost_by<S: BuildHasher + Clone>(
+fn all_with_ancestors<S: BuildHasher + Clone>(
     entities: &HashMap<SharedUid, SharedEntity, S>,
     uids: &[SharedUid],
     transitive: bool,
 ) -> HashSet<SharedUid, S> {
     let mut lost = HashSet::with_hasher(entities.hasher().clone());
     for uid in uids {
-        add_lost(entities, &mut lost, uid, transitive);
+        insert_with_ancestors(entities, &mut lost, uid, transitive);
     }
     lost
 }
 
 // What goes with some uids, as a set. What most go with is read first, so that where ancestors are transitive the
 // others are mostly passed over.
-fn lost_with_all<S: BuildHasher + Clone>(
+fn uid_set_with_ancestors<S: BuildHasher + Clone>(
     entities: &HashMap<SharedUid, SharedEntity, S>,
     uids: &[SharedUid],
     transitive: bool,
 ) -> UidSet {
     if uids.len() == 1 {
-        return UidSet::from_pointers(lost_with(entities, &uids[0]));
+        return UidSet::from_pointers(with_ancestors_at(entities, &uids[0]));
     }
     let sorted = by_most(entities, uids);
-    let lost = lost_by(entities, &sorted, transitive);
+    let lost = all_with_ancestors(entities, &sorted, transitive);
     UidSet::from_pointers(listed(&lost))
 }
 
@@ -189,13 +192,13 @@ fn loss_of<S: BuildHasher + Clone>(
     transitive: bool,
 ) -> Loss {
     let hits = uids.hits(entity);
-    let lost = lost_with_all(entities, &hits, transitive);
+    let lost = uid_set_with_ancestors(entities, &hits, transitive);
     let uid = key.clone();
     Loss { uid, lost }
 }
 
 // Notes what goes from an entity by some uids, where something does.
-fn note_loss<S: BuildHasher + Clone>(
+fn push_loss<S: BuildHasher + Clone>(
     entities: &HashMap<SharedUid, SharedEntity, S>,
     key: &SharedUid,
     entity: &Entity,
@@ -210,7 +213,7 @@ fn note_loss<S: BuildHasher + Clone>(
 }
 
 // Notes what goes from the entity at a uid by some uids, where there is one and something does.
-fn note_loss_at<S: BuildHasher + Clone>(
+fn push_loss_at<S: BuildHasher + Clone>(
     entities: &HashMap<SharedUid, SharedEntity, S>,
     key: &SharedUid,
     uids: &Sought<'_, S>,
@@ -218,13 +221,13 @@ fn note_loss_at<S: BuildHasher + Clone>(
     transitive: bool,
 ) {
     if let Some(node) = entities.get(key) {
-        note_loss(entities, key, &node.0, uids, losses, transitive);
+        push_loss(entities, key, &node.0, uids, losses, transitive);
     }
 }
 
 // What goes by some uids from each entity that is none of them and has one of them among its ancestors. All these are
 // among the entities that are touched.
-pub(crate) fn losses_by<S: BuildHasher + Clone>(
+pub(crate) fn losses_among<S: BuildHasher + Clone>(
     entities: &HashMap<SharedUid, SharedEntity, S>,
     uids: &HashSet<SharedUid, S>,
     touched: &HashSet<SharedUid, S>,
@@ -233,7 +236,7 @@ pub(crate) fn losses_by<S: BuildHasher + Clone>(
     let sought = Sought::of(uids);
     let mut losses = Vec::new();
     for key in touched {
-        note_loss_at(entities, key, &sought, &mut losses, transitive);
+        push_loss_at(entities, key, &sought, &mut losses, transitive);
     }
     losses
 }

@@ -209,6 +209,6 @@ invariant_of-result g c =
       },
     )
 
-pub losses_by-requires-clause-transitive : goal.losses_by-requires-clause-transitive
-losses_by-requires-clause-transitive g c is =
+pub losses_among-requires-clause-transitive : goal.losses_among-requires-clause-transitive
+losses_among-requires-clause-transitive g c is =
     plain_transitive c.self.inside.entities (c.list_if_it_pays.ensures.index.plain is)

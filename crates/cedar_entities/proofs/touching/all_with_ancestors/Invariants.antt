@@ -5,7 +5,7 @@ use Rattle.cedar_ids.specs.UidOf.{same_uid}
 use Rattle.cedar_ids.specs.declared.entity.EntityUID.{EntityUID}
 use Rattle.cedar_entities.specs.laws.Held.{held}
 use Rattle.cedar_entities.specs.laws.Losses.{takes}
-use Rattle.cedar_entities.proofs.touching.lost_by.Given as goal
+use Rattle.cedar_entities.proofs.touching.all_with_ancestors.Given as goal
 
 abbrev pub invariant-loop-uid : goal.invariant-loop-uid
 invariant-loop-uid g l = (w : EntityUID)

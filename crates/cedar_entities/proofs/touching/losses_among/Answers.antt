@@ -13,7 +13,7 @@ use Rattle.cedar_entities.proofs.Adds.{stored}
 use Rattle.cedar_entities.proofs.Editing.{member_next}
 use Rattle.cedar_entities.proofs.Losses.{stripped_touched}
 use Rattle.cedar_entities.proofs.Touched.{key_case}
-use Rattle.cedar_entities.proofs.touching.losses_by.Goals as goal
+use Rattle.cedar_entities.proofs.touching.losses_among.Goals as goal
 
 pub loop-key-preserved : goal.loop-key-preserved
 loop-key-preserved g c =
@@ -24,7 +24,7 @@ loop-key-preserved g c =
     let old = c.loop-key.losses.items in
     record {
       who = λ q.
-          c.in_ok-note_loss_at.ensures.who q
+          c.in_ok-push_loss_at.ensures.who q
           ∙ ap (λ us. loses old q || (same_uid key q && is_stripped us key (is_ancestor_in (held m key))))
           c.in_ok-sought.ensures
           ∙ ap (λ b. b || (same_uid key q && F key)) (c.loop-key.invariant.who q)
@@ -33,8 +33,8 @@ loop-key-preserved g c =
           ∙ ap (λ b. b && F q) (sym (member_next c.loop-key.yielded c.in-Some.key q));
       lost =
           subst (λ us. AllByRecursion (IsLossOf (held m) us) old
-          → AllByRecursion (IsLossOf (held m) us) c.note_loss_at.new.losses.items) c.in_ok-sought.ensures
-          c.in_ok-note_loss_at.ensures.lost c.loop-key.invariant.lost;
+          → AllByRecursion (IsLossOf (held m) us) c.push_loss_at.new.losses.items) c.in_ok-sought.ensures
+          c.in_ok-push_loss_at.ensures.lost c.loop-key.invariant.lost;
     }
 
 pub returns-clause-who : goal.returns-clause-who

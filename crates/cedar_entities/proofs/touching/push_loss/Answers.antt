@@ -7,7 +7,7 @@ use Rattle.cedar_entities.specs.laws.Held.{held}
 use Rattle.cedar_entities.specs.laws.Lists.{all_push}
 use Rattle.cedar_entities.specs.laws.Losses.{IsLossOf, is_stripped, loses, takes}
 use Rattle.cedar_entities.proofs.Touched.{listed_loss, unlisted_loss}
-use Rattle.cedar_entities.proofs.touching.note_loss.Goals as goal
+use Rattle.cedar_entities.proofs.touching.push_loss.Goals as goal
 
 pub returns-then-not-is_hit-clause-who : goal.returns-then-not-is_hit-clause-who
 returns-then-not-is_hit-clause-who g c q =

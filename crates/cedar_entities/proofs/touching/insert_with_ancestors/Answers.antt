@@ -4,9 +4,9 @@ use Rattle.std.specs.HashSet.{contains}
 use Rattle.std.specs.Set.{is_member}
 use Rattle.cedar_ids.specs.UidOf.{same_uid}
 use Rattle.cedar_ids.specs.declared.entity.EntityUID.{EntityUID}
-use Rattle.cedar_entities.proofs.touching.add_lost.Goals as goal
+use Rattle.cedar_entities.proofs.touching.insert_with_ancestors.Goals as goal
 
 pub returns : goal.returns
 returns g c =
     on_ok_weaker c.insert_all.result (λ h w. h w
-    ∙ ap (λ b. contains same_uid c.args.lost.now w || b) (c.in_ok-lost_with.ensures w)) c.insert_all.ensures
+    ∙ ap (λ b. contains same_uid c.args.lost.now w || b) (c.in_ok-with_ancestors_at.ensures w)) c.insert_all.ensures

@@ -6,7 +6,7 @@ use Rattle.cedar_ids.specs.declared.entity.EntityUID.{EntityUID}
 use Rattle.cedar_entities.specs.Modes.{is_ancestor_in}
 use Rattle.cedar_entities.specs.laws.Held.{held}
 use Rattle.cedar_entities.specs.laws.Losses.{IsLossOf, is_stripped, loses}
-use Rattle.cedar_entities.proofs.touching.losses_by.Given as goal
+use Rattle.cedar_entities.proofs.touching.losses_among.Given as goal
 
 abbrev pub invariant-loop-key : goal.invariant-loop-key
 invariant-loop-key g l = record {

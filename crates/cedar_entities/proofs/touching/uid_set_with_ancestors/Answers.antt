@@ -10,14 +10,15 @@ use Rattle.cedar_entities.specs.laws.Held.{held}
 use Rattle.cedar_entities.specs.laws.Losses.{takes}
 use Rattle.cedar_entities.proofs.AnyOf.{any_alike}
 use Rattle.cedar_entities.proofs.Losses.{any_one}
-use Rattle.cedar_entities.proofs.touching.lost_with_all.Goals as goal
+use Rattle.cedar_entities.proofs.touching.uid_set_with_ancestors.Goals as goal
 
 pub returns-then-uids-eq1 : goal.returns-then-uids-eq1
 returns-then-uids-eq1 g c =
     let T = λ (w u : EntityUID). takes (held c.args.entities.now) u w in
     let one : length c.args.uids.now ≡ 1 = omega arith in
     IfOk-weaker c.from_pointers.result _ _ (λ s is w.
-    ap (λ t. set.contains t w) is ∙ contains_listed c.in_ok-lost_with.field-0.items w ∙ c.in_ok-lost_with.ensures w
+    ap (λ t. set.contains t w) is ∙ contains_listed c.in_ok-with_ancestors_at.field-0.items w
+    ∙ c.in_ok-with_ancestors_at.ensures w
     ∙ any_one (T w) c.args.uids.now c.index-uids-0.result one c.index-uids-0.is) c.from_pointers.ensures
 
 pub returns : goal.returns

@@ -10,7 +10,7 @@ use Rattle.cedar_entities.specs.laws.Held.{held, shared}
 use Rattle.cedar_entities.specs.laws.Losses.{is_stripped, loses}
 use Rattle.cedar_entities.proofs.Losses.{and_off}
 use Rattle.cedar_entities.proofs.Touched.{none_any, unlisted_loss}
-use Rattle.cedar_entities.proofs.touching.note_loss_at.Goals as goal
+use Rattle.cedar_entities.proofs.touching.push_loss_at.Goals as goal
 
 pub returns-in-Some-clause-who : goal.returns-in-Some-clause-who
 returns-in-Some-clause-who g c =
@@ -19,9 +19,9 @@ returns-in-Some-clause-who g c =
     ∙ ap option_copied c.in-Some.is in
     let is : held c.args.entities.now key ≡ Some c.deref.result.now = ap (option_map shared) found
     ∙ ap Some (sym c.deref.ensures) in
-    on_ok_weaker c.note_loss.result (λ h q. h q
+    on_ok_weaker c.push_loss.result (λ h q. h q
     ∙ ap (λ o. loses c.args.losses.now.items q
-    || (same_uid key q && is_stripped c.args.uids.now key (is_ancestor_in o))) (sym is)) c.note_loss.ensures.who
+    || (same_uid key q && is_stripped c.args.uids.now key (is_ancestor_in o))) (sym is)) c.push_loss.ensures.who
 
 pub returns-in-Some-clause-lost : goal.returns-in-Some-clause-lost
 returns-in-Some-clause-lost g c =
@@ -30,7 +30,7 @@ returns-in-Some-clause-lost g c =
     ∙ ap option_copied c.in-Some.is in
     let is : held c.args.entities.now key ≡ Some c.deref.result.now = ap (option_map shared) found
     ∙ ap Some (sym c.deref.ensures) in
-    on_ok_weaker c.note_loss.result (λ h all. h is all) c.note_loss.ensures.lost
+    on_ok_weaker c.push_loss.result (λ h all. h is all) c.push_loss.ensures.lost
 
 pub returns-in-None-clause-who : goal.returns-in-None-clause-who
 returns-in-None-clause-who g c q =
