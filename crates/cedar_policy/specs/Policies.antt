@@ -74,8 +74,10 @@ filled_rule_by (Some u) a = filled_rule u a
 abbrev pub principal_of : PolicyParts → Constraint
 principal_of p = filled_by (p.env Principal) p.template.principal
 
+-- the constraint of a policy's action, with its slot filled
 abbrev pub action_of : PolicyParts → ActionRule
 action_of p = filled_rule_by (p.env Action) p.template.action
 
+-- the constraint of a policy's resource, with its slot filled
 abbrev pub resource_of : PolicyParts → Constraint
 resource_of p = filled_by (p.env Resource) p.template.resource

@@ -1,18 +1,18 @@
--- A merge of the board aside into the current one.
+-- A merge of the policy set aside into the current one.
 use Rattle.std.specs.Prelude.{ℕ, List, Bool, Result, Ok, Err}
 use Rattle.std.proofs.Common.{ap, refl, inl, inr}
-use Rattle.cedar_policy_set.specs.Boards.{Board}
-use Rattle.cedar_policy_set.specs.Merge as sets
+use Rattle.cedar_policy_maps.specs.PolicySets.{SetParts}
+use Rattle.cedar_policy_merge.specs.Merge as sets
 use Rattle.cedar_policy_set.specs.Steps.{occupied}
 use Rattle.cedar_policy_set_errors.specs.declared.err.PolicySetError.{PolicySetError}
 use Rattle.cedar_policy_set_errors.specs.declared.err.PolicySetError.TheVariants.{Occupied, Memory}
-use Rattle.cedar_policy_lines.specs.Boards.{Boards, with_current}
+use Rattle.cedar_policy_lines.specs.TwoSets.{TwoSets, with_current}
 use Rattle.cedar_policy_lines.specs.PolicyCommand.{Merge}
 use Rattle.cedar_policy_lines.specs.PolicyOutput.{merged_line, refused_line, PolicyWrites}
 use Rattle.cedar_policy_lines.specs.laws.Machines.{SaidMerged}
 
 pub merge_writes : {A : Type 0} (entries : A → List (List ℕ × List ℕ)) (r : Result A PolicySetError) (rename : Bool)
-    (old : Boards) (now : Board) (before after : List ℕ)
+    (old : TwoSets) (now : SetParts) (before after : List ℕ)
     → sets.Merges entries r old.current old.aside rename now → SaidMerged entries r before after
     → PolicyWrites (Merge rename) old (with_current old now) before after
 merge_writes entries (Ok a) rename old now before after m said =

@@ -1,4 +1,4 @@
-pub mod Boards
+pub mod TwoSets
 pub mod Codes
 pub mod CommandOf
 pub mod PolicyCommand

@@ -1,4 +1,4 @@
--- What the commands on policy sets make of the two boards, and what they write.
+-- What the commands on policy sets make of the two policy sets, and what they write.
 use Rattle.std.specs.Prelude.{◌≡◌, ◌⊎◌, ℕ, List, [], ◌∷◌, ◌++◌, Bool, true, false, None, Result, Ok, Err, codes}
 use Rattle.std.specs.Prelude.{if◌then◌else◌}
 use Rattle.std.specs.List.{flat_map}
@@ -14,13 +14,13 @@ use Rattle.cedar_action.specs.Rules.{ActionRule, any_action, just_slot}
 use Rattle.cedar_body.specs.Bodies.{BodyParts}
 use Rattle.cedar_body.specs.declared.effect.Effect.{Effect}
 use Rattle.cedar_body.specs.declared.effect.Effect.TheVariants.{Permit}
-use Rattle.cedar_policy_set.specs.Boards.{Board, Binding, without_id}
-use Rattle.cedar_policy_set.specs.Merge.{conflicts, merged, new_id, IsRenaming, body_ids, policy_ids}
+use Rattle.cedar_policy_maps.specs.PolicySets.{SetParts, Binding, without_id}
+use Rattle.cedar_policy_merge.specs.Merge.{conflicts, merged, new_id, IsRenaming, body_ids, policy_ids}
 use Rattle.cedar_policy_set.specs.Steps.{Refusal, occupied, no_body, no_such_template, arity, not_an_action}
 use Rattle.cedar_policy_set.specs.Steps.{id_conflict, no_link, not_a_link, no_template, with_links, not_a_template}
 use Rattle.cedar_policy_set.specs.Steps.{no_static, not_static, add_static_step, add_template_step, link_step}
 use Rattle.cedar_policy_set.specs.Steps.{unlink_step}
-use Rattle.cedar_policy_lines.specs.Boards.{Boards, with_current, swapped}
+use Rattle.cedar_policy_lines.specs.TwoSets.{TwoSets, with_current, swapped}
 use Rattle.cedar_policy_lines.specs.PolicyCommand.{PolicyCommand, Static, Template, Link, Unlink, Other, Merge, Ids}
 use Rattle.cedar_policy_lines.specs.PolicyCommand.{slots_named}
 use Rattle.cedar_policy_lines.specs.declared.field.TemplateSlots.{TemplateSlots}
@@ -72,7 +72,7 @@ abbrev pub merged_line : List (List ℕ × List ℕ) → List ℕ
 merged_line r = written_line (codes "ok" ++ flat_map renamed_fields r)
 
 -- the ids of all bodies, and of all policies, in their orders
-abbrev pub ids_lines : Board → List ℕ
+abbrev pub ids_lines : SetParts → List ℕ
 ids_lines b =
     written_line (codes "bodies" ++ flat_map id_field (body_ids b))
     ++ written_line (codes "policies" ++ flat_map id_field (policy_ids b))
@@ -114,35 +114,35 @@ template_body i w = record {
 
 -- ---- commands
 
--- a call on the current board: the board of its step, or why that is refused
-abbrev pub Joins : Result Board Refusal → Boards → Boards → List ℕ → Type 0
+-- a call on the current policy set: the policy set of its step, or why that is refused
+abbrev pub Joins : Result SetParts Refusal → TwoSets → TwoSets → List ℕ → Type 0
 Joins (Ok b) old new out = (new ≡ with_current old b) × (out ≡ ok_line)
 Joins (Err r) old new out = (new ≡ old) × (out ≡ refused_line r)
 
--- what an id is bound to is taken out of the current board, or that is refused
-abbrev pub UnlinkGives : Result Binding Refusal → List ℕ → Boards → Boards → List ℕ → Type 0
+-- what an id is bound to is taken out of the current policy set, or that is refused
+abbrev pub UnlinkGives : Result Binding Refusal → List ℕ → TwoSets → TwoSets → List ℕ → Type 0
 UnlinkGives (Ok b) i old new out = (new ≡ with_current old (without_id old.current i)) × (out ≡ ok_line)
 UnlinkGives (Err r) i old new out = (new ≡ old) × (out ≡ refused_line r)
 
 -- the first id that conflicts is refused, where ids keep theirs
-abbrev pub IsRefusedMerge : Bool → Boards → Boards → List ℕ → Type 0
+abbrev pub IsRefusedMerge : Bool → TwoSets → TwoSets → List ℕ → Type 0
 IsRefusedMerge rename old new out =
     (i : List ℕ) × (rest : List (List ℕ)) × (rename ≡ false) × (conflicts old.current old.aside ≡ i ∷ rest)
     × (new ≡ old) × (out ≡ refused_line (occupied i))
 
--- else the board aside is merged into the current one, and each id that was renamed is written with its new one
-abbrev pub IsMerge : Bool → Boards → Boards → List ℕ → Type 0
+-- else the policy set aside is merged into the current one, and each id that was renamed is written with its new one
+abbrev pub IsMerge : Bool → TwoSets → TwoSets → List ℕ → Type 0
 IsMerge rename old new out =
     (r : List (List ℕ × List ℕ)) × IsRenaming old.current old.aside r
     × (rename ≡ false → conflicts old.current old.aside ≡ [])
     × (new ≡ with_current old (merged old.current old.aside (new_id r))) × (out ≡ merged_line r)
 
 -- a merge is refused, or made
-abbrev pub MergeGives : Bool → Boards → Boards → List ℕ → Type 0
+abbrev pub MergeGives : Bool → TwoSets → TwoSets → List ℕ → Type 0
 MergeGives rename old new out = IsRefusedMerge rename old new out ⊎ IsMerge rename old new out
 
--- the boards that a command leaves, and what it writes
-abbrev pub PolicyGives : PolicyCommand → Boards → Boards → List ℕ → Type 0
+-- the policy sets that a command leaves, and what it writes
+abbrev pub PolicyGives : PolicyCommand → TwoSets → TwoSets → List ℕ → Type 0
 PolicyGives (Static i e) old new out = Joins (add_static_step old.current (static_body i e)) old new out
 PolicyGives (Template i w) old new out = Joins (add_template_step old.current (template_body i w)) old new out
 PolicyGives (Link t l e) old new out = Joins (link_step old.current t l e) old new out
@@ -151,6 +151,6 @@ PolicyGives Other old new out = (new ≡ swapped old) × (out ≡ ok_line)
 PolicyGives (Merge rename) old new out = MergeGives rename old new out
 PolicyGives Ids old new out = (new ≡ old) × (out ≡ ids_lines old.current)
 
--- a command makes these boards of those, and adds what it writes
-abbrev pub PolicyWrites : PolicyCommand → Boards → Boards → List ℕ → List ℕ → Type 0
+-- a command makes these policy sets of those, and adds what it writes
+abbrev pub PolicyWrites : PolicyCommand → TwoSets → TwoSets → List ℕ → List ℕ → Type 0
 PolicyWrites c old new before after = (text : List ℕ) × PolicyGives c old new text × (after ≡ before ++ text)

@@ -1,7 +1,7 @@
 //! The two policy sets of a run, and one function for each command on them.
 ghost use Rattle.std.specs.Prelude.{◌≡◌, OnOk};
 ghost use Rattle.cedar_binding.specs.Views.{env_of};
-ghost use Rattle.cedar_policy_lines.specs.Boards.{no_boards};
+ghost use Rattle.cedar_policy_lines.specs.TwoSets.{no_sets};
 ghost use Rattle.cedar_policy_lines.specs.PolicyCommand.{Static as static_command, Template as template_command};
 ghost use Rattle.cedar_policy_lines.specs.PolicyCommand.{Link as link_command, Unlink as unlink_command};
 ghost use Rattle.cedar_policy_lines.specs.PolicyCommand.{Other as other_command, Merge as merge_command};
@@ -24,8 +24,8 @@ use std::hash::{BuildHasher, BuildHasherDefault, FoldHasher};
 use std::marker::Model;
 use std::mem;
 
-/// The two policy sets of a run: the current one, and the one aside. Contracts see their boards; the sets hash ids by
-/// what `S` builds, which they do not see. It is this project's own.
+/// The two policy sets of a run: the current one, and the one aside. Contracts see their policy sets; the sets hash ids
+/// by what `S` builds, which they do not see. It is this project's own.
 #[derive(Debug, Drop)]
 pub struct PolicySets<S: BuildHasher = BuildHasherDefault<FoldHasher>> {
     current: PolicySet<S>,
@@ -33,12 +33,12 @@ pub struct PolicySets<S: BuildHasher = BuildHasherDefault<FoldHasher>> {
 }
 
 impl<S: BuildHasher> Model for PolicySets<S> {
-    ghost use Rattle.cedar_policy_lines.specs.Boards.{Boards};
-    ghost use Rattle.cedar_policy_lines.specs.Codes.{boards_code};
+    ghost use Rattle.cedar_policy_lines.specs.TwoSets.{TwoSets};
+    ghost use Rattle.cedar_policy_lines.specs.Codes.{sets_code};
 
-    ghost Value = { Boards };
+    ghost Value = { TwoSets };
 
-    ghost coded = { boards_code };
+    ghost coded = { sets_code };
 
     ghost view = { λ s. record { current = s.current; aside = s.aside } };
 }
@@ -46,7 +46,7 @@ impl<S: BuildHasher> Model for PolicySets<S> {
 impl PolicySets {
     /// Two sets without a binding. Takes no memory.
     pub fn new(alloc: Global) -> PolicySets
-        ensures { result ≡ no_boards }
+        ensures { result ≡ no_sets }
     {
         PolicySets::with_hasher(alloc, BuildHasherDefault::new())
     }
@@ -55,7 +55,7 @@ impl PolicySets {
 impl<S: BuildHasher + Copy> PolicySets<S> {
     /// Two sets without a binding, which hash ids by what `hasher` builds. Takes no memory.
     pub fn with_hasher(alloc: Global, hasher: S) -> PolicySets<S>
-        ensures { result ≡ no_boards }
+        ensures { result ≡ no_sets }
     {
         PolicySets {
             current: PolicySet::with_hasher(alloc, hasher),

@@ -4,7 +4,7 @@ ghost use Rattle.std.specs.List.{flat_map};
 ghost use Rattle.std.specs.String.{string_bytes};
 ghost use Rattle.cedar_ids.specs.UidOf.{uid_parts};
 ghost use Rattle.cedar_policy_set.specs.Refusals.{told_by_set, told_by_linking, told_by_unlinking};
-ghost use Rattle.cedar_policy_set.specs.Merge.{body_ids, policy_ids};
+ghost use Rattle.cedar_policy_merge.specs.Merge.{body_ids, policy_ids};
 ghost use Rattle.cedar_policy_lines.specs.PolicyOutput.{ok_line, merged_line, id_text, uid_text, id_field};
 ghost use Rattle.cedar_policy_lines.specs.PolicyOutput.{renamed_fields, ids_lines};
 ghost use Rattle.cedar_policy_lines.specs.laws.Machines.{Said, SaidMerged, refused_with};

@@ -18,11 +18,11 @@ use Rattle.cedar_ids.specs.Texts.{same_text}
 use Rattle.cedar_ids.specs.laws.TextLaws.{same_text_equiv}
 use Rattle.cedar_body.specs.Bodies.{BodyParts}
 use Rattle.cedar_policy.specs.Policies.{PolicyParts, policy_id}
-use Rattle.cedar_policy_maps.specs.Boards.{AreOnce, is_bound, is_body_at, is_policy_at}
+use Rattle.cedar_policy_maps.specs.PolicySets.{AreOnce, is_bound, is_body_at, is_policy_at}
 use Rattle.cedar_policy_maps.specs.Lists.{ids_in}
-use Rattle.cedar_policy_maps.specs.Maps.{Maps, shared_of, lists_of, board_in, ids_by_body, templates_in, DoAgree}
+use Rattle.cedar_policy_maps.specs.Maps.{Maps, shared_of, lists_of, set_in, ids_by_body, templates_in, DoAgree}
 use Rattle.cedar_policy_maps.specs.Views.{bodies_of}
-use Rattle.cedar_policy_maps.specs.laws.BoardLaws.{no_body_at, no_policy_at}
+use Rattle.cedar_policy_maps.specs.laws.SetLaws.{no_body_at, no_policy_at}
 use Rattle.cedar_policy_maps.specs.laws.ListedLaws.{changed, with_listed, IsKeyed, lookup_is, keyed_last, join_listed}
 use Rattle.cedar_policy_maps.specs.laws.Walks.{parted, bodies_more, policies_more}
 use Rattle.cedar_policy_maps.specs.laws.MapLaws.{listed_at, all_listed}
@@ -154,18 +154,18 @@ borrowed (Some t) = refl
 
 -- a body that is looked up
 pub body_read : (m : Maps) (es : List (List ℕ × Rc BodyParts Global)) (i : List ℕ) → DoAgree m → m.bodies ≡ shared_of es
-    → option_map body (lookup (same_text i) es) ≡ find (is_body_at i) (board_in m).bodies
+    → option_map body (lookup (same_text i) es) ≡ find (is_body_at i) (set_in m).bodies
 body_read m es i h q = sym (lookup-map_values body (same_text i) es) ∙ ap (lookup (same_text i)) (sym q)
     ∙ lookup_is body_id (same_text i) m.bodies h.bodies_by_id
 
 pub body_lent : (m : Maps) (es : List (List ℕ × Rc BodyParts Global)) (i : List ℕ)
     (o : Option (Bor (Rc BodyParts Global))) → DoAgree m → m.bodies ≡ shared_of es
     → option_copied o ≡ lookup (same_text i) es →
-    option_map (λ t. t.now.value) o ≡ find (is_body_at i) (board_in m).bodies
+    option_map (λ t. t.now.value) o ≡ find (is_body_at i) (set_in m).bodies
 body_lent m es i o h q e = borrowed o ∙ ap (option_map body) e ∙ body_read m es i h q
 
 pub policy_read : (m : Maps) (i : List ℕ) → DoAgree m
-    → lookup (same_text i) m.policies ≡ find (is_policy_at i) (board_in m).policies
+    → lookup (same_text i) m.policies ≡ find (is_policy_at i) (set_in m).policies
 policy_read m i h = lookup_is policy_id (same_text i) m.policies h.policies_by_id
 
 some_find : {X : Type 0} (t : X → Bool) (xs : List X) → is_some (find t xs) ≡ list_any t xs
@@ -182,13 +182,13 @@ some_mapped f None = refl
 some_mapped f (Some v) = refl
 
 pub body_known : (m : Maps) (es : List (List ℕ × Rc BodyParts Global)) (i : List ℕ) → DoAgree m
-    → m.bodies ≡ shared_of es → is_some (lookup (same_text i) es) ≡ list_any (is_body_at i) (board_in m).bodies
+    → m.bodies ≡ shared_of es → is_some (lookup (same_text i) es) ≡ list_any (is_body_at i) (set_in m).bodies
 body_known m es i h q = some_mapped body (lookup (same_text i) es) ∙ ap is_some (body_read m es i h q)
-    ∙ some_find (is_body_at i) (board_in m).bodies
+    ∙ some_find (is_body_at i) (set_in m).bodies
 
 pub policy_known : (m : Maps) (i : List ℕ) → DoAgree m
-    → is_some (lookup (same_text i) m.policies) ≡ list_any (is_policy_at i) (board_in m).policies
-policy_known m i h = ap is_some (policy_read m i h) ∙ some_find (is_policy_at i) (board_in m).policies
+    → is_some (lookup (same_text i) m.policies) ≡ list_any (is_policy_at i) (set_in m).policies
+policy_known m i h = ap is_some (policy_read m i h) ∙ some_find (is_policy_at i) (set_in m).policies
 
 no_template_at : (i : List ℕ) (ts : List BodyParts) (ps : List PolicyParts) → list_any (is_body_at i) ts ≡ false
     → find (is_body_at i) (templates_in ps ts) ≡ None
@@ -208,34 +208,34 @@ module _ {S : Type 0} where
   pub ids_lent : (m : Maps) (es : List (List ℕ × IndexSet (List ℕ) S)) (i : List ℕ)
       (o : Option (Bor (IndexSet (List ℕ) S))) → DoAgree m → m.listed ≡ lists_of es
       → option_copied o ≡ lookup (same_text i) es →
-      option_map (λ s. s.now.keys) o ≡ option_map (λ t. ids_in t.id (board_in m).policies)
-      (find (is_body_at i) (templates_in (board_in m).policies (board_in m).bodies))
+      option_map (λ s. s.now.keys) o ≡ option_map (λ t. ids_in t.id (set_in m).policies)
+      (find (is_body_at i) (templates_in (set_in m).policies (set_in m).bodies))
   ids_lent m es i o h q e =
       lent o ∙ ap (option_map ids) e ∙ sym (lookup-map_values ids (same_text i) es)
       ∙ ap (lookup (same_text i)) (sym q ∙ h.all_listed)
-      ∙ listed_at i (templates_in (board_in m).policies (board_in m).bodies) (board_in m).policies
+      ∙ listed_at i (templates_in (set_in m).policies (set_in m).bodies) (set_in m).policies
 
   -- what is no key
   pub absent_list : (m : Maps) (es : List (List ℕ × IndexSet (List ℕ) S)) (i : List ℕ) → DoAgree m
-      → m.listed ≡ lists_of es → is_bound (board_in m) i ≡ false → lookup (same_text i) es ≡ None
+      → m.listed ≡ lists_of es → is_bound (set_in m) i ≡ false → lookup (same_text i) es ≡ None
   absent_list m es i h q n =
       none_unread ids (same_text i) es
       (ap (lookup (same_text i)) (sym q ∙ h.all_listed)
-      ∙ listed_at i (templates_in (board_in m).policies (board_in m).bodies) (board_in m).policies
-      ∙ ap (option_map (λ t. ids_in t.id (board_in m).policies))
-      (no_template_at i (board_in m).bodies (board_in m).policies (no_body_at (board_in m) i n)))
+      ∙ listed_at i (templates_in (set_in m).policies (set_in m).bodies) (set_in m).policies
+      ∙ ap (option_map (λ t. ids_in t.id (set_in m).policies))
+      (no_template_at i (set_in m).bodies (set_in m).policies (no_body_at (set_in m) i n)))
 
 pub absent_body : (m : Maps) (es : List (List ℕ × Rc BodyParts Global)) (i : List ℕ) → DoAgree m
-    → m.bodies ≡ shared_of es → is_bound (board_in m) i ≡ false → lookup (same_text i) es ≡ None
+    → m.bodies ≡ shared_of es → is_bound (set_in m) i ≡ false → lookup (same_text i) es ≡ None
 absent_body m es i h q n =
     none_unread body (same_text i) es
     (ap (lookup (same_text i)) (sym q) ∙ lookup_is body_id (same_text i) m.bodies h.bodies_by_id
-    ∙ find-unless (is_body_at i) (board_in m).bodies (no_body_at (board_in m) i n))
+    ∙ find-unless (is_body_at i) (set_in m).bodies (no_body_at (set_in m) i n))
 
-pub absent_policy : (m : Maps) (i : List ℕ) → DoAgree m → is_bound (board_in m) i ≡ false
+pub absent_policy : (m : Maps) (i : List ℕ) → DoAgree m → is_bound (set_in m) i ≡ false
     → lookup (same_text i) m.policies ≡ None
 absent_policy m i h n = policy_read m i h
-    ∙ find-unless (is_policy_at i) (board_in m).policies (no_policy_at (board_in m) i n)
+    ∙ find-unless (is_policy_at i) (set_in m).policies (no_policy_at (set_in m) i n)
 
 -- ---- maps that are made from lists, and copies
 

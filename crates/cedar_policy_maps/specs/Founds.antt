@@ -1,5 +1,5 @@
 -- What was found, as the binding that it is.
-use Rattle.cedar_policy_maps.specs.Boards.{Binding, Template, policy_binding}
+use Rattle.cedar_policy_maps.specs.PolicySets.{Binding, Template, policy_binding}
 use Rattle.cedar_policy_maps.specs.declared.found.Found.{Found}
 use Rattle.cedar_policy_maps.specs.declared.found.Found.TheVariants as founds
 

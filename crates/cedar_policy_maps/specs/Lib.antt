@@ -1,4 +1,4 @@
-pub mod Boards
+pub mod PolicySets
 pub mod Codes
 pub mod Founds
 pub mod Joins

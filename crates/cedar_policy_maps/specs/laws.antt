@@ -1,4 +1,4 @@
-pub mod BoardLaws
+pub mod SetLaws
 pub mod GrowLaws
 pub mod ListedLaws
 pub mod MapLaws

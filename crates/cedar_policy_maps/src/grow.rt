@@ -4,7 +4,7 @@ ghost use Rattle.std.specs.Map.{values_of, lookup};
 ghost use Rattle.cedar_ids.specs.Texts.{same_text};
 ghost use Rattle.cedar_body.specs.Bodies.{BodyParts};
 ghost use Rattle.cedar_policy.specs.Policies.{policy_id};
-ghost use Rattle.cedar_policy_maps.specs.Boards.{AreOnce};
+ghost use Rattle.cedar_policy_maps.specs.PolicySets.{AreOnce};
 ghost use Rattle.cedar_policy_maps.specs.Maps.{lists_of, shared_of, ids_by_body, templates_in};
 ghost use Rattle.cedar_policy_maps.specs.Views.{bodies_of};
 ghost use Rattle.cedar_policy_maps.specs.laws.GrowLaws.{HasRoom, HaveRoom, grown_by, HaveOwnKeys};

@@ -2,8 +2,8 @@
 ghost use Rattle.std.specs.Prelude.{◌≡◌, OnOk, OnErr, None, Some, false, length, ◌<◌};
 ghost use Rattle.std.specs.List.{find, list_any};
 ghost use Rattle.std.specs.Option.{option_copied, option_map};
-ghost use Rattle.cedar_policy_maps.specs.Boards.{bound_at, is_bound, is_body_at, is_policy_at, has_links};
-ghost use Rattle.cedar_policy_maps.specs.Boards.{with_template, with_policy, with_both, without_id, last_policy};
+ghost use Rattle.cedar_policy_maps.specs.PolicySets.{bound_at, is_bound, is_body_at, is_policy_at, has_links};
+ghost use Rattle.cedar_policy_maps.specs.PolicySets.{with_template, with_policy, with_both, without_id, last_policy};
 ghost use Rattle.cedar_policy_maps.specs.Lists.{ids_in};
 ghost use Rattle.cedar_policy_maps.specs.Maps.{templates_in};
 ghost use Rattle.cedar_policy_maps.specs.Views.{bodies_of};
@@ -14,7 +14,9 @@ ghost use Rattle.cedar_policy_maps.specs.laws.MapLaws.{has_ids};
 use crate::found::Found;
 use crate::iters::LinkedIds;
 use crate::lists::is_link;
-use crate::maps::{list_policy, put_last, room_for_body, room_for_both, room_for_list, unlist};
+use crate::maps::{
+    insert_reserved, list_policy, room_for_body, room_for_both, room_for_list, unlist,
+};
 use crate::policy_maps::PolicyMaps;
 use cedar_ids::policy_id::PolicyID;
 use cedar_policy::{Policy, Template};
@@ -90,7 +92,7 @@ impl<S: BuildHasher + Copy> PolicyMaps<S> {
         ensures { option_copied result ≡ option_map (λ t. ids_in t.id self.now.policies)
             (find (is_body_at id.now) self.now.bodies) }
     {
-        // No effect at run time: this borrow says that the set is a board.
+        // No effect at run time: this borrow says that the set is a policy set.
         let _ = &self.templates;
         match self.policy_at(id) {
             None => match self.links_of(id) {
@@ -160,8 +162,8 @@ impl<S: BuildHasher + Copy> PolicyMaps<S> {
             &template,
         )?;
         let ids = IndexSet::with_hasher(*self.templates.allocator(), *self.templates.hasher());
-        put_last(&mut self.templates, id, template);
-        put_last(&mut self.template_to_links_map, listed, ids);
+        insert_reserved(&mut self.templates, id, template);
+        insert_reserved(&mut self.template_to_links_map, listed, ids);
         Ok(())
     }
 
@@ -173,7 +175,7 @@ impl<S: BuildHasher + Copy> PolicyMaps<S> {
         ensures err { OnErr result (self.new ≡ self.old) }
     {
         let id = list_policy(&mut self.links, &mut self.template_to_links_map, &policy)?;
-        put_last(&mut self.links, id, policy);
+        insert_reserved(&mut self.links, id, policy);
         Ok(())
     }
 
@@ -199,8 +201,8 @@ impl<S: BuildHasher + Copy> PolicyMaps<S> {
         ensures err { OnErr result (self.new ≡ self.old) }
     {
         let joining = room_for_both(&mut self.templates, &mut self.links, &policy)?;
-        put_last(&mut self.templates, joining.body_id, joining.body);
-        put_last(&mut self.links, joining.policy_id, policy);
+        insert_reserved(&mut self.templates, joining.body_id, joining.body);
+        insert_reserved(&mut self.links, joining.policy_id, policy);
         Ok(())
     }
 
@@ -213,9 +215,9 @@ impl<S: BuildHasher + Copy> PolicyMaps<S> {
     {
         let (under, ids) = room_for_list(&mut self.template_to_links_map, &policy)?;
         let both = room_for_both(&mut self.templates, &mut self.links, &policy)?;
-        put_last(&mut self.templates, both.body_id, both.body);
-        put_last(&mut self.links, both.policy_id, policy);
-        put_last(&mut self.template_to_links_map, under, ids);
+        insert_reserved(&mut self.templates, both.body_id, both.body);
+        insert_reserved(&mut self.links, both.policy_id, policy);
+        insert_reserved(&mut self.template_to_links_map, under, ids);
         Ok(())
     }
 

@@ -5,7 +5,7 @@ ghost use Rattle.std.specs.Map.{values_of};
 ghost use Rattle.cedar_ids.specs.Texts.{same_text};
 ghost use Rattle.cedar_body.specs.Bodies.{BodyParts};
 ghost use Rattle.cedar_policy.specs.Policies.{policy_id};
-ghost use Rattle.cedar_policy_maps.specs.Boards.{AreOnce};
+ghost use Rattle.cedar_policy_maps.specs.PolicySets.{AreOnce};
 ghost use Rattle.cedar_policy_maps.specs.Maps.{lists_of, shared_of, ids_by_body, templates_in};
 ghost use Rattle.cedar_policy_maps.specs.Views.{bodies_of};
 ghost use Rattle.cedar_policy_maps.specs.laws.ListedLaws.{with_listed, without_listed, IsKeyed};
@@ -22,7 +22,7 @@ use std::hash::BuildHasher;
 use std::rc::Rc;
 
 // Puts a value under a new key last, where there is room for it.
-pub(crate) fn put_last<V: Drop, S: BuildHasher + Copy>(
+pub(crate) fn insert_reserved<V: Drop, S: BuildHasher + Copy>(
     map: &mut IndexMap<PolicyID, V, S>,
     key: PolicyID,
     value: V,
@@ -35,7 +35,7 @@ pub(crate) fn put_last<V: Drop, S: BuildHasher + Copy>(
 }
 
 // Puts a value under a new key last.
-fn put_new<V: Drop, S: BuildHasher + Copy>(
+fn insert_new<V: Drop, S: BuildHasher + Copy>(
     map: &mut IndexMap<PolicyID, V, S>,
     key: PolicyID,
     value: V,
@@ -44,7 +44,7 @@ fn put_new<V: Drop, S: BuildHasher + Copy>(
     ensures { OnOk result (map.new.entries ≡ map.old.entries ++ (key, value) ∷ []) }
 {
     map.reserve(1)?;
-    put_last(map, key, value);
+    insert_reserved(map, key, value);
     Ok(())
 }
 
@@ -93,7 +93,7 @@ pub(crate) fn list_policy<S: BuildHasher + Copy>(
     links.reserve(1)?;
     let id = policy.id().clone()?;
     let listed = policy.id().clone()?;
-    list_id(map, policy.template().id(), listed)?;
+    list_link(map, policy.template().id(), listed)?;
     Ok(id)
 }
 
@@ -146,22 +146,22 @@ fn set_of<S: BuildHasher + Copy>(
     ensures { IfOk result (λ s. s.keys ≡ id.now ∷ []) }
 {
     let mut ids = IndexSet::with_hasher(alloc, hasher);
-    put_copy(&mut ids, id)?;
+    insert_id_copy(&mut ids, id)?;
     Ok(ids)
 }
 
 // Puts a copy of an id last, if it isn't there.
-fn put_copy<S: BuildHasher + Copy>(
+fn insert_id_copy<S: BuildHasher + Copy>(
     ids: &mut IndexSet<PolicyID, S>,
     id: &PolicyID,
 ) -> Result<(), AllocError>
     ensures { OnOk result (ids.new.keys ≡ insert_key same_text ids.old.keys id.now) }
 {
-    put_id(ids, id.clone()?)
+    insert_id(ids, id.clone()?)
 }
 
 // Puts an id last, if it isn't there.
-fn put_id<S: BuildHasher + Copy>(
+fn insert_id<S: BuildHasher + Copy>(
     ids: &mut IndexSet<PolicyID, S>,
     id: PolicyID,
 ) -> Result<(), AllocError>
@@ -173,14 +173,14 @@ fn put_id<S: BuildHasher + Copy>(
 }
 
 // Takes out an id, and closes the order up.
-fn drop_id<S: BuildHasher + Copy>(ids: &mut IndexSet<PolicyID, S>, id: &PolicyID)
+fn remove_id<S: BuildHasher + Copy>(ids: &mut IndexSet<PolicyID, S>, id: &PolicyID)
     ensures { ids.new.keys ≡ remove_key (same_text id.now) ids.old.keys }
 {
     ids.shift_remove(id);
 }
 
 // Lists an id last under a template's.
-pub(crate) fn list_id<S: BuildHasher + Copy>(
+pub(crate) fn list_link<S: BuildHasher + Copy>(
     map: &mut IndexMap<PolicyID, IndexSet<PolicyID, S>, S>,
     body: &PolicyID,
     id: PolicyID,
@@ -190,12 +190,12 @@ pub(crate) fn list_id<S: BuildHasher + Copy>(
 {
     match map.get_mut(body) {
         None => Ok(()),
-        Some(ids) => put_id(ids, id),
+        Some(ids) => insert_id(ids, id),
     }
 }
 
 // Lists a copy of an id last under a body's, where there is a list.
-fn list_copy<S: BuildHasher + Copy>(
+fn list_link_copy<S: BuildHasher + Copy>(
     map: &mut IndexMap<PolicyID, IndexSet<PolicyID, S>, S>,
     body: &PolicyID,
     id: &PolicyID,
@@ -204,7 +204,7 @@ fn list_copy<S: BuildHasher + Copy>(
 {
     match map.get_mut(body) {
         None => Ok(()),
-        Some(ids) => put_copy(ids, id),
+        Some(ids) => insert_id_copy(ids, id),
     }
 }
 
@@ -218,7 +218,7 @@ fn unlist_id<S: BuildHasher + Copy>(
 {
     match map.get_mut(body) {
         None => (),
-        Some(ids) => drop_id(ids, id),
+        Some(ids) => remove_id(ids, id),
     }
 }
 
@@ -276,7 +276,7 @@ fn put_body<S: BuildHasher + Copy>(
     ensures { OnOk result (templates.new.entries ≡ templates.old.entries ++ (template.value.id, template) ∷ []) }
 {
     let id = template.id().clone()?;
-    put_new(templates, id, template)
+    insert_new(templates, id, template)
 }
 
 // Policies under their ids, in their order.
@@ -319,7 +319,7 @@ fn put_policy<S: BuildHasher + Copy>(
     ensures { OnOk result (links.new.entries ≡ links.old.entries ++ (policy_id policy, policy) ∷ []) }
 {
     let id = policy.id().clone()?;
-    put_new(links, id, policy)
+    insert_new(links, id, policy)
 }
 
 // The ids of the policies on each template, under its id, in the order of bodies. Of the bodies those are templates
@@ -337,7 +337,7 @@ pub(crate) fn ids_by_template<S: BuildHasher + Copy>(
         (templates_in (values_of known.now.entries) (bodies_of bodies.now)) policies.now) }
 {
     let mut map = no_ids(alloc, bodies, known)?;
-    list_ids(&mut map, policies)?;
+    list_policies(&mut map, policies)?;
     Ok(map)
 }
 
@@ -374,18 +374,18 @@ fn put_no_ids<S: BuildHasher + Copy>(
         return Ok(());
     }
     let ids = IndexSet::with_hasher(*map.allocator(), *map.hasher());
-    put_new(map, template.id().clone()?, ids)
+    insert_new(map, template.id().clone()?, ids)
 }
 
 // Lists policies, each last under its body's id.
-fn list_ids<S: BuildHasher + Copy>(
+fn list_policies<S: BuildHasher + Copy>(
     map: &mut IndexMap<PolicyID, IndexSet<PolicyID, S>, S>,
     policies: &[Policy],
 ) -> Result<(), AllocError>
     ensures { OnOk result (lists_of map.new.entries ≡ all_listed (lists_of map.old.entries) policies.now) }
 {
     for policy in policies {
-        list_copy(map, policy.template().id(), policy.id())?;
+        list_link_copy(map, policy.template().id(), policy.id())?;
     }
     Ok(())
 }

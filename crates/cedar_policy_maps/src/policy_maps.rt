@@ -1,8 +1,8 @@
 //! The three maps: making, reading and copying them.
 ghost use Rattle.std.specs.Prelude.{◌≡◌, ◌↔◌, [], IsTrue};
-ghost use Rattle.cedar_policy_maps.specs.Boards.{empty_board, IsBoard};
+ghost use Rattle.cedar_policy_maps.specs.PolicySets.{empty_set, IsPolicySet};
 ghost use Rattle.cedar_policy_maps.specs.Lists.{slotted_in, statics_in};
-ghost use Rattle.cedar_policy_maps.specs.Maps.{board_in, maps_of, CanMakeSet};
+ghost use Rattle.cedar_policy_maps.specs.Maps.{set_in, maps_of, CanMakeSet};
 
 use crate::iters::{AllTemplates, IntoPolicies, Policies, StaticPolicies, Templates};
 use crate::lists::read_policies;
@@ -30,15 +30,15 @@ pub struct PolicyMaps<S: BuildHasher> {
 }
 
 impl<S: BuildHasher> Model for PolicyMaps<S> {
-    ghost use Rattle.cedar_policy_maps.specs.Boards.{Board};
-    ghost use Rattle.cedar_policy_maps.specs.Codes.{board_code};
-    ghost use Rattle.cedar_policy_maps.specs.Maps.{board_in, maps_of, DoAgree};
+    ghost use Rattle.cedar_policy_maps.specs.PolicySets.{SetParts};
+    ghost use Rattle.cedar_policy_maps.specs.Codes.{set_code};
+    ghost use Rattle.cedar_policy_maps.specs.Maps.{set_in, maps_of, DoAgree};
 
-    ghost Value = { Board };
+    ghost Value = { SetParts };
 
-    ghost coded = { board_code };
+    ghost coded = { set_code };
 
-    ghost view = { λ s. board_in (maps_of s.templates.entries s.links.entries s.template_to_links_map.entries) };
+    ghost view = { λ s. set_in (maps_of s.templates.entries s.links.entries s.template_to_links_map.entries) };
 
     ghost invariant = { λ s. DoAgree (maps_of s.templates.entries s.links.entries s.template_to_links_map.entries) };
 }
@@ -46,7 +46,7 @@ impl<S: BuildHasher> Model for PolicyMaps<S> {
 impl<S: BuildHasher + Copy> PolicyMaps<S> {
     /// The maps without a binding, which hash ids by what `hasher` builds. It takes no memory.
     pub fn with_hasher(alloc: Global, hasher: S) -> PolicyMaps<S>
-        ensures { result ≡ empty_board }
+        ensures { result ≡ empty_set }
     {
         PolicyMaps {
             templates: IndexMap::with_hasher(alloc, hasher),
@@ -74,7 +74,7 @@ impl<S: BuildHasher + Copy> PolicyMaps<S> {
         template_to_links_map: IndexMap<PolicyID, IndexSet<PolicyID, S>, S>,
     ) -> PolicyMaps<S>
         requires { CanMakeSet (maps_of templates.entries links.entries template_to_links_map.entries) }
-        ensures { result ≡ board_in (maps_of templates.entries links.entries template_to_links_map.entries) }
+        ensures { result ≡ set_in (maps_of templates.entries links.entries template_to_links_map.entries) }
     {
         // These say what holds of every map, that no two keys are equal, and of every policy.
         let _bodies = templates.len();
@@ -91,10 +91,10 @@ impl<S: BuildHasher + Copy> PolicyMaps<S> {
 
     /// Whether nothing is bound.
     pub fn is_empty(&self) -> bool
-        ensures value { IsTrue result ↔ (self.now ≡ empty_board) }
-        ensures board { IsBoard self.now }
+        ensures value { IsTrue result ↔ (self.now ≡ empty_set) }
+        ensures policy_set { IsPolicySet self.now }
     {
-        // No effect at run time: this borrow says that the maps state a board.
+        // No effect at run time: this borrow says that the maps state a policy set.
         let _ = &self.templates;
         are_empty(self.shared_bodies(), self.all_policies())
     }

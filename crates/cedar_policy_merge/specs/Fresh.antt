@@ -1,7 +1,7 @@
 -- New ids for a merge: policy0, policy1 and so on, as far as neither set binds them.
 use Rattle.std.specs.Prelude.{◌≡◌, ℕ, ◌+◌, List, [], ◌∷◌, ◌++◌, Bool, false, ◌||◌, if◌then◌else◌, codes, suc, zero}
 use Rattle.std.specs.Fmt.{digits_onto}
-use Rattle.cedar_policy_maps.specs.Boards.{Board, is_bound}
+use Rattle.cedar_policy_maps.specs.PolicySets.{SetParts, is_bound}
 
 -- the decimal text of a number, which has no more digits than the number and one
 unfoldable pub numeral : ℕ → List ℕ
@@ -11,8 +11,8 @@ numeral n = digits_onto (suc n) 10 false n []
 abbrev pub numbered : ℕ → List ℕ
 numbered n = codes "policy" ++ numeral n
 
--- whether one of two boards binds an id
-abbrev pub is_bound_in_either : Board → Board → List ℕ → Bool
+-- whether one of two policy sets binds an id
+abbrev pub is_bound_in_either : SetParts → SetParts → List ℕ → Bool
 is_bound_in_either here other i = is_bound here i || is_bound other i
 
 -- how many of the ids of the numbers below this one are free

@@ -1,7 +1,7 @@
 //! New ids for a merge: policy0, policy1 and so on, as far as neither set binds them.
 ghost use Rattle.std.specs.Prelude.{◌≡◌, ◌+◌, ◌^◌, ◌<◌, IfOk, List, ℕ, length};
 ghost use Rattle.std.specs.Map.{keys_of, values_of};
-ghost use Rattle.cedar_policy_maps.specs.Boards.{AreOnce};
+ghost use Rattle.cedar_policy_maps.specs.PolicySets.{AreOnce};
 ghost use Rattle.cedar_policy_merge.specs.Fresh.{numbered, is_bound_in_either, free_below, IsFree, AreFree};
 ghost use Rattle.cedar_policy_merge.specs.laws.FreshLaws.{count};
 

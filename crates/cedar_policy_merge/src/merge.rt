@@ -7,12 +7,11 @@ ghost use Rattle.std.specs.Option.{option_copied, unwrap_or};
 ghost use Rattle.cedar_body.specs.Bodies.{with_id};
 ghost use Rattle.cedar_policy.specs.Policies.{policy_id, with_policy_id};
 ghost use Rattle.cedar_ids.specs.Texts.{same_text};
-ghost use Rattle.cedar_policy_maps.specs.Boards.{AreOnce, bound_at};
+ghost use Rattle.cedar_policy_maps.specs.PolicySets.{AreOnce, bound_at};
 ghost use Rattle.cedar_policy_merge.specs.Fresh.{is_bound_in_either};
 ghost use Rattle.cedar_policy_merge.specs.Merge.{has_body, body_ids, policy_ids, is_same_at, conflicting, gathered};
 ghost use Rattle.cedar_policy_merge.specs.Merge.{conflicts, Differ, renamed_body, renamed_policy, joined_bodies};
-ghost use Rattle.cedar_policy_merge.specs.Merge.{joined_policies, merged, new_id, IsRenaming, Merges, AreBelow};
-ghost use Rattle.cedar_policy_merge.specs.Merge.{bound_ids};
+ghost use Rattle.cedar_policy_merge.specs.Merge.{joined_policies, merged, new_id, IsRenaming, MergesSets};
 ghost use Rattle.cedar_policy_merge.specs.laws.GatherLaws.{in_groups, looked_at};
 ghost use Rattle.cedar_policy_merge.specs.laws.MergeTakesIn.{standing_bodies};
 ghost use Rattle.cedar_policy_merge.specs.laws.MergeSteps.{Refuses, with_template_renamed};
@@ -46,17 +45,10 @@ pub fn merge_maps<S: BuildHasher + Copy>(
     other: &PolicyMaps<S>,
     rename_duplicates: bool,
 ) -> Result<IndexMap<PolicyID, PolicyID, S>, PolicySetError>
-    ensures merges { Merges (λ r. r.entries) result here.old other.now rename_duplicates here.new }
-    ensures conflicts { (i : List ℕ) → (list_any (same_text i) (conflicts here.old other.now) ≡ true)
-        ↔ Differ (bound_at here.old i) (bound_at other.now i) }
-    ensures apart { IfOk result (λ r. AreOnce (λ (i : List ℕ). i) (values_of r.entries)) }
-    ensures unbound { IfOk result (λ r. list_any (is_bound_in_either here.old other.now) (values_of r.entries)
-        ≡ false) }
-    ensures below { IfOk result (λ r. AreBelow (length (bound_ids here.old other.now) + length r.entries)
-        (values_of r.entries)) }
+    ensures { MergesSets (λ r. r.entries) result here.old other.now rename_duplicates here.new }
 {
-    // No effect at run time: these calls say that both are boards.
-    let _boards = (here.is_empty(), other.is_empty());
+    // No effect at run time: these calls say that both are those of a policy set.
+    let _policy_sets = (here.is_empty(), other.is_empty());
     let ids = conflicting_ids(alloc, here, other)?;
     if let Some(id) = refused(&ids, rename_duplicates) {
         return Err(PolicySetError::Occupied { id: id.clone()? });
@@ -77,8 +69,8 @@ fn put_merged<S: BuildHasher + Copy>(
     ensures ok { OnOk result (here.new ≡ merged here.old other.now (new_id renaming.now.entries)) }
     ensures err { OnErr result (here.new ≡ here.old) }
 {
-    // No effect at run time: these calls say that both are boards.
-    let _boards = (here.is_empty(), other.is_empty());
+    // No effect at run time: these calls say that both are those of a policy set.
+    let _policy_sets = (here.is_empty(), other.is_empty());
     let bodies = parted_bodies(alloc, here, other, renaming)?;
     let policies = parted_policies(alloc, here, other, renaming)?;
     here.take_in(alloc, bodies, policies)

@@ -10,7 +10,7 @@ use Rattle.std.specs.Cmp.Lexicographic.{pointwise}
 use Rattle.std.specs.Cmp.Derive.Mapped.{pointwise-map}
 use Rattle.cedar_body.specs.Bodies.{BodyParts}
 use Rattle.cedar_body.specs.BodyEquality.{same_body}
-use Rattle.cedar_policy_set.specs.BoardTexts.{body_line, is_known_body}
+use Rattle.cedar_policy_set.specs.SetTexts.{body_line, is_known_body}
 use Rattle.cedar_policy_maps.specs.Views.{bodies_of}
 
 pub bodies_told : (ts us : List (Rc BodyParts Global))

@@ -9,7 +9,7 @@ use Rattle.std.proofs.Common.{ap, ◌∙◌}
 use Rattle.std.proofs.lemmas.Bool.{false≢true}
 use Rattle.std.proofs.lemmas.Grind.{put_two}
 use Rattle.cedar_body.specs.Bodies.{BodyParts}
-use Rattle.cedar_policy_set.specs.BoardTexts.{is_known_body, known_body, body_line, orders_text, titled_text}
+use Rattle.cedar_policy_set.specs.SetTexts.{is_known_body, known_body, body_line, orders_text, titled_text}
 use Rattle.cedar_policy.specs.Policies.{PolicyParts}
 use Rattle.cedar_policy_maps.specs.Views.{bodies_of}
 use Rattle.cedar_policy_set.proofs.Told.{lines_told, known_told}

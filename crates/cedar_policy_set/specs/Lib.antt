@@ -1,13 +1,6 @@
-pub use Rattle.cedar_policy_maps.specs.Boards
-pub use Rattle.cedar_policy_maps.specs.Codes
-pub use Rattle.cedar_policy_maps.specs.Lists
-pub use Rattle.cedar_policy_maps.specs.Maps
-pub use Rattle.cedar_policy_maps.specs.Views
-pub use Rattle.cedar_policy_merge.specs.Fresh
-pub use Rattle.cedar_policy_merge.specs.Merge
-pub use Rattle.cedar_policy_set_errors.specs.SetFaults
-pub mod BoardEquality
-pub mod BoardTexts
+pub mod SetEquality
+pub mod SetTexts
+pub mod Lending
 pub mod Refusals
 pub mod Steps
 pub mod Validity

@@ -13,7 +13,7 @@ use Rattle.cedar_policy_set_errors.specs.declared.err.PolicySetTemplateRemovalEr
 use Rattle.cedar_policy_set_errors.specs.declared.err.PolicySetTemplateRemovalError.TheVariants as templates
 use Rattle.cedar_policy_set_errors.specs.declared.err.PolicySetUnlinkError.{PolicySetUnlinkError}
 use Rattle.cedar_policy_set_errors.specs.declared.err.PolicySetUnlinkError.TheVariants as unlinks
-use Rattle.cedar_policy_maps.specs.Boards.{Board, Binding, without_id}
+use Rattle.cedar_policy_maps.specs.PolicySets.{SetParts, Binding, without_id}
 use Rattle.cedar_policy_set.specs.Steps.{Refusal, occupied, no_body, no_such_template, arity, not_an_action}
 use Rattle.cedar_policy_set.specs.Steps.{id_conflict, no_link, not_a_link, no_template, with_links, not_a_template}
 use Rattle.cedar_policy_set.specs.Steps.{no_static, not_static}
@@ -23,10 +23,12 @@ abbrev pub told_by_set : PolicySetError → Option Refusal
 told_by_set (sets.Occupied i) = Some (occupied i)
 told_by_set sets.Memory = None
 
+-- the refusal that an error of listing links tells
 abbrev pub told_by_listing : PolicySetGetLinksError → Option Refusal
 told_by_listing (listings.MissingTemplate i) = Some (no_body i)
 told_by_listing listings.Memory = None
 
+-- the refusal that an error of linking tells
 abbrev pub told_by_linking : LinkingError → Option Refusal
 told_by_linking (links.ArityError u x) = Some (arity u.items x.items)
 told_by_linking (links.NotAnAction u) = Some (not_an_action (uid_parts u))
@@ -34,17 +36,20 @@ told_by_linking (links.NoSuchTemplate i) = Some (no_such_template i)
 told_by_linking (links.PolicyIdConflict i) = Some (id_conflict i)
 told_by_linking links.Memory = None
 
+-- the refusal that an error of unlinking tells
 abbrev pub told_by_unlinking : PolicySetUnlinkError → Option Refusal
 told_by_unlinking (unlinks.UnlinkingError i) = Some (no_link i)
 told_by_unlinking (unlinks.NotLinkError i) = Some (not_a_link i)
 told_by_unlinking unlinks.Memory = None
 
+-- the refusal that an error of removing a template tells
 abbrev pub told_by_template_removal : PolicySetTemplateRemovalError → Option Refusal
 told_by_template_removal (templates.RemovePolicyNoTemplateError i) = Some (no_template i)
 told_by_template_removal (templates.RemoveTemplateWithLinksError i) = Some (with_links i)
 told_by_template_removal (templates.NotTemplateError i) = Some (not_a_template i)
 told_by_template_removal templates.Memory = None
 
+-- the refusal that an error of removing a static policy tells
 abbrev pub told_by_removal : PolicySetPolicyRemovalError → Option Refusal
 told_by_removal (removals.RemovePolicyNoLinkError i) = Some (no_static i)
 told_by_removal (removals.RemovePolicyNoTemplateError i) = Some (not_static i)
@@ -55,20 +60,21 @@ abbrev pub IsRefusal : {B : Type 0} → Option Refusal → Result B Refusal → 
 IsRefusal None step = Unit {0}
 IsRefusal (Some r) step = step ≡ Err r
 
--- the board afterwards is that of the step; or the step is refused, and the board is as it was
-abbrev pub Steps : {A E : Type 0} → (E → Option Refusal) → Result A E → Board → Board → Result Board Refusal → Type 0
+-- the policy set afterwards is that of the step; or the step is refused, and the policy set is as it was
+abbrev pub Steps : {A E : Type 0} → (E → Option Refusal) → Result A E → SetParts → SetParts
+    → Result SetParts Refusal → Type 0
 Steps told (Ok a) old new step = step ≡ Ok new
 Steps told (Err e) old new step = (new ≡ old) × IsRefusal (told e) step
 
--- what was taken out is that of the step, and the board is without its id; or the step is refused, and the board is as
--- it was
-abbrev pub TakesFromBoard : {A E : Type 0} → (E → Option Refusal) → (A → Binding) → Result A E → Board → Board → List ℕ
-    → Result Binding Refusal → Type 0
-TakesFromBoard told binding (Ok a) old new i step = (step ≡ Ok (binding a)) × (new ≡ without_id old i)
-TakesFromBoard told binding (Err e) old new i step = (new ≡ old) × IsRefusal (told e) step
+-- what was taken out is that of the step, and the policy set is without its id; or the step is refused, and the policy
+-- set is as it was
+abbrev pub TakesFromSet : {A E : Type 0} → (E → Option Refusal) → (A → Binding) → Result A E → SetParts → SetParts
+    → List ℕ → Result Binding Refusal → Type 0
+TakesFromSet told binding (Ok a) old new i step = (step ≡ Ok (binding a)) × (new ≡ without_id old i)
+TakesFromSet told binding (Err e) old new i step = (new ≡ old) × IsRefusal (told e) step
 
--- the board of an answer is that of the step; or the step is refused
-abbrev pub Makes : {E : Type 0} → (E → Option Refusal) → Result Board E → Result Board Refusal → Type 0
+-- the policy set of an answer is that of the step; or the step is refused
+abbrev pub Makes : {E : Type 0} → (E → Option Refusal) → Result SetParts E → Result SetParts Refusal → Type 0
 Makes told (Ok b) step = step ≡ Ok b
 Makes told (Err e) step = IsRefusal (told e) step
 

@@ -10,7 +10,7 @@ use Rattle.cedar_policy_set_errors.specs.declared.err.PolicySetValidationError.{
 use Rattle.cedar_policy_set_errors.specs.declared.err.PolicySetValidationError.TheVariants.{InvalidTemplate}
 use Rattle.cedar_policy_set_errors.specs.declared.err.PolicySetValidationError.TheVariants.{LinkToSlotlessTemplate}
 use Rattle.cedar_policy_set_errors.specs.declared.err.PolicySetValidationError.TheVariants.{Memory}
-use Rattle.cedar_policy_maps.specs.Boards.{Board}
+use Rattle.cedar_policy_maps.specs.PolicySets.{SetParts}
 use Rattle.cedar_policy_maps.specs.Lists.{is_slotless}
 
 -- a link of a template without slots
@@ -27,12 +27,12 @@ IsBodyRefusal templates.Memory t = ⊥
 IsBodyRefusal e t = IsTemplateFault e t.clause t.action
 
 -- no link is one of a template without slots
-abbrev pub HasSlottedLinks : Board → Type 0
+abbrev pub HasSlottedLinks : SetParts → Type 0
 HasSlottedLinks b = find is_slotless_link b.policies ≡ None
 
 -- links come first: the error names the first one of a template without slots, with that template; else the first body
 -- that is not valid, with its fault. Want of memory says nothing
-abbrev pub IsSetFault : PolicySetValidationError → Board → Type 0
+abbrev pub IsSetFault : PolicySetValidationError → SetParts → Type 0
 IsSetFault (LinkToSlotlessTemplate l t) b =
     (p : PolicyParts) × (find is_slotless_link b.policies ≡ Some p) × (l ≡ policy_id p) × (t ≡ p.template.id)
 IsSetFault (InvalidTemplate i e) b =
@@ -42,6 +42,6 @@ IsSetFault (InvalidTemplate i e) b =
 IsSetFault Memory b = Unit {0}
 
 -- the set itself where there is no fault, else the first one
-abbrev pub ValidatesSet : Result Board PolicySetValidationError → Board → Type 0
+abbrev pub ValidatesSet : Result SetParts PolicySetValidationError → SetParts → Type 0
 ValidatesSet (Ok s) b = HasSlottedLinks b × All IsValidBody b.bodies × (s ≡ b)
 ValidatesSet (Err e) b = IsSetFault e b

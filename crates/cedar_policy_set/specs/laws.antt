@@ -1,7 +1,3 @@
-pub use Rattle.cedar_policy_maps.specs.Joins
-pub use Rattle.cedar_policy_maps.specs.laws.ListedLaws
-pub use Rattle.cedar_policy_maps.specs.laws.OnceLaws
-pub use Rattle.cedar_policy_merge.specs.laws.FreshLaws
 pub mod BodyFaults
 pub mod EqualityLaws
 pub mod LinkLaws

@@ -3,9 +3,9 @@ ghost use Rattle.std.specs.Prelude.{◌≡◌};
 ghost use Rattle.std.specs.Cmp.{partial_equiv_from_equiv};
 ghost use Rattle.std.specs.Cmp.Lexicographic.{pointwise};
 ghost use Rattle.cedar_body.specs.BodyEquality.{same_body};
-ghost use Rattle.cedar_policy_set.specs.BoardEquality.{same_board};
+ghost use Rattle.cedar_policy_set.specs.SetEquality.{same_policy_set};
 ghost use Rattle.cedar_policy_maps.specs.Views.{bodies_of};
-ghost use Rattle.cedar_policy_set.specs.laws.EqualityLaws.{same_board_equiv};
+ghost use Rattle.cedar_policy_set.specs.laws.EqualityLaws.{same_policy_set_equiv};
 
 use crate::policy_set::PolicySet;
 use cedar_policy::Template;
@@ -23,9 +23,9 @@ impl<S: BuildHasher + Copy> Clone for PolicySet<S> {
 }
 
 impl<S: BuildHasher + Copy> PartialEq for PolicySet<S> {
-    ghost eq = { same_board };
+    ghost eq = { same_policy_set };
 
-    ghost laws = { partial_equiv_from_equiv same_board_equiv };
+    ghost laws = { partial_equiv_from_equiv same_policy_set_equiv };
 
     fn eq(&self, other: &PolicySet<S>) -> bool {
         same_bodies(self.maps.shared_bodies(), other.maps.shared_bodies())
@@ -34,7 +34,7 @@ impl<S: BuildHasher + Copy> PartialEq for PolicySet<S> {
 }
 
 impl<S: BuildHasher + Copy> Eq for PolicySet<S> {
-    ghost laws = { same_board_equiv };
+    ghost laws = { same_policy_set_equiv };
 }
 
 // Whether bodies are equal, at equal places.

@@ -3,7 +3,7 @@ ghost use Rattle.std.specs.Prelude.{◌≡◌, ◌<◌, length, false, IfOk, IfE
 ghost use Rattle.cedar_body.specs.BodyEquality.{same_body};
 ghost use Rattle.cedar_body.specs.Bodies.{body_slots};
 ghost use Rattle.cedar_binding.specs.Views.{env_of};
-ghost use Rattle.cedar_policy_maps.specs.Boards.{empty_board, bound_at, is_bound, Template as template_binding};
+ghost use Rattle.cedar_policy_maps.specs.PolicySets.{empty_set, bound_at, is_bound, Template as template_binding};
 ghost use Rattle.cedar_policy_set.specs.Refusals.{IsRefusal, Steps, Makes, told_by_set, told_by_linking};
 ghost use Rattle.cedar_policy_set.specs.Steps.{add_static_step, add_template_step, add_step, link_onto, link_step};
 ghost use Rattle.cedar_policy_set.specs.Steps.{add_then, UnlinksTo};
@@ -26,7 +26,7 @@ impl<S: BuildHasher + Copy> PolicySet<S> {
         hasher: S,
         policies: Vec<Policy>,
     ) -> Result<PolicySet<S>, PolicySetError>
-        ensures { Makes told_by_set result (add_then (Ok empty_board) policies.items) }
+        ensures { Makes told_by_set result (add_then (Ok empty_set) policies.items) }
     {
         let mut set = PolicySet::with_hasher(alloc, hasher);
         set.add_all(alloc, policies)?;

@@ -1,8 +1,9 @@
 //! The policy that linking made, lent by the set that it stands in.
 ghost use Rattle.std.specs.Prelude.{◌≡◌, ◌<◌, IfOk, Some, length};
-ghost use Rattle.std.specs.Borrow.{sem, RestsIfErr};
+ghost use Rattle.std.specs.Borrow.{sem};
 ghost use Rattle.cedar_binding.specs.Views.{env_of};
-ghost use Rattle.cedar_policy_maps.specs.Boards.{last_policy};
+ghost use Rattle.cedar_policy_maps.specs.PolicySets.{last_policy};
+ghost use Rattle.cedar_policy_set.specs.Lending.{StaysIfRefused};
 ghost use Rattle.cedar_policy_set.specs.Refusals.{Answers, told_by_linking};
 ghost use Rattle.cedar_policy_set.specs.Steps.{link_step, UnlinksTo};
 ghost use Rattle.cedar_policy_set.specs.contracts.policy_set.PolicySet.{the_row};
@@ -38,8 +39,8 @@ impl<S: BuildHasher + Copy> PolicySet<S> {
         new_id: PolicyID,
         values: SlotEnv,
     ) -> Result<Linked<'_, S>, LinkingError>
-        ensures* refused { sem 𝓛 (RestsIfErr (the_row S.row S.Hasher.row S.BuildHasher S.Hasher.Hasher) self.entry
-            (λ l. l.set.ghost_name) result (λ n. n ≡ self.old)) }
+        ensures* refused { sem 𝓛 (StaysIfRefused (the_row S.row S.Hasher.row S.BuildHasher S.Hasher.Hasher)
+            self.entry self.old (λ l. l.set.ghost_name) result) }
         ensures same_set { IfOk result (λ l. l.set.ghost_name ≡ self.entry.ghost_name) }
         ensures steps { Answers told_by_linking (λ l. l.set.now) result
             (link_step self.old template_id new_id (env_of values)) }

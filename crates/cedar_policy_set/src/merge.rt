@@ -1,11 +1,5 @@
 //! Merging another policy set into this one.
-ghost use Rattle.std.specs.Prelude.{◌≡◌, ◌↔◌, ◌+◌, true, false, length, IfOk, List, ℕ};
-ghost use Rattle.std.specs.List.{list_any};
-ghost use Rattle.std.specs.Map.{values_of};
-ghost use Rattle.cedar_ids.specs.Texts.{same_text};
-ghost use Rattle.cedar_policy_maps.specs.Boards.{AreOnce, bound_at};
-ghost use Rattle.cedar_policy_merge.specs.Fresh.{is_bound_in_either};
-ghost use Rattle.cedar_policy_merge.specs.Merge.{conflicts, Differ, Merges, AreBelow, bound_ids};
+ghost use Rattle.cedar_policy_merge.specs.Merge.{MergesSets};
 
 use crate::policy_set::PolicySet;
 use cedar_ids::policy_id::PolicyID;
@@ -39,14 +33,7 @@ impl<S: BuildHasher + Copy> PolicySet<S> {
         other: &PolicySet<S>,
         rename_duplicates: bool,
     ) -> Result<IndexMap<PolicyID, PolicyID, S>, PolicySetError>
-        ensures merges { Merges (λ r. r.entries) result self.old other.now rename_duplicates self.new }
-        ensures conflicts { (i : List ℕ) → (list_any (same_text i) (conflicts self.old other.now) ≡ true)
-            ↔ Differ (bound_at self.old i) (bound_at other.now i) }
-        ensures apart { IfOk result (λ r. AreOnce (λ (i : List ℕ). i) (values_of r.entries)) }
-        ensures unbound { IfOk result (λ r. list_any (is_bound_in_either self.old other.now) (values_of r.entries)
-            ≡ false) }
-        ensures below { IfOk result (λ r. AreBelow (length (bound_ids self.old other.now) + length r.entries)
-            (values_of r.entries)) }
+        ensures { MergesSets (λ r. r.entries) result self.old other.now rename_duplicates self.new }
     {
         merge_maps(alloc, &mut self.maps, &other.maps, rename_duplicates)
     }

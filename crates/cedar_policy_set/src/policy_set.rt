@@ -2,9 +2,9 @@
 ghost use Rattle.std.specs.Prelude.{◌≡◌, ◌↔◌, IfErr, IsErr, IsTrue};
 ghost use Rattle.std.specs.List.{find};
 ghost use Rattle.std.specs.Option.{option_copied, option_map};
-ghost use Rattle.cedar_policy_maps.specs.Boards.{empty_board, is_body_at, is_policy_at, IsBoard};
+ghost use Rattle.cedar_policy_maps.specs.PolicySets.{empty_set, is_body_at, is_policy_at, IsPolicySet};
 ghost use Rattle.cedar_policy_maps.specs.Lists.{slotted_in, statics_in};
-ghost use Rattle.cedar_policy_maps.specs.Maps.{board_in, maps_of, CanMakeSet};
+ghost use Rattle.cedar_policy_maps.specs.Maps.{set_in, maps_of, CanMakeSet};
 ghost use Rattle.cedar_policy_set.specs.Refusals.{Answers, told_by_listing};
 ghost use Rattle.cedar_policy_set.specs.Steps.{get_linked_step};
 
@@ -37,12 +37,12 @@ pub struct PolicySet<S: BuildHasher = BuildHasherDefault<FoldHasher>> {
 }
 
 impl<S: BuildHasher> Model for PolicySet<S> {
-    ghost use Rattle.cedar_policy_maps.specs.Boards.{Board};
-    ghost use Rattle.cedar_policy_maps.specs.Codes.{board_code};
+    ghost use Rattle.cedar_policy_maps.specs.PolicySets.{SetParts};
+    ghost use Rattle.cedar_policy_maps.specs.Codes.{set_code};
 
-    ghost Value = { Board };
+    ghost Value = { SetParts };
 
-    ghost coded = { board_code };
+    ghost coded = { set_code };
 
     ghost view = { λ s. s.maps };
 }
@@ -59,7 +59,7 @@ impl<S: BuildHasher + Copy> PolicySet<S> {
     ///
     /// The original has one way of hashing.
     pub fn with_hasher(alloc: Global, hasher: S) -> PolicySet<S>
-        ensures { result ≡ empty_board }
+        ensures { result ≡ empty_set }
     {
         PolicySet {
             maps: PolicyMaps::with_hasher(alloc, hasher),
@@ -87,7 +87,7 @@ impl<S: BuildHasher + Copy> PolicySet<S> {
         template_to_links_map: IndexMap<PolicyID, IndexSet<PolicyID, S>, S>,
     ) -> PolicySet<S>
         requires { CanMakeSet (maps_of templates.entries links.entries template_to_links_map.entries) }
-        ensures { result ≡ board_in (maps_of templates.entries links.entries template_to_links_map.entries) }
+        ensures { result ≡ set_in (maps_of templates.entries links.entries template_to_links_map.entries) }
     {
         PolicySet {
             maps: PolicyMaps::from_raw_components(templates, links, template_to_links_map),
@@ -96,8 +96,8 @@ impl<S: BuildHasher + Copy> PolicySet<S> {
 
     /// Whether nothing is bound. It takes no memory, as no reader here does but where one says so.
     pub fn is_empty(&self) -> bool
-        ensures value { IsTrue result ↔ (self.now ≡ empty_board) }
-        ensures board { IsBoard self.now }
+        ensures value { IsTrue result ↔ (self.now ≡ empty_set) }
+        ensures policy_set { IsPolicySet self.now }
     {
         self.maps.is_empty()
     }

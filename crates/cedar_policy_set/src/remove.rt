@@ -1,7 +1,7 @@
 //! What leaves a policy set: links, static policies, templates.
 ghost use Rattle.std.specs.Prelude.{◌≡◌, IfErr, IsErr};
-ghost use Rattle.cedar_policy_maps.specs.Boards.{policy_binding, Template as template_binding};
-ghost use Rattle.cedar_policy_set.specs.Refusals.{TakesFromBoard, told_by_unlinking, told_by_removal};
+ghost use Rattle.cedar_policy_maps.specs.PolicySets.{policy_binding, Template as template_binding};
+ghost use Rattle.cedar_policy_set.specs.Refusals.{TakesFromSet, told_by_unlinking, told_by_removal};
 ghost use Rattle.cedar_policy_set.specs.Refusals.{told_by_template_removal};
 ghost use Rattle.cedar_policy_set.specs.Steps.{unlink_step, remove_static_step, remove_template_step};
 
@@ -22,12 +22,12 @@ impl<S: BuildHasher + Copy> PolicySet<S> {
     /// call leaves both orders as they were. What stands behind it moves up, in the map of policies and among its
     /// template's links; nothing is walked. The original ends the program where its map of links lacks the template.
     pub fn unlink(&mut self, id: &PolicyID) -> Result<Policy, PolicySetUnlinkError>
-        ensures taken { TakesFromBoard told_by_unlinking policy_binding result self.old self.new id.now
+        ensures taken { TakesFromSet told_by_unlinking policy_binding result self.old self.new id.now
             (unlink_step self.old id.now) }
         ensures refused { IfErr result (λ e. IsErr (unlink_step self.old id.now)) }
     {
-        // No effect at run time: this call says that the set is a board.
-        let _board = self.maps.is_empty();
+        // No effect at run time: this call says that the maps are those of a policy set.
+        let _policy_set = self.maps.is_empty();
         match self.maps.found(id) {
             None => return Err(PolicySetUnlinkError::UnlinkingError(id.clone()?)),
             Some(Found::Template(_template)) => {
@@ -53,12 +53,12 @@ impl<S: BuildHasher + Copy> PolicySet<S> {
     /// Takes memory only for the id that a refusal names; a refused call leaves both orders as they were. What stands
     /// behind it in the maps moves up; nothing is walked. In the original a refused call moves the link to the back.
     pub fn remove_static(&mut self, id: &PolicyID) -> Result<Policy, PolicySetPolicyRemovalError>
-        ensures taken { TakesFromBoard told_by_removal policy_binding result self.old self.new id.now
+        ensures taken { TakesFromSet told_by_removal policy_binding result self.old self.new id.now
             (remove_static_step self.old id.now) }
         ensures refused { IfErr result (λ e. IsErr (remove_static_step self.old id.now)) }
     {
-        // No effect at run time: this call says that the set is a board.
-        let _board = self.maps.is_empty();
+        // No effect at run time: this call says that the maps are those of a policy set.
+        let _policy_set = self.maps.is_empty();
         match self.maps.found(id) {
             None => return Err(PolicySetPolicyRemovalError::RemovePolicyNoLinkError(id.clone()?)),
             Some(Found::Template(_template)) => {
@@ -91,7 +91,7 @@ impl<S: BuildHasher + Copy> PolicySet<S> {
         &mut self,
         id: &PolicyID,
     ) -> Result<Template, PolicySetTemplateRemovalError>
-        ensures { TakesFromBoard told_by_template_removal template_binding result self.old self.new id.now
+        ensures { TakesFromSet told_by_template_removal template_binding result self.old self.new id.now
             (remove_template_step self.old id.now) }
     {
         let template = match self.maps.found(id) {

@@ -2,9 +2,9 @@
 ghost use Rattle.std.specs.Prelude.{◌≡◌, ◌↔◌, ◌&&◌, ◌++◌, [], true, IsTrue};
 ghost use Rattle.std.specs.Fmt.{WritesOnOk};
 ghost use Rattle.std.specs.List.{list_all, flat_map};
-ghost use Rattle.cedar_policy_set.specs.BoardTexts.{board_output, bodies_text, body_line, known_body, is_known_body};
-ghost use Rattle.cedar_policy_set.specs.BoardTexts.{is_known_policy, orders_text, policies_text, policy_line};
-ghost use Rattle.cedar_policy_set.specs.BoardTexts.{titled_text};
+ghost use Rattle.cedar_policy_set.specs.SetTexts.{set_output, bodies_text, body_line, known_body, is_known_body};
+ghost use Rattle.cedar_policy_set.specs.SetTexts.{is_known_policy, orders_text, policies_text, policy_line};
+ghost use Rattle.cedar_policy_set.specs.SetTexts.{titled_text};
 ghost use Rattle.cedar_policy_maps.specs.Views.{bodies_of};
 
 use crate::policy_set::PolicySet;
@@ -14,7 +14,7 @@ use std::hash::BuildHasher;
 use std::rc::Rc;
 
 impl<S: BuildHasher + Copy> fmt::Display for PolicySet<S> {
-    ghost output = { board_output };
+    ghost output = { set_output };
 
     /// Writes all bodies and then all policies, each on lines of its own; of a set without a binding it says that. It
     /// takes no memory.

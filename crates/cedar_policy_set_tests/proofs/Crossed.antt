@@ -8,7 +8,7 @@ use Rattle.cedar_ids.specs.Texts.{same_text}
 use Rattle.cedar_ids.specs.laws.TextLaws.{same_text_equiv}
 use Rattle.cedar_body.specs.Bodies.{BodyParts, body_slots}
 use Rattle.cedar_policy.specs.Policies.{PolicyParts, policy_id, static_policy}
-use Rattle.cedar_policy_set.specs.Maps.{Maps, CanMakeSet}
+use Rattle.cedar_policy_maps.specs.Maps.{Maps, CanMakeSet}
 
 pub turned : (i j : List ℕ) → same_text i j ≡ false → same_text j i ≡ false
 turned i j h = same_text_equiv.symm j i ∙ h

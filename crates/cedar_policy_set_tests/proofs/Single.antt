@@ -6,21 +6,21 @@ use Rattle.std.specs.Option.{unwrap_or}
 use Rattle.cedar_ids.specs.Texts.{same_text}
 use Rattle.cedar_ids.specs.laws.TextLaws.{same_text_equiv, same_text_decides}
 use Rattle.cedar_policy.specs.Policies.{PolicyParts, policy_id}
-use Rattle.cedar_policy_set.specs.Boards.{Board, HasOwnId, is_body_at}
-use Rattle.cedar_policy_set.specs.Maps.{CanMakeSet, IsPlacedBy}
+use Rattle.cedar_policy_maps.specs.PolicySets.{SetParts, HasOwnId, is_body_at}
+use Rattle.cedar_policy_maps.specs.Maps.{CanMakeSet, IsPlacedBy}
 
 other_id : (i j : List ℕ) (v : Bool) → same_text i j ≡ v → (Some i ≡ Some j → ⊥) → v ≡ false
 other_id i j true e n = absurd (n (ap Some ((same_text_decides i j).0 e)))
 other_id i j false e n = refl
 
-abbrev board_of : PolicyParts → Board
-board_of p = record { bodies = p.template ∷ []; policies = p ∷ [] }
+abbrev set_of : PolicyParts → SetParts
+set_of p = record { bodies = p.template ∷ []; policies = p ∷ [] }
 
 stands : (p : PolicyParts) → find (is_body_at p.template.id) (p.template ∷ []) ≡ Some p.template
 stands p = ap (λ v. cond v (Some p.template) None) (same_text_equiv.refl p.template.id)
 
 placed : (o : Option (List ℕ)) (p : PolicyParts) → o ≡ p.link → (o ≡ Some p.template.id → ⊥)
-    → IsPlacedBy o (board_of p) p
+    → IsPlacedBy o (set_of p) p
 placed None p e own = stands p
 placed (Some l) p e own =
     let apart = other_id l p.template.id (same_text l p.template.id) refl own in

@@ -2,12 +2,12 @@
 //
 // No function holds a set, a policy, a template or an id over a step that may fail, and none leaves one to the end of
 // its body: what is at hand goes to `beside` or `kept`, or is let go by a written `drop`.
-mod board;
 mod equality;
 mod making;
 mod many;
 mod merges;
 mod notation;
+mod policy_set;
 mod raw;
 mod reads;
 mod rows;

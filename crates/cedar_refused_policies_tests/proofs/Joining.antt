@@ -5,15 +5,15 @@ use Rattle.std.specs.declared.rc.Rc.{Rc}
 use Rattle.std.specs.declared.alloc.Global.{Global}
 use Rattle.cedar_body.specs.Bodies.{BodyParts}
 use Rattle.cedar_policy.specs.Policies.{PolicyParts}
-use Rattle.cedar_policy_maps.specs.Boards.{empty_board}
+use Rattle.cedar_policy_maps.specs.PolicySets.{empty_set}
 use Rattle.cedar_policy_maps.specs.Joins.{CanJoinBoth}
 use Rattle.cedar_policy_maps.specs.TakenIn.{CanTakeIn}
 use Rattle.cedar_policy_maps.specs.Views.{bodies_of}
-use Rattle.cedar_policy_maps.specs.laws.BoardLaws.{both_join}
+use Rattle.cedar_policy_maps.specs.laws.SetLaws.{both_join}
 
-one_taken : (p : PolicyParts) → CanJoinBoth empty_board p → CanTakeIn empty_board [] (p.template ∷ []) (p ∷ [])
+one_taken : (p : PolicyParts) → CanJoinBoth empty_set p → CanTakeIn empty_set [] (p.template ∷ []) (p ∷ [])
 one_taken p c = record {
-  board = both_join empty_board p (record { bodies_once = tt; policies_once = tt; held = tt }) c;
+  policy_set = both_join empty_set p (record { bodies_once = tt; policies_once = tt; held = tt }) c;
   beside = tt;
   behind = (refl, tt);
   once = tt;
@@ -23,7 +23,7 @@ one_taken p c = record {
 
 -- what may go first with its template may be taken in with it
 pub both_taken : (ss ts : List (Rc BodyParts Global)) (ps : List PolicyParts) (t : Rc BodyParts Global)
-    (p : PolicyParts) → CanJoinBoth empty_board p → ss ≡ [] → ts ≡ t ∷ [] → t.value ≡ p.template → ps ≡ p ∷ [] →
-    CanTakeIn empty_board (bodies_of ss) (bodies_of ts) ps
+    (p : PolicyParts) → CanJoinBoth empty_set p → ss ≡ [] → ts ≡ t ∷ [] → t.value ≡ p.template → ps ≡ p ∷ [] →
+    CanTakeIn empty_set (bodies_of ss) (bodies_of ts) ps
 both_taken ss ts ps t p c a b d e =
-    rw (a, b, e) (subst (λ u. CanTakeIn empty_board [] (u ∷ []) (p ∷ [])) (sym d) (one_taken p c))
+    rw (a, b, e) (subst (λ u. CanTakeIn empty_set [] (u ∷ []) (p ∷ [])) (sym d) (one_taken p c))

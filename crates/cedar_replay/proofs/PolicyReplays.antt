@@ -3,19 +3,19 @@ use Rattle.std.specs.Prelude.{◌≡◌, ◌≤◌, ◌+◌, ◌<◌, suc, ℕ, 
 use Rattle.std.proofs.Common.{ap, sym, subst, refl, ◌∙◌, arith}
 use mathlib.Core.List.{append-nil}
 use Rattle.std.proofs.lemmas.List.{append_assoc}
-use Rattle.cedar_policy_set.specs.Boards.{Board}
+use Rattle.cedar_policy_maps.specs.PolicySets.{SetParts}
 use Rattle.cedar_replay.specs.Replays.{IsStep, AreSteps}
 use Rattle.cedar_replay.specs.declared.call.Answer.{Answer}
 use Rattle.cedar_replay.specs.declared.call.PolicyCall.{PolicyCall}
 
 -- what the calls that are left answer goes behind the answers so far, and makes up the whole
-abbrev pub Continues : {S H : Type 0} → List (PolicyCall S H) → Board → List (PolicyCall S H) → List (Answer S H)
-    → Board → Type 0
+abbrev pub Continues : {S H : Type 0} → List (PolicyCall S H) → SetParts → List (PolicyCall S H) → List (Answer S H)
+    → SetParts → Type 0
 Continues {S} {H} all start left done now =
-    (more : List (Answer S H)) (end : Board) → AreSteps left more now end → AreSteps all (done ++ more) start end
+    (more : List (Answer S H)) (end : SetParts) → AreSteps left more now end → AreSteps all (done ++ more) start end
 
 -- one call more
-pub continues_more : {S H : Type 0} → (all left rest : List (PolicyCall S H)) (start now next : Board)
+pub continues_more : {S H : Type 0} → (all left rest : List (PolicyCall S H)) (start now next : SetParts)
     (done new : List (Answer S H)) (c : PolicyCall S H) (a : Answer S H) → left ≡ c ∷ rest → new ≡ done ++ a ∷ []
     → IsStep c a now next → Continues all start left done now → Continues all start rest new next
 continues_more all left rest start now next done new c a cut put step k more end h =
@@ -23,14 +23,14 @@ continues_more all left rest start now next done new c a cut put step k more end
     (k (a ∷ more) end (subst (λ l. AreSteps l (a ∷ more) now end) (sym cut) (next, step, h)))
 
 -- none is left
-pub continues_end : {S H : Type 0} → (all left : List (PolicyCall S H)) (start now : Board) (done : List (Answer S H))
-    → left ≡ [] → Continues all start left done now → AreSteps all done start now
+pub continues_end : {S H : Type 0} → (all left : List (PolicyCall S H)) (start now : SetParts) (done : List (Answer S
+    H)) → left ≡ [] → Continues all start left done now → AreSteps all done start now
 continues_end all left start now done none k =
     subst (λ l. AreSteps all l start now) (append-nil done)
     (k [] now (subst (λ l. AreSteps l [] now now) (sym none) refl))
 
 -- there are as many answers as calls
-pub steps_count : {S H : Type 0} → (cs : List (PolicyCall S H)) (answers : List (Answer S H)) (old new : Board)
+pub steps_count : {S H : Type 0} → (cs : List (PolicyCall S H)) (answers : List (Answer S H)) (old new : SetParts)
     → AreSteps cs answers old new → length answers ≡ length cs
 steps_count [] [] old new h = refl
 steps_count [] (a ∷ rest) old new h = absurd h
@@ -48,7 +48,7 @@ pub room_now : {S H : Type 0} → (left rest : List (PolicyCall S H)) (c : Polic
 room_now left rest c len capacity cut room = let e = ap length cut in omega arith
 
 -- at the start
-pub continues_start : {S H : Type 0} → (all left : List (PolicyCall S H)) (start : Board) (done : List (Answer S H))
+pub continues_start : {S H : Type 0} → (all left : List (PolicyCall S H)) (start : SetParts) (done : List (Answer S H))
     → left ≡ all → done ≡ [] → Continues all start left done start
 continues_start all left start done same none more end h =
     subst (λ l. AreSteps all l start end) (ap (λ l. l ++ more) (sym none))

@@ -1,9 +1,9 @@
--- Lists of calls on a policy set, as steps from board to board.
+-- Lists of calls on a policy set, as steps from policy set to policy set.
 use Rattle.std.specs.Prelude.{◌≡◌, List, [], ◌∷◌, Result, IfErr, IsErr}
 use Rattle.cedar_binding.specs.Views.{env_of}
-use Rattle.cedar_policy_set.specs.Boards.{Board, policy_binding, Template}
-use Rattle.cedar_policy_set.specs.Merge.{Merges}
-use Rattle.cedar_policy_set.specs.Refusals.{Steps, TakesFromBoard, told_by_set, told_by_linking, told_by_unlinking}
+use Rattle.cedar_policy_maps.specs.PolicySets.{SetParts, policy_binding, Template}
+use Rattle.cedar_policy_merge.specs.Merge.{Merges}
+use Rattle.cedar_policy_set.specs.Refusals.{Steps, TakesFromSet, told_by_set, told_by_linking, told_by_unlinking}
 use Rattle.cedar_policy_set.specs.Refusals.{told_by_removal, told_by_template_removal}
 use Rattle.cedar_policy_set.specs.Steps.{add_static_step, add_template_step, add_step, link_step, unlink_step}
 use Rattle.cedar_policy_set.specs.Steps.{Refusal, remove_static_step, remove_template_step}
@@ -16,29 +16,29 @@ use Rattle.cedar_replay.specs.declared.call.PolicyCall.TheVariants as calls
 abbrev pub IsRefusedByStep : {A E B : Type 0} → Result A E → Result B Refusal → Type 0
 IsRefusedByStep r step = IfErr r (λ e. IsErr step)
 
--- the call answers so, and makes the second board of the first, whatever builds the hashers: by its step, or by
--- merging. Want of memory leaves the
--- board as it was, and does not come where a link or a static policy can be taken out. No call has an answer in another
--- call's variant
-abbrev pub IsStep : {S H : Type 0} → PolicyCall S H → Answer S H → Board → Board → Type 0
+-- the call answers so, and makes the second policy set of the first, whatever builds the hashers: by its step, or by
+-- merging. Want of memory leaves the policy set as it was, and does not come where a link or a static policy can be
+-- taken out. No call has an answer in another call's variant
+abbrev pub IsStep : {S H : Type 0} → PolicyCall S H → Answer S H → SetParts → SetParts → Type 0
 IsStep (calls.AddStatic s) (answers.AddStatic r) old new = Steps told_by_set r old new (add_static_step old s)
 IsStep (calls.AddTemplate t) (answers.AddTemplate r) old new = Steps told_by_set r old new (add_template_step old t)
 IsStep (calls.Add p) (answers.Add r) old new = Steps told_by_set r old new (add_step old p)
 IsStep (calls.Link t l e) (answers.Link r) old new = Steps told_by_linking r old new (link_step old t l (env_of e))
 IsStep (calls.Unlink i) (answers.Unlink r) old new =
-    TakesFromBoard told_by_unlinking policy_binding r old new i (unlink_step old i)
+    TakesFromSet told_by_unlinking policy_binding r old new i (unlink_step old i)
     × IsRefusedByStep r (unlink_step old i)
 IsStep (calls.RemoveStatic i) (answers.RemoveStatic r) old new =
-    TakesFromBoard told_by_removal policy_binding r old new i (remove_static_step old i)
+    TakesFromSet told_by_removal policy_binding r old new i (remove_static_step old i)
     × IsRefusedByStep r (remove_static_step old i)
 IsStep (calls.RemoveTemplate i) (answers.RemoveTemplate r) old new =
-    TakesFromBoard told_by_template_removal Template r old new i (remove_template_step old i)
+    TakesFromSet told_by_template_removal Template r old new i (remove_template_step old i)
 IsStep (calls.Merge other rename) (answers.Merge r) old new = Merges (λ m. m.entries) r old other rename new
 IsStep c a old new = ⊥
 
--- the calls answer so one after another, each from the board that the one before it made, and the last board is `new`
-abbrev pub AreSteps : {S H : Type 0} → List (PolicyCall S H) → List (Answer S H) → Board → Board → Type 0
+-- the calls answer so one after another, each from the policy set that the one before it made, and the last policy set
+-- is `new`
+abbrev pub AreSteps : {S H : Type 0} → List (PolicyCall S H) → List (Answer S H) → SetParts → SetParts → Type 0
 AreSteps [] [] old new = new ≡ old
 AreSteps [] (a ∷ rest) old new = ⊥
 AreSteps (c ∷ cs) [] old new = ⊥
-AreSteps (c ∷ cs) (a ∷ rest) old new = (b : Board) × IsStep c a old b × AreSteps cs rest b new
+AreSteps (c ∷ cs) (a ∷ rest) old new = (b : SetParts) × IsStep c a old b × AreSteps cs rest b new

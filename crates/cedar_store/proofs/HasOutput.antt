@@ -56,9 +56,9 @@ line_found l = readable_line (list_all is_line_byte l) (slice_split (λ b. b == 
 gives : (s : State) (c : Command) → (t : State) × (out : List ℕ) × Gives s c t out
 gives s Nothing = (s, [], (refl, refl))
 gives s (Entity c) = let a = entity_gives c s.entities in
-    (record { entities = a.0; boards = s.boards }, a.1, (a.2, refl))
-gives s (Policy c) = let a = policy_gives c s.boards in
-    (record { entities = s.entities; boards = a.0 }, a.1, (refl, a.2))
+    (record { entities = a.0; policy_sets = s.policy_sets }, a.1, (a.2, refl))
+gives s (Policy c) = let a = policy_gives c s.policy_sets in
+    (record { entities = s.entities; policy_sets = a.0 }, a.1, (refl, a.2))
 
 -- ---- the lines
 

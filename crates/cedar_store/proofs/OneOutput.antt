@@ -82,9 +82,9 @@ one_command (Policy c) (Policy d) fs h k = ap Policy (same_policy c d fs h k)
 -- ---- a command gives one answer
 
 -- what two kinds of lines leave is one state
-joined : (t t' : State) (out out' : List ℕ) → t.entities ≡ t'.entities → t.boards ≡ t'.boards → out ≡ out'
+joined : (t t' : State) (out out' : List ℕ) → t.entities ≡ t'.entities → t.policy_sets ≡ t'.policy_sets → out ≡ out'
     → (t ≡ t') × (out ≡ out')
-joined t t' out out' e b o = (λ i. record { entities = e i; boards = b i }, o)
+joined t t' out out' e b o = (λ i. record { entities = e i; policy_sets = b i }, o)
 
 one_step : (s t t' : State) (c : Command) (out out' : List ℕ) → Gives s c t out → Gives s c t' out'
     → (t ≡ t') × (out ≡ out')
@@ -93,7 +93,7 @@ one_step s t t' (Entity c) out out' h k =
     let same = one_entity_gives c s.entities t.entities t'.entities out out' h.0 k.0 in
     joined t t' out out' same.0 (h.1 ∙ sym k.1) same.1
 one_step s t t' (Policy c) out out' h k =
-    let same = one_policy_gives c s.boards t.boards t'.boards out out' h.1 k.1 in
+    let same = one_policy_gives c s.policy_sets t.policy_sets t'.policy_sets out out' h.1 k.1 in
     joined t t' out out' (h.0 ∙ sym k.0) same.0 same.1
 
 one_from : (ls : List (List ℕ)) (n : ℕ) (s : State) (v w : Written) → IsOutputFrom n s ls v → IsOutputFrom n s ls w

@@ -3,13 +3,13 @@ use Rattle.std.specs.Prelude.{Bool, refl}
 use Rattle.std.specs.Coded.{Coded, code_by, coded×, coded_bool}
 use Rattle.cedar_entity_lines.specs.Codes.{waiting_code}
 use Rattle.cedar_entity_lines.specs.Holding.{StoreAndWaiting}
-use Rattle.cedar_policy_lines.specs.Boards.{Boards}
-use Rattle.cedar_policy_lines.specs.Codes.{boards_code}
+use Rattle.cedar_policy_lines.specs.TwoSets.{TwoSets}
+use Rattle.cedar_policy_lines.specs.Codes.{sets_code}
 use Rattle.cedar_store.specs.Sessions.{SessionView}
 
--- the store with what waits, the boards, and whether memory was refused
+-- the store with what waits, the policy sets, and whether memory was refused
 abbrev pub session_code : Coded SessionView
 session_code =
-    code_by (StoreAndWaiting × (Boards × Bool)) (coded× waiting_code (coded× boards_code coded_bool))
-    (λ v. (v.entities, (v.boards, v.is_lost)))
-    (λ r. record { entities = r.0; boards = r.1.0; is_lost = r.1.1 }) (λ _. refl)
+    code_by (StoreAndWaiting × (TwoSets × Bool)) (coded× waiting_code (coded× sets_code coded_bool))
+    (λ v. (v.entities, (v.policy_sets, v.is_lost)))
+    (λ r. record { entities = r.0; policy_sets = r.1.0; is_lost = r.1.1 }) (λ _. refl)

@@ -4,24 +4,24 @@ use Rattle.std.specs.List.{slice_split}
 use Rattle.std.specs.Fmt.{decimal}
 use Rattle.cedar_lines.specs.Lines.{written_line}
 use Rattle.cedar_entity_lines.specs.EntityOutput.{EntityState, no_entity, EntityGives}
-use Rattle.cedar_policy_lines.specs.Boards.{Boards, no_boards}
+use Rattle.cedar_policy_lines.specs.TwoSets.{TwoSets, no_sets}
 use Rattle.cedar_policy_lines.specs.PolicyOutput.{PolicyGives}
 use Rattle.cedar_store.specs.Command.{Command, Nothing, Entity, Policy, IsLine}
 
--- what waits for a call on the store, with the world that the store holds, and the two boards
+-- what waits for a call on the store, with the world that the store holds, and the two policy sets
 pub record State : Type 0 where
   pub entities : EntityState
-  pub boards : Boards
+  pub policy_sets : TwoSets
 
--- nothing waits, the store is empty, and so are both boards
+-- nothing waits, the store is empty, and so are both policy sets
 abbrev pub start : State
-start = record { entities = no_entity; boards = no_boards }
+start = record { entities = no_entity; policy_sets = no_sets }
 
 -- the state that a command leaves, and what it writes
 abbrev pub Gives : State → Command → State → List ℕ → Type 0
 Gives s Nothing t out = (t ≡ s) × (out ≡ [])
-Gives s (Entity c) t out = EntityGives c s.entities t.entities out × (t.boards ≡ s.boards)
-Gives s (Policy c) t out = (t.entities ≡ s.entities) × PolicyGives c s.boards t.boards out
+Gives s (Entity c) t out = EntityGives c s.entities t.entities out × (t.policy_sets ≡ s.policy_sets)
+Gives s (Policy c) t out = (t.entities ≡ s.entities) × PolicyGives c s.policy_sets t.policy_sets out
 
 -- what is written in all, and the status
 pub record Written : Type 0 where

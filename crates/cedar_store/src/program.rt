@@ -7,6 +7,7 @@ ghost use Rattle.std.specs.IoError.{error_kind};
 ghost use Rattle.cedar_store.specs.laws.FirstLine.{lines_left};
 ghost use Rattle.cedar_store.specs.Output.{IsOutput, HasOneOutput};
 ghost use Rattle.cedar_store.specs.Faults.{Leaves};
+ghost use Rattle.cedar_store.specs.Runs.{IsRun};
 
 use crate::session::{Session, push_not_command};
 use memchr::memchr;
@@ -156,20 +157,7 @@ fn run_by<S: BuildHasher + Copy, R: Read, W: Write>(
 /// Its maps hash by a fixed seed, so that whoever picks the ids of an input can make it slow: where strangers do,
 /// [`run_with`] takes a builder of hashers that has a random key.
 pub fn run<R: Read, W: Write>(alloc: Global, reader: &mut R, writer: &mut W) -> Result<u8, RunError>
-    // Where the reader and the writer tell their bytes, what was written is the output of what was read,
-    // and so is the status.
-    ensures written { IfOk result (λ status. IfSome (R.remaining reader.old) (λ input.
-        (bytes : List ℕ) × IsOutput input (record { bytes = bytes; status = status })
-        × Appends (W.contents writer.old) (W.contents writer.new) bytes)) }
-
-    // Every input has exactly one output.
-    ensures one { HasOneOutput }
-
-    // The input was read to its end.
-    ensures end { OnOk result (IsAtEnd (R.remaining reader.new)) }
-
-    // After a read fault, or where memory ran out, nothing was written.
-    ensures err { IfErr result (λ e. Leaves e (writer.new ≡ writer.old)) }
+    ensures { IsRun R.remaining W.contents result reader.old reader.new writer.old writer.new }
 {
     let hasher: BuildHasherDefault<FoldHasher> = BuildHasherDefault::new();
     run_with(alloc, hasher, reader, writer)
@@ -182,20 +170,7 @@ pub fn run_with<S: BuildHasher + Copy, R: Read, W: Write>(
     reader: &mut R,
     writer: &mut W,
 ) -> Result<u8, RunError>
-    // Where the reader and the writer tell their bytes, what was written is the output of what was read,
-    // and so is the status.
-    ensures written { IfOk result (λ status. IfSome (R.remaining reader.old) (λ input.
-        (bytes : List ℕ) × IsOutput input (record { bytes = bytes; status = status })
-        × Appends (W.contents writer.old) (W.contents writer.new) bytes)) }
-
-    // Every input has exactly one output.
-    ensures one { HasOneOutput }
-
-    // The input was read to its end.
-    ensures end { OnOk result (IsAtEnd (R.remaining reader.new)) }
-
-    // After a read fault, or where memory ran out, nothing was written.
-    ensures err { IfErr result (λ e. Leaves e (writer.new ≡ writer.old)) }
+    ensures { IsRun R.remaining W.contents result reader.old reader.new writer.old writer.new }
 {
     let (status, session) = run_by(alloc, hasher, reader, writer)?;
     drop(session);
@@ -210,20 +185,7 @@ pub fn run_and_leave<R: Read, W: Write>(
     reader: &mut R,
     writer: &mut W,
 ) -> Result<u8, RunError>
-    // Where the reader and the writer tell their bytes, what was written is the output of what was read,
-    // and so is the status.
-    ensures written { IfOk result (λ status. IfSome (R.remaining reader.old) (λ input.
-        (bytes : List ℕ) × IsOutput input (record { bytes = bytes; status = status })
-        × Appends (W.contents writer.old) (W.contents writer.new) bytes)) }
-
-    // Every input has exactly one output.
-    ensures one { HasOneOutput }
-
-    // The input was read to its end.
-    ensures end { OnOk result (IsAtEnd (R.remaining reader.new)) }
-
-    // After a read fault, or where memory ran out, nothing was written.
-    ensures err { IfErr result (λ e. Leaves e (writer.new ≡ writer.old)) }
+    ensures { IsRun R.remaining W.contents result reader.old reader.new writer.old writer.new }
 {
     let hasher: BuildHasherDefault<FoldHasher> = BuildHasherDefault::new();
     run_and_leave_with(alloc, hasher, reader, writer)
@@ -236,20 +198,7 @@ pub fn run_and_leave_with<S: BuildHasher + Copy, R: Read, W: Write>(
     reader: &mut R,
     writer: &mut W,
 ) -> Result<u8, RunError>
-    // Where the reader and the writer tell their bytes, what was written is the output of what was read,
-    // and so is the status.
-    ensures written { IfOk result (λ status. IfSome (R.remaining reader.old) (λ input.
-        (bytes : List ℕ) × IsOutput input (record { bytes = bytes; status = status })
-        × Appends (W.contents writer.old) (W.contents writer.new) bytes)) }
-
-    // Every input has exactly one output.
-    ensures one { HasOneOutput }
-
-    // The input was read to its end.
-    ensures end { OnOk result (IsAtEnd (R.remaining reader.new)) }
-
-    // After a read fault, or where memory ran out, nothing was written.
-    ensures err { IfErr result (λ e. Leaves e (writer.new ≡ writer.old)) }
+    ensures { IsRun R.remaining W.contents result reader.old reader.new writer.old writer.new }
 {
     let (status, session) = run_by(alloc, hasher, reader, writer)?;
     mem::forget(session);

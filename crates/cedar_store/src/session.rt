@@ -36,7 +36,7 @@ impl<S: BuildHasher> Model for Session<S> {
 
     ghost coded = { session_code };
 
-    ghost view = { λ s. record { entities = s.entities; boards = s.sets; is_lost = s.is_lost } };
+    ghost view = { λ s. record { entities = s.entities; policy_sets = s.sets; is_lost = s.is_lost } };
 }
 
 /// Adds to `out` that the line of this number is no command, as the program writes it: `line N: not a command` and a

@@ -6,12 +6,12 @@ use Rattle.cedar_terms.specs.declared.slot.SlotId.{SlotId}
 use Rattle.cedar_binding.specs.Bindings.{EnvParts, BindsExactly, unbound, extra, wrong_action}
 use Rattle.cedar_binding.specs.laws.Fits.{fits}
 use Rattle.cedar_body.specs.Bodies.{BodyParts, body_slots}
-use Rattle.cedar_policy_set.specs.Boards.{Board, Binding, Static, Template, Link, bound_at}
+use Rattle.cedar_policy_maps.specs.PolicySets.{SetParts, Binding, Static, Template, Link, bound_at}
 use Rattle.cedar_policy_set.specs.Steps.{Refusal, fitting, link_at, link_step, unlinked_at}
 use Rattle.cedar_policy_set.specs.laws.LinkLaws.{link_undone}
 
 -- what fits leaves nothing unbound and nothing extra
-none_left : (us xs : List SlotId) (o : Option UidParts) (r : Result Board Refusal) (c : Board)
+none_left : (us xs : List SlotId) (o : Option UidParts) (r : Result SetParts Refusal) (c : SetParts)
     → fitting us xs o r ≡ Ok c → (us ≡ []) × (xs ≡ [])
 none_left [] [] None r c h = (refl, refl)
 none_left [] [] (Some u) r c h = absurd (cc)
@@ -27,7 +27,7 @@ bound_link (Some (Template t)) l x h = absurd (cc)
 bound_link (Some (Link k t e)) l x h = cc
 
 -- the id of a link is bound to a link of the template that was named, and its slots are those that are bound
-pub granted : (b c : Board) (i l : List ℕ) (e : EnvParts) → link_step b i l e ≡ Ok c →
+pub granted : (b c : SetParts) (i l : List ℕ) (e : EnvParts) → link_step b i l e ≡ Ok c →
     (t : BodyParts) × (bound_at b i ≡ Some (Template t)) × (bound_at c l ≡ Some (Link l t e))
     × BindsExactly (body_slots t) e
 granted b c i l e step =

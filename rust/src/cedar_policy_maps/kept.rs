@@ -7,7 +7,9 @@ use crate::cedar_policy::{Policy, Template};
 use crate::cedar_policy_maps::found::Found;
 use crate::cedar_policy_maps::iters::LinkedIds;
 use crate::cedar_policy_maps::lists::is_link;
-use crate::cedar_policy_maps::maps::{list_policy, put_last, room_for_body, room_for_both, room_for_list, unlist};
+use crate::cedar_policy_maps::maps::{
+    insert_reserved, list_policy, room_for_body, room_for_both, room_for_list, unlist,
+};
 use crate::cedar_policy_maps::policy_maps::PolicyMaps;
 use crate::ordered_map::OrderedSet;
 use std::hash::BuildHasher;
@@ -97,14 +99,14 @@ impl<S: BuildHasher + Copy> PolicyMaps<S> {
     pub fn put_template(&mut self, template: Arc<Template>) {
         let (id, listed) = room_for_body(&mut self.templates, &mut self.template_to_links_map, &template);
         let ids = OrderedSet::with_hasher(*self.templates.hasher());
-        put_last(&mut self.templates, id, template);
-        put_last(&mut self.template_to_links_map, listed, ids);
+        insert_reserved(&mut self.templates, id, template);
+        insert_reserved(&mut self.template_to_links_map, listed, ids);
     }
 
     /// Puts a link of a template that stands there last.
     pub fn put_policy(&mut self, policy: Policy) {
         let id = list_policy(&mut self.links, &mut self.template_to_links_map, &policy);
-        put_last(&mut self.links, id, policy);
+        insert_reserved(&mut self.links, id, policy);
     }
 
     /// Puts a policy and its template last, each in its order.
@@ -119,17 +121,17 @@ impl<S: BuildHasher + Copy> PolicyMaps<S> {
     // Puts a static policy and its body last, each in its order.
     fn put_static(&mut self, policy: Policy) {
         let joining = room_for_both(&mut self.templates, &mut self.links, &policy);
-        put_last(&mut self.templates, joining.body_id, joining.body);
-        put_last(&mut self.links, joining.policy_id, policy);
+        insert_reserved(&mut self.templates, joining.body_id, joining.body);
+        insert_reserved(&mut self.links, joining.policy_id, policy);
     }
 
     // Puts a link and its template last, each in its order.
     fn put_link_on_its_own(&mut self, policy: Policy) {
         let (under, ids) = room_for_list(&mut self.template_to_links_map, &policy);
         let both = room_for_both(&mut self.templates, &mut self.links, &policy);
-        put_last(&mut self.templates, both.body_id, both.body);
-        put_last(&mut self.links, both.policy_id, policy);
-        put_last(&mut self.template_to_links_map, under, ids);
+        insert_reserved(&mut self.templates, both.body_id, both.body);
+        insert_reserved(&mut self.links, both.policy_id, policy);
+        insert_reserved(&mut self.template_to_links_map, under, ids);
     }
 
     /// Takes out what an id is bound to, which has no links, and closes the orders up.

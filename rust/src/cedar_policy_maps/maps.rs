@@ -10,14 +10,14 @@ use std::hash::BuildHasher;
 use std::sync::Arc;
 
 // Puts a value under a new key last, where there is room for it.
-pub(crate) fn put_last<V, S: BuildHasher + Copy>(map: &mut OrderedMap<PolicyID, V, S>, key: PolicyID, value: V) {
+pub(crate) fn insert_reserved<V, S: BuildHasher + Copy>(map: &mut OrderedMap<PolicyID, V, S>, key: PolicyID, value: V) {
     map.insert(key, value);
 }
 
 // Puts a value under a new key last.
-fn put_new<V, S: BuildHasher + Copy>(map: &mut OrderedMap<PolicyID, V, S>, key: PolicyID, value: V) {
+fn insert_new<V, S: BuildHasher + Copy>(map: &mut OrderedMap<PolicyID, V, S>, key: PolicyID, value: V) {
     map.reserve(1);
-    put_last(map, key, value);
+    insert_reserved(map, key, value);
 }
 
 // What one more policy and its body go last with.
@@ -52,7 +52,7 @@ pub(crate) fn list_policy<S: BuildHasher + Copy>(
     links.reserve(1);
     let id = policy.id().clone();
     let listed = policy.id().clone();
-    list_id(map, policy.template().id(), listed);
+    list_link(map, policy.template().id(), listed);
     id
 }
 
@@ -88,44 +88,44 @@ pub(crate) fn room_for_list<S: BuildHasher + Copy>(
 // The set of one id.
 fn set_of<S: BuildHasher + Copy>(hasher: S, id: &PolicyID) -> OrderedSet<PolicyID, S> {
     let mut ids = OrderedSet::with_hasher(hasher);
-    put_copy(&mut ids, id);
+    insert_id_copy(&mut ids, id);
     ids
 }
 
 // Puts a copy of an id last, if it isn't there.
-fn put_copy<S: BuildHasher + Copy>(ids: &mut OrderedSet<PolicyID, S>, id: &PolicyID) {
-    put_id(ids, id.clone());
+fn insert_id_copy<S: BuildHasher + Copy>(ids: &mut OrderedSet<PolicyID, S>, id: &PolicyID) {
+    insert_id(ids, id.clone());
 }
 
 // Puts an id last, if it isn't there.
-fn put_id<S: BuildHasher + Copy>(ids: &mut OrderedSet<PolicyID, S>, id: PolicyID) {
+fn insert_id<S: BuildHasher + Copy>(ids: &mut OrderedSet<PolicyID, S>, id: PolicyID) {
     ids.insert(id);
 }
 
 // Takes out an id, and closes the order up.
-fn drop_id<S: BuildHasher + Copy>(ids: &mut OrderedSet<PolicyID, S>, id: &PolicyID) {
+fn remove_id<S: BuildHasher + Copy>(ids: &mut OrderedSet<PolicyID, S>, id: &PolicyID) {
     ids.shift_remove(id);
 }
 
 // Lists an id last under a template's.
-pub(crate) fn list_id<S: BuildHasher + Copy>(
+pub(crate) fn list_link<S: BuildHasher + Copy>(
     map: &mut OrderedMap<PolicyID, OrderedSet<PolicyID, S>, S>,
     body: &PolicyID,
     id: PolicyID,
 ) {
     if let Some(ids) = map.get_mut(body) {
-        put_id(ids, id);
+        insert_id(ids, id);
     }
 }
 
 // Lists a copy of an id last under a body's, where there is a list.
-fn list_copy<S: BuildHasher + Copy>(
+fn list_link_copy<S: BuildHasher + Copy>(
     map: &mut OrderedMap<PolicyID, OrderedSet<PolicyID, S>, S>,
     body: &PolicyID,
     id: &PolicyID,
 ) {
     if let Some(ids) = map.get_mut(body) {
-        put_copy(ids, id);
+        insert_id_copy(ids, id);
     }
 }
 
@@ -136,7 +136,7 @@ fn unlist_id<S: BuildHasher + Copy>(
     id: &PolicyID,
 ) {
     if let Some(ids) = map.get_mut(body) {
-        drop_id(ids, id);
+        remove_id(ids, id);
     }
 }
 
@@ -174,7 +174,7 @@ fn put_bodies<S: BuildHasher + Copy>(
 // Puts a body with a new id last.
 fn put_body<S: BuildHasher + Copy>(templates: &mut OrderedMap<PolicyID, Arc<Template>, S>, template: Arc<Template>) {
     let id = template.id().clone();
-    put_new(templates, id, template);
+    insert_new(templates, id, template);
 }
 
 // Policies under their ids, in their order.
@@ -197,7 +197,7 @@ fn put_policies<S: BuildHasher + Copy>(links: &mut OrderedMap<PolicyID, Policy, 
 // Puts a policy with a new id last.
 fn put_policy<S: BuildHasher + Copy>(links: &mut OrderedMap<PolicyID, Policy, S>, policy: Policy) {
     let id = policy.id().clone();
-    put_new(links, id, policy);
+    insert_new(links, id, policy);
 }
 
 // The ids of the policies on each template, under its id, in the order of bodies. Of the bodies those are templates
@@ -208,7 +208,7 @@ pub(crate) fn ids_by_template<S: BuildHasher + Copy>(
     policies: &[Policy],
 ) -> OrderedMap<PolicyID, OrderedSet<PolicyID, S>, S> {
     let mut map = no_ids(bodies, known);
-    list_ids(&mut map, policies);
+    list_policies(&mut map, policies);
     map
 }
 
@@ -234,13 +234,16 @@ fn put_no_ids<S: BuildHasher + Copy>(
         return;
     }
     let ids = OrderedSet::with_hasher(*map.hasher());
-    put_new(map, template.id().clone(), ids);
+    insert_new(map, template.id().clone(), ids);
 }
 
 // Lists policies, each last under its body's id.
-fn list_ids<S: BuildHasher + Copy>(map: &mut OrderedMap<PolicyID, OrderedSet<PolicyID, S>, S>, policies: &[Policy]) {
+fn list_policies<S: BuildHasher + Copy>(
+    map: &mut OrderedMap<PolicyID, OrderedSet<PolicyID, S>, S>,
+    policies: &[Policy],
+) {
     for policy in policies {
-        list_copy(map, policy.template().id(), policy.id());
+        list_link_copy(map, policy.template().id(), policy.id());
     }
 }
 

@@ -1,32 +1,32 @@
--- Each command on policy sets leaves one pair of boards, and writes one text.
+-- Each command on policy sets leaves one pair of policy sets, and writes one text.
 use Rattle.std.specs.Prelude.{◌≡◌, ℕ, List, [], ◌∷◌, Bool, true, false, Result, Ok, Err}
 use Rattle.std.proofs.Common.{ap, sym, refl, ◌∙◌, inl, inr}
 use Rattle.std.proofs.lemmas.Bool.{false≢true}
-use Rattle.cedar_policy_set.specs.Boards.{Board, Binding, without_id}
-use Rattle.cedar_policy_set.specs.Merge.{conflicts, merged, new_id, IsRenaming}
+use Rattle.cedar_policy_maps.specs.PolicySets.{SetParts, Binding, without_id}
+use Rattle.cedar_policy_merge.specs.Merge.{conflicts, merged, new_id, IsRenaming}
 use Rattle.cedar_policy_set.specs.Steps.{Refusal, occupied, add_static_step, add_template_step, link_step, unlink_step}
-use Rattle.cedar_policy_lines.specs.Boards.{Boards, with_current, swapped}
+use Rattle.cedar_policy_lines.specs.TwoSets.{TwoSets, with_current, swapped}
 use Rattle.cedar_policy_lines.specs.PolicyCommand.{PolicyCommand, Static, Template, Link, Unlink, Other, Merge, Ids}
 use Rattle.cedar_policy_lines.specs.PolicyOutput.{Joins, UnlinkGives, MergeGives, PolicyGives, static_body}
 use Rattle.cedar_policy_lines.specs.PolicyOutput.{template_body, ok_line, refused_line, merged_line, ids_lines}
 use Rattle.cedar_policy_lines.specs.laws.OneMerge.{one_renaming, renaming_of}
 
 -- what is given, whatever it is
-abbrev Given : (Boards → List ℕ → Type 0) → Type 0
-Given P = (new : Boards) × (out : List ℕ) × P new out
+abbrev Given : (TwoSets → List ℕ → Type 0) → Type 0
+Given P = (new : TwoSets) × (out : List ℕ) × P new out
 
-abbrev Same : Boards → Boards → List ℕ → List ℕ → Type 0
+abbrev Same : TwoSets → TwoSets → List ℕ → List ℕ → Type 0
 Same m n o p = (m ≡ n) × (o ≡ p)
 
-joins : (s : Result Board Refusal) (old : Boards) → Given (Joins s old)
+joins : (s : Result SetParts Refusal) (old : TwoSets) → Given (Joins s old)
 joins (Ok b) old = (with_current old b, ok_line, (refl, refl))
 joins (Err r) old = (old, refused_line r, (refl, refl))
 
-takes_out : (s : Result Binding Refusal) (i : List ℕ) (old : Boards) → Given (UnlinkGives s i old)
+takes_out : (s : Result Binding Refusal) (i : List ℕ) (old : TwoSets) → Given (UnlinkGives s i old)
 takes_out (Ok b) i old = (with_current old (without_id old.current i), ok_line, (refl, refl))
 takes_out (Err r) i old = (old, refused_line r, (refl, refl))
 
-kept : (old : Boards) (c : List (List ℕ)) → conflicts old.current old.aside ≡ c → Given (MergeGives false old)
+kept : (old : TwoSets) (c : List (List ℕ)) → conflicts old.current old.aside ≡ c → Given (MergeGives false old)
 kept old [] e = (
   with_current old (merged old.current old.aside (new_id [])),
   merged_line [],
@@ -35,7 +35,7 @@ kept old [] e = (
 )
 kept old (i ∷ rest) e = (old, refused_line (occupied i), inl (i, rest, refl, e, refl, refl))
 
-renamed : (old : Boards) → (r : List (List ℕ × List ℕ)) × IsRenaming old.current old.aside r
+renamed : (old : TwoSets) → (r : List (List ℕ × List ℕ)) × IsRenaming old.current old.aside r
     → Given (MergeGives true old)
 renamed old r = (
   with_current old (merged old.current old.aside (new_id r.0)),
@@ -44,12 +44,12 @@ renamed old r = (
       (r.0, r.1, (λ e. absurd (false≢true (sym e))), refl, refl),
 )
 
-merges : (rename : Bool) (old : Boards) → Given (MergeGives rename old)
+merges : (rename : Bool) (old : TwoSets) → Given (MergeGives rename old)
 merges false old = kept old (conflicts old.current old.aside) refl
 merges true old = renamed old (renaming_of old.current old.aside)
 
 -- each gives some
-pub policy_gives : (c : PolicyCommand) (old : Boards) → (new : Boards) × (out : List ℕ) × PolicyGives c old new out
+pub policy_gives : (c : PolicyCommand) (old : TwoSets) → (new : TwoSets) × (out : List ℕ) × PolicyGives c old new out
 policy_gives (Static i e) old = joins (add_static_step old.current (static_body i e)) old
 policy_gives (Template i w) old = joins (add_template_step old.current (template_body i w)) old
 policy_gives (Link t l e) old = joins (link_step old.current t l e) old
@@ -58,12 +58,12 @@ policy_gives Other old = (swapped old, ok_line, (refl, refl))
 policy_gives (Merge rename) old = merges rename old
 policy_gives Ids old = (old, ids_lines old.current, (refl, refl))
 
-one_joins : (s : Result Board Refusal) (old m n : Boards) (o p : List ℕ) → Joins s old m o → Joins s old n p
+one_joins : (s : Result SetParts Refusal) (old m n : TwoSets) (o p : List ℕ) → Joins s old m o → Joins s old n p
     → Same m n o p
 one_joins (Ok b) old m n o p h k = (h.0 ∙ sym k.0, h.1 ∙ sym k.1)
 one_joins (Err r) old m n o p h k = (h.0 ∙ sym k.0, h.1 ∙ sym k.1)
 
-one_takes_out : (s : Result Binding Refusal) (i : List ℕ) (old m n : Boards) (o p : List ℕ) → UnlinkGives s i old m o
+one_takes_out : (s : Result Binding Refusal) (i : List ℕ) (old m n : TwoSets) (o p : List ℕ) → UnlinkGives s i old m o
     → UnlinkGives s i old n p → Same m n o p
 one_takes_out (Ok b) i old m n o p h k = (h.0 ∙ sym k.0, h.1 ∙ sym k.1)
 one_takes_out (Err r) i old m n o p h k = (h.0 ∙ sym k.0, h.1 ∙ sym k.1)
@@ -74,7 +74,7 @@ heads p = cc
 not_none : {X : Type 0} {x : X} {xs : List X} → x ∷ xs ≡ [] → ⊥
 not_none p = cc
 
-one_merges : (rename : Bool) (old m n : Boards) (o p : List ℕ) → MergeGives rename old m o → MergeGives rename old n p
+one_merges : (rename : Bool) (old m n : TwoSets) (o p : List ℕ) → MergeGives rename old m o → MergeGives rename old n p
     → Same m n o p
 one_merges rename old m n o p (inl a) (inl b) = (
   a.4 ∙ sym b.4,
@@ -91,7 +91,7 @@ one_merges rename old m n o p (inr a) (inr b) =
     )
 
 -- and no other
-pub one_policy_gives : (c : PolicyCommand) (old m n : Boards) (o p : List ℕ) → PolicyGives c old m o
+pub one_policy_gives : (c : PolicyCommand) (old m n : TwoSets) (o p : List ℕ) → PolicyGives c old m o
     → PolicyGives c old n p → (m ≡ n) × (o ≡ p)
 one_policy_gives (Static i e) old m n o p h k = one_joins
     (add_static_step old.current (static_body i e)) old m n o p h k

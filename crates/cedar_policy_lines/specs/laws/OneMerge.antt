@@ -6,11 +6,11 @@ use Rattle.std.specs.List.{list_any}
 use Rattle.std.specs.Map.{keys_of, values_of}
 use Rattle.std.proofs.lemmas.Map.Entries.{length-keys_of, length-values_of}
 use Rattle.cedar_ids.specs.Texts.{same_text}
-use Rattle.cedar_policy_set.specs.Boards.{Board}
-use Rattle.cedar_policy_set.specs.Fresh.{numbered, is_bound_in_either, free_below, IsFree, AreFree}
-use Rattle.cedar_policy_set.specs.Merge.{conflicts, IsRenaming, ids_of}
-use Rattle.cedar_policy_set.specs.laws.FreshLaws.{free_more, none_free_below, passed, counted, free_within}
-use Rattle.cedar_policy_set.specs.laws.FreshLaws.{either_among_ids}
+use Rattle.cedar_policy_maps.specs.PolicySets.{SetParts}
+use Rattle.cedar_policy_merge.specs.Fresh.{numbered, is_bound_in_either, free_below, IsFree, AreFree}
+use Rattle.cedar_policy_merge.specs.Merge.{conflicts, IsRenaming, ids_of}
+use Rattle.cedar_policy_merge.specs.laws.FreshLaws.{free_more, none_free_below, passed, counted, free_within}
+use Rattle.cedar_policy_merge.specs.laws.FreshLaws.{either_among_ids}
 
 -- ---- one
 
@@ -84,7 +84,7 @@ same_pairs (x ∷ r) (y ∷ s) k v =
     λ t. (key t, value t) ∷ rest t
 
 -- the renaming of a merge is one
-pub one_renaming : (h o : Board) (r s : List (List ℕ × List ℕ)) → IsRenaming h o r → IsRenaming h o s → r ≡ s
+pub one_renaming : (h o : SetParts) (r s : List (List ℕ × List ℕ)) → IsRenaming h o r → IsRenaming h o s → r ≡ s
 one_renaming h o r s a b =
     let keys = a.0 ∙ sym b.0 in
     let counts = length-values_of r ∙ sym (length-keys_of r) ∙ ap length keys ∙ length-keys_of s
@@ -133,7 +133,7 @@ paired (k ∷ ks) (v ∷ vs) e = let p = paired ks vs (omega arith) in
     ((k, v) ∷ p.0, ap (λ l. k ∷ l) p.1, ap (λ l. v ∷ l) p.2)
 
 -- there is a renaming of a merge
-pub renaming_of : (h o : Board) → (r : List (List ℕ × List ℕ)) × IsRenaming h o r
+pub renaming_of : (h o : SetParts) → (r : List (List ℕ × List ℕ)) × IsRenaming h o r
 renaming_of h o =
     let v = free_list (is_bound_in_either h o) (ids_of h ++ ids_of o) (either_among_ids h o) 0
     (length (conflicts h o)) in

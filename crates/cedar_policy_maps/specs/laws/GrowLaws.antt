@@ -13,7 +13,7 @@ use Rattle.indexmap.specs.IndexMap as maps
 use Rattle.indexmap.specs.IndexSet.{IndexSet, spare, insert_all}
 use Rattle.cedar_ids.specs.Texts.{same_text}
 use Rattle.cedar_ids.specs.laws.TextLaws.{same_text_equiv, same_text_decides}
-use Rattle.cedar_policy_maps.specs.Boards.{AreOnce}
+use Rattle.cedar_policy_maps.specs.PolicySets.{AreOnce}
 use Rattle.cedar_policy_maps.specs.Maps.{lists_of}
 use Rattle.cedar_policy_maps.specs.laws.ListedLaws.{changed, ids_on, under_each, none_on, pushed_on, joined_on}
 use Rattle.cedar_policy_maps.specs.laws.ListedLaws.{not_joined_on}

@@ -11,7 +11,7 @@ use Rattle.std.proofs.lemmas.List.{map-append, append-nil}
 use Rattle.std.proofs.lemmas.List.Elements.{filter-append}
 use Rattle.cedar_ids.specs.Texts.{same_text}
 use Rattle.cedar_ids.specs.laws.TextLaws.{same_text_equiv}
-use Rattle.cedar_policy_maps.specs.Boards.{AreOnce}
+use Rattle.cedar_policy_maps.specs.PolicySets.{AreOnce}
 use Rattle.cedar_policy_maps.specs.laws.OnceLaws.{is_at, no_other, filter_none, any-filter_none, any-map}
 
 -- with another list for the first key that passes

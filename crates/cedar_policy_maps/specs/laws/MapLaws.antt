@@ -12,13 +12,15 @@ use Rattle.cedar_ids.specs.Texts.{same_text}
 use Rattle.cedar_ids.specs.laws.TextLaws.{same_text_equiv, same_text_decides}
 use Rattle.cedar_body.specs.Bodies.{BodyParts}
 use Rattle.cedar_policy.specs.Policies.{PolicyParts, policy_id}
-use Rattle.cedar_policy_maps.specs.Boards.{Board, AreOnce, is_bound, is_body_at, is_policy_at, links_to, has_links}
-use Rattle.cedar_policy_maps.specs.Boards.{with_template, with_policy, with_both, without_id, IsHeldBy, IsHeld, AreHeld}
-use Rattle.cedar_policy_maps.specs.Boards.{IsBoard}
+use Rattle.cedar_policy_maps.specs.PolicySets.{SetParts, AreOnce, is_bound, is_body_at, is_policy_at, links_to}
+use Rattle.cedar_policy_maps.specs.PolicySets.{has_links}
+use Rattle.cedar_policy_maps.specs.PolicySets.{with_template, with_policy, with_both, without_id, IsHeldBy, IsHeld}
+use Rattle.cedar_policy_maps.specs.PolicySets.{AreHeld}
+use Rattle.cedar_policy_maps.specs.PolicySets.{IsPolicySet}
 use Rattle.cedar_policy_maps.specs.Lists.{is_on, ids_in}
-use Rattle.cedar_policy_maps.specs.Maps.{Maps, board_in, ids_by_body, templates_in, DoAgree}
-use Rattle.cedar_policy_maps.specs.laws.BoardLaws.{no_body_at, no_policy_at, ids_apart, template_joins, link_joins}
-use Rattle.cedar_policy_maps.specs.laws.BoardLaws.{free_link, both_free, both_join, taken_out, policy_has_no_links}
+use Rattle.cedar_policy_maps.specs.Maps.{Maps, set_in, ids_by_body, templates_in, DoAgree}
+use Rattle.cedar_policy_maps.specs.laws.SetLaws.{no_body_at, no_policy_at, ids_apart, template_joins, link_joins}
+use Rattle.cedar_policy_maps.specs.laws.SetLaws.{free_link, both_free, both_join, taken_out, policy_has_no_links}
 use Rattle.cedar_policy_maps.specs.Joins.{CanJoin, CanJoinBothBy, CanJoinBoth}
 use Rattle.cedar_policy_maps.specs.laws.ListedLaws.{with_listed, without_listed, keyed_last, keyed_removed}
 use Rattle.cedar_policy_maps.specs.laws.ListedLaws.{values_removed, not_joined, join_listed, body_listed, both_listed}
@@ -72,8 +74,8 @@ on_none : (i j : List ℕ) (ts : List BodyParts) (t : BodyParts) → list_any (i
     → find (is_body_at j) ts ≡ Some t → same_text i j ≡ false
 on_none i j ts t n f = same_text_equiv.symm i j ∙ ids_apart ts j i t f n
 
-held_apart : (o : Option (List ℕ)) (b : Board) (i : List ℕ) (p : PolicyParts) → list_any (is_body_at i) b.bodies ≡ false
-    → IsHeldBy o b p → is_on i p ≡ false
+held_apart : (o : Option (List ℕ)) (b : SetParts) (i : List ℕ) (p : PolicyParts)
+    → list_any (is_body_at i) b.bodies ≡ false → IsHeldBy o b p → is_on i p ≡ false
 held_apart None b i p n h = on_none i p.template.id b.bodies p.template n h.2
 held_apart (Some l) b i p n h = on_none i p.template.id b.bodies p.template n h.1
 
@@ -99,7 +101,7 @@ found_any t (y ∷ ys) x h = any_at (t y) h (found_any t ys x)
     any_at false f ih = ih f
 
 -- no policy is on what is no body
-pub none_on_it : (b : Board) (i : List ℕ) (ps : List PolicyParts) → list_any (is_body_at i) b.bodies ≡ false
+pub none_on_it : (b : SetParts) (i : List ℕ) (ps : List PolicyParts) → list_any (is_body_at i) b.bodies ≡ false
     → AreHeld b ps → list_any (is_on i) ps ≡ false
 none_on_it b i [] n h = refl
 none_on_it b i (p ∷ ps) n h = neither _ _ (held_apart p.link b i p n h.0) (none_on_it b i ps n h.1)
@@ -126,12 +128,12 @@ any_on : (i : List ℕ) (ps : List PolicyParts) → has_ids (Some (ids_in i ps))
 any_on i [] = refl
 any_on i (p ∷ ps) = any_on_at (is_on i p) p i ps (any_on i ps)
 
-policy_unlinked : (b : Board) (i : List ℕ) (o : Option PolicyParts) → IsBoard b → find (is_policy_at i) b.policies ≡ o
-    → list_any (is_policy_at i) b.policies ≡ true → has_links b i ≡ false
+policy_unlinked : (b : SetParts) (i : List ℕ) (o : Option PolicyParts) → IsPolicySet b
+    → find (is_policy_at i) b.policies ≡ o → list_any (is_policy_at i) b.policies ≡ true → has_links b i ≡ false
 policy_unlinked b i (Some q) h f a = policy_has_no_links b i q h f
 policy_unlinked b i None h f a = absurd (false≢true (sym (none_is (is_policy_at i) b.policies f) ∙ a))
 
-linked_body : (b : Board) (i : List ℕ) (o : Option BodyParts) → IsBoard b → find (is_body_at i) b.bodies ≡ o
+linked_body : (b : SetParts) (i : List ℕ) (o : Option BodyParts) → IsPolicySet b → find (is_body_at i) b.bodies ≡ o
     → list_any (is_policy_at i) b.policies ≡ false →
     has_ids (option_map (λ t. ids_in t.id b.policies) o) ≡ has_links b i
 linked_body b i None h f n =
@@ -140,13 +142,13 @@ linked_body b i (Some t) h f n =
     let same : i ≡ t.id = (same_text_decides i t.id).0 (found_passes (is_body_at i) b.bodies t f) in
     ap (λ k. has_ids (Some (ids_in k b.policies))) (sym same) ∙ any_on i b.policies ∙ sym (links_on i b.policies n)
 
-linked_at : (v : Bool) (b : Board) (i : List ℕ) → IsBoard b → list_any (is_policy_at i) b.policies ≡ v →
+linked_at : (v : Bool) (b : SetParts) (i : List ℕ) → IsPolicySet b → list_any (is_policy_at i) b.policies ≡ v →
     has_ids (option_map (λ t. ids_in t.id b.policies) (cond v None (find (is_body_at i) b.bodies))) ≡ has_links b i
 linked_at true b i h e = sym (policy_unlinked b i (find (is_policy_at i) b.policies) h refl e)
 linked_at false b i h e = linked_body b i (find (is_body_at i) b.bodies) h refl e
 
 -- a template has links where ids stand under its own
-pub linked_is : (b : Board) (i : List ℕ) → IsBoard b → has_ids
+pub linked_is : (b : SetParts) (i : List ℕ) → IsPolicySet b → has_ids
     (option_map (λ t. ids_in t.id b.policies) (find (is_body_at i) (templates_in b.policies b.bodies))) ≡ has_links b i
 linked_is b i h =
     ap (λ o. has_ids (option_map (λ t. ids_in t.id b.policies) o)) (template_found i b.bodies b.policies)
@@ -154,7 +156,7 @@ linked_is b i h =
 
 -- ---- the ids on a body, of a static policy its own
 
-is_own : (l : Option (List ℕ)) (b : Board) (i : List ℕ) (q : PolicyParts) → l ≡ q.link → IsHeldBy l b q
+is_own : (l : Option (List ℕ)) (b : SetParts) (i : List ℕ) (q : PolicyParts) → l ≡ q.link → IsHeldBy l b q
     → list_any (is_policy_at i) b.policies ≡ true → list_any (is_body_at i) b.bodies ≡ true →
     is_on i q ≡ is_policy_at i q
 is_own None b i q e h a t = ap (λ o. same_text i (unwrap_or o q.template.id)) e
@@ -169,7 +171,8 @@ is_own (Some l) b i q e h a t =
         ∙ ap (λ k. list_any (is_body_at k) b.bodies) (sym ((same_text_decides i l).0 g)) ∙ t))
     own_link false false f g = f ∙ sym g
 
-all_own : (b : Board) (i : List ℕ) (ps : List PolicyParts) → AreHeld b ps → list_any (is_policy_at i) b.policies ≡ true
+all_own : (b : SetParts) (i : List ℕ) (ps : List PolicyParts) → AreHeld b ps
+    → list_any (is_policy_at i) b.policies ≡ true
     → list_any (is_body_at i) b.bodies ≡ true → ids_in i ps ≡ map policy_id (filter (is_policy_at i) ps)
 all_own b i [] h a t = refl
 all_own b i (p ∷ ps) h a t =
@@ -197,27 +200,27 @@ found_alone i p [] h f = absurd (cc)
 found_alone i p (q ∷ ps) h f = one_at (is_policy_at i q) i p q ps refl f (no_other policy_id i q ps h)
     (found_alone i p ps h.1)
 
-own_of : (b : Board) (i : List ℕ) (p : PolicyParts) → IsBoard b → find (is_policy_at i) b.policies ≡ Some p
+own_of : (b : SetParts) (i : List ℕ) (p : PolicyParts) → IsPolicySet b → find (is_policy_at i) b.policies ≡ Some p
     → list_any (is_body_at i) b.bodies ≡ true → ids_in i b.policies ≡ policy_id p ∷ []
 own_of b i p h f t =
     all_own b i b.policies h.held (found_any (is_policy_at i) b.policies p f) t
     ∙ ap (map policy_id) (found_alone i p b.policies h.policies_once f)
 
-held_at : (v : Bool) (b : Board) (q p : PolicyParts) (rest : Option PolicyParts) → cond v (Some q) rest ≡ Some p
+held_at : (v : Bool) (b : SetParts) (q p : PolicyParts) (rest : Option PolicyParts) → cond v (Some q) rest ≡ Some p
     → IsHeld b q → (rest ≡ Some p → IsHeld b p) → IsHeld b p
 held_at true b q p rest e h ih =
     let same : q ≡ p = cc in
     subst (IsHeld b) same h
 held_at false b q p rest e h ih = ih e
 
-held_found : (b : Board) (i : List ℕ) (p : PolicyParts) (ps : List PolicyParts) → AreHeld b ps
+held_found : (b : SetParts) (i : List ℕ) (p : PolicyParts) (ps : List PolicyParts) → AreHeld b ps
     → find (is_policy_at i) ps ≡ Some p → IsHeld b p
 held_found b i p [] h f = absurd (cc)
 held_found b i p (q ∷ ps) h f = held_at (is_policy_at i q) b q p (find (is_policy_at i) ps) f h.0
     (held_found b i p ps h.1)
 
 -- where no policy is found the templates' lists are those of all bodies
-pub on_template : (b : Board) (i : List ℕ) → find (is_policy_at i) b.policies ≡ None
+pub on_template : (b : SetParts) (i : List ℕ) → find (is_policy_at i) b.policies ≡ None
     → find (is_body_at i) (templates_in b.policies b.bodies) ≡ find (is_body_at i) b.bodies
 on_template b i n = template_found i b.bodies b.policies
     ∙ ap (λ v. cond v None (find (is_body_at i) b.bodies)) (none_is (is_policy_at i) b.policies n)
@@ -225,7 +228,7 @@ on_template b i n = template_found i b.bodies b.policies
 own_id : (i : List ℕ) (p : PolicyParts) (ps : List PolicyParts) → find (is_policy_at i) ps ≡ Some p → i ≡ policy_id p
 own_id i p ps f = (same_text_decides i (policy_id p)).0 (found_passes (is_policy_at i) ps p f)
 
-link_ids_by : (o : Option (List ℕ)) (b : Board) (i : List ℕ) (p : PolicyParts) → o ≡ p.link → is_some o ≡ true
+link_ids_by : (o : Option (List ℕ)) (b : SetParts) (i : List ℕ) (p : PolicyParts) → o ≡ p.link → is_some o ≡ true
     → i ≡ policy_id p → IsHeldBy o b p → find (is_body_at i) b.bodies ≡ None
 link_ids_by None b i p e s q h = absurd (cc)
 link_ids_by (Some l) b i p e s q h =
@@ -233,13 +236,13 @@ link_ids_by (Some l) b i p e s q h =
     ∙ ap (λ o. unwrap_or o p.template.id) (sym e)) ∙ h.0)
 
 -- no body has the id of a link
-pub link_ids : (b : Board) (i : List ℕ) (p : PolicyParts) → IsBoard b → find (is_policy_at i) b.policies ≡ Some p
+pub link_ids : (b : SetParts) (i : List ℕ) (p : PolicyParts) → IsPolicySet b → find (is_policy_at i) b.policies ≡ Some p
     → is_some p.link ≡ true → None ≡ option_map (λ t. ids_in t.id b.policies) (find (is_body_at i) b.bodies)
 link_ids b i p h f s =
     sym (ap (option_map (λ t. ids_in t.id b.policies))
     (link_ids_by p.link b i p refl s (own_id i p b.policies f) (held_found b i p b.policies h.held f)))
 
-static_body_by : (o : Option (List ℕ)) (b : Board) (i : List ℕ) (p : PolicyParts) → o ≡ p.link → is_some o ≡ false
+static_body_by : (o : Option (List ℕ)) (b : SetParts) (i : List ℕ) (p : PolicyParts) → o ≡ p.link → is_some o ≡ false
     → i ≡ policy_id p → IsHeldBy o b p → (find (is_body_at i) b.bodies ≡ Some p.template) × (i ≡ p.template.id)
 static_body_by None b i p e s q h =
     let own : i ≡ p.template.id = q ∙ ap (λ o. unwrap_or o p.template.id) (sym e) in
@@ -247,8 +250,8 @@ static_body_by None b i p e s q h =
 static_body_by (Some l) b i p e s q h = absurd (cc)
 
 -- on the body of a static policy stands that policy alone
-pub static_ids : (b : Board) (i : List ℕ) (p : PolicyParts) → IsBoard b → find (is_policy_at i) b.policies ≡ Some p
-    → is_some p.link ≡ false →
+pub static_ids : (b : SetParts) (i : List ℕ) (p : PolicyParts) → IsPolicySet b
+    → find (is_policy_at i) b.policies ≡ Some p → is_some p.link ≡ false →
     Some (policy_id p ∷ []) ≡ option_map (λ t. ids_in t.id b.policies) (find (is_body_at i) b.bodies)
 static_ids b i p h f s =
     let k = static_body_by p.link b i p refl s (own_id i p b.policies f) (held_found b i p b.policies h.held f) in
@@ -259,35 +262,35 @@ static_ids b i p h f s =
 
 -- ---- what joins
 
-abbrev Becomes : Maps → Board → Type 0
-Becomes m b = DoAgree m × (board_in m ≡ b)
+abbrev Becomes : Maps → SetParts → Type 0
+Becomes m b = DoAgree m × (set_in m ≡ b)
 
 last_value : {V : Type 0} (es : List (List ℕ × V)) (k : List ℕ) (v : V)
     → values_of (es ++ (k, v) ∷ []) ≡ values_of es ++ v ∷ []
 last_value es k v = map-append (λ e. e.1) es ((k, v) ∷ [])
 
 -- a template with a free id
-template_agrees : (m : Maps) (t : BodyParts) → DoAgree m → is_bound (board_in m) t.id ≡ false →
+template_agrees : (m : Maps) (t : BodyParts) → DoAgree m → is_bound (set_in m) t.id ≡ false →
     Becomes (record {
       bodies = m.bodies ++ (t.id, t) ∷ [];
       policies = m.policies;
       listed =
           m.listed ++ (t.id, []) ∷ [];
-    }) (with_template (board_in m) t)
+    }) (with_template (set_in m) t)
 template_agrees m t h n =
-    let b = board_in m in
+    let b = set_in m in
     let ts = last_value m.bodies t.id t in
-    let now : board_in
+    let now : set_in
     (record { bodies = m.bodies ++ (t.id, t) ∷ []; policies = m.policies; listed = m.listed ++ (t.id, []) ∷ [] })
     ≡ with_template b t = λ j. record { bodies = ts j; policies = b.policies } in (
       record {
-        board = subst IsBoard (sym now) (template_joins b t h.board n);
+        policy_set = subst IsPolicySet (sym now) (template_joins b t h.policy_set n);
         bodies_by_id = keyed_last body_id m.bodies t.id t h.bodies_by_id refl;
         policies_by_id = h.policies_by_id;
         all_listed =
             ap (λ ls. ls ++ (t.id, []) ∷ []) h.all_listed
             ∙ sym (body_listed body_id policy_id own_body (templates_in b.policies b.bodies) b.policies t
-            (none_on_it b t.id b.policies (no_body_at b t.id n) h.board.held))
+            (none_on_it b t.id b.policies (no_body_at b t.id n) h.policy_set.held))
             ∙ ap (λ us. ids_by_body us b.policies) (sym (template_last b.bodies b.policies t (no_policy_at b t.id n)))
             ∙ ap (λ us. ids_by_body (templates_in b.policies us) b.policies) (sym ts);
       },
@@ -295,24 +298,24 @@ template_agrees m t h n =
     )
 
 pub template_kept : (m : Maps) (t : BodyParts) (bs : List (List ℕ × BodyParts)) (ls : List (List ℕ × List (List ℕ)))
-    → DoAgree m → is_bound (board_in m) t.id ≡ false →
+    → DoAgree m → is_bound (set_in m) t.id ≡ false →
     bs ≡ m.bodies ++ (t.id, t) ∷ [] → ls ≡ m.listed ++ (t.id, []) ∷ []
-    → Becomes (record { bodies = bs; policies = m.policies; listed = ls }) (with_template (board_in m) t)
+    → Becomes (record { bodies = bs; policies = m.policies; listed = ls }) (with_template (set_in m) t)
 template_kept m t bs ls h n p q = rw (p, q) (template_agrees m t h n)
 
 -- a link of a template that stands there
-policy_agrees : (m : Maps) (p : PolicyParts) → DoAgree m → CanJoin (board_in m) p →
+policy_agrees : (m : Maps) (p : PolicyParts) → DoAgree m → CanJoin (set_in m) p →
     Becomes (record {
       bodies = m.bodies;
       policies = m.policies ++ (policy_id p, p) ∷ [];
       listed =
           with_listed p.template.id (policy_id p) m.listed;
-    }) (with_policy (board_in m) p)
+    }) (with_policy (set_in m) p)
 policy_agrees m p h c =
-    let b = board_in m in
+    let b = set_in m in
     let ps = last_value m.policies (policy_id p) p in
     let free = free_link p.link b p refl c in
-    let now : board_in
+    let now : set_in
     (record {
       bodies = m.bodies;
       policies = m.policies ++ (policy_id p, p) ∷ [];
@@ -320,13 +323,13 @@ policy_agrees m p h c =
     }) ≡ with_policy b p =
     λ j. record { bodies = b.bodies; policies = ps j } in (
       record {
-        board = subst IsBoard (sym now) (link_joins b p h.board c);
+        policy_set = subst IsPolicySet (sym now) (link_joins b p h.policy_set c);
         bodies_by_id = h.bodies_by_id;
         policies_by_id = keyed_last policy_id m.policies (policy_id p) p h.policies_by_id refl;
         all_listed =
             ap (with_listed p.template.id (policy_id p)) h.all_listed
             ∙ join_listed body_id policy_id own_body (templates_in b.policies b.bodies) b.policies p
-            (templates_once b.bodies b.policies h.board.bodies_once) (no_policy_at b (policy_id p) free)
+            (templates_once b.bodies b.policies h.policy_set.bodies_once) (no_policy_at b (policy_id p) free)
             ∙ ap (λ us. ids_by_body us (b.policies ++ p ∷ []))
             (sym (templates_stay b.bodies b.policies p (no_body_at b (policy_id p) free)))
             ∙ ap (λ qs. ids_by_body (templates_in qs b.bodies) qs) (sym ps);
@@ -335,21 +338,21 @@ policy_agrees m p h c =
     )
 
 pub policy_kept : (m : Maps) (p : PolicyParts) (qs : List (List ℕ × PolicyParts)) (ls : List (List ℕ × List (List ℕ)))
-    → DoAgree m → CanJoin (board_in m) p →
+    → DoAgree m → CanJoin (set_in m) p →
     qs ≡ m.policies ++ (policy_id p, p) ∷ [] → ls ≡ with_listed p.template.id (policy_id p) m.listed
-    → Becomes (record { bodies = m.bodies; policies = qs; listed = ls }) (with_policy (board_in m) p)
+    → Becomes (record { bodies = m.bodies; policies = qs; listed = ls }) (with_policy (set_in m) p)
 policy_kept m p qs ls h c f g = rw (f, g) (policy_agrees m p h c)
 
 -- a static policy and its body, which are not listed
-static_agrees : (m : Maps) (p : PolicyParts) → DoAgree m → CanJoinBoth (board_in m) p → p.link ≡ None →
+static_agrees : (m : Maps) (p : PolicyParts) → DoAgree m → CanJoinBoth (set_in m) p → p.link ≡ None →
     Becomes (record {
       bodies = m.bodies ++ (p.template.id, p.template) ∷ [];
       policies =
           m.policies ++ (policy_id p, p) ∷ [];
       listed = m.listed;
-    }) (with_both (board_in m) p.template p)
+    }) (with_both (set_in m) p.template p)
 static_agrees m p h c e =
-    let b = board_in m in
+    let b = set_in m in
     let t = p.template in
     let ts = last_value m.bodies t.id t in
     let ps = last_value m.policies (policy_id p) p in
@@ -359,13 +362,13 @@ static_agrees m p h c e =
     let there : list_any (is_policy_at t.id) (b.policies ++ p ∷ []) ≡ true =
     list_any-append (is_policy_at t.id) b.policies (p ∷ [])
     ∙ or_true _ _ (ap (λ i. same_text t.id i || false) own ∙ ap (λ v. v || false) (same_text_equiv.refl t.id)) in
-    let now : board_in (record {
+    let now : set_in (record {
       bodies = m.bodies ++ (t.id, t) ∷ [];
       policies = m.policies ++ (policy_id p, p) ∷ [];
       listed = m.listed;
     }) ≡ with_both b t p = λ j. record { bodies = ts j; policies = ps j } in (
       record {
-        board = subst IsBoard (sym now) (both_join b p h.board c);
+        policy_set = subst IsPolicySet (sym now) (both_join b p h.policy_set c);
         bodies_by_id = keyed_last body_id m.bodies t.id t h.bodies_by_id refl;
         policies_by_id = keyed_last policy_id m.policies (policy_id p) p h.policies_by_id refl;
         all_listed =
@@ -381,28 +384,28 @@ static_agrees m p h c e =
     )
 
 pub static_kept : (m : Maps) (p : PolicyParts) (bs : List (List ℕ × BodyParts)) (qs : List (List ℕ × PolicyParts))
-    → DoAgree m → CanJoinBoth (board_in m) p → p.link ≡ None →
+    → DoAgree m → CanJoinBoth (set_in m) p → p.link ≡ None →
     bs ≡ m.bodies ++ (p.template.id, p.template) ∷ [] → qs ≡ m.policies ++ (policy_id p, p) ∷ [] →
-    Becomes (record { bodies = bs; policies = qs; listed = m.listed }) (with_both (board_in m) p.template p)
+    Becomes (record { bodies = bs; policies = qs; listed = m.listed }) (with_both (set_in m) p.template p)
 static_kept m p bs qs h c e f g = rw (f, g) (static_agrees m p h c e)
 
 -- a link and its template
-link_apart : (o : Option (List ℕ)) (b : Board) (p : PolicyParts) → o ≡ p.link → (o ≡ None → ⊥) → CanJoinBothBy o b p
+link_apart : (o : Option (List ℕ)) (b : SetParts) (p : PolicyParts) → o ≡ p.link → (o ≡ None → ⊥) → CanJoinBothBy o b p
     → same_text p.template.id (policy_id p) ≡ false
 link_apart None b p e n c = absurd (n refl)
 link_apart (Some l) b p e n c = ap (λ o. same_text p.template.id (unwrap_or o p.template.id)) (sym e)
     ∙ same_text_equiv.symm p.template.id l ∙ c.1
 
-link_agrees : (m : Maps) (p : PolicyParts) → DoAgree m → CanJoinBoth (board_in m) p → (p.link ≡ None → ⊥) →
+link_agrees : (m : Maps) (p : PolicyParts) → DoAgree m → CanJoinBoth (set_in m) p → (p.link ≡ None → ⊥) →
     Becomes (record {
       bodies = m.bodies ++ (p.template.id, p.template) ∷ [];
       policies =
           m.policies ++ (policy_id p, p) ∷ [];
       listed = m.listed
           ++ (p.template.id, policy_id p ∷ []) ∷ [];
-    }) (with_both (board_in m) p.template p)
+    }) (with_both (set_in m) p.template p)
 link_agrees m p h c l =
-    let b = board_in m in
+    let b = set_in m in
     let t = p.template in
     let ts = last_value m.bodies t.id t in
     let ps = last_value m.policies (policy_id p) p in
@@ -412,21 +415,21 @@ link_agrees m p h c l =
     let unused : list_any (is_policy_at t.id) (b.policies ++ p ∷ []) ≡ false =
     list_any-append (is_policy_at t.id) b.policies (p ∷ [])
     ∙ neither _ _ (no_policy_at b t.id c.0) (neither _ _ (link_apart p.link b p refl l c.1) refl) in
-    let now : board_in (record {
+    let now : set_in (record {
       bodies = m.bodies ++ (t.id, t) ∷ [];
       policies = m.policies ++ (policy_id p, p) ∷ [];
       listed = m.listed ++ (t.id, policy_id p ∷ []) ∷ [];
     })
     ≡ with_both b t p = λ j. record { bodies = ts j; policies = ps j } in (
       record {
-        board = subst IsBoard (sym now) (both_join b p h.board c);
+        policy_set = subst IsPolicySet (sym now) (both_join b p h.policy_set c);
         bodies_by_id = keyed_last body_id m.bodies t.id t h.bodies_by_id refl;
         policies_by_id = keyed_last policy_id m.policies (policy_id p) p h.policies_by_id refl;
         all_listed =
             ap (λ ls. ls ++ (t.id, policy_id p ∷ []) ∷ []) h.all_listed
             ∙ sym (both_listed body_id policy_id own_body (templates_in b.policies b.bodies) b.policies t p refl
             (any-filter_none (λ (t : BodyParts). not (list_any (is_policy_at t.id) b.policies))
-            (is_body_at t.id) b.bodies free) (none_on_it b t.id b.policies free h.board.held))
+            (is_body_at t.id) b.bodies free) (none_on_it b t.id b.policies free h.policy_set.held))
             ∙ ap (λ us. ids_by_body us (b.policies ++ p ∷ []))
             (sym (template_last b.bodies (b.policies ++ p ∷ []) t unused
             ∙ ap (λ us. us ++ t ∷ []) (templates_stay b.bodies b.policies p none)))
@@ -436,11 +439,11 @@ link_agrees m p h c l =
     )
 
 pub link_kept : (m : Maps) (p : PolicyParts) (bs : List (List ℕ × BodyParts)) (qs : List (List ℕ
-    × PolicyParts)) (ls : List (List ℕ × List (List ℕ))) → DoAgree m → CanJoinBoth (board_in m) p
+    × PolicyParts)) (ls : List (List ℕ × List (List ℕ))) → DoAgree m → CanJoinBoth (set_in m) p
     → (p.link ≡ None → ⊥) →
     bs ≡ m.bodies ++ (p.template.id, p.template) ∷ [] → qs ≡ m.policies ++ (policy_id p, p) ∷ []
     → ls ≡ m.listed ++ (p.template.id, policy_id p ∷ []) ∷ [] →
-    Becomes (record { bodies = bs; policies = qs; listed = ls }) (with_both (board_in m) p.template p)
+    Becomes (record { bodies = bs; policies = qs; listed = ls }) (with_both (set_in m) p.template p)
 link_kept m p bs qs ls h c l f g k = rw (f, g, k) (link_agrees m p h c l)
 
 -- ---- what is taken out
@@ -452,36 +455,36 @@ left_listed None i ts ps h g e = ap (ids_by_body ts) (sym
     (filter_none (is_policy_at i) ps (none_is (is_policy_at i) ps (sym e))))
 left_listed (Some p) i ts ps h g e = leave_listed body_id policy_id own_body ts i p ps h g (sym e)
 
-taken_agrees : (m : Maps) (i : List ℕ) (o : Option PolicyParts) → DoAgree m → has_links (board_in m) i ≡ false
-    → o ≡ find (is_policy_at i) (board_in m).policies →
+taken_agrees : (m : Maps) (i : List ℕ) (o : Option PolicyParts) → DoAgree m → has_links (set_in m) i ≡ false
+    → o ≡ find (is_policy_at i) (set_in m).policies →
     Becomes (record {
       bodies = remove_entry (same_text i) m.bodies;
       policies =
           remove_entry (same_text i) m.policies;
       listed =
           unlisted o i (remove_entry (same_text i) m.listed);
-    }) (without_id (board_in m) i)
+    }) (without_id (set_in m) i)
 taken_agrees m i o h n e =
-    let b = board_in m in
-    let ts = values_removed body_id i m.bodies h.bodies_by_id h.board.bodies_once in
-    let ps = values_removed policy_id i m.policies h.policies_by_id h.board.policies_once in
+    let b = set_in m in
+    let ts = values_removed body_id i m.bodies h.bodies_by_id h.policy_set.bodies_once in
+    let ps = values_removed policy_id i m.policies h.policies_by_id h.policy_set.policies_once in
     let templates = templates_in b.policies b.bodies in
-    let once : AreOnce body_id templates = templates_once b.bodies b.policies h.board.bodies_once in
-    let now : board_in (record {
+    let once : AreOnce body_id templates = templates_once b.bodies b.policies h.policy_set.bodies_once in
+    let now : set_in (record {
       bodies = remove_entry (same_text i) m.bodies;
       policies = remove_entry (same_text i) m.policies;
       listed = unlisted o i (remove_entry (same_text i) m.listed);
     })
     ≡ without_id b i = λ j. record { bodies = ts j; policies = ps j } in (
       record {
-        board = subst IsBoard (sym now) (taken_out b i h.board n);
+        policy_set = subst IsPolicySet (sym now) (taken_out b i h.policy_set n);
         bodies_by_id = keyed_removed body_id (same_text i) m.bodies h.bodies_by_id;
         policies_by_id = keyed_removed policy_id (same_text i) m.policies h.policies_by_id;
         all_listed =
             ap (λ ls. unlisted o i (remove_entry (same_text i) ls)) h.all_listed
             ∙ ap (unlisted o i) (body_unlisted body_id policy_id own_body i templates b.policies once)
             ∙ left_listed o i (filter (λ t. not (is_body_at i t)) templates) b.policies
-            (once-filter body_id (λ t. not (is_body_at i t)) templates once) h.board.policies_once e
+            (once-filter body_id (λ t. not (is_body_at i t)) templates once) h.policy_set.policies_once e
             ∙ ap (λ us. ids_by_body us (filter (λ p. not (is_policy_at i p)) b.policies))
             (sym (templates_removed i b.bodies b.policies))
             ∙ (λ j. ids_by_body (templates_in (sym ps j) (sym ts j)) (sym ps j));
@@ -491,8 +494,8 @@ taken_agrees m i o h n e =
 
 pub taken_kept : (m : Maps) (i : List ℕ) (o : Option PolicyParts) (bs : List (List ℕ × BodyParts)) (qs : List (List ℕ
     × PolicyParts)) (ls : List (List ℕ × List (List ℕ))) →
-    DoAgree m → has_links (board_in m) i ≡ false → o ≡ find (is_policy_at i) (board_in m).policies →
+    DoAgree m → has_links (set_in m) i ≡ false → o ≡ find (is_policy_at i) (set_in m).policies →
     bs ≡ remove_entry (same_text i) m.bodies → qs ≡ remove_entry (same_text i) m.policies
     → ls ≡ unlisted o i (remove_entry (same_text i) m.listed) →
-    Becomes (record { bodies = bs; policies = qs; listed = ls }) (without_id (board_in m) i)
+    Becomes (record { bodies = bs; policies = qs; listed = ls }) (without_id (set_in m) i)
 taken_kept m i o bs qs ls h n e f g k = rw (f, g, k) (taken_agrees m i o h n e)

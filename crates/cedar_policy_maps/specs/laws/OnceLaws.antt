@@ -12,7 +12,7 @@ use Rattle.std.proofs.lemmas.List.{take-map, drop-map, map-append, length-map}
 use Rattle.std.proofs.lemmas.List.Folds.{list_any-append, find_at}
 use Rattle.cedar_ids.specs.Texts.{same_text}
 use Rattle.cedar_ids.specs.laws.TextLaws.{same_text_equiv, same_text_decides}
-use Rattle.cedar_policy_maps.specs.Boards.{AreOnce}
+use Rattle.cedar_policy_maps.specs.PolicySets.{AreOnce}
 
 -- whether something has an id
 abbrev pub is_at : {A : Type 0} → (A → List ℕ) → List ℕ → A → Bool

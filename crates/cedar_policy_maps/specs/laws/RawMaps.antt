@@ -10,8 +10,8 @@ use Rattle.cedar_ids.specs.Texts.{same_text}
 use Rattle.cedar_body.specs.Bodies.{BodyParts, body_slots}
 use Rattle.cedar_binding.specs.Bindings.{FitsSlots}
 use Rattle.cedar_policy.specs.Policies.{PolicyParts, policy_id, static_policy}
-use Rattle.cedar_policy_maps.specs.Boards.{Board, AreOnce, AreHeld, IsHeldBy, is_policy_at}
-use Rattle.cedar_policy_maps.specs.Maps.{Maps, board_in, shared_of, ArePlaced, IsPlacedBy, CanMakeSet, DoAgree}
+use Rattle.cedar_policy_maps.specs.PolicySets.{SetParts, AreOnce, AreHeld, IsHeldBy, is_policy_at}
+use Rattle.cedar_policy_maps.specs.Maps.{Maps, set_in, shared_of, ArePlaced, IsPlacedBy, CanMakeSet, DoAgree}
 use Rattle.cedar_policy_maps.specs.laws.OnceLaws.{any-map}
 use Rattle.cedar_policy_maps.specs.laws.TemplateLaws.{templates_listed}
 
@@ -22,12 +22,12 @@ pub record IsWhole (p : PolicyParts) : Type 0 where
   pub slotless : p.link ≡ None → body_slots p.template ≡ []
   pub fits : FitsSlots (body_slots p.template) p.env
 
-placed_held : (o : Option (List ℕ)) (b : Board) (p : PolicyParts) → o ≡ p.link → IsWhole p → IsPlacedBy o b p
+placed_held : (o : Option (List ℕ)) (b : SetParts) (p : PolicyParts) → o ≡ p.link → IsWhole p → IsPlacedBy o b p
     → IsHeldBy o b p
 placed_held None b p e w k = (w.whole (sym e), w.slotless (sym e), k)
 placed_held (Some l) b p e w k = (k.0, k.1, k.2, w.fits)
 
-all_held : (b : Board) (ps : List PolicyParts) → AllByRecursion IsWhole ps → ArePlaced b ps → AreHeld b ps
+all_held : (b : SetParts) (ps : List PolicyParts) → AllByRecursion IsWhole ps → ArePlaced b ps → AreHeld b ps
 all_held b [] w k = tt
 all_held b (p ∷ ps) w k = (placed_held p.link b p refl w.0 k.0, all_held b ps w.1 k.1)
 
@@ -61,11 +61,11 @@ pub raw_agree : (m : Maps) (ls : List (List ℕ × List (List ℕ))) → IsDisti
     ls ≡ filter (λ e. not (list_any (is_policy_at e.0) (values_of m.policies))) m.listed
     → DoAgree (record { bodies = m.bodies; policies = m.policies; listed = ls })
 raw_agree m ls d e w h q = record {
-  board = record {
+  policy_set = record {
     bodies_once = distinct_once (λ (t : BodyParts). t.id) (values_of m.bodies)
         (subst (IsDistinct same_text) h.bodies_by_id d);
     policies_once = distinct_once policy_id (values_of m.policies) (subst (IsDistinct same_text) h.policies_by_id e);
-    held = all_held (board_in m) (values_of m.policies) (recursion_from_All IsWhole (values_of m.policies) w) h.placed;
+    held = all_held (set_in m) (values_of m.policies) (recursion_from_All IsWhole (values_of m.policies) w) h.placed;
   };
   bodies_by_id = h.bodies_by_id;
   policies_by_id = h.policies_by_id;

@@ -7,9 +7,9 @@ use Rattle.std.proofs.lemmas.List.{map-append}
 use Rattle.cedar_ids.specs.laws.TextLaws.{same_text_decides}
 use Rattle.cedar_body.specs.Bodies.{BodyParts}
 use Rattle.cedar_policy.specs.Policies.{PolicyParts, policy_id}
-use Rattle.cedar_policy_maps.specs.Boards.{Board, is_body_at, is_policy_at, IsBoard}
+use Rattle.cedar_policy_maps.specs.PolicySets.{SetParts, is_body_at, is_policy_at, IsPolicySet}
 use Rattle.cedar_policy_maps.specs.Lists.{is_on}
-use Rattle.cedar_policy_maps.specs.Maps.{Maps, board_in, ids_by_body, templates_in, DoAgree}
+use Rattle.cedar_policy_maps.specs.Maps.{Maps, set_in, ids_by_body, templates_in, DoAgree}
 use Rattle.cedar_policy_maps.specs.TakenIn.{taken_in, AreOnly, AreBare, CanTakeIn}
 use Rattle.cedar_policy_maps.specs.laws.GrowLaws.{grown_by, all_grown, all_new}
 use Rattle.cedar_policy_maps.specs.laws.GrowLaws as each
@@ -75,7 +75,8 @@ each_bare [] ps h = tt
 each_bare (t ∷ ts) ps h = (h.0, each_bare ts ps h.1)
 
 -- the lists of all templates, those that grew and the new ones
-lists_agree : (b : Board) (stand ts : List BodyParts) (ps : List PolicyParts) → IsBoard b → CanTakeIn b stand ts ps →
+lists_agree : (b : SetParts) (stand ts : List BodyParts) (ps : List PolicyParts) → IsPolicySet b
+    → CanTakeIn b stand ts ps →
     grown_by (ids_by_body (templates_in b.policies b.bodies) b.policies)
     (ids_by_body (templates_in b.policies stand) ps) ++ ids_by_body (templates_in ps ts) ps
     ≡ ids_by_body (templates_in (b.policies ++ ps) (b.bodies ++ ts)) (b.policies ++ ps)
@@ -84,18 +85,18 @@ lists_agree b stand ts ps x k =
     let new = templates_in ps ts in
     (λ j. all_grown body_id policy_id own_body old (templates_in b.policies stand) b.policies ps
     (templates_once b.bodies b.policies x.bodies_once)
-    (templates_once stand b.policies k.once) k.board.policies_once
+    (templates_once stand b.policies k.once) k.policy_set.policies_once
     (each_only old (templates_in b.policies stand) ps (only_templates b.bodies stand b.policies ps k.only)) j
     ++ sym (all_new body_id policy_id own_body new b.policies ps
     (each_bare new b.policies (bare_templates ts ps b.policies k.bare))) j)
     ∙ sym (map-append (λ (t : BodyParts). (t.id, map policy_id (filter (is_on t.id) (b.policies ++ ps)))) old new)
     ∙ ap (λ us. ids_by_body us (b.policies ++ ps)) (sym (templates_joined b.bodies ts b.policies ps k.beside k.behind))
 
-abbrev Becomes : Maps → Board → Type 0
-Becomes m b = DoAgree m × (board_in m ≡ b)
+abbrev Becomes : Maps → SetParts → Type 0
+Becomes m b = DoAgree m × (set_in m ≡ b)
 
 taken_in_agrees : (m : Maps) (stand : List BodyParts) (bs : List (List ℕ × BodyParts)) (qs : List (List ℕ
-    × PolicyParts)) → DoAgree m → CanTakeIn (board_in m) stand (values_of bs) (values_of qs) →
+    × PolicyParts)) → DoAgree m → CanTakeIn (set_in m) stand (values_of bs) (values_of qs) →
     IsKeyed body_id bs → IsKeyed policy_id qs →
     Becomes (record {
       bodies = m.bodies ++ bs;
@@ -104,12 +105,12 @@ taken_in_agrees : (m : Maps) (stand : List BodyParts) (bs : List (List ℕ × Bo
           grown_by m.listed (ids_by_body (templates_in (values_of m.policies) stand) (values_of qs))
           ++ ids_by_body (templates_in (values_of qs) (values_of bs)) (values_of qs);
     })
-    (taken_in (board_in m) (values_of bs) (values_of qs))
+    (taken_in (set_in m) (values_of bs) (values_of qs))
 taken_in_agrees m stand bs qs h k f g =
-    let b = board_in m in
+    let b = set_in m in
     let ts = values-append m.bodies bs in
     let ps = values-append m.policies qs in
-    let now : board_in
+    let now : set_in
     (record {
       bodies = m.bodies ++ bs;
       policies = m.policies ++ qs;
@@ -118,13 +119,13 @@ taken_in_agrees m stand bs qs h k f g =
     })
     ≡ taken_in b (values_of bs) (values_of qs) = λ j. record { bodies = ts j; policies = ps j } in (
       record {
-        board = subst IsBoard (sym now) k.board;
+        policy_set = subst IsPolicySet (sym now) k.policy_set;
         bodies_by_id = keyed-append body_id m.bodies bs h.bodies_by_id f;
         policies_by_id = keyed-append policy_id m.policies qs h.policies_by_id g;
         all_listed =
             ap (λ ls. grown_by ls (ids_by_body (templates_in b.policies stand) (values_of qs))
             ++ ids_by_body (templates_in (values_of qs) (values_of bs)) (values_of qs)) h.all_listed
-            ∙ lists_agree b stand (values_of bs) (values_of qs) h.board k
+            ∙ lists_agree b stand (values_of bs) (values_of qs) h.policy_set k
             ∙ (λ j. ids_by_body (templates_in (sym ps j) (sym ts j)) (sym ps j));
       },
       now,
@@ -132,7 +133,7 @@ taken_in_agrees m stand bs qs h k f g =
 
 pub taken_in_kept : (m : Maps) (stand : List BodyParts) (bs bodies : List (List ℕ
     × BodyParts)) (qs policies : List (List ℕ × PolicyParts)) (listed : List (List ℕ × List (List ℕ))) → DoAgree m →
-    CanTakeIn (board_in m) stand (values_of bs) (values_of qs) → IsKeyed body_id bs → IsKeyed policy_id qs →
+    CanTakeIn (set_in m) stand (values_of bs) (values_of qs) → IsKeyed body_id bs → IsKeyed policy_id qs →
     bodies ≡ m.bodies ++ bs → policies ≡ m.policies ++ qs
     → listed ≡ grown_by m.listed (ids_by_body (templates_in (values_of m.policies) stand) (values_of qs))
     ++ ids_by_body (templates_in (values_of qs) (values_of bs)) (values_of qs) →
@@ -141,5 +142,5 @@ pub taken_in_kept : (m : Maps) (stand : List BodyParts) (bs bodies : List (List 
       policies = policies;
       listed =
           listed;
-    }) (taken_in (board_in m) (values_of bs) (values_of qs))
+    }) (taken_in (set_in m) (values_of bs) (values_of qs))
 taken_in_kept m stand bs bodies qs policies listed h k f g p q l = rw (p, q, l) (taken_in_agrees m stand bs qs h k f g)

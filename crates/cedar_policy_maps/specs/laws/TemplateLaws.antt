@@ -11,7 +11,7 @@ use Rattle.cedar_ids.specs.Texts.{same_text}
 use Rattle.cedar_ids.specs.laws.TextLaws.{same_text_equiv, same_text_decides}
 use Rattle.cedar_body.specs.Bodies.{BodyParts}
 use Rattle.cedar_policy.specs.Policies.{PolicyParts, policy_id}
-use Rattle.cedar_policy_maps.specs.Boards.{is_body_at, is_policy_at}
+use Rattle.cedar_policy_maps.specs.PolicySets.{is_body_at, is_policy_at}
 use Rattle.cedar_policy_maps.specs.Maps.{ids_by_body, templates_in}
 use Rattle.cedar_policy_maps.specs.TakenIn.{HaveIdsFreeOf}
 use Rattle.cedar_policy_maps.specs.laws.OnceLaws.{find-filter, find-unless}

@@ -1,4 +1,4 @@
--- When an id conflicts: both boards bind it, and the two bindings are not alike.
+-- When an id conflicts: both policy sets bind it, and the two bindings are not alike.
 use Rattle.std.specs.Prelude.{◌≡◌, ◌⊎◌, ◌↔◌, ℕ, List, [], ◌∷◌, ◌++◌, Bool, true, false, not, ◌||◌, ◌&&◌, Option, Some}
 use Rattle.std.specs.Prelude.{None, refl}
 use Rattle.std.proofs.Common.{inl, inr, sym, ap, ◌∙◌, cond, subst}
@@ -13,12 +13,14 @@ use Rattle.cedar_body.specs.BodyEquality.{same_body}
 use Rattle.cedar_binding.specs.Bindings.{EnvParts}
 use Rattle.cedar_policy.specs.Policies.{PolicyParts, policy_id, static_policy}
 use Rattle.cedar_policy.specs.PolicyEquality.{same_policy}
-use Rattle.cedar_policy_maps.specs.Boards.{Board, Binding, Static, Template, Link, bound_at, bound_among, binding_by}
-use Rattle.cedar_policy_maps.specs.Boards.{is_bound, is_body_at, is_policy_at, IsHeld, IsHeldBy, AreHeld, IsBoard}
+use Rattle.cedar_policy_maps.specs.PolicySets.{SetParts, Binding, Static, Template, Link, bound_at, bound_among}
+use Rattle.cedar_policy_maps.specs.PolicySets.{binding_by}
+use Rattle.cedar_policy_maps.specs.PolicySets.{is_bound, is_body_at, is_policy_at, IsHeld, IsHeldBy, AreHeld}
+use Rattle.cedar_policy_maps.specs.PolicySets.{IsPolicySet}
 use Rattle.cedar_policy_merge.specs.Merge.{has_body, has_policy, body_ids, policy_ids, is_same_at, conflicting}
 use Rattle.cedar_policy_merge.specs.Merge.{conflicts}
 use Rattle.cedar_policy_merge.specs.Merge.{same_binding, Differ}
-use Rattle.cedar_policy_maps.specs.laws.BoardLaws.{none_bound}
+use Rattle.cedar_policy_maps.specs.laws.SetLaws.{none_bound}
 use Rattle.cedar_policy_merge.specs.laws.MergeLaws.{found_there}
 use Rattle.cedar_policy_maps.specs.laws.OnceLaws.{find-unless, found_passes, any-map}
 use Rattle.cedar_policy_merge.specs.laws.RenamingLaws.{is_in, either_of, in_gathered, conflict_found, first_of}
@@ -34,13 +36,13 @@ Shape p t x =
     × (t ≡ None) × (x ≡ Link l u e))
     ⊎ ((u : BodyParts) × (p ≡ None) × (t ≡ Some u) × (x ≡ Template u)))
 
-held_at : (v : Bool) (b : Board) (q p : PolicyParts) (rest : Option PolicyParts) → cond v (Some q) rest ≡ Some p
+held_at : (v : Bool) (b : SetParts) (q p : PolicyParts) (rest : Option PolicyParts) → cond v (Some q) rest ≡ Some p
     → IsHeld b q → (rest ≡ Some p → IsHeld b p) → IsHeld b p
 held_at true b q p rest f h r = let same : q ≡ p = cc in subst (IsHeld b) same h
 held_at false b q p rest f h r = r f
 
 -- a policy that is found is held
-policy_held : (b : Board) (i : List ℕ) (ps : List PolicyParts) (p : PolicyParts) → find (is_policy_at i) ps ≡ Some p
+policy_held : (b : SetParts) (i : List ℕ) (ps : List PolicyParts) (p : PolicyParts) → find (is_policy_at i) ps ≡ Some p
     → AreHeld b ps → IsHeld b p
 policy_held b i [] p f h = absurd (cc)
 policy_held b i (q ∷ qs) p f h = held_at (is_policy_at i q) b q p (find (is_policy_at i) qs) f h.0
@@ -49,7 +51,7 @@ policy_held b i (q ∷ qs) p f h = held_at (is_policy_at i q) b q p (find (is_po
 told : {x y : Binding} → Some x ≡ Some y → y ≡ x
 told e = cc
 
-shape_held : (o : Option (List ℕ)) (b : Board) (i : List ℕ) (x : Binding) (p : PolicyParts) (t : Option BodyParts)
+shape_held : (o : Option (List ℕ)) (b : SetParts) (i : List ℕ) (x : Binding) (p : PolicyParts) (t : Option BodyParts)
     → o ≡ p.link → i ≡ unwrap_or o p.template.id → find (is_body_at i) b.bodies ≡ t →
     IsHeldBy o b p → Some (binding_by o p) ≡ Some x → Shape (Some p) t x
 shape_held None b i x p t l s r h e =
@@ -67,7 +69,7 @@ shape_held (Some k) b i x p t l s r h e =
       told e,
     ))
 
-shape_by : (b : Board) (i : List ℕ) (x : Binding) (p : Option PolicyParts) (t : Option BodyParts) → IsBoard b
+shape_by : (b : SetParts) (i : List ℕ) (x : Binding) (p : Option PolicyParts) (t : Option BodyParts) → IsPolicySet b
     → find (is_policy_at i) b.policies ≡ p → find (is_body_at i) b.bodies ≡ t → bound_among p t ≡ Some x → Shape p t x
 shape_by b i x (Some p) t h f r e =
     shape_held p.link b i x p t refl ((same_text_decides i (policy_id p)).0
@@ -75,7 +77,7 @@ shape_by b i x (Some p) t h f r e =
 shape_by b i x None (Some u) h f r e = inr (inr (u, refl, refl, told e))
 shape_by b i x None None h f r e = absurd (cc)
 
-shape : (b : Board) (i : List ℕ) (x : Binding) → IsBoard b → bound_at b i ≡ Some x
+shape : (b : SetParts) (i : List ℕ) (x : Binding) → IsPolicySet b → bound_at b i ≡ Some x
     → Shape (find (is_policy_at i) b.policies) (find (is_body_at i) b.bodies) x
 shape b i x h e = shape_by b i x (find (is_policy_at i) b.policies) (find (is_body_at i) b.bodies) h refl refl e
 
@@ -113,7 +115,7 @@ alike p q t u x y (inr (inr a)) (inl b) = at_ends a.1 b.1 a.2 b.2 a.3 b.3 refl
 alike p q t u x y (inr (inr a)) (inr (inl b)) = at_ends a.1 b.3 a.2 b.4 a.3 b.5 refl
 alike p q t u x y (inr (inr a)) (inr (inr b)) = at_ends a.1 b.1 a.2 b.2 a.3 b.3 refl
 
-same_bound : (h o : Board) (i : List ℕ) (x y : Binding) → IsBoard h → IsBoard o → bound_at h i ≡ Some x
+same_bound : (h o : SetParts) (i : List ℕ) (x y : Binding) → IsPolicySet h → IsPolicySet o → bound_at h i ≡ Some x
     → bound_at o i ≡ Some y → is_same_at h o i ≡ same_binding x y
 same_bound h o i x y b c e f = alike _ _ _ _ x y (shape h i x b e) (shape o i y c f)
 
@@ -151,38 +153,38 @@ in_list : (p : List ℕ → Bool) (i : List ℕ) (is : List (List ℕ)) → is_i
 in_list p i [] h = h
 in_list p i (x ∷ is) h = kept_at (p x) p i x is (filter p is) h (λ k. in_list p i is k)
 
--- the id is bound in both boards, and to other things
-abbrev Clash : Board → Board → List ℕ → Type 0
+-- the id is bound in both policy sets, and to other things
+abbrev Clash : SetParts → SetParts → List ℕ → Type 0
 Clash h o i = (is_bound h i ≡ true) × (is_bound o i ≡ true) × (is_same_at h o i ≡ false)
 
-clashes : (h o : Board) (stands : List ℕ → Bool) (is : List (List ℕ)) (i : List ℕ)
+clashes : (h o : SetParts) (stands : List ℕ → Bool) (is : List (List ℕ)) (i : List ℕ)
     → (stands i ≡ true → is_bound h i ≡ true) → (is_in i is ≡ true → is_bound o i ≡ true)
     → is_in i (conflicting h o stands is) ≡ true → Clash h o i
 clashes h o stands is i here there k =
     let p = both_of (stands i) (is_same_at h o i) (from_filter (λ j. stands j && not (is_same_at h o j)) i is k) in
     (here p.0, there (in_list (λ j. stands j && not (is_same_at h o j)) i is k), p.1)
 
-by_policy : (b : Board) (i : List ℕ) → has_policy b i ≡ true → is_bound b i ≡ true
+by_policy : (b : SetParts) (i : List ℕ) → has_policy b i ≡ true → is_bound b i ≡ true
 by_policy b i h = first_of (has_policy b i) (has_body b i) h
 
-by_body : (b : Board) (i : List ℕ) → has_body b i ≡ true → is_bound b i ≡ true
+by_body : (b : SetParts) (i : List ℕ) → has_body b i ≡ true → is_bound b i ≡ true
 by_body b i h = second_of (has_policy b i) (has_body b i) h
 
-among_bodies : (b : Board) (i : List ℕ) → is_in i (body_ids b) ≡ true → is_bound b i ≡ true
+among_bodies : (b : SetParts) (i : List ℕ) → is_in i (body_ids b) ≡ true → is_bound b i ≡ true
 among_bodies b i h = by_body b i (sym (any-map (λ (t : BodyParts). t.id) (same_text i) b.bodies) ∙ h)
 
-among_policies : (b : Board) (i : List ℕ) → is_in i (policy_ids b) ≡ true → is_bound b i ≡ true
+among_policies : (b : SetParts) (i : List ℕ) → is_in i (policy_ids b) ≡ true → is_bound b i ≡ true
 among_policies b i h = by_policy b i (sym (any-map policy_id (same_text i) b.policies) ∙ h)
 
 split : (i : List ℕ) (xs ys : List (List ℕ)) → is_in i (xs ++ ys) ≡ true → (is_in i xs ≡ true) ⊎ (is_in i ys ≡ true)
 split i xs ys h = either_of (is_in i xs) (is_in i ys) (sym (list_any-append (same_text i) xs ys) ∙ h)
 
-of_four : (h o : Board) (i : List ℕ) → (is_in i (conflicting h o (has_policy h) (body_ids o)) ≡ true)
+of_four : (h o : SetParts) (i : List ℕ) → (is_in i (conflicting h o (has_policy h) (body_ids o)) ≡ true)
     ⊎ (is_in i (conflicting h o (has_body h) (policy_ids o)) ≡ true) → Clash h o i
 of_four h o i (inl k) = clashes h o (has_policy h) (body_ids o) i (by_policy h i) (among_bodies o i) k
 of_four h o i (inr k) = clashes h o (has_body h) (policy_ids o) i (by_body h i) (among_policies o i) k
 
-of_three : (h o : Board) (i : List ℕ) →
+of_three : (h o : SetParts) (i : List ℕ) →
     (is_in i (conflicting h o (has_policy h) (policy_ids o)) ≡ true)
     ⊎ (is_in i (conflicting h o (has_policy h) (body_ids o) ++ conflicting h o (has_body h) (policy_ids o)) ≡ true)
     → Clash h o i
@@ -190,7 +192,7 @@ of_three h o i (inl k) = clashes h o (has_policy h) (policy_ids o) i (by_policy 
 of_three h o i (inr k) = of_four h o i (split i (conflicting h o (has_policy h) (body_ids o))
     (conflicting h o (has_body h) (policy_ids o)) k)
 
-of_two : (h o : Board) (i : List ℕ) →
+of_two : (h o : SetParts) (i : List ℕ) →
     (is_in i (conflicting h o (has_body h) (body_ids o)) ≡ true)
     ⊎ (is_in i (conflicting h o (has_policy h) (policy_ids o)
     ++ (conflicting h o (has_policy h) (body_ids o) ++ conflicting h o (has_body h) (policy_ids o))) ≡ true)
@@ -200,7 +202,7 @@ of_two h o i (inr k) =
     of_three h o i (split i (conflicting h o (has_policy h) (policy_ids o)) (conflicting h o (has_policy h) (body_ids o)
     ++ conflicting h o (has_body h) (policy_ids o)) k)
 
-clash : (h o : Board) (i : List ℕ) → is_in i (conflicts h o) ≡ true → Clash h o i
+clash : (h o : SetParts) (i : List ℕ) → is_in i (conflicts h o) ≡ true → Clash h o i
 clash h o i k =
     of_two h o i (split i (conflicting h o (has_body h) (body_ids o))
     (conflicting h o (has_policy h) (policy_ids o) ++ (conflicting h o (has_policy h) (body_ids o)
@@ -209,31 +211,31 @@ clash h o i k =
 
 -- ---- both ways
 
-differ : (h o : Board) (i : List ℕ) (x y : Option Binding) → IsBoard h → IsBoard o → bound_at h i ≡ x → bound_at o i ≡ y
-    → Clash h o i → Differ x y
+differ : (h o : SetParts) (i : List ℕ) (x y : Option Binding) → IsPolicySet h → IsPolicySet o → bound_at h i ≡ x
+    → bound_at o i ≡ y → Clash h o i → Differ x y
 differ h o i None y b c e f k = absurd (false≢true (sym (none_bound h i e) ∙ k.0))
 differ h o i (Some x) None b c e f k = absurd (false≢true (sym (none_bound o i f) ∙ k.1))
 differ h o i (Some x) (Some y) b c e f k = sym (same_bound h o i x y b c e f) ∙ k.2
 
-there_by : (b : Board) (i : List ℕ) (p : Option PolicyParts) (t : Option BodyParts) (x : Binding)
+there_by : (b : SetParts) (i : List ℕ) (p : Option PolicyParts) (t : Option BodyParts) (x : Binding)
     → find (is_policy_at i) b.policies ≡ p → find (is_body_at i) b.bodies ≡ t → bound_among p t ≡ Some x
     → is_bound b i ≡ true
 there_by b i (Some p) t x f r e = by_policy b i (found_there (is_policy_at i) b.policies p f)
 there_by b i None (Some u) x f r e = by_body b i (found_there (is_body_at i) b.bodies u r)
 there_by b i None None x f r e = absurd (cc)
 
-there : (b : Board) (i : List ℕ) (x : Binding) → bound_at b i ≡ Some x → is_bound b i ≡ true
+there : (b : SetParts) (i : List ℕ) (x : Binding) → bound_at b i ≡ Some x → is_bound b i ≡ true
 there b i x e = there_by b i (find (is_policy_at i) b.policies) (find (is_body_at i) b.bodies) x refl refl e
 
-conflict : (h o : Board) (i : List ℕ) (x y : Option Binding) → IsBoard h → IsBoard o → bound_at h i ≡ x
+conflict : (h o : SetParts) (i : List ℕ) (x y : Option Binding) → IsPolicySet h → IsPolicySet o → bound_at h i ≡ x
     → bound_at o i ≡ y → Differ x y → is_in i (conflicts h o) ≡ true
 conflict h o i None y b c e f d = absurd d
 conflict h o i (Some x) None b c e f d = absurd d
 conflict h o i (Some x) (Some y) b c e f d = conflict_found h o i (there h i x e) (there o i y f)
     (same_bound h o i x y b c e f ∙ d)
 
--- an id conflicts exactly where both boards bind it, to bindings that are not alike
-pub conflicts_differ : (h o : Board) → IsBoard h → IsBoard o → (i : List ℕ)
+-- an id conflicts exactly where both policy sets bind it, to bindings that are not alike
+pub conflicts_differ : (h o : SetParts) → IsPolicySet h → IsPolicySet o → (i : List ℕ)
     → (list_any (same_text i) (conflicts h o) ≡ true) ↔ Differ (bound_at h i) (bound_at o i)
 conflicts_differ h o b c i = (
   (λ k. differ h o i (bound_at h i) (bound_at o i) b c refl refl (clash h o i k)),

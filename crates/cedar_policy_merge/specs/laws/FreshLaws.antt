@@ -11,7 +11,7 @@ use Rattle.cedar_ids.specs.Texts.{same_text}
 use Rattle.cedar_ids.specs.laws.TextLaws.{same_text_equiv, same_text_decides}
 use Rattle.cedar_body.specs.Bodies.{BodyParts}
 use Rattle.cedar_policy.specs.Policies.{policy_id}
-use Rattle.cedar_policy_maps.specs.Boards.{Board, AreOnce, is_bound}
+use Rattle.cedar_policy_maps.specs.PolicySets.{SetParts, AreOnce, is_bound}
 use Rattle.cedar_policy_merge.specs.Fresh.{numbered, is_bound_in_either, free_below, IsFree, AreFree}
 use Rattle.cedar_policy_merge.specs.Merge.{body_ids, policy_ids, ids_of}
 use Rattle.cedar_policy_merge.specs.laws.Numerals.{numbered_is}
@@ -106,28 +106,29 @@ alike_or : (a b c d : Bool) → a ≡ c → b ≡ d → (a || b) ≡ (c || d)
 alike_or a b c d p q = cc
 
 -- an id is bound exactly where it is one of them
-pub bound_among_ids : (b : Board) (i : List ℕ) → is_bound b i ≡ list_any (same_text i) (ids_of b)
+pub bound_among_ids : (b : SetParts) (i : List ℕ) → is_bound b i ≡ list_any (same_text i) (ids_of b)
 bound_among_ids b i =
     alike_or _ _ _ _ (sym (any-map policy_id (same_text i) b.policies))
     (sym (any-map (λ (t : BodyParts). t.id) (same_text i) b.bodies))
     ∙ sym (list_any-append (same_text i) (policy_ids b) (body_ids b))
 
-pub either_among_ids : (here other : Board) (i : List ℕ)
+pub either_among_ids : (here other : SetParts) (i : List ℕ)
     → is_bound_in_either here other i ≡ list_any (same_text i) (ids_of here ++ ids_of other)
 either_among_ids here other i =
     alike_or _ _ _ _ (bound_among_ids here i) (bound_among_ids other i)
     ∙ sym (list_any-append (same_text i) (ids_of here) (ids_of other))
 
--- how many ids two boards have, those of static policies twice
-abbrev pub count : Board → Board → ℕ
+-- how many ids two policy sets have, those of static policies twice
+abbrev pub count : SetParts → SetParts → ℕ
 count here other = (length here.policies + length here.bodies) + (length other.policies + length other.bodies)
 
-length_ids : (b : Board) → length (ids_of b) ≡ length b.policies + length b.bodies
+length_ids : (b : SetParts) → length (ids_of b) ≡ length b.policies + length b.bodies
 length_ids b = length-append (policy_ids b) (body_ids b)
     ∙ (λ j. length-map b.policies policy_id j + length-map b.bodies (λ (t : BodyParts). t.id) j)
 
 -- a number is at most the number of free ids below it and the count of ids
-pub number_within : (here other : Board) (n : ℕ) → n ≤ free_below (is_bound_in_either here other) n + count here other
+pub number_within : (here other : SetParts) (n : ℕ)
+    → n ≤ free_below (is_bound_in_either here other) n + count here other
 number_within here other n =
     omega (
       arith,
@@ -154,7 +155,7 @@ free_push bound k [] n a f = ((n, refl, (f.0, f.1 ∙ omega arith)), tt)
 free_push bound k (i ∷ is) n a f = (a.0, free_push bound (k + 1) is n a.1 (f.0, f.1 ∙ omega arith))
 
 -- a search that met no free id has come no further than there are ids, and goes on past a bound one
-pub one_on : (here other : Board) (start n : ℕ) (i : List ℕ) →
+pub one_on : (here other : SetParts) (start n : ℕ) (i : List ℕ) →
     n ≤ free_below (is_bound_in_either here other) start + count here other
     → free_below (is_bound_in_either here other) n ≡ free_below (is_bound_in_either here other) start →
     i ≡ numbered n → is_bound_in_either here other i ≡ true →

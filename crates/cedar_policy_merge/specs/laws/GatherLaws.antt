@@ -5,7 +5,7 @@ use Rattle.std.specs.List.{filter}
 use Rattle.std.proofs.lemmas.Bool.{false≢true}
 use Rattle.cedar_ids.specs.Texts.{same_text}
 use Rattle.cedar_body.specs.Bodies.{BodyParts}
-use Rattle.cedar_policy_maps.specs.Boards.{Board}
+use Rattle.cedar_policy_maps.specs.PolicySets.{SetParts}
 use Rattle.cedar_policy_merge.specs.Merge.{has_body, has_policy, body_ids, policy_ids, is_same_at, conflicting}
 use Rattle.cedar_policy_merge.specs.Merge.{gathered}
 use Rattle.cedar_policy_merge.specs.Merge.{conflicts}
@@ -17,9 +17,9 @@ use Rattle.cedar_policy_merge.specs.laws.RenamingLaws.{itself, first_of, second_
 use Rattle.cedar_policy_merge.specs.laws.RenamingLaws.{gathers}
 use Rattle.cedar_policy_merge.specs.laws.RenamingLaws.{in_conflicting}
 
--- which ids a group looks at: those of bodies here; of policies here, but where both boards have a body; of policies
--- here that are no bodies; of bodies here that are no policies
-abbrev pub looked_at : Group → Board → Board → List ℕ → Bool
+-- which ids a group looks at: those of bodies here; of policies here, but where both policy sets have a body; of
+-- policies here that are no bodies; of bodies here that are no policies
+abbrev pub looked_at : Group → SetParts → SetParts → List ℕ → Bool
 looked_at Bodies here other i = has_body here i
 looked_at Policies here other i = not (has_body here i && has_body other i) && has_policy here i
 looked_at Links here other i = not (has_body here i) && has_policy here i
@@ -64,20 +64,20 @@ both_so true b h = (refl, h)
 both_so false b h = absurd (false≢true h)
 
 -- a body there that conflicts with a body here is in the first group
-among_bodies : (h o : Board) (i : List ℕ) → has_body h i ≡ true → is_in i (body_ids o) ≡ true → is_same_at h o i ≡ false
-    → is_in i (gathered [] (conflicting h o (has_body h) (body_ids o))) ≡ true
+among_bodies : (h o : SetParts) (i : List ℕ) → has_body h i ≡ true → is_in i (body_ids o) ≡ true
+    → is_same_at h o i ≡ false → is_in i (gathered [] (conflicting h o (has_body h) (body_ids o))) ≡ true
 among_bodies h o i b t d = gathers i [] (conflicting h o (has_body h) (body_ids o))
     (in_conflicting h o (has_body h) (body_ids o) i b d t)
 
 -- the ids that conflict and are looked at, group after group
-abbrev pub in_groups : List (List ℕ) → Board → Board → List (List ℕ)
+abbrev pub in_groups : List (List ℕ) → SetParts → SetParts → List (List ℕ)
 in_groups seen h o =
     gathered (gathered (gathered (gathered seen (conflicting h o (looked_at Bodies h o) (body_ids o)))
     (conflicting h o (looked_at Policies h o) (policy_ids o))) (conflicting h o (looked_at Links h o) (body_ids o)))
     (conflicting h o (looked_at Templates h o) (policy_ids o))
 
 -- so the four groups give the ids that conflict
-pub conflicts_in_groups : (h o : Board) → in_groups [] h o ≡ conflicts h o
+pub conflicts_in_groups : (h o : SetParts) → in_groups [] h o ≡ conflicts h o
 conflicts_in_groups h o =
     let a = conflicting h o (has_body h) (body_ids o) in
     let b = conflicting h o (has_policy h) (policy_ids o) in

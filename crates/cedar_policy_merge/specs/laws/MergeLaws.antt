@@ -1,4 +1,4 @@
--- That the board of a merge is a board.
+-- That the policy set of a merge is a policy set.
 use Rattle.std.specs.Prelude.{◌≡◌, ℕ, List, [], ◌∷◌, ◌++◌, Bool, true, false, not, ◌||◌, ◌&&◌, Option, Some, None, refl}
 use Rattle.std.specs.Prelude.{map}
 use Rattle.std.proofs.Common.{sym, ap, ◌∙◌, cond, arith}
@@ -14,16 +14,16 @@ use Rattle.cedar_body.specs.BodyEquality.{same_body}
 use Rattle.cedar_body.specs.laws.BodyLaws.{same_body_decides}
 use Rattle.cedar_policy.specs.Policies.{PolicyParts, policy_id}
 use Rattle.cedar_policy.specs.PolicyEquality.{same_policy}
-use Rattle.cedar_policy_maps.specs.Boards.{Board, is_bound, is_body_at, is_policy_at, AreOnce, IsHeldBy, IsHeld}
-use Rattle.cedar_policy_maps.specs.Boards.{AreHeld, IsBoard}
+use Rattle.cedar_policy_maps.specs.PolicySets.{SetParts, is_bound, is_body_at, is_policy_at, AreOnce, IsHeldBy, IsHeld}
+use Rattle.cedar_policy_maps.specs.PolicySets.{AreHeld, IsPolicySet}
 use Rattle.cedar_policy_merge.specs.Merge.{has_body, has_policy, is_same_at, renamed_body, renamed_policy}
 use Rattle.cedar_policy_merge.specs.Merge.{joined_bodies}
 use Rattle.cedar_policy_merge.specs.Merge.{joined_policies, merged}
 use Rattle.cedar_policy_maps.specs.laws.OnceLaws.{is_at, once-filter, none_is, find-unless}
 
--- what a merge asks of a renaming: ids of the other board stay apart, and what goes to an id that is bound here keeps
--- its id and is the same in both
-pub record Renames (here other : Board) (c : List ℕ → List ℕ) : Type 0 where
+-- what a merge asks of a renaming: ids of the other policy set stay apart, and what goes to an id that is bound here
+-- keeps its id and is the same in both
+pub record Renames (here other : SetParts) (c : List ℕ → List ℕ) : Type 0 where
   pub apart : (i j : List ℕ) → is_bound other i ≡ true → is_bound other j ≡ true → c i ≡ c j → i ≡ j
   pub kept : (i : List ℕ) → is_bound other i ≡ true → is_bound here (c i) ≡ true → (c i ≡ i)
       × (is_same_at here other i ≡ true)
@@ -58,8 +58,8 @@ all_there id (x ∷ xs) = (
 body_id : BodyParts → List ℕ
 body_id t = t.id
 
--- so bodies and policies of a board are bound in it
-pub bodies_bound : (b : Board) → AreAll (λ (t : BodyParts). is_bound b t.id ≡ true) b.bodies
+-- so bodies and policies of a policy set are bound in it
+pub bodies_bound : (b : SetParts) → AreAll (λ (t : BodyParts). is_bound b t.id ≡ true) b.bodies
 bodies_bound b = all_weaken (λ (t : BodyParts). list_any (is_body_at t.id) b.bodies
     ≡ true) (λ (t : BodyParts). is_bound b t.id ≡ true) b.bodies (λ t h. one_of (has_policy b t.id) (has_body b t.id) h)
     (all_there (λ (t : BodyParts). t.id) b.bodies)
@@ -68,7 +68,7 @@ or_first : (a b : Bool) → a ≡ true → (a || b) ≡ true
 or_first true b h = refl
 or_first false b h = absurd (false≢true h)
 
-pub policies_bound : (b : Board) → AreAll (λ p. is_bound b (policy_id p) ≡ true) b.policies
+pub policies_bound : (b : SetParts) → AreAll (λ p. is_bound b (policy_id p) ≡ true) b.policies
 policies_bound b = all_weaken (λ p. list_any (is_policy_at (policy_id p)) b.policies
     ≡ true) (λ p. is_bound b (policy_id p) ≡ true) b.policies
     (λ p h. or_first (has_policy b (policy_id p)) (has_body b (policy_id p)) h) (all_there policy_id b.policies)
@@ -78,11 +78,12 @@ pub found_there : {X : Type 0} (t : X → Bool) (xs : List X) (x : X) → find t
 found_there t [] x h = absurd (cc)
 found_there t (y ∷ ys) x h = grind (arith, common_steps, found_there t ys x)
 
-pub body_bound : (b : Board) (i : List ℕ) (t : BodyParts) → find (is_body_at i) b.bodies ≡ Some t → is_bound b i ≡ true
+pub body_bound : (b : SetParts) (i : List ℕ) (t : BodyParts) → find (is_body_at i) b.bodies ≡ Some t
+    → is_bound b i ≡ true
 body_bound b i t h = one_of (has_policy b i) (has_body b i) (found_there (is_body_at i) b.bodies t h)
 
 -- ids that a renaming keeps apart are the same where their new ones are
-pub same_renamed : (h o : Board) (c : List ℕ → List ℕ) → Renames h o c → (i j : List ℕ) → is_bound o i ≡ true
+pub same_renamed : (h o : SetParts) (c : List ℕ → List ℕ) → Renames h o c → (i j : List ℕ) → is_bound o i ≡ true
     → is_bound o j ≡ true → same_text (c i) (c j) ≡ same_text i j
 same_renamed h o c r i j a b = alike (same_text (c i) (c j)) (same_text i j) refl refl
   where
@@ -93,10 +94,10 @@ same_renamed h o c r i j a b = alike (same_text (c i) (c j)) (same_text i j) ref
         (sym (r.apart i j a b ((same_text_decides (c i) (c j)).0 p))) ∙ is_itself i)
     alike false true p q = sym p ∙ ap (λ k. same_text (c i) (c k)) (sym ((same_text_decides i j).0 q)) ∙ is_itself (c i)
 
--- ---- renamed lists, over the things of a board whose ids are bound there
+-- ---- renamed lists, over the things of a policy set whose ids are bound there
 
 -- what stands under the new ids of some things with other ids, where it stands under none of theirs
-pub any_renamed : {A : Type 0} (h o : Board) (c : List ℕ → List ℕ) (id : A → List ℕ) (f : A → A) → Renames h o c
+pub any_renamed : {A : Type 0} (h o : SetParts) (c : List ℕ → List ℕ) (id : A → List ℕ) (f : A → A) → Renames h o c
     → ((x : A) → id (f x) ≡ c (id x)) →
     (i : List ℕ) → is_bound o i ≡ true → (xs : List A) → AreAll (λ x. is_bound o (id x) ≡ true) xs
     → list_any (is_at id (c i)) (map f xs) ≡ list_any (is_at id i) xs
@@ -106,7 +107,7 @@ any_renamed h o c id f r e i b (x ∷ xs) a =
     ∙ ap (λ v. v || list_any (is_at id i) xs) (same_renamed h o c r i (id x) b a.0)
 
 -- things with ids of their own have new ids of their own
-pub once_renamed : {A : Type 0} (h o : Board) (c : List ℕ → List ℕ) (id : A → List ℕ) (f : A → A) → Renames h o c
+pub once_renamed : {A : Type 0} (h o : SetParts) (c : List ℕ → List ℕ) (id : A → List ℕ) (f : A → A) → Renames h o c
     → ((x : A) → id (f x) ≡ c (id x)) →
     (xs : List A) → AreAll (λ x. is_bound o (id x) ≡ true) xs → AreOnce id xs → AreOnce id (map f xs)
 once_renamed h o c id f r e [] a u = tt
@@ -120,12 +121,12 @@ any_kept : {A : Type 0} (p t : A → Bool) (xs : List A) → list_any t xs ≡ f
 any_kept p t [] h = refl
 any_kept p t (x ∷ xs) h = grind (arith, common_steps, any_kept p t xs)
 
-other_id : (h : Board) (i j : List ℕ) → is_bound h i ≡ true → is_bound h j ≡ false → (v : Bool) → same_text i j ≡ v
+other_id : (h : SetParts) (i j : List ℕ) → is_bound h i ≡ true → is_bound h j ≡ false → (v : Bool) → same_text i j ≡ v
     → v ≡ false
 other_id h i j b n false s = refl
 other_id h i j b n true s = absurd (false≢true (sym n ∙ ap (is_bound h) (sym ((same_text_decides i j).0 s)) ∙ b))
 
-not_left : {A : Type 0} (h : Board) (id : A → List ℕ) (i : List ℕ) → is_bound h i ≡ true → (x : A) (xs : List A)
+not_left : {A : Type 0} (h : SetParts) (id : A → List ℕ) (i : List ℕ) → is_bound h i ≡ true → (x : A) (xs : List A)
     → (v : Bool) → is_bound h (id x) ≡ v → list_any (is_at id i) xs ≡ false →
     list_any (is_at id i) (cond (not v) (x ∷ xs) xs) ≡ false
 not_left h id i b x xs true q n = n
@@ -133,7 +134,7 @@ not_left h id i b x xs false q n = ap (λ v. v || list_any (is_at id i) xs)
     (other_id h i (id x) b q (same_text i (id x)) refl) ∙ n
 
 -- and nothing that is bound here is left where that is what is left out
-none_bound_left : {A : Type 0} (h : Board) (id : A → List ℕ) (i : List ℕ) → is_bound h i ≡ true → (xs : List A)
+none_bound_left : {A : Type 0} (h : SetParts) (id : A → List ℕ) (i : List ℕ) → is_bound h i ≡ true → (xs : List A)
     → list_any (is_at id i) (filter (λ x. not (is_bound h (id x))) xs) ≡ false
 none_bound_left h id i b [] = refl
 none_bound_left h id i b (x ∷ xs) =
@@ -180,7 +181,7 @@ find_step c id f p i x y xs rest there k q later false s =
     found_later (is_at id (c i)) (p (f x)) (f x) (f y) rest (there ∙ s) (later (found_tail (is_at id i) x y xs q s))
 
 -- what is found of things is found of the renamed ones that are left, under its new id
-find_renamed : {A : Type 0} (h o : Board) (c : List ℕ → List ℕ) (id : A → List ℕ) (f : A → A) (p : A → Bool)
+find_renamed : {A : Type 0} (h o : SetParts) (c : List ℕ → List ℕ) (id : A → List ℕ) (f : A → A) (p : A → Bool)
     → Renames h o c → ((x : A) → id (f x) ≡ c (id x)) →
     (i : List ℕ) → is_bound o i ≡ true → (y : A) → p (f y) ≡ true → (xs : List A)
     → AreAll (λ x. is_bound o (id x) ≡ true) xs → find (is_at id i) xs ≡ Some y →
@@ -191,7 +192,7 @@ find_renamed h o c id f p r e i b y k (x ∷ xs) a q =
     ∙ same_renamed h o c r i (id x) b a.0) k q
     (λ l. find_renamed h o c id f p r e i b y k xs a.1 l) (same_text i (id x)) refl
 
--- ---- the merged board
+-- ---- the merged policy set
 
 pub body_new : (c : List ℕ → List ℕ) (t : BodyParts) → (renamed_body c t).id ≡ c t.id
 body_new c t = refl
@@ -205,12 +206,13 @@ pub policy_new : (c : List ℕ → List ℕ) (p : PolicyParts) → policy_id (re
 policy_new c p = policy_new_by p.link c p.template.id
 
 -- the ids of what is here stand nowhere in what joins
-apart_from : {A : Type 0} (h : Board) (id : A → List ℕ) (ys xs : List A) → AreAll (λ x. is_bound h (id x) ≡ true) xs →
+apart_from : {A : Type 0} (h : SetParts) (id : A → List ℕ) (ys xs : List A)
+    → AreAll (λ x. is_bound h (id x) ≡ true) xs →
     AreAll (λ x. list_any (is_at id (id x)) (filter (λ y. not (is_bound h (id y))) ys) ≡ false) xs
 apart_from h id ys [] a = tt
 apart_from h id ys (x ∷ xs) a = (none_bound_left h id (id x) a.0 ys, apart_from h id ys xs a.1)
 
-pub bodies_once : (h o : Board) (c : List ℕ → List ℕ) → Renames h o c → IsBoard h → IsBoard o
+pub bodies_once : (h o : SetParts) (c : List ℕ → List ℕ) → Renames h o c → IsPolicySet h → IsPolicySet o
     → AreOnce (λ (t : BodyParts). t.id) (merged h o c).bodies
 bodies_once h o c r x y =
     once-append (λ (t : BodyParts). t.id) h.bodies (joined_bodies h c o.bodies) x.bodies_once
@@ -219,7 +221,7 @@ bodies_once h o c r x y =
     (bodies_bound o) y.bodies_once))
     (apart_from h (λ (t : BodyParts). t.id) (map (renamed_body c) o.bodies) h.bodies (bodies_bound h))
 
-pub policies_once : (h o : Board) (c : List ℕ → List ℕ) → Renames h o c → IsBoard h → IsBoard o
+pub policies_once : (h o : SetParts) (c : List ℕ → List ℕ) → Renames h o c → IsPolicySet h → IsPolicySet o
     → AreOnce policy_id (merged h o c).policies
 policies_once h o c r x y =
     once-append policy_id h.policies (joined_policies h c o.policies) x.policies_once
@@ -231,13 +233,13 @@ no_more : (a b : Bool) → a ≡ false → b ≡ false → (a || b) ≡ false
 no_more a b p q = cc
 
 -- where nothing here has an id that is bound here, nothing has it
-no_body_merged : (h o : Board) (c : List ℕ → List ℕ) (i : List ℕ) → is_bound h i ≡ true → has_body h i ≡ false
+no_body_merged : (h o : SetParts) (c : List ℕ → List ℕ) (i : List ℕ) → is_bound h i ≡ true → has_body h i ≡ false
     → has_body (merged h o c) i ≡ false
 no_body_merged h o c i b n =
     list_any-append (is_body_at i) h.bodies (joined_bodies h c o.bodies)
     ∙ no_more _ _ n (none_bound_left h (λ (t : BodyParts). t.id) i b (map (renamed_body c) o.bodies))
 
-no_policy_merged : (h o : Board) (c : List ℕ → List ℕ) (i : List ℕ) → is_bound h i ≡ true → has_policy h i ≡ false
+no_policy_merged : (h o : SetParts) (c : List ℕ → List ℕ) (i : List ℕ) → is_bound h i ≡ true → has_policy h i ≡ false
     → has_policy (merged h o c) i ≡ false
 no_policy_merged h o c i b n =
     list_any-append (is_policy_at i) h.policies (joined_policies h c o.policies)
@@ -252,7 +254,7 @@ find_after t [] ys h = refl
 find_after t (y ∷ xs) ys h = grind (arith, common_steps, find_after t xs ys)
 
 -- what is here is held still
-held_here : (l : Option (List ℕ)) (h o : Board) (c : List ℕ → List ℕ) (p : PolicyParts)
+held_here : (l : Option (List ℕ)) (h o : SetParts) (c : List ℕ → List ℕ) (p : PolicyParts)
     → is_bound h (unwrap_or l p.template.id) ≡ true → IsHeldBy l h p → IsHeldBy l (merged h o c) p
 held_here None h o c p b k = (
   k.0,
@@ -267,16 +269,17 @@ held_here (Some l) h o c p b k = (
   k.3,
 )
 
-all_held_here : (h o : Board) (c : List ℕ → List ℕ) (ps : List PolicyParts)
+all_held_here : (h o : SetParts) (c : List ℕ → List ℕ) (ps : List PolicyParts)
     → AreAll (λ p. is_bound h (policy_id p) ≡ true) ps → AreHeld h ps → AreHeld (merged h o c) ps
 all_held_here h o c [] b k = tt
 all_held_here h o c (p ∷ ps) b k = (held_here p.link h o c p b.0 k.0, all_held_here h o c ps b.1 k.1)
 
-not_bound : (h : Board) (i : List ℕ) → is_bound h i ≡ false → (has_policy h i ≡ false) × (has_body h i ≡ false)
+not_bound : (h : SetParts) (i : List ℕ) → is_bound h i ≡ false → (has_policy h i ≡ false) × (has_body h i ≡ false)
 not_bound h i n = or_parts _ _ n
 
--- what no policy, or no body, of the other board has under an id, none has under its new id, where that is free here
-no_policy_joined : (h o : Board) (c : List ℕ → List ℕ) (i : List ℕ) → Renames h o c → is_bound o i ≡ true
+-- what no policy, or no body, of the other policy set has under an id, none has under its new id, where that is free
+-- here
+no_policy_joined : (h o : SetParts) (c : List ℕ → List ℕ) (i : List ℕ) → Renames h o c → is_bound o i ≡ true
     → is_bound h (c i) ≡ false → has_policy o i ≡ false → has_policy (merged h o c) (c i) ≡ false
 no_policy_joined h o c i r b n k =
     list_any-append (is_policy_at (c i)) h.policies (joined_policies h c o.policies)
@@ -284,7 +287,7 @@ no_policy_joined h o c i r b n k =
     (any_kept (λ p. not (is_bound h (policy_id p))) (is_policy_at (c i)) (map (renamed_policy c) o.policies)
     (any_renamed h o c policy_id (renamed_policy c) r (policy_new c) i b o.policies (policies_bound o) ∙ k))
 
-no_body_joined : (h o : Board) (c : List ℕ → List ℕ) (i : List ℕ) → Renames h o c → is_bound o i ≡ true
+no_body_joined : (h o : SetParts) (c : List ℕ → List ℕ) (i : List ℕ) → Renames h o c → is_bound o i ≡ true
     → is_bound h (c i) ≡ false → has_body o i ≡ false → has_body (merged h o c) (c i) ≡ false
 no_body_joined h o c i r b n k =
     list_any-append (is_body_at (c i)) h.bodies (joined_bodies h c o.bodies)
@@ -292,8 +295,8 @@ no_body_joined h o c i r b n k =
     (any_kept (λ t. not (is_bound h t.id)) (is_body_at (c i)) (map (renamed_body c) o.bodies)
     (any_renamed h o c (λ (t : BodyParts). t.id) (renamed_body c) r (body_new c) i b o.bodies (bodies_bound o) ∙ k))
 
--- a body of the other board that joins is found under its new id
-body_joined : (h o : Board) (c : List ℕ → List ℕ) (i : List ℕ) (t : BodyParts) → Renames h o c → i ≡ t.id
+-- a body of the other policy set that joins is found under its new id
+body_joined : (h o : SetParts) (c : List ℕ → List ℕ) (i : List ℕ) (t : BodyParts) → Renames h o c → i ≡ t.id
     → is_bound h (c i) ≡ false → find (is_body_at i) o.bodies ≡ Some t →
     find (is_body_at (c i)) (merged h o c).bodies ≡ Some (renamed_body c t)
 body_joined h o c i t r e n f =
@@ -302,7 +305,7 @@ body_joined h o c i t r e n f =
     (body_bound o i t f) t
     (ap (λ j. not (is_bound h (c j))) (sym e) ∙ ap not n) o.bodies (bodies_bound o) f
 
--- an id that is bound alike is a template's in both boards, where it is in the other
+-- an id that is bound alike is a template's in both policy sets, where it is in the other
 option_same : {X : Type 0} (same : X → X → Bool) (a b : Option X) → ((x y : X) → same x y ≡ true → x ≡ y)
     → option_eq same a b ≡ true → a ≡ b
 option_same same None None d h = refl
@@ -314,7 +317,7 @@ both_true : (a b : Bool) → (a && b) ≡ true → (a ≡ true) × (b ≡ true)
 both_true true b h = (refl, h)
 both_true false b h = absurd (false≢true h)
 
-pub same_bodies_at : (h o : Board) (i : List ℕ) → is_same_at h o i ≡ true
+pub same_bodies_at : (h o : SetParts) (i : List ℕ) → is_same_at h o i ≡ true
     → find (is_body_at i) h.bodies ≡ find (is_body_at i) o.bodies
 same_bodies_at h o i s = option_same same_body _ _ (λ t u. (same_body_decides t u).0) (both_true _ _ s).1
 
@@ -323,16 +326,17 @@ none_by same None b e h = refl
 none_by same (Some x) None e h = absurd (cc)
 none_by same (Some x) (Some y) e h = absurd (cc)
 
-no_policy_alike : (h o : Board) (i : List ℕ) → is_same_at h o i ≡ true → has_policy o i ≡ false → has_policy h i ≡ false
+no_policy_alike : (h o : SetParts) (i : List ℕ) → is_same_at h o i ≡ true → has_policy o i ≡ false
+    → has_policy h i ≡ false
 no_policy_alike h o i s n = none_is (is_policy_at i) h.policies
     (none_by same_policy _ _ (find-unless (is_policy_at i) o.policies n) (both_true _ _ s).0)
 
 -- the template of a link that joins: under its new id, which is no policy's
-abbrev TemplateJoins : Board → Board → (List ℕ → List ℕ) → BodyParts → Type 0
+abbrev TemplateJoins : SetParts → SetParts → (List ℕ → List ℕ) → BodyParts → Type 0
 TemplateJoins h o c t = (find (is_body_at (c t.id)) (merged h o c).bodies ≡ Some (renamed_body c t))
     × (has_policy (merged h o c) (c t.id) ≡ false)
 
-template_joins_by : (v : Bool) (h o : Board) (c : List ℕ → List ℕ) (t : BodyParts) → Renames h o c
+template_joins_by : (v : Bool) (h o : SetParts) (c : List ℕ → List ℕ) (t : BodyParts) → Renames h o c
     → find (is_body_at t.id) o.bodies ≡ Some t → has_policy o t.id ≡ false → is_bound h (c t.id) ≡ v
     → TemplateJoins h o c t
 template_joins_by false h o c t r f n e = (
@@ -360,7 +364,7 @@ template_joins_by true h o c t r f n e =
     )
 
 -- what joins is held
-held_joined : (l : Option (List ℕ)) (h o : Board) (c : List ℕ → List ℕ) (p : PolicyParts) → Renames h o c
+held_joined : (l : Option (List ℕ)) (h o : SetParts) (c : List ℕ → List ℕ) (p : PolicyParts) → Renames h o c
     → is_bound o (unwrap_or l p.template.id) ≡ true → is_bound h (c (unwrap_or l p.template.id)) ≡ false →
     IsHeldBy l o p → IsHeldBy (option_map c l) (merged h o c) (record {
       template = renamed_body c p.template;
@@ -382,7 +386,7 @@ held_joined (Some l) h o c p r b n k =
     let t = template_joins_by (is_bound h (c p.template.id)) h o c p.template r k.1 k.2 refl in
     (no_body_joined h o c l r b n k.0, t.0, t.1, k.3)
 
-joined_by : (v : Bool) (h o : Board) (c : List ℕ → List ℕ) (p : PolicyParts) (qs : List PolicyParts) → Renames h o c
+joined_by : (v : Bool) (h o : SetParts) (c : List ℕ → List ℕ) (p : PolicyParts) (qs : List PolicyParts) → Renames h o c
     → is_bound o (policy_id p) ≡ true → IsHeld o p → is_bound h (policy_id (renamed_policy c p)) ≡ v →
     AreHeld (merged h o c) qs → AreHeld (merged h o c) (cond (not v) (renamed_policy c p ∷ qs) qs)
 joined_by true h o c p qs r b k e a = a
@@ -392,7 +396,7 @@ joined_by false h o c p qs r b k e a = (
   a,
 )
 
-all_held_joined : (h o : Board) (c : List ℕ → List ℕ) (ps : List PolicyParts) → Renames h o c
+all_held_joined : (h o : SetParts) (c : List ℕ → List ℕ) (ps : List PolicyParts) → Renames h o c
     → AreAll (λ p. is_bound o (policy_id p) ≡ true) ps → AreHeld o ps →
     AreHeld (merged h o c) (filter (λ p. not (is_bound h (policy_id p))) (map (renamed_policy c) ps))
 all_held_joined h o c [] r b k = tt
@@ -400,14 +404,14 @@ all_held_joined h o c (p ∷ ps) r b k =
     joined_by (is_bound h (policy_id (renamed_policy c p))) h o c p _ r b.0 k.0 refl
     (all_held_joined h o c ps r b.1 k.1)
 
-held-append : (b : Board) (ps qs : List PolicyParts) → AreHeld b ps → AreHeld b qs → AreHeld b (ps ++ qs)
+held-append : (b : SetParts) (ps qs : List PolicyParts) → AreHeld b ps → AreHeld b qs → AreHeld b (ps ++ qs)
 held-append b [] qs h k = k
 held-append b (p ∷ ps) qs h k = (h.0, held-append b ps qs h.1 k)
 
--- the merged board is one
-pub merged_is_board : (h o : Board) (c : List ℕ → List ℕ) → Renames h o c → IsBoard h → IsBoard o
-    → IsBoard (merged h o c)
-merged_is_board h o c r x y = record {
+-- the merged policy set is one
+pub merged_is_set : (h o : SetParts) (c : List ℕ → List ℕ) → Renames h o c → IsPolicySet h → IsPolicySet o
+    → IsPolicySet (merged h o c)
+merged_is_set h o c r x y = record {
   bodies_once = bodies_once h o c r x y;
   policies_once = policies_once h o c r x y;
   held = held-append (merged h o c) h.policies (joined_policies h c o.policies)

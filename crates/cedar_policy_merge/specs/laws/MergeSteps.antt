@@ -11,7 +11,7 @@ use Rattle.std.proofs.lemmas.List.Elements.{filter-append}
 use Rattle.cedar_ids.specs.Texts.{same_text}
 use Rattle.cedar_body.specs.Bodies.{BodyParts, with_id}
 use Rattle.cedar_policy.specs.Policies.{PolicyParts, policy_id, renamed, with_policy_id}
-use Rattle.cedar_policy_maps.specs.Boards.{Board, AreOnce, is_bound}
+use Rattle.cedar_policy_maps.specs.PolicySets.{SetParts, AreOnce, is_bound}
 use Rattle.cedar_policy_merge.specs.Merge.{has_body, has_policy, body_ids, policy_ids, conflicting, conflicts, gathered}
 use Rattle.cedar_policy_merge.specs.Merge.{is_same_at, renamed_body, renamed_policy, joined_bodies, joined_policies}
 use Rattle.cedar_policy_maps.specs.Views.{bodies_of}
@@ -37,7 +37,7 @@ gathered-append seen [] ys = refl
 gathered-append seen (x ∷ xs) ys = gathered-append (if list_any (same_text x) seen then seen else seen ++ x ∷ []) xs ys
 
 -- the first of some ids
-pub gathered_first : (h o : Board) (stands : List ℕ → Bool) (seen xs : List (List ℕ)) (x : List ℕ) →
+pub gathered_first : (h o : SetParts) (stands : List ℕ → Bool) (seen xs : List (List ℕ)) (x : List ℕ) →
     gathered (gathered seen (conflicting h o stands (x ∷ []))) (conflicting h o stands xs)
     ≡ gathered seen (conflicting h o stands (x ∷ xs))
 gathered_first h o stands seen xs x =
@@ -58,13 +58,13 @@ once_gathered seen (x ∷ xs) h =
     ++ x ∷ []) xs (once_step x seen (list_any (same_text x) seen) refl h)
 
 -- one more body, and one more policy
-pub joined_body_more : (h : Board) (c : List ℕ → List ℕ) (xs : List BodyParts) (x : BodyParts)
+pub joined_body_more : (h : SetParts) (c : List ℕ → List ℕ) (xs : List BodyParts) (x : BodyParts)
     → joined_bodies h c (xs ++ x ∷ []) ≡ joined_bodies h c xs ++ joined_bodies h c (x ∷ [])
 joined_body_more h c xs x =
     ap (filter (λ (t : BodyParts). not (is_bound h t.id))) (map-append (renamed_body c) xs (x ∷ []))
     ∙ filter-append (λ (t : BodyParts). not (is_bound h t.id)) (map (renamed_body c) xs) (map (renamed_body c) (x ∷ []))
 
-pub joined_policy_more : (h : Board) (c : List ℕ → List ℕ) (xs : List PolicyParts) (x : PolicyParts)
+pub joined_policy_more : (h : SetParts) (c : List ℕ → List ℕ) (xs : List PolicyParts) (x : PolicyParts)
     → joined_policies h c (xs ++ x ∷ []) ≡ joined_policies h c xs ++ joined_policies h c (x ∷ [])
 joined_policy_more h c xs x =
     ap (filter (λ p. not (is_bound h (policy_id p)))) (map-append (renamed_policy c) xs (x ∷ []))
@@ -118,7 +118,7 @@ pub same_id_kept : (p : PolicyParts) → with_policy_id (policy_id p) p ≡ p
 same_id_kept p = own_id p.link p refl
 
 -- one more body joins, if it does
-pub joined_body_step : (h : Board) (c : List ℕ → List ℕ) (ts : List (Rc BodyParts Global)) (k : ℕ)
+pub joined_body_step : (h : SetParts) (c : List ℕ → List ℕ) (ts : List (Rc BodyParts Global)) (k : ℕ)
     (t : Rc BodyParts Global) (old now new : List BodyParts) → k < length ts → t ≡ get_or ts k t →
     now ≡ old ++ joined_bodies h c (bodies_of (take k ts)) → new ≡ now ++ joined_bodies h c (t.value ∷ [])
     → new ≡ old ++ joined_bodies h c (bodies_of (take (k + 1) ts))
@@ -128,7 +128,7 @@ joined_body_step h c ts k t old now new l e n m =
     ∙ ap (λ x. old ++ x) (sym (joined_body_more h c (bodies_of (take k ts)) t.value))
     ∙ ap (λ x. old ++ joined_bodies h c x) (sym (bodies_more ts k t l e))
 
-pub joined_policy_step : (h : Board) (c : List ℕ → List ℕ) (ps : List PolicyParts) (k : ℕ) (p : PolicyParts)
+pub joined_policy_step : (h : SetParts) (c : List ℕ → List ℕ) (ps : List PolicyParts) (k : ℕ) (p : PolicyParts)
     (old now new : List PolicyParts) → k < length ps → p ≡ get_or ps k p →
     now ≡ old ++ joined_policies h c (take k ps) → new ≡ now ++ joined_policies h c (p ∷ [])
     → new ≡ old ++ joined_policies h c (take (k + 1) ps)
@@ -139,7 +139,7 @@ joined_policy_step h c ps k p old now new l e n m =
     ∙ ap (λ x. old ++ joined_policies h c x) (sym (policies_more ps k p l e))
 
 -- ids that conflict stand once
-pub once_conflicts : (h o : Board) → AreOnce (λ (i : List ℕ). i) (conflicts h o)
+pub once_conflicts : (h o : SetParts) → AreOnce (λ (i : List ℕ). i) (conflicts h o)
 once_conflicts h o =
     once_gathered []
     (conflicting h o (has_body h) (body_ids o)

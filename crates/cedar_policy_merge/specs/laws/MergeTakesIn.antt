@@ -12,14 +12,15 @@ use Rattle.cedar_ids.specs.Texts.{same_text}
 use Rattle.cedar_ids.specs.laws.TextLaws.{same_text_decides}
 use Rattle.cedar_body.specs.Bodies.{BodyParts}
 use Rattle.cedar_policy.specs.Policies.{PolicyParts, policy_id}
-use Rattle.cedar_policy_maps.specs.Boards.{Board, is_bound, is_body_at, is_policy_at, IsHeldBy, AreHeld, IsBoard}
+use Rattle.cedar_policy_maps.specs.PolicySets.{SetParts, is_bound, is_body_at, is_policy_at, IsHeldBy, AreHeld}
+use Rattle.cedar_policy_maps.specs.PolicySets.{IsPolicySet}
 use Rattle.cedar_policy_maps.specs.Lists.{is_on}
 use Rattle.cedar_policy_merge.specs.Merge.{renamed_body, renamed_policy, joined_bodies, joined_policies}
-use Rattle.cedar_policy_maps.specs.laws.BoardLaws.{no_body_at, no_policy_at}
+use Rattle.cedar_policy_maps.specs.laws.SetLaws.{no_body_at, no_policy_at}
 use Rattle.cedar_policy_maps.specs.TakenIn.{HaveIdsFreeOf, AreOnly, AreBare, CanTakeIn}
 use Rattle.cedar_policy_maps.specs.laws.MapLaws.{none_on_it}
 use Rattle.cedar_policy_merge.specs.laws.MergeLaws.{Renames, AreAll, bodies_bound, body_bound, body_new, found_there}
-use Rattle.cedar_policy_merge.specs.laws.MergeLaws.{any_renamed, once_renamed, merged_is_board}
+use Rattle.cedar_policy_merge.specs.laws.MergeLaws.{any_renamed, once_renamed, merged_is_set}
 use Rattle.cedar_policy_maps.specs.Views.{bodies_of}
 use Rattle.cedar_policy_maps.specs.laws.Walks.{bodies_more}
 use Rattle.cedar_policy_maps.specs.laws.TemplateLaws.{none-filter}
@@ -32,18 +33,18 @@ abbrev own_body : PolicyParts → List ℕ
 own_body p = p.template.id
 
 -- bodies under the ids of a renaming that are bound here
-abbrev pub standing_bodies : Board → (List ℕ → List ℕ) → List BodyParts → List BodyParts
+abbrev pub standing_bodies : SetParts → (List ℕ → List ℕ) → List BodyParts → List BodyParts
 standing_bodies here c ts = filter (λ t. is_bound here t.id) (map (renamed_body c) ts)
 
 -- ---- one body after another
 
-standing_more : (h : Board) (c : List ℕ → List ℕ) (xs : List BodyParts) (x : BodyParts)
+standing_more : (h : SetParts) (c : List ℕ → List ℕ) (xs : List BodyParts) (x : BodyParts)
     → standing_bodies h c (xs ++ x ∷ []) ≡ standing_bodies h c xs ++ standing_bodies h c (x ∷ [])
 standing_more h c xs x =
     ap (filter (λ (t : BodyParts). is_bound h t.id)) (map-append (renamed_body c) xs (x ∷ []))
     ∙ filter-append (λ (t : BodyParts). is_bound h t.id) (map (renamed_body c) xs) (map (renamed_body c) (x ∷ []))
 
-pub standing_body_step : (h : Board) (c : List ℕ → List ℕ) (ts : List (Rc BodyParts Global)) (k : ℕ)
+pub standing_body_step : (h : SetParts) (c : List ℕ → List ℕ) (ts : List (Rc BodyParts Global)) (k : ℕ)
     (t : Rc BodyParts Global) (old now new : List BodyParts) → k < length ts → t ≡ get_or ts k t →
     now ≡ old ++ standing_bodies h c (bodies_of (take k ts)) → new ≡ now ++ standing_bodies h c (t.value ∷ [])
     → new ≡ old ++ standing_bodies h c (bodies_of (take (k + 1) ts))
@@ -55,17 +56,18 @@ standing_body_step h c ts k t old now new l e n m =
 
 -- ---- what a merge takes in can be taken in
 
-bare_at : (v : Bool) (h : Board) (t : BodyParts) (ts : List BodyParts) → IsBoard h → is_bound h t.id ≡ v
+bare_at : (v : Bool) (h : SetParts) (t : BodyParts) (ts : List BodyParts) → IsPolicySet h → is_bound h t.id ≡ v
     → AreBare ts h.policies → AreBare (cond (not v) (t ∷ ts) ts) h.policies
 bare_at true h t ts x e r = r
 bare_at false h t ts x e r = (none_on_it h t.id h.policies (no_body_at h t.id e) x.held, r)
 
-all_bare : (h : Board) (ts : List BodyParts) → IsBoard h → AreBare (filter (λ t. not (is_bound h t.id)) ts) h.policies
+all_bare : (h : SetParts) (ts : List BodyParts) → IsPolicySet h
+    → AreBare (filter (λ t. not (is_bound h t.id)) ts) h.policies
 all_bare h [] x = tt
 all_bare h (t ∷ ts) x = bare_at (is_bound h t.id) h t (filter (λ t. not (is_bound h t.id)) ts) x refl (all_bare h ts x)
 
 -- a body with an id that is bound here is among those that stand here
-unfiltered : (h : Board) (i : List ℕ) (ts : List BodyParts) → is_bound h i ≡ true
+unfiltered : (h : SetParts) (i : List ℕ) (ts : List BodyParts) → is_bound h i ≡ true
     → list_any (is_body_at i) (filter (λ t. is_bound h t.id) ts) ≡ false → list_any (is_body_at i) ts ≡ false
 unfiltered h i ts b n =
     none_is (is_body_at i) ts
@@ -73,7 +75,7 @@ unfiltered h i ts b n =
     (λ t e. ap (is_bound h) (sym ((same_text_decides i t.id).0 e)) ∙ b))
     ∙ find-unless (is_body_at i) (filter (λ t. is_bound h t.id) ts) n)
 
-off_at : (v : Bool) (h o : Board) (c : List ℕ → List ℕ) (i : List ℕ) (t : BodyParts) → Renames h o c
+off_at : (v : Bool) (h o : SetParts) (c : List ℕ → List ℕ) (i : List ℕ) (t : BodyParts) → Renames h o c
     → is_bound h i ≡ true → list_any (is_body_at i) (standing_bodies h c o.bodies) ≡ false →
     find (is_body_at t.id) o.bodies ≡ Some t → same_text i (c t.id) ≡ v → v ≡ false
 off_at false h o c i t r b n f e = refl
@@ -85,7 +87,7 @@ off_at true h o c i t r b n f e =
     ∙ any_renamed h o c body_id (renamed_body c) r (body_new c) t.id (body_bound o t.id t f) o.bodies (bodies_bound o)
     ∙ found_there (is_body_at t.id) o.bodies t f))
 
-held_body : (l : Option (List ℕ)) (b : Board) (p : PolicyParts) → IsHeldBy l b p
+held_body : (l : Option (List ℕ)) (b : SetParts) (p : PolicyParts) → IsHeldBy l b p
     → find (is_body_at p.template.id) b.bodies ≡ Some p.template
 held_body None b p k = k.2
 held_body (Some l) b p k = k.1
@@ -93,7 +95,7 @@ held_body (Some l) b p k = k.1
 no_more : (a b : Bool) → a ≡ false → b ≡ false → (a || b) ≡ false
 no_more a b p q = cc
 
-none_renamed_on : (h o : Board) (c : List ℕ → List ℕ) (i : List ℕ) (ps : List PolicyParts) → Renames h o c
+none_renamed_on : (h o : SetParts) (c : List ℕ → List ℕ) (i : List ℕ) (ps : List PolicyParts) → Renames h o c
     → is_bound h i ≡ true → list_any (is_body_at i) (standing_bodies h c o.bodies) ≡ false → AreHeld o ps →
     list_any (is_on i) (map (renamed_policy c) ps) ≡ false
 none_renamed_on h o c i [] r b n k = refl
@@ -102,7 +104,7 @@ none_renamed_on h o c i (p ∷ ps) r b n k =
     (none_renamed_on h o c i ps r b n k.1)
 
 -- what joins is on no body here but those that stand in both
-all_only : (h o : Board) (c : List ℕ → List ℕ) (ts : List BodyParts) → Renames h o c → IsBoard o
+all_only : (h o : SetParts) (c : List ℕ → List ℕ) (ts : List BodyParts) → Renames h o c → IsPolicySet o
     → AreAll (λ (t : BodyParts). is_bound h t.id ≡ true) ts →
     AreOnly ts (standing_bodies h c o.bodies) (joined_policies h c o.policies)
 all_only h o c [] r y a = tt
@@ -113,11 +115,11 @@ all_only h o c (t ∷ ts) r y a = (
 )
 
 -- and no policy that joins has the id of a body here, nor one here that of a body that joins
-bound_fails : (h : Board) (i : List ℕ) (p : PolicyParts) → is_bound h i ≡ true → is_policy_at i p ≡ true
+bound_fails : (h : SetParts) (i : List ℕ) (p : PolicyParts) → is_bound h i ≡ true → is_policy_at i p ≡ true
     → not (is_bound h (policy_id p)) ≡ false
 bound_fails h i p b e = ap (λ k. not (is_bound h k)) (sym ((same_text_decides i (policy_id p)).0 e)) ∙ ap not b
 
-all_beside : (h : Board) (ts : List BodyParts) (ps : List PolicyParts)
+all_beside : (h : SetParts) (ts : List BodyParts) (ps : List PolicyParts)
     → AreAll (λ (t : BodyParts). is_bound h t.id ≡ true) ts
     → HaveIdsFreeOf ts (filter (λ p. not (is_bound h (policy_id p))) ps)
 all_beside h [] ps a = tt
@@ -127,19 +129,19 @@ all_beside h (t ∷ ts) ps a = (
   all_beside h ts ps a.1,
 )
 
-behind_at : (v : Bool) (h : Board) (t : BodyParts) (ts : List BodyParts) → is_bound h t.id ≡ v
+behind_at : (v : Bool) (h : SetParts) (t : BodyParts) (ts : List BodyParts) → is_bound h t.id ≡ v
     → HaveIdsFreeOf ts h.policies → HaveIdsFreeOf (cond (not v) (t ∷ ts) ts) h.policies
 behind_at true h t ts e r = r
 behind_at false h t ts e r = (no_policy_at h t.id e, r)
 
-all_behind : (h : Board) (ts : List BodyParts) → HaveIdsFreeOf (filter (λ t. not (is_bound h t.id)) ts) h.policies
+all_behind : (h : SetParts) (ts : List BodyParts) → HaveIdsFreeOf (filter (λ t. not (is_bound h t.id)) ts) h.policies
 all_behind h [] = tt
 all_behind h (t ∷ ts) = behind_at (is_bound h t.id) h t (filter (λ t. not (is_bound h t.id)) ts) refl (all_behind h ts)
 
-pub takes_in : (h o : Board) (c : List ℕ → List ℕ) → Renames h o c → IsBoard h → IsBoard o
+pub takes_in : (h o : SetParts) (c : List ℕ → List ℕ) → Renames h o c → IsPolicySet h → IsPolicySet o
     → CanTakeIn h (standing_bodies h c o.bodies) (joined_bodies h c o.bodies) (joined_policies h c o.policies)
 takes_in h o c r x y = record {
-  board = merged_is_board h o c r x y;
+  policy_set = merged_is_set h o c r x y;
   beside = all_beside h h.bodies (map (renamed_policy c) o.policies) (bodies_bound h);
   behind = all_behind h (map (renamed_body c) o.bodies);
   once = once-filter body_id (λ t. is_bound h t.id) (map (renamed_body c) o.bodies)

@@ -13,7 +13,7 @@ use Rattle.cedar_ids.specs.laws.TextLaws.{same_text_equiv, same_text_decides}
 use Rattle.cedar_body.specs.Bodies.{BodyParts}
 use Rattle.cedar_binding.specs.laws.Fits.{same_answer}
 use Rattle.cedar_policy.specs.Policies.{policy_id}
-use Rattle.cedar_policy_maps.specs.Boards.{Board, AreOnce, is_bound}
+use Rattle.cedar_policy_maps.specs.PolicySets.{SetParts, AreOnce, is_bound}
 use Rattle.cedar_policy_merge.specs.Fresh.{numbered, is_bound_in_either, free_below, IsFree, AreFree}
 use Rattle.cedar_policy_merge.specs.Merge.{has_body, has_policy, body_ids, policy_ids, is_same_at, conflicting}
 use Rattle.cedar_policy_merge.specs.Merge.{gathered}
@@ -97,13 +97,14 @@ both_true true false p q = refl
 both_true true true p q = absurd (false≢true (sym q))
 both_true false b p q = absurd (false≢true p)
 
-pub in_conflicting : (h o : Board) (stands : List ℕ → Bool) (is : List (List ℕ)) (i : List ℕ) → stands i ≡ true
+pub in_conflicting : (h o : SetParts) (stands : List ℕ → Bool) (is : List (List ℕ)) (i : List ℕ) → stands i ≡ true
     → is_same_at h o i ≡ false → is_in i is ≡ true → is_in i (conflicting h o stands is) ≡ true
 in_conflicting h o stands is i s d h' = in_filter (λ j. stands j
     && not (is_same_at h o j)) i is (both_true (stands i) (is_same_at h o i) s d) h'
 
--- an id that is bound in both boards to something else is one of the conflicting ones
-conflicts_by : (h o : Board) (i : List ℕ) → is_same_at h o i ≡ false → (has_policy o i ≡ true) ⊎ (has_body o i ≡ true)
+-- an id that is bound in both policy sets to something else is one of the conflicting ones
+conflicts_by : (h o : SetParts) (i : List ℕ) → is_same_at h o i ≡ false
+    → (has_policy o i ≡ true) ⊎ (has_body o i ≡ true)
     → (has_policy h i ≡ true) ⊎ (has_body h i ≡ true) → is_in i (conflicts h o) ≡ true
 conflicts_by h o i d (inr b) (inr t) =
     gathers i [] _ (in_first i _ _ (in_conflicting h o (has_body h) (body_ids o) i t d
@@ -123,8 +124,8 @@ conflicts_by h o i d (inl b) (inr t) =
     (in_second i (conflicting h o (has_policy h) (body_ids o)) _
     (in_conflicting h o (has_body h) (policy_ids o) i t d (any-map policy_id (same_text i) o.policies ∙ b)))))
 
-pub conflict_found : (h o : Board) (i : List ℕ) → is_bound h i ≡ true → is_bound o i ≡ true → is_same_at h o i ≡ false
-    → is_in i (conflicts h o) ≡ true
+pub conflict_found : (h o : SetParts) (i : List ℕ) → is_bound h i ≡ true → is_bound o i ≡ true
+    → is_same_at h o i ≡ false → is_in i (conflicts h o) ≡ true
 conflict_found h o i b c d = conflicts_by h o i d (either_of (has_policy o i) (has_body o i) c)
     (either_of (has_policy h i) (has_body h i) b)
 
@@ -183,8 +184,8 @@ found_apart bound k (x ∷ r) i j v a p q =
     apart_at bound k x i j v r a.0 a.1 (λ y z. found_apart bound (k + 1) r i j v a.1 y z) (same_text i x.0)
     (same_text j x.0) refl refl p q
 
--- a new id is bound in neither board
-pub not_bound_new : (h o : Board) (r : List (List ℕ × List ℕ)) (i v : List ℕ)
+-- a new id is bound in neither policy set
+pub not_bound_new : (h o : SetParts) (r : List (List ℕ × List ℕ)) (i v : List ℕ)
     → AreFree (is_bound_in_either h o) 0 (values_of r) → lookup (same_text i) r ≡ Some v → (is_bound h v ≡ false)
     × (is_bound o v ≡ false)
 not_bound_new h o r i v a e =
@@ -194,7 +195,7 @@ not_bound_new h o r i v a e =
 
 -- ---- what the renaming of a merge keeps
 
-apart_by : (h o : Board) (r : List (List ℕ × List ℕ)) (i j : List ℕ) (a b : Option (List ℕ)) → IsRenaming h o r
+apart_by : (h o : SetParts) (r : List (List ℕ × List ℕ)) (i j : List ℕ) (a b : Option (List ℕ)) → IsRenaming h o r
     → is_bound o i ≡ true → is_bound o j ≡ true → lookup (same_text i) r ≡ a → lookup (same_text j) r ≡ b →
     unwrap_or a i ≡ unwrap_or b j → i ≡ j
 apart_by h o r i j None None n b c p q e = e
@@ -205,11 +206,12 @@ apart_by h o r i j None (Some w) n b c p q e = absurd (false≢true (sym (not_bo
 apart_by h o r i j (Some v) (Some w) n b c p q e = found_apart (is_bound_in_either h o) 0 r i j v n.1 p (q
     ∙ ap Some (sym e))
 
-same_unless : (h o : Board) (i : List ℕ) (v : Bool) → is_same_at h o i ≡ v → (is_same_at h o i ≡ false → ⊥) → v ≡ true
+same_unless : (h o : SetParts) (i : List ℕ) (v : Bool) → is_same_at h o i ≡ v → (is_same_at h o i ≡ false → ⊥)
+    → v ≡ true
 same_unless h o i true e n = refl
 same_unless h o i false e n = absurd (n e)
 
-kept_unless : (h o : Board) (r : List (List ℕ × List ℕ)) (i : List ℕ) (a : Option (List ℕ)) → IsRenaming h o r
+kept_unless : (h o : SetParts) (r : List (List ℕ × List ℕ)) (i : List ℕ) (a : Option (List ℕ)) → IsRenaming h o r
     → is_bound o i ≡ true → lookup (same_text i) r ≡ a → is_bound h (unwrap_or a i) ≡ true →
     (unwrap_or a i ≡ i) × (is_same_at h o i ≡ true)
 kept_unless h o r i (Some v) n b e f = absurd (false≢true (sym (not_bound_new h o r i v n.1 e).0 ∙ f))
@@ -217,8 +219,8 @@ kept_unless h o r i None n b e f =
     let free : is_in i (conflicts h o) ≡ false = ap (is_in i) (sym n.0) ∙ not_a_key r i e in
     (refl, same_unless h o i (is_same_at h o i) refl (λ d. absurd (false≢true (sym free ∙ conflict_found h o i f b d))))
 
--- a renaming of a merge keeps ids apart, and what keeps its id is bound alike in both boards
-pub renames : (h o : Board) (r : List (List ℕ × List ℕ)) → IsRenaming h o r → Renames h o (new_id r)
+-- a renaming of a merge keeps ids apart, and what keeps its id is bound alike in both policy sets
+pub renames : (h o : SetParts) (r : List (List ℕ × List ℕ)) → IsRenaming h o r → Renames h o (new_id r)
 renames h o r n = record {
   apart = λ i j b c e. apart_by h o r i j (lookup (same_text i) r) (lookup (same_text j) r) n b c refl refl e;
   kept = λ i b f. kept_unless h o r i (lookup (same_text i) r) n b refl f;
@@ -300,7 +302,7 @@ pub in_gathered : (i : List ℕ) (xs : List (List ℕ)) → is_in i (gathered []
 in_gathered i xs = same_answer (is_in i (gathered [] xs)) (is_in i xs) (λ h. from_gathered i [] xs h)
     (λ h. gathers i [] xs h)
 
-bound_in_ids : (h o : Board) (i : List ℕ) → is_bound_in_either h o i ≡ is_in i (bound_ids h o)
+bound_in_ids : (h o : SetParts) (i : List ℕ) → is_bound_in_either h o i ≡ is_in i (bound_ids h o)
 bound_in_ids h o i = either_among_ids h o i ∙ sym (in_gathered i (ids_of h ++ ids_of o))
 
 -- the numbers of free ids from the k-th on are below the number of bound ids and of these
@@ -311,7 +313,7 @@ below bound xs k m (i ∷ is) q l a =
     let w = free_within bound xs a.0.0 q in
     ((a.0.0, a.0.1, omega (arith, w, a.0.2.1)), below bound xs (k + 1) m is q (omega arith) a.1)
 
-pub numbers_below : (h o : Board) (es : List (List ℕ × List ℕ)) → AreFree (is_bound_in_either h o) 0 (values_of es)
+pub numbers_below : (h o : SetParts) (es : List (List ℕ × List ℕ)) → AreFree (is_bound_in_either h o) 0 (values_of es)
     → AreBelow (length (bound_ids h o) + length es) (values_of es)
 numbers_below h o es a = below (is_bound_in_either h o) (bound_ids h o) 0 (length es) (values_of es) (bound_in_ids h o)
     (omega (arith, length-map es (λ (e : List ℕ × List ℕ). e.1))) a

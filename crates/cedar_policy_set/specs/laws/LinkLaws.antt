@@ -10,36 +10,38 @@ use Rattle.cedar_terms.specs.declared.slot.SlotId.{SlotId}
 use Rattle.cedar_body.specs.Bodies.{BodyParts, body_slots}
 use Rattle.cedar_binding.specs.Bindings.{EnvParts, unbound, extra, wrong_action}
 use Rattle.cedar_policy.specs.Policies.{PolicyParts}
-use Rattle.cedar_policy_maps.specs.Boards.{Board, Binding, Static, Template, Link, bound_at, bound_among, is_bound}
-use Rattle.cedar_policy_maps.specs.Boards.{is_body_at, is_policy_at, with_policy, without_id}
+use Rattle.cedar_policy_maps.specs.PolicySets.{SetParts, Binding, Static, Template, Link, bound_at, bound_among}
+use Rattle.cedar_policy_maps.specs.PolicySets.{is_bound}
+use Rattle.cedar_policy_maps.specs.PolicySets.{is_body_at, is_policy_at, with_policy, without_id}
 use Rattle.cedar_policy_set.specs.Steps.{Refusal, id_conflict, fitting, link_onto, link_at, link_step, unlinked_at}
 use Rattle.cedar_policy_set.specs.Steps.{unlink_step, UnlinksTo}
 use Rattle.cedar_binding.specs.declared.err.LinkingError.{LinkingError}
 use Rattle.cedar_policy_set.specs.Refusals.{Steps, told_by_linking}
-use Rattle.cedar_policy_maps.specs.laws.BoardLaws.{undone}
+use Rattle.cedar_policy_maps.specs.laws.SetLaws.{undone}
 
 abbrev link_of : BodyParts → List ℕ → EnvParts → PolicyParts
 link_of t l e = record { template = t; link = Some l; env = e }
 
-fitted : (us xs : List SlotId) (o : Option UidParts) (r : Result Board Refusal) (c : Board) → fitting us xs o r ≡ Ok c
-    → r ≡ Ok c
+fitted : (us xs : List SlotId) (o : Option UidParts) (r : Result SetParts Refusal) (c : SetParts)
+    → fitting us xs o r ≡ Ok c → r ≡ Ok c
 fitted [] [] None r c h = h
 fitted [] [] (Some u) r c h = absurd (cc)
 fitted [] (x ∷ xs) o r c h = absurd (cc)
 fitted (u ∷ us) [] o r c h = absurd (cc)
 fitted (u ∷ us) (x ∷ xs) o r c h = absurd (cc)
 
-freed : (v : Bool) (b c : Board) (l : List ℕ) (p : PolicyParts)
+freed : (v : Bool) (b c : SetParts) (l : List ℕ) (p : PolicyParts)
     → (if v then Err (id_conflict l) else Ok (with_policy b p)) ≡ Ok c → (v ≡ false) × (with_policy b p ≡ c)
 freed true b c l p h = absurd (cc)
 freed false b c l p h = (refl, cc)
 
--- what a step of linking says of the board after it
-abbrev Joined : Option Binding → Board → Board → List ℕ → EnvParts → Type 0
+-- what a step of linking says of the policy set after it
+abbrev Joined : Option Binding → SetParts → SetParts → List ℕ → EnvParts → Type 0
 Joined x b c l e = (t : BodyParts) × (x ≡ Some (Template t)) × (is_bound b l ≡ false)
     × (with_policy b (link_of t l e) ≡ c)
 
-joined : (x : Option Binding) (b c : Board) (i l : List ℕ) (e : EnvParts) → link_at x b i l e ≡ Ok c → Joined x b c l e
+joined : (x : Option Binding) (b c : SetParts) (i l : List ℕ) (e : EnvParts) → link_at x b i l e ≡ Ok c
+    → Joined x b c l e
 joined None b c i l e h = absurd (cc)
 joined (Some (Static t)) b c i l e h = absurd (cc)
 joined (Some (Link k t v)) b c i l e h = absurd (cc)
@@ -60,7 +62,7 @@ found_last : (q : PolicyParts → Bool) (ps : List PolicyParts) (p : PolicyParts
 found_last q [] p n t = ap (λ v. cond v (Some p) None) t
 found_last q (x ∷ ps) p n t = found_at (q x) q x p ps n (λ m. found_last q ps p m t)
 
-unlinked : (b : Board) (t : BodyParts) (l : List ℕ) (e : EnvParts) → is_bound b l ≡ false
+unlinked : (b : SetParts) (t : BodyParts) (l : List ℕ) (e : EnvParts) → is_bound b l ≡ false
     → unlink_step (with_policy b (link_of t l e)) l ≡ Ok (Link l t e)
 unlinked b t l e n =
     let f = found_last (is_policy_at l) b.policies (link_of t l e)
@@ -68,8 +70,8 @@ unlinked b t l e n =
     (same_text_equiv.refl l) in
     ap (λ o. unlinked_at (bound_among o (find (is_body_at l) b.bodies)) l) f
 
--- to take a link out that joined leaves the former board
-pub link_undone : (b c : Board) (i l : List ℕ) (e : EnvParts) → link_step b i l e ≡ Ok c → UnlinksTo b i l e c
+-- to take a link out that joined leaves the former policy set
+pub link_undone : (b c : SetParts) (i l : List ℕ) (e : EnvParts) → link_step b i l e ≡ Ok c → UnlinksTo b i l e c
 link_undone b c i l e h =
     let j = joined (bound_at b i) b c i l e h in (
       j.0,
@@ -83,14 +85,14 @@ pushed [] p = omega arith
 pushed (q ∷ qs) p = omega arith
 
 -- and a policy stands in it
-pub link_there : (b c : Board) (i l : List ℕ) (e : EnvParts) → link_step b i l e ≡ Ok c → 0 < length c.policies
+pub link_there : (b c : SetParts) (i l : List ℕ) (e : EnvParts) → link_step b i l e ≡ Ok c → 0 < length c.policies
 link_there b c i l e h =
     let j = joined (bound_at b i) b c i l e h in
-    subst (λ (d : Board). 0 < length d.policies) j.3 (pushed b.policies (link_of j.0 l e))
+    subst (λ (d : SetParts). 0 < length d.policies) j.3 (pushed b.policies (link_of j.0 l e))
 
 -- so it does after linking a template that stands under an id
-pub link_of_there : {A : Type 0} (r : Result A LinkingError) (b c : Board) (i l : List ℕ) (e : EnvParts) (t : BodyParts)
-    → bound_at b i ≡ Some (Template t) → Steps told_by_linking r b c (link_onto t b l e) →
+pub link_of_there : {A : Type 0} (r : Result A LinkingError) (b c : SetParts) (i l : List ℕ) (e : EnvParts) (t :
+    BodyParts) → bound_at b i ≡ Some (Template t) → Steps told_by_linking r b c (link_onto t b l e) →
     OnOk r (0 < length c.policies)
 link_of_there (Ok a) b c i l e t q h = link_there b c i l e (ap (λ x. link_at x b i l e) q ∙ h)
 link_of_there (Err d) b c i l e t q h = tt

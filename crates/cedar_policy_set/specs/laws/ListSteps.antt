@@ -11,7 +11,7 @@ use Rattle.cedar_policy_set_errors.specs.declared.err.PolicySetValidationError.{
 use Rattle.cedar_policy_set_errors.specs.declared.err.PolicySetValidationError.TheVariants.{InvalidTemplate}
 use Rattle.cedar_policy_set_errors.specs.declared.err.PolicySetValidationError.TheVariants.{LinkToSlotlessTemplate}
 use Rattle.cedar_policy_set_errors.specs.declared.err.PolicySetValidationError.TheVariants.{Memory}
-use Rattle.cedar_policy_maps.specs.Boards.{Board}
+use Rattle.cedar_policy_maps.specs.PolicySets.{SetParts}
 use Rattle.cedar_policy_set.specs.Refusals.{IsRefusal}
 use Rattle.cedar_policy_set.specs.Steps.{Refusal, add_step, add_then}
 use Rattle.cedar_policy_set.specs.Validity.{IsValidBody}
@@ -19,11 +19,11 @@ use Rattle.cedar_policy_maps.specs.Views.{bodies_of}
 use Rattle.cedar_policy_maps.specs.laws.Walks.{parted}
 use Rattle.cedar_policy_set.specs.laws.BodyFaults.{IsBodyFault, IsFirstFault}
 
-refused_at : (r : Refusal) (s : Result Board Refusal) (ps : List PolicyParts) → s ≡ Err r → add_then s ps ≡ Err r
+refused_at : (r : Refusal) (s : Result SetParts Refusal) (ps : List PolicyParts) → s ≡ Err r → add_then s ps ≡ Err r
 refused_at r s ps e = ap (λ t. add_then t ps) e
 
 -- what refuses one policy refuses it and those after it
-pub refused_then : (o : Option Refusal) (b : Board) (p : PolicyParts) (ps : List PolicyParts)
+pub refused_then : (o : Option Refusal) (b : SetParts) (p : PolicyParts) (ps : List PolicyParts)
     → IsRefusal o (add_step b p) → IsRefusal o (add_then (Ok b) (p ∷ ps))
 refused_then None b p ps h = tt
 refused_then (Some r) b p ps h = refused_at r (add_step b p) ps h

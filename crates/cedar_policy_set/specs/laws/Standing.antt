@@ -1,18 +1,18 @@
--- Which templates stand on a board, and which ids are bound.
+-- Which templates stand on a policy set, and which ids are bound.
 use Rattle.std.specs.Prelude.{◌≡◌, ℕ, Bool, List, Option, Some, None, Result, Err, if◌then◌else◌}
 use Rattle.cedar_body.specs.Bodies.{BodyParts}
 use Rattle.cedar_body.specs.BodyEquality.{same_body}
 use Rattle.cedar_policy_set_errors.specs.declared.err.PolicySetError.{PolicySetError}
-use Rattle.cedar_policy_maps.specs.Boards.{Board, Binding, Static, Template, Link, bound_at, is_bound}
+use Rattle.cedar_policy_maps.specs.PolicySets.{SetParts, Binding, Static, Template, Link, bound_at, is_bound}
 use Rattle.cedar_policy_set.specs.Refusals.{IsRefusal, told_by_set}
 use Rattle.cedar_policy_set.specs.Steps.{Refusal, occupied}
 
 -- a template stands under an id, and this is whether it is equal to another
-abbrev pub StandsThere : Board → List ℕ → Bool → BodyParts → Type 0
+abbrev pub StandsThere : SetParts → List ℕ → Bool → BodyParts → Type 0
 StandsThere b i v t = (u : BodyParts) × (bound_at b i ≡ Some (Template u)) × (v ≡ same_body u t)
 
 -- a body stands as a template under its own id
-abbrev pub Stands : Board → BodyParts → Type 0
+abbrev pub Stands : SetParts → BodyParts → Type 0
 Stands b t = bound_at b t.id ≡ Some (Template t)
 
 -- what is bound is no template
@@ -23,6 +23,6 @@ HasNoTemplate (Some (Template t)) = ⊥
 HasNoTemplate (Some (Link l t e)) = Unit {0}
 
 -- an error tells that an id is bound, whatever the step is where it is free
-abbrev pub TellsBound : Board → List ℕ → PolicySetError → Type 0
+abbrev pub TellsBound : SetParts → List ℕ → PolicySetError → Type 0
 TellsBound b i e =
-    (free : Result Board Refusal) → IsRefusal (told_by_set e) (if is_bound b i then Err (occupied i) else free)
+    (free : Result SetParts Refusal) → IsRefusal (told_by_set e) (if is_bound b i then Err (occupied i) else free)

@@ -1,4 +1,4 @@
--- The steps of calls, by what stands on a board.
+-- The steps of calls, by what stands on a policy set.
 use Rattle.std.specs.Prelude.{◌≡◌, ℕ, List, [], ◌∷◌, Option, Some, None, refl, Result, Ok, Err}
 use Rattle.std.proofs.Common.{sym, ap, ◌∙◌}
 use Rattle.std.specs.List.{find}
@@ -14,31 +14,31 @@ use Rattle.cedar_binding.specs.declared.err.LinkingError.TheVariants as links
 use Rattle.cedar_binding.specs.laws.Fits.{fits, nothing_left_over}
 use Rattle.cedar_terms.specs.declared.slot.SlotId.{SlotId}
 use Rattle.cedar_policy.specs.Policies.{PolicyParts, policy_id}
-use Rattle.cedar_policy_maps.specs.Boards.{Board, Binding, Static, Template, Link, bound_at, is_body_at}
+use Rattle.cedar_policy_maps.specs.PolicySets.{SetParts, Binding, Static, Template, Link, bound_at, is_body_at}
 use Rattle.cedar_policy_set.specs.Refusals.{IsRefusal, told_by_linking}
 use Rattle.cedar_policy_set.specs.Steps.{Refusal, arity, no_such_template, add_by, add_link_at, fitting, link_at}
 use Rattle.cedar_policy_set.specs.Steps.{linked_at, get_linked_step}
 use Rattle.cedar_policy_maps.specs.Lists.{ids_in}
 use Rattle.cedar_policy_set.specs.laws.Standing.{HasNoTemplate, Stands}
-use Rattle.cedar_policy_maps.specs.laws.BoardLaws.{template_at}
+use Rattle.cedar_policy_maps.specs.laws.SetLaws.{template_at}
 use Rattle.cedar_policy_maps.specs.laws.OnceLaws.{found_passes}
 
 -- the step of a link by what its template's id is bound to
-pub added_by : (o : Option (List ℕ)) (b : Board) (p : PolicyParts) → o ≡ p.link → (o ≡ None → ⊥)
+pub added_by : (o : Option (List ℕ)) (b : SetParts) (p : PolicyParts) → o ≡ p.link → (o ≡ None → ⊥)
     → add_by o b p ≡ add_link_at (bound_at b p.template.id) b (policy_id p) p
 added_by None b p e n = absurd (n refl)
 added_by (Some l) b p e n = ap (λ i. add_link_at (bound_at b p.template.id) b i p)
     (sym (ap (λ o. unwrap_or o p.template.id) (sym e)))
 
 -- a template stands under its own id
-pub stands : (b : Board) (i : List ℕ) (t : BodyParts) → bound_at b i ≡ Some (Template t) → Stands b t
+pub stands : (b : SetParts) (i : List ℕ) (t : BodyParts) → bound_at b i ≡ Some (Template t) → Stands b t
 stands b i t e =
     let f = template_at b i t e in
     let same : i ≡ t.id = (same_text_decides i t.id).0 (found_passes (is_body_at i) b.bodies t f.1) in
     ap (bound_at b) (sym same) ∙ e
 
 -- where there is no template linking is refused for that
-pub no_template_step : (x : Option Binding) (b : Board) (i l : List ℕ) (e : EnvParts) → HasNoTemplate x
+pub no_template_step : (x : Option Binding) (b : SetParts) (i l : List ℕ) (e : EnvParts) → HasNoTemplate x
     → link_at x b i l e ≡ Err (no_such_template i)
 no_template_step None b i l e h = refl
 no_template_step (Some (Static t)) b i l e h = refl
@@ -46,11 +46,11 @@ no_template_step (Some (Template t)) b i l e h = absurd h
 no_template_step (Some (Link k t v)) b i l e h = refl
 
 -- bindings that fit go on
-pub fit_goes_on : (slots : List SlotId) (e : EnvParts) (r : Result Board Refusal) → FitsSlots slots e
+pub fit_goes_on : (slots : List SlotId) (e : EnvParts) (r : Result SetParts Refusal) → FitsSlots slots e
     → fitting (unbound slots e) (extra slots e) (wrong_action e) r ≡ r
 fit_goes_on slots e r h = let n = nothing_left_over slots e h.exactly in (λ i. fitting (n.0 i) (n.1 i) (h.action i) r)
 
-unfit : (us xs : List SlotId) (o : Option UidParts) (r : Result Board Refusal) → ((us ≡ []) → (xs ≡ []) → ⊥)
+unfit : (us xs : List SlotId) (o : Option UidParts) (r : Result SetParts Refusal) → ((us ≡ []) → (xs ≡ []) → ⊥)
     → fitting us xs o r ≡ Err (arity us xs)
 unfit [] [] o r h = absurd (h refl refl)
 unfit [] (x ∷ xs) o r h = refl
@@ -58,7 +58,7 @@ unfit (u ∷ us) [] o r h = refl
 unfit (u ∷ us) (x ∷ xs) o r h = refl
 
 -- and others are refused: with the two lists, or by the uid that is no action
-pub unfit_is_refused : (d : LinkingError) (slots : List SlotId) (e : EnvParts) (r : Result Board Refusal)
+pub unfit_is_refused : (d : LinkingError) (slots : List SlotId) (e : EnvParts) (r : Result SetParts Refusal)
     → IsUnfit d slots e → IsRefusal (told_by_linking d) (fitting (unbound slots e) (extra slots e) (wrong_action e) r)
 unfit_is_refused (links.ArityError u x) slots e r h =
     unfit (unbound slots e) (extra slots e) (wrong_action e) r (λ p q. h.0 (fits slots e p q))
@@ -73,7 +73,7 @@ none_wrong : (u : UidParts) (o : Option UidParts) → o ≡ None → o ≡ Some 
 none_wrong u o p q = cc
 
 -- what fits is not refused but for memory
-pub fit_is_not_refused : (d : LinkingError) (slots : List SlotId) (e : EnvParts) (step : Result Board Refusal)
+pub fit_is_not_refused : (d : LinkingError) (slots : List SlotId) (e : EnvParts) (step : Result SetParts Refusal)
     → FitsSlots slots e → IsUnfit d slots e → IsRefusal (told_by_linking d) step
 fit_is_not_refused (links.ArityError u x) slots e step f h = absurd (h.0 f.exactly)
 fit_is_not_refused (links.NotAnAction u) slots e step f h =
@@ -83,7 +83,7 @@ fit_is_not_refused (links.PolicyIdConflict i) slots e step f h = absurd h
 fit_is_not_refused links.Memory slots e step f h = tt
 
 -- the policies on the body that an id has
-pub listed : (b : Board) (i : List ℕ) (t : BodyParts) → Some t ≡ find (is_body_at i) b.bodies
+pub listed : (b : SetParts) (i : List ℕ) (t : BodyParts) → Some t ≡ find (is_body_at i) b.bodies
     → get_linked_step b i ≡ Ok (ids_in t.id b.policies)
 listed b i t e =
     let same : i ≡ t.id = (same_text_decides i t.id).0 (found_passes (is_body_at i) b.bodies t (sym e)) in

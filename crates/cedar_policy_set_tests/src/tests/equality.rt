@@ -1,6 +1,6 @@
 // When sets are equal, and what a copy is.
 use super::notation::call_of;
-use super::script::{board_of, done, set_of};
+use super::script::{done, parts_of_set, set_of};
 use super::yes_or_no;
 use cedar_policy_set::PolicySet;
 use cedar_test_helpers::tried::{beside, owned};
@@ -38,9 +38,9 @@ fn is_copied<S: BuildHasher + Copy>(
 ) -> Result<bool, Fail> {
     let copy = set.clone()?;
     let equal = copy == *set;
-    let before = board_of(set);
+    let before = parts_of_set(set);
     let done = done(alloc, set, &call_of(call));
-    let stays = board_of(&copy) == before && board_of(set) != before;
+    let stays = parts_of_set(&copy) == before && parts_of_set(set) != before;
     drop(copy);
     done?;
     Ok(equal && stays)

@@ -1,6 +1,6 @@
 // Sets made of policies, and the policy that linking lends.
 use super::notation::{Said, row, told_text};
-use super::script::{board_of, id_of, policy_of, set_of};
+use super::script::{id_of, parts_of_set, policy_of, set_of};
 use super::{fixed, yes_or_no};
 use cedar_policy::{Policy, SlotEnv};
 use cedar_policy_set::PolicySet;
@@ -32,7 +32,7 @@ pub(super) fn made_text<S: BuildHasher + Copy>(
     let policies = policies_of(alloc, texts)?;
     match PolicySet::try_from_iter_with_hasher(alloc, hasher, policies) {
         Ok(set) => {
-            let told = told_text(alloc, Said::Done, &board_of(&set));
+            let told = told_text(alloc, Said::Done, &parts_of_set(&set));
             drop(set);
             told
         }

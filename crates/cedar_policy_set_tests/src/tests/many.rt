@@ -374,7 +374,7 @@ fn policies_wanted<S: BuildHasher + Copy>(
 }
 
 // How many bodies and how many policies of that set stand as they should.
-fn boards_of<S: BuildHasher + Copy>(
+fn sets_of<S: BuildHasher + Copy>(
     alloc: Global,
     hasher: S,
     set: &mut PolicySet<S>,
@@ -389,9 +389,13 @@ fn boards_of<S: BuildHasher + Copy>(
 }
 
 // That as a text.
-fn boards<S: BuildHasher + Copy>(alloc: Global, keys: (S, S), there: u32) -> Result<String, Fail> {
+fn policy_sets<S: BuildHasher + Copy>(
+    alloc: Global,
+    keys: (S, S),
+    there: u32,
+) -> Result<String, Fail> {
     let mut set = set_of_effect(alloc, keys.0, 100, Effect::Permit)?;
-    let told = boards_of(alloc, keys.1, &mut set, there);
+    let told = sets_of(alloc, keys.1, &mut set, there);
     drop(set);
     let (bodies, policies) = told?;
     Ok(format!(in alloc; "{bodies} {policies}")?)
@@ -553,7 +557,7 @@ fn row<S: BuildHasher + Copy>(alloc: Global, keys: (S, S), asked: &str) -> Resul
         "added" => Ok(added(alloc, keys.0, one)?.to_string(alloc)?),
         "linked" => counted_links(alloc, keys.0, one),
         "merged" => renamed_text(alloc, keys, one, two),
-        _ => boards(alloc, keys, one),
+        _ => policy_sets(alloc, keys, one),
     }
 }
 
@@ -568,9 +572,9 @@ merged|100|100 => 100 moved 200\n\
 merged|100|101 => 100 moved 201\n\
 merged|500|500 => 500 moved 1000\n\
 # a hundred, and so many others that conflict, or one more that does not: how many bodies and policies stand in the order and with the ids and effects that they should\n\
-boards|100 => 200 200\n\
-boards|101 => 201 201\n\
-boards|102 => 202 202\n\
+policy_sets|100 => 200 200\n\
+policy_sets|101 => 201 201\n\
+policy_sets|102 => 202 202\n\
 # what is bound alike takes the other's value: the body and the policy of a static policy, a template, a template and its link; places of `t`, of the policy `t` and of `l` before, then in the set and in the other\n\
 moves|static => 3 3 0, 0 renamed, 7 7 0, 7 7 0\n\
 moves|template => 3 0 0, 0 renamed, 7 0 0, 7 0 0\n\

@@ -1,6 +1,6 @@
 // Merging: each pair of kinds under one id, and the order in which ids are renamed.
 use super::notation::{Said, put_letter, put_told};
-use super::script::{board_of, letter_of, said_by_set, set_of, told_on};
+use super::script::{letter_of, parts_of_set, said_by_set, set_of, told_on};
 use cedar_ids::policy_id::PolicyID;
 use cedar_policy_set::{PolicySet, PolicySetError};
 use cedar_test_helpers::tried::{beside, kept, put_word};
@@ -47,7 +47,7 @@ fn put_merged<S: BuildHasher + Copy>(
     rename: bool,
 ) -> Result<(), Fail> {
     let said = answer(text, set.merge_policyset(alloc, other, rename))?;
-    put_told(alloc, text, said, &board_of(set))
+    put_told(alloc, text, said, &parts_of_set(set))
 }
 
 // That as a text.

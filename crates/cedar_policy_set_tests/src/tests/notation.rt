@@ -13,7 +13,7 @@
 //
 // A call is a word and a policy: `static a`, `template t1`, `add a`, `add l=t1+1x`, `link l=t+1x`,
 // `unlink l`, `remove_static a`, `remove_template t`, `links t`. Calls are parted by semicolons.
-use super::board::{Board, Body, Row};
+use super::policy_set::{Body, Row, SetParts};
 use cedar_test_helpers::tried::{kept, put_word};
 use std::alloc::Global;
 use std::test::Fail;
@@ -322,8 +322,8 @@ fn put_said(alloc: Global, text: &mut String, said: Said) -> Result<(), Fail> {
 }
 
 // Writes bodies in their order, each behind a blank.
-fn put_bodies(alloc: Global, text: &mut String, board: &Board) -> Result<(), Fail> {
-    for body in board.bodies.iter().flatten() {
+fn put_bodies(alloc: Global, text: &mut String, policy_set: &SetParts) -> Result<(), Fail> {
+    for body in policy_set.bodies.iter().flatten() {
         put_letter(text, b' ')?;
         put_body(alloc, text, *body)?;
     }
@@ -331,8 +331,8 @@ fn put_bodies(alloc: Global, text: &mut String, board: &Board) -> Result<(), Fai
 }
 
 // Writes policies in their order, each behind a blank.
-fn put_rows(alloc: Global, text: &mut String, board: &Board) -> Result<(), Fail> {
-    for row in board.policies.iter().flatten() {
+fn put_rows(alloc: Global, text: &mut String, policy_set: &SetParts) -> Result<(), Fail> {
+    for row in policy_set.policies.iter().flatten() {
         put_letter(text, b' ')?;
         put_row(alloc, text, *row)?;
     }
@@ -344,18 +344,18 @@ pub(super) fn put_told(
     alloc: Global,
     text: &mut String,
     said: Said,
-    board: &Board,
+    policy_set: &SetParts,
 ) -> Result<(), Fail> {
     put_said(alloc, text, said)?;
     put_word(text, " |")?;
-    put_bodies(alloc, text, board)?;
+    put_bodies(alloc, text, policy_set)?;
     put_word(text, " |")?;
-    put_rows(alloc, text, board)
+    put_rows(alloc, text, policy_set)
 }
 
 // That as a text.
-pub(super) fn told_text(alloc: Global, said: Said, board: &Board) -> Result<String, Fail> {
+pub(super) fn told_text(alloc: Global, said: Said, policy_set: &SetParts) -> Result<String, Fail> {
     let mut text = String::new(alloc);
-    let done = put_told(alloc, &mut text, said, board);
+    let done = put_told(alloc, &mut text, said, policy_set);
     kept(text, done)
 }

@@ -4,9 +4,9 @@ ghost use Rattle.std.specs.Prelude.{◌≡◌, ◌++◌, ◌∷◌, [], None, fa
 ghost use Rattle.indexmap.specs.IndexMap.{get};
 ghost use Rattle.cedar_ids.specs.Texts.{same_text};
 ghost use Rattle.cedar_policy.specs.Policies.{policy_id};
-ghost use Rattle.cedar_policy_set.specs.Boards.{empty_board, HasOwnId};
-ghost use Rattle.cedar_policy_set.specs.Maps.{lists_of, shared_of};
-ghost use Rattle.cedar_policy_set.specs.laws.Joins.{CanJoinBothBy};
+ghost use Rattle.cedar_policy_maps.specs.PolicySets.{empty_set, HasOwnId};
+ghost use Rattle.cedar_policy_maps.specs.Maps.{lists_of, shared_of};
+ghost use Rattle.cedar_policy_maps.specs.Joins.{CanJoinBothBy};
 
 use super::notation::row;
 use super::script::{policy_of, set_of, told_on};
@@ -194,8 +194,8 @@ fn raw_crossed<S: BuildHasher + Copy>(
     first: Policy,
     second: Policy,
 ) -> Result<PolicySet<S>, Fail>
-    requires first { CanJoinBothBy None empty_board first }
-    requires second { CanJoinBothBy None empty_board second }
+    requires first { CanJoinBothBy None empty_set first }
+    requires second { CanJoinBothBy None empty_set second }
     requires apart { same_text first.template.id second.template.id ≡ false }
 {
     let lists = lists_of_two(alloc, keys.1, &first, &second)?;

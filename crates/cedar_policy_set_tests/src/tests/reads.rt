@@ -1,7 +1,7 @@
 // What the readers of a set give.
-use super::board::{Board, empty, put_body, put_row};
 use super::notation::{Said, told_text};
-use super::script::{board_of, body_of, id_of, letter, row_of, set_of};
+use super::policy_set::{SetParts, empty, put_body, put_row};
+use super::script::{body_of, id_of, letter, parts_of_set, row_of, set_of};
 use super::yes_or_no;
 use cedar_ids::policy_id::PolicyID;
 use cedar_policy_set::{IntoPolicies, PolicySet};
@@ -10,24 +10,24 @@ use std::alloc::Global;
 use std::hash::BuildHasher;
 use std::test::Fail;
 
-fn put_slotted<S: BuildHasher + Copy>(set: &PolicySet<S>, board: &mut Board) {
+fn put_slotted<S: BuildHasher + Copy>(set: &PolicySet<S>, policy_set: &mut SetParts) {
     for template in set.templates() {
-        put_body(board, body_of(template));
+        put_body(policy_set, body_of(template));
     }
 }
 
-fn put_statics<S: BuildHasher + Copy>(set: &PolicySet<S>, board: &mut Board) {
+fn put_statics<S: BuildHasher + Copy>(set: &PolicySet<S>, policy_set: &mut SetParts) {
     for policy in set.static_policies() {
-        put_row(board, row_of(policy));
+        put_row(policy_set, row_of(policy));
     }
 }
 
 // The bodies that have slots, and the static policies.
-fn filtered<S: BuildHasher + Copy>(set: &PolicySet<S>) -> Board {
-    let mut board = empty();
-    put_slotted(set, &mut board);
-    put_statics(set, &mut board);
-    board
+fn filtered<S: BuildHasher + Copy>(set: &PolicySet<S>) -> SetParts {
+    let mut policy_set = empty();
+    put_slotted(set, &mut policy_set);
+    put_statics(set, &mut policy_set);
+    policy_set
 }
 
 // Those of the set that some calls leave.
@@ -43,13 +43,13 @@ pub(super) fn filtered_text<S: BuildHasher + Copy>(
 }
 
 // The policies of a set that was taken apart.
-fn all_of(policies: IntoPolicies) -> Board {
-    let mut board = empty();
+fn all_of(policies: IntoPolicies) -> SetParts {
+    let mut policy_set = empty();
     for policy in policies {
-        put_row(&mut board, row_of(&policy));
+        put_row(&mut policy_set, row_of(&policy));
         drop(policy);
     }
-    board
+    policy_set
 }
 
 pub(super) fn apart_text<S: BuildHasher + Copy>(
@@ -62,20 +62,24 @@ pub(super) fn apart_text<S: BuildHasher + Copy>(
 }
 
 // The policy and the body with an id.
-fn found<S: BuildHasher + Copy>(set: &PolicySet<S>, id: &PolicyID) -> Board {
-    let mut board = empty();
+fn found<S: BuildHasher + Copy>(set: &PolicySet<S>, id: &PolicyID) -> SetParts {
+    let mut policy_set = empty();
     if let Some(template) = set.get_template(id) {
-        put_body(&mut board, body_of(template));
+        put_body(&mut policy_set, body_of(template));
     }
     if let Some(policy) = set.get(id) {
-        put_row(&mut board, row_of(policy));
+        put_row(&mut policy_set, row_of(policy));
     }
-    board
+    policy_set
 }
 
-// Whether the shared body with an id is the first of a board, or there is none.
-fn is_shared<S: BuildHasher + Copy>(set: &PolicySet<S>, id: &PolicyID, board: &Board) -> bool {
-    let [first, ..] = board.bodies;
+// Whether the shared body with an id is the first of a policy set, or there is none.
+fn is_shared<S: BuildHasher + Copy>(
+    set: &PolicySet<S>,
+    id: &PolicyID,
+    policy_set: &SetParts,
+) -> bool {
+    let [first, ..] = policy_set.bodies;
     match set.get_template_arc(id) {
         Some(template) => first == Some(body_of(template)),
         None => first.is_none(),
@@ -88,11 +92,11 @@ fn found_in<S: BuildHasher + Copy>(
     set: &PolicySet<S>,
     id: &PolicyID,
 ) -> Result<String, Fail> {
-    let board = found(set, id);
-    if !is_shared(set, id, &board) {
+    let policy_set = found(set, id);
+    if !is_shared(set, id, &policy_set) {
         return Ok(String::from_str(alloc, "another is shared")?);
     }
-    told_text(alloc, Said::Done, &board)
+    told_text(alloc, Said::Done, &policy_set)
 }
 
 // What is found with a letter in the set that some calls leave.
@@ -122,7 +126,7 @@ pub(super) fn is_empty<S: BuildHasher + Copy>(
 
 // How many bodies, bodies with slots, static policies and policies there are.
 fn counts<S: BuildHasher + Copy>(set: &PolicySet<S>) -> (usize, usize, usize, usize) {
-    let Board { bodies, policies } = board_of(set);
+    let SetParts { bodies, policies } = parts_of_set(set);
     (
         bodies.iter().flatten().count(),
         slotted(set),

@@ -1,8 +1,8 @@
 // Calls on a policy set, by the short texts of `notation`.
-use super::board::{Board, Body, Row, empty, put_body, put_row};
 use super::notation::{
     Call, Said, Verb, Why, behind, call_of, has_digit, joined, letter_for, number_of, told_text,
 };
+use super::policy_set::{Body, Row, SetParts, empty, put_body, put_row};
 use super::uid;
 use cedar_action::ActionConstraint;
 use cedar_annotation::Annotations;
@@ -334,25 +334,25 @@ pub(super) fn row_of(policy: &Policy) -> Row {
 }
 
 // The bodies of a set in their order.
-fn put_bodies<S: BuildHasher + Copy>(set: &PolicySet<S>, board: &mut Board) {
+fn put_bodies<S: BuildHasher + Copy>(set: &PolicySet<S>, policy_set: &mut SetParts) {
     for template in set.all_templates() {
-        put_body(board, body_of(template));
+        put_body(policy_set, body_of(template));
     }
 }
 
 // The policies of a set in their order.
-fn put_rows<S: BuildHasher + Copy>(set: &PolicySet<S>, board: &mut Board) {
+fn put_rows<S: BuildHasher + Copy>(set: &PolicySet<S>, policy_set: &mut SetParts) {
     for policy in set.policies() {
-        put_row(board, row_of(policy));
+        put_row(policy_set, row_of(policy));
     }
 }
 
 // Both orders of a set.
-pub(super) fn board_of<S: BuildHasher + Copy>(set: &PolicySet<S>) -> Board {
-    let mut board = empty();
-    put_bodies(set, &mut board);
-    put_rows(set, &mut board);
-    board
+pub(super) fn parts_of_set<S: BuildHasher + Copy>(set: &PolicySet<S>) -> SetParts {
+    let mut policy_set = empty();
+    put_bodies(set, &mut policy_set);
+    put_rows(set, &mut policy_set);
+    policy_set
 }
 
 // A refusal with an id, which is let go.
@@ -628,7 +628,7 @@ pub(super) fn told_on<S: BuildHasher + Copy>(
     calls: &str,
 ) -> Result<String, Fail> {
     let said = run(alloc, set, calls)?;
-    told_text(alloc, said, &board_of(set))
+    told_text(alloc, said, &parts_of_set(set))
 }
 
 // What the last of some calls answers on the empty set, and both orders after it.

@@ -1,6 +1,6 @@
 // What validating a set answers.
 use super::notation::{Said, told_text};
-use super::script::{board_of, set_of};
+use super::script::{parts_of_set, set_of};
 use cedar_policy_set::{PolicySet, PolicySetValidationError};
 use cedar_test_helpers::tried::written;
 use std::alloc::Global;
@@ -14,7 +14,7 @@ fn told<S: BuildHasher + Copy>(
 ) -> Result<String, Fail> {
     match answer {
         Ok(set) => {
-            let told = told_text(alloc, Said::Done, &board_of(&set));
+            let told = told_text(alloc, Said::Done, &parts_of_set(&set));
             drop(set);
             told
         }

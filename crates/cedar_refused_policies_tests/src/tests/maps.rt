@@ -3,7 +3,7 @@
 // the ids of bodies and of policies, in their orders.
 ghost use Rattle.std.specs.Prelude.{◌≡◌, ◌∷◌, [], IfOk, IsTrue};
 ghost use Rattle.cedar_body.specs.BodyEquality.{same_body};
-ghost use Rattle.cedar_policy_maps.specs.Boards.{empty_board};
+ghost use Rattle.cedar_policy_maps.specs.PolicySets.{empty_set};
 ghost use Rattle.cedar_policy_maps.specs.Joins.{CanJoin, CanJoinBoth};
 ghost use Rattle.cedar_policy_maps.specs.TakenIn.{CanTakeIn};
 ghost use Rattle.cedar_policy_maps.specs.Views.{bodies_of};
@@ -26,15 +26,15 @@ use std::rc::Rc;
 type Maps = PolicyMaps<BuildHasherDefault<FoldHasher>>;
 
 fn empty(alloc: Global) -> Maps
-    ensures { result ≡ empty_board }
+    ensures { result ≡ empty_set }
 {
     PolicyMaps::with_hasher(alloc, BuildHasherDefault::new())
 }
 
 // Whether a policy may go into empty maps together with its template: it has another id, if it is a link.
-#[tactic(auto, using(cedar_policy_maps::specs::laws::BoardLaws::alone))]
+#[tactic(auto, using(cedar_policy_maps::specs::laws::SetLaws::alone))]
 fn may_go_first(policy: &Policy) -> bool
-    ensures { IsTrue result → CanJoinBoth empty_board policy.now }
+    ensures { IsTrue result → CanJoinBoth empty_set policy.now }
 {
     let _total = policy.env();
     if !policy.is_static() && policy.id() == policy.template().id() {
@@ -192,8 +192,8 @@ fn both_joining(
     alloc: Global,
     policy: Policy,
 ) -> Result<(Parted<Rc<Template>>, Parted<Policy>), AllocError>
-    requires { CanJoinBoth empty_board policy }
-    ensures { IfOk result (λ r. CanTakeIn empty_board (bodies_of r.0.stand.items)
+    requires { CanJoinBoth empty_set policy }
+    ensures { IfOk result (λ r. CanTakeIn empty_set (bodies_of r.0.stand.items)
         (bodies_of r.0.join.items) r.1.join.items) }
 {
     let template = template_of(&policy)?;

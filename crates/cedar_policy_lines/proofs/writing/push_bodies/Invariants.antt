@@ -1,6 +1,6 @@
 use Rattle.std.specs.Prelude.{◌≡◌, ◌++◌, map}
 use Rattle.std.specs.List.{flat_map}
-use Rattle.cedar_policy_set.specs.Merge.{body_ids}
+use Rattle.cedar_policy_merge.specs.Merge.{body_ids}
 use Rattle.cedar_policy_lines.specs.PolicyOutput.{id_field}
 use Rattle.cedar_policy_lines.proofs.writing.push_bodies.Given as goal
 

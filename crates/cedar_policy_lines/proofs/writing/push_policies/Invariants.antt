@@ -1,7 +1,7 @@
 use Rattle.std.specs.Prelude.{◌≡◌, ◌++◌, map}
 use Rattle.std.specs.List.{flat_map}
 use Rattle.cedar_policy.specs.Policies.{policy_id}
-use Rattle.cedar_policy_set.specs.Merge.{policy_ids}
+use Rattle.cedar_policy_merge.specs.Merge.{policy_ids}
 use Rattle.cedar_policy_lines.specs.PolicyOutput.{id_field}
 use Rattle.cedar_policy_lines.proofs.writing.push_policies.Given as goal
 

@@ -9,6 +9,6 @@ use Rattle.cedar_policy_maps.proofs.maps.ids_by_template.Goals as goal
 pub returns : goal.returns
 returns g c =
     let known = values_of c.args.known.now.entries in
-    c.in_ok-list_ids.ensures ∙ ap (λ ls. all_listed ls c.args.policies.now) c.in_ok-map.ensures
+    c.in_ok-list_policies.ensures ∙ ap (λ ls. all_listed ls c.args.policies.now) c.in_ok-map.ensures
     ∙ listed_all (templates_in known (bodies_of c.args.bodies.now)) c.args.policies.now
     (templates_once (bodies_of c.args.bodies.now) known c.requires.bodies) c.requires.policies

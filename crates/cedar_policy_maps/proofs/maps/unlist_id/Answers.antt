@@ -13,7 +13,7 @@ returns-in-None g c =
 
 pub returns-in-Some : goal.returns-in-Some
 returns-in-Some g c =
-    let w = c.drop_id.new.ids in
+    let w = c.remove_id.new.ids in
     ap lists_of (c.get_mut.follows.holds w).0
     ∙ written (same_text c.args.body.now) (remove_key (same_text c.args.id.now)) c.args.map.now.entries
-    c.in-Some.ids.now w (sym c.in-Some.ensures.value) c.drop_id.ensures
+    c.in-Some.ids.now w (sym c.in-Some.ensures.value) c.remove_id.ensures

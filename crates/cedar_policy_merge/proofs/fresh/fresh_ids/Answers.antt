@@ -2,7 +2,7 @@ use Rattle.std.proofs.Common.{◌≡◌, List, ℕ, ◌++◌, ◌∷◌, sym, ap
 use Rattle.std.specs.Map.{keys_of}
 use Rattle.indexmap.proofs.CallerLemmas.{insert_entry-new}
 use Rattle.cedar_ids.specs.Texts.{same_text}
-use Rattle.cedar_policy_maps.specs.Boards.{AreOnce}
+use Rattle.cedar_policy_maps.specs.PolicySets.{AreOnce}
 use Rattle.cedar_policy_merge.specs.Fresh.{is_bound_in_either}
 use Rattle.cedar_policy_merge.specs.laws.FreshLaws.{none_free_below, absent_key, before_once, fresh_more}
 use Rattle.cedar_policy_merge.proofs.fresh.fresh_ids.Goals as goal

@@ -1,6 +1,7 @@
-use Rattle.std.proofs.Common.{List, ℕ, sym, ◌∙◌, subst}
-use Rattle.cedar_policy_maps.specs.Boards.{AreOnce}
+use Rattle.std.proofs.Common.{rules, List, ℕ, sym, ◌∙◌, subst}
+use Rattle.cedar_policy_maps.specs.PolicySets.{AreOnce}
 use Rattle.cedar_policy_merge.specs.laws.MergeSteps.{once_conflicts}
+use Rattle.cedar_policy_merge.specs.laws.RenamingLaws.{once_free, none_bound_of, numbers_below}
 use Rattle.cedar_policy_merge.specs.laws.ConflictLaws.{conflicts_differ}
 use Rattle.cedar_policy_merge.proofs.merge.merge_maps.Goals as goal
 
@@ -11,26 +12,62 @@ fresh_ids-requires g c =
 pub put_merged-requires : goal.put_merged-requires
 put_merged-requires g c = (c.in_ok-renaming.ensures.keys ∙ c.in_ok-ids.ensures, c.in_ok-renaming.ensures.free)
 
-pub returns-clause-conflicts : goal.returns-clause-conflicts
-returns-clause-conflicts g c =
-    conflicts_differ c.args.here.now c.args.other.now c.is_empty.ensures.board c.is_empty-2.ensures.board
+pub returns : goal.returns
+returns g c = record {
+  merges = search (rules, once_free, none_bound_of, numbers_below);
+  differ =
+      conflicts_differ c.args.here.now c.args.other.now c.is_empty.ensures.policy_set c.is_empty-2.ensures.policy_set;
+  apart = search (rules, once_free, none_bound_of, numbers_below);
+  unbound = search (rules, once_free, none_bound_of, numbers_below);
+  below = search (rules, once_free, none_bound_of, numbers_below);
+}
 
-pub returns-in-Some-clause-conflicts : goal.returns-in-Some-clause-conflicts
-returns-in-Some-clause-conflicts g c =
-    conflicts_differ c.args.here.now c.args.other.now c.is_empty.ensures.board c.is_empty-2.ensures.board
+pub returns-in-Some : goal.returns-in-Some
+returns-in-Some g c = record {
+  merges = search rules;
+  differ =
+      conflicts_differ c.args.here.now c.args.other.now c.is_empty.ensures.policy_set c.is_empty-2.ensures.policy_set;
+  apart = search rules;
+  unbound = search rules;
+  below = search rules;
+}
 
-pub returns-in_err-clone-clause-conflicts : goal.returns-in_err-clone-clause-conflicts
-returns-in_err-clone-clause-conflicts g c =
-    conflicts_differ c.args.here.now c.args.other.now c.is_empty.ensures.board c.is_empty-2.ensures.board
+pub returns-in_err-clone : goal.returns-in_err-clone
+returns-in_err-clone g c = record {
+  merges = search rules;
+  differ =
+      conflicts_differ c.args.here.now c.args.other.now c.is_empty.ensures.policy_set c.is_empty-2.ensures.policy_set;
+  apart = search rules;
+  unbound = search rules;
+  below = search rules;
+}
 
-pub returns-in_err-ids-clause-conflicts : goal.returns-in_err-ids-clause-conflicts
-returns-in_err-ids-clause-conflicts g c =
-    conflicts_differ c.args.here.now c.args.other.now c.is_empty.ensures.board c.is_empty-2.ensures.board
+pub returns-in_err-ids : goal.returns-in_err-ids
+returns-in_err-ids g c = record {
+  merges = search rules;
+  differ =
+      conflicts_differ c.args.here.now c.args.other.now c.is_empty.ensures.policy_set c.is_empty-2.ensures.policy_set;
+  apart = search rules;
+  unbound = search rules;
+  below = search rules;
+}
 
-pub returns-in_err-renaming-clause-conflicts : goal.returns-in_err-renaming-clause-conflicts
-returns-in_err-renaming-clause-conflicts g c =
-    conflicts_differ c.args.here.now c.args.other.now c.is_empty.ensures.board c.is_empty-2.ensures.board
+pub returns-in_err-renaming : goal.returns-in_err-renaming
+returns-in_err-renaming g c = record {
+  merges = search rules;
+  differ =
+      conflicts_differ c.args.here.now c.args.other.now c.is_empty.ensures.policy_set c.is_empty-2.ensures.policy_set;
+  apart = search rules;
+  unbound = search rules;
+  below = search rules;
+}
 
-pub returns-in_err-put_merged-clause-conflicts : goal.returns-in_err-put_merged-clause-conflicts
-returns-in_err-put_merged-clause-conflicts g c =
-    conflicts_differ c.args.here.now c.args.other.now c.is_empty.ensures.board c.is_empty-2.ensures.board
+pub returns-in_err-put_merged : goal.returns-in_err-put_merged
+returns-in_err-put_merged g c = record {
+  merges = search rules;
+  differ =
+      conflicts_differ c.args.here.now c.args.other.now c.is_empty.ensures.policy_set c.is_empty-2.ensures.policy_set;
+  apart = search rules;
+  unbound = search rules;
+  below = search rules;
+}

@@ -2,7 +2,7 @@ use Rattle.std.proofs.Common.{◌≡◌, ◌∙◌, not, ap}
 use Rattle.std.proofs.lemmas.Result.{on_ok_weaker}
 use Rattle.std.specs.Option.{unwrap_or, option_copied}
 use Rattle.cedar_body.specs.Bodies.{BodyParts, with_id}
-use Rattle.cedar_policy_maps.specs.Boards.{is_bound}
+use Rattle.cedar_policy_maps.specs.PolicySets.{is_bound}
 use Rattle.cedar_policy_merge.specs.Merge.{new_id, renamed_body}
 use Rattle.cedar_policy_merge.proofs.Parted.{body_parted}
 use Rattle.cedar_policy_merge.proofs.merge.part_body.Goals as goal

@@ -2,7 +2,7 @@ use Rattle.std.proofs.Common.{◌≡◌, ◌∙◌, ◌++◌, ◌∷◌, [], con
 use Rattle.std.proofs.lemmas.Result.{on_ok_weaker}
 use Rattle.std.specs.Option.{unwrap_or, option_copied}
 use Rattle.cedar_policy.specs.Policies.{policy_id}
-use Rattle.cedar_policy_maps.specs.Boards.{is_bound}
+use Rattle.cedar_policy_maps.specs.PolicySets.{is_bound}
 use Rattle.cedar_policy_merge.specs.Merge.{new_id, renamed_policy}
 use Rattle.cedar_policy_merge.specs.laws.MergeLaws.{policy_new}
 use Rattle.cedar_policy_merge.proofs.merge.part_policy.Goals as goal

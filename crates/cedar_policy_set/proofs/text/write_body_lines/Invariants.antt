@@ -1,7 +1,7 @@
 use Rattle.std.proofs.Common.{◌≡◌, take, true}
 use Rattle.std.specs.List.{flat_map, list_all}
 use Rattle.std.specs.Fmt.{HasWritten, IsPlainFormatter}
-use Rattle.cedar_policy_set.specs.BoardTexts.{is_known_body, body_line}
+use Rattle.cedar_policy_set.specs.SetTexts.{is_known_body, body_line}
 use Rattle.cedar_policy_set.proofs.text.write_body_lines.Given as goal
 
 abbrev pub invariant-loop-body : goal.invariant-loop-body

@@ -1,7 +1,7 @@
 use Rattle.std.proofs.Common.{◌≡◌, take, true}
 use Rattle.std.specs.List.{flat_map, list_all}
 use Rattle.std.specs.Fmt.{HasWritten, IsPlainFormatter}
-use Rattle.cedar_policy_set.specs.BoardTexts.{is_known_policy, policy_line}
+use Rattle.cedar_policy_set.specs.SetTexts.{is_known_policy, policy_line}
 use Rattle.cedar_policy_set.proofs.text.write_policy_lines.Given as goal
 
 abbrev pub invariant-loop-policy : goal.invariant-loop-policy

@@ -1,7 +1,7 @@
 use Rattle.std.specs.Prelude.{Some, ◌∷◌, []}
 use Rattle.std.proofs.Common.{◌∙◌, sym, ap, subst}
 use Rattle.std.specs.Option.{option_map}
-use Rattle.cedar_policy_maps.specs.Boards.{IsBoard}
+use Rattle.cedar_policy_maps.specs.PolicySets.{IsPolicySet}
 use Rattle.cedar_policy_maps.specs.Lists.{ids_in}
 use Rattle.cedar_policy_maps.specs.laws.MapLaws.{on_template, link_ids, static_ids}
 use Rattle.cedar_policy_maps.proofs.policy_maps.PolicyMaps.ids_on.Goals as goal
@@ -20,12 +20,13 @@ returns-in-Some-links_of g c =
 
 pub returns-then-is_link : goal.returns-then-is_link
 returns-then-is_link g c =
-    link_ids c.args.self.now c.args.id.now c.in-Some.policy.now (subst IsBoard c.self.view_is c.self.invariant.board)
+    link_ids c.args.self.now c.args.id.now c.in-Some.policy.now (subst IsPolicySet c.self.view_is
+    c.self.invariant.policy_set)
     (sym c.in-Some.ensures) (sym c.is_link.ensures ∙ c.if-is_link.true)
 
 pub returns-else-is_link : goal.returns-else-is_link
 returns-else-is_link g c =
     ap Some (c.from_ref.ensures.value ∙ ap (λ i. i ∷ []) c.id.ensures)
     ∙ static_ids c.args.self.now c.args.id.now c.in-Some.policy.now
-    (subst IsBoard c.self.view_is c.self.invariant.board) (sym c.in-Some.ensures) (sym c.is_link.ensures
+    (subst IsPolicySet c.self.view_is c.self.invariant.policy_set) (sym c.in-Some.ensures) (sym c.is_link.ensures
     ∙ c.if-is_link.false)

@@ -1,6 +1,6 @@
 use Rattle.std.proofs.Common.{subst}
-use Rattle.cedar_policy_maps.specs.Boards.{IsBoard}
+use Rattle.cedar_policy_maps.specs.PolicySets.{IsPolicySet}
 use Rattle.cedar_policy_maps.proofs.policy_maps.PolicyMaps.is_empty.Goals as goal
 
-pub returns-clause-board : goal.returns-clause-board
-returns-clause-board g c = subst IsBoard c.self.view_is c.self.invariant.board
+pub returns-clause-policy_set : goal.returns-clause-policy_set
+returns-clause-policy_set g c = subst IsPolicySet c.self.view_is c.self.invariant.policy_set

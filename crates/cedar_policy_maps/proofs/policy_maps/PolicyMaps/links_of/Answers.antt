@@ -1,5 +1,5 @@
 use Rattle.std.proofs.Common.{◌∙◌, ap, refl}
-use Rattle.cedar_policy_maps.specs.Boards.{Board, is_body_at}
+use Rattle.cedar_policy_maps.specs.PolicySets.{SetParts, is_body_at}
 use Rattle.cedar_policy_maps.specs.Maps.{Maps, maps_of, templates_in}
 use Rattle.cedar_policy_maps.proofs.Entries.{ids_lent}
 use Rattle.std.specs.List.{find}
@@ -14,5 +14,5 @@ returns g c =
     c.self.inside.template_to_links_map.entries in
     ids_lent m c.self.inside.template_to_links_map.entries c.args.id.now c.get.result c.self.invariant refl
     c.get.ensures.value
-    ∙ ap (λ (b : Board). option_map (λ t. ids_in t.id b.policies)
+    ∙ ap (λ (b : SetParts). option_map (λ t. ids_in t.id b.policies)
     (find (is_body_at c.args.id.now) (templates_in b.policies b.bodies))) c.self.view_is

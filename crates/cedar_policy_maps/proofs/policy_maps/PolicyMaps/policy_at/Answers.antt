@@ -1,5 +1,5 @@
 use Rattle.std.proofs.Common.{◌∙◌, ap}
-use Rattle.cedar_policy_maps.specs.Boards.{Board, is_policy_at}
+use Rattle.cedar_policy_maps.specs.PolicySets.{SetParts, is_policy_at}
 use Rattle.cedar_policy_maps.specs.Maps.{Maps, maps_of}
 use Rattle.cedar_policy_maps.proofs.Entries.{policy_read}
 use Rattle.std.specs.List.{find}
@@ -11,4 +11,4 @@ returns g c =
     maps_of c.self.inside.templates.entries c.self.inside.links.entries
     c.self.inside.template_to_links_map.entries in
     c.get.ensures.value ∙ policy_read m c.args.id.now c.self.invariant
-    ∙ ap (λ (b : Board). find (is_policy_at c.args.id.now) b.policies) c.self.view_is
+    ∙ ap (λ (b : SetParts). find (is_policy_at c.args.id.now) b.policies) c.self.view_is

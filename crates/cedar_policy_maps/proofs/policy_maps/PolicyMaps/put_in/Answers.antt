@@ -1,8 +1,8 @@
 use Rattle.std.specs.Prelude.{◌≡◌, ◌++◌}
 use Rattle.std.proofs.Common.{◌∙◌, sym, ap, subst, refl}
 use Rattle.std.specs.Map.{values_of}
-use Rattle.cedar_policy_maps.specs.Boards.{Board}
-use Rattle.cedar_policy_maps.specs.Maps.{Maps, maps_of, board_in, lists_of, shared_of, ids_by_body, templates_in}
+use Rattle.cedar_policy_maps.specs.PolicySets.{SetParts}
+use Rattle.cedar_policy_maps.specs.Maps.{Maps, maps_of, set_in, lists_of, shared_of, ids_by_body, templates_in}
 use Rattle.cedar_policy_maps.specs.Views.{bodies_of}
 use Rattle.cedar_policy_maps.specs.laws.GrowLaws.{grown_by}
 use Rattle.cedar_policy_maps.specs.TakenIn.{CanTakeIn, taken_in}
@@ -16,7 +16,7 @@ put_all_last-requires-clause-new g c =
     c.self.inside.template_to_links_map.entries in
     let es = c.args.entering.templates.entries in
     let fs = c.args.entering.links.entries in
-    let k : CanTakeIn (board_in m) (bodies_of c.args.bodies.items) (bodies_of (values_of es)) (values_of fs) =
+    let k : CanTakeIn (set_in m) (bodies_of c.args.bodies.items) (bodies_of (values_of es)) (values_of fs) =
     subst (λ b. CanTakeIn b (bodies_of c.args.bodies.items) (bodies_of (values_of es)) (values_of fs))
     (sym c.self.view_is) c.requires.can in
     rw c.make_room.ensures.bodies (bodies_new m
@@ -30,7 +30,7 @@ put_all_last-requires-2-clause-new g c =
     c.self.inside.template_to_links_map.entries in
     let es = c.args.entering.templates.entries in
     let fs = c.args.entering.links.entries in
-    let k : CanTakeIn (board_in m) (bodies_of c.args.bodies.items) (bodies_of (values_of es)) (values_of fs) =
+    let k : CanTakeIn (set_in m) (bodies_of c.args.bodies.items) (bodies_of (values_of es)) (values_of fs) =
     subst (λ b. CanTakeIn b (bodies_of c.args.bodies.items) (bodies_of (values_of es)) (values_of fs))
     (sym c.self.view_is) c.requires.can in
     rw c.make_room.ensures.policies (policies_new m (bodies_of c.args.bodies.items)
@@ -49,7 +49,7 @@ put_all_last-requires-3-clause-new g c =
     let es = c.args.entering.templates.entries in
     let fs = c.args.entering.links.entries in
     let gs = c.args.entering.grown.entries in
-    let k : CanTakeIn (board_in m) (bodies_of c.args.bodies.items) (bodies_of (values_of es)) (values_of fs) =
+    let k : CanTakeIn (set_in m) (bodies_of c.args.bodies.items) (bodies_of (values_of es)) (values_of fs) =
     subst (λ b. CanTakeIn b (bodies_of c.args.bodies.items) (bodies_of (values_of es)) (values_of fs))
     (sym c.self.view_is) c.requires.can in
     lists_new m (bodies_of c.args.bodies.items) (bodies_of (values_of es))
@@ -65,9 +65,9 @@ invariant_of-self-2 g c =
     let fs = c.args.entering.links.entries in
     let gs = c.args.entering.grown.entries in
     let grown : lists_of gs ≡ ids_by_body (templates_in (values_of ps) (bodies_of c.args.bodies.items)) (values_of fs) =
-    subst (λ (b : Board). lists_of gs ≡ ids_by_body (templates_in b.policies (bodies_of c.args.bodies.items))
+    subst (λ (b : SetParts). lists_of gs ≡ ids_by_body (templates_in b.policies (bodies_of c.args.bodies.items))
     (values_of fs)) (sym c.self.view_is) c.requires.grown in
-    let k : CanTakeIn (board_in (maps_of ts ps ls)) (bodies_of c.args.bodies.items) (bodies_of (values_of es))
+    let k : CanTakeIn (set_in (maps_of ts ps ls)) (bodies_of c.args.bodies.items) (bodies_of (values_of es))
     (values_of fs) =
     subst (λ b. CanTakeIn b (bodies_of c.args.bodies.items) (bodies_of (values_of es)) (values_of fs))
     (sym c.self.view_is) c.requires.can in
@@ -89,9 +89,9 @@ returns-clause-ok g c =
     let fs = c.args.entering.links.entries in
     let gs = c.args.entering.grown.entries in
     let grown : lists_of gs ≡ ids_by_body (templates_in (values_of ps) (bodies_of c.args.bodies.items)) (values_of fs) =
-    subst (λ (b : Board). lists_of gs ≡ ids_by_body (templates_in b.policies (bodies_of c.args.bodies.items))
+    subst (λ (b : SetParts). lists_of gs ≡ ids_by_body (templates_in b.policies (bodies_of c.args.bodies.items))
     (values_of fs)) (sym c.self.view_is) c.requires.grown in
-    let k : CanTakeIn (board_in (maps_of ts ps ls)) (bodies_of c.args.bodies.items) (bodies_of (values_of es))
+    let k : CanTakeIn (set_in (maps_of ts ps ls)) (bodies_of c.args.bodies.items) (bodies_of (values_of es))
     (values_of fs) =
     subst (λ b. CanTakeIn b (bodies_of c.args.bodies.items) (bodies_of (values_of es)) (values_of fs))
     (sym c.self.view_is) c.requires.can in
@@ -103,4 +103,4 @@ returns-clause-ok g c =
     (c.keep_policies.ensures ∙ c.put_all_last-2.ensures ∙ ap (λ qs. qs ++ fs) c.make_room.ensures.policies)
     (c.grow_lists.ensures.lists ∙ ap (λ ls. grown_by ls (lists_of gs)) c.make_room.ensures.lists)
     c.put_all_last-3.ensures).1
-    ∙ ap (λ (b : Board). taken_in b (bodies_of (values_of es)) (values_of fs)) c.self.view_is
+    ∙ ap (λ (b : SetParts). taken_in b (bodies_of (values_of es)) (values_of fs)) c.self.view_is

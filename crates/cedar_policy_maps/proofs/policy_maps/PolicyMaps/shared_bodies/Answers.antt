@@ -1,5 +1,5 @@
 use Rattle.std.proofs.Common.{◌∙◌, ap}
-use Rattle.cedar_policy_maps.specs.Boards.{Board}
+use Rattle.cedar_policy_maps.specs.PolicySets.{SetParts}
 use Rattle.cedar_policy_maps.specs.Views.{bodies_of}
 use Rattle.cedar_policy_maps.proofs.Entries.{shared_values}
 use Rattle.cedar_policy_maps.proofs.policy_maps.PolicyMaps.shared_bodies.Goals as goal
@@ -7,4 +7,4 @@ use Rattle.cedar_policy_maps.proofs.policy_maps.PolicyMaps.shared_bodies.Goals a
 pub returns : goal.returns
 returns g c =
     ap bodies_of (c.as_slice.ensures ∙ c.values.ensures.rest) ∙ shared_values c.self.inside.templates.entries
-    ∙ ap (λ (b : Board). b.bodies) c.self.view_is
+    ∙ ap (λ (b : SetParts). b.bodies) c.self.view_is

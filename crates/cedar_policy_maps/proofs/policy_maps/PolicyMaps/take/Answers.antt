@@ -3,8 +3,8 @@ use Rattle.std.proofs.Common.{◌∙◌, ap, refl}
 use Rattle.std.specs.List.{find}
 use Rattle.std.specs.Option.{option_map}
 use Rattle.cedar_ids.specs.Texts.{same_text}
-use Rattle.cedar_policy_maps.specs.Boards.{Board, is_body_at, is_policy_at, has_links, without_id}
-use Rattle.cedar_policy_maps.specs.Maps.{Maps, maps_of, board_in, shared_of, lists_of}
+use Rattle.cedar_policy_maps.specs.PolicySets.{SetParts, is_body_at, is_policy_at, has_links, without_id}
+use Rattle.cedar_policy_maps.specs.Maps.{Maps, maps_of, set_in, shared_of, lists_of}
 use Rattle.cedar_policy_maps.specs.laws.MapLaws.{taken_kept, unlisted}
 use Rattle.cedar_policy_maps.proofs.Entries.{body_read, policy_read, read_removed}
 use Rattle.cedar_policy_maps.proofs.policy_maps.PolicyMaps.take.Goals as goal
@@ -15,7 +15,7 @@ invariant_of-self g c =
     maps_of c.self.inside.templates.entries c.self.inside.links.entries
     c.self.inside.template_to_links_map.entries in
     let i = c.args.id.now in
-    let n : has_links (board_in m) i ≡ false = ap (λ (b : Board). has_links b i) c.self.view_is ∙ c.requires in
+    let n : has_links (set_in m) i ≡ false = ap (λ (b : SetParts). has_links b i) c.self.view_is ∙ c.requires in
     let o = c.shift_remove-policy.result in
     (taken_kept m i o _ _ _ c.self.invariant n (c.shift_remove-policy.ensures.value ∙ policy_read m i c.self.invariant)
     (ap shared_of c.shift_remove-template.ensures.entries
@@ -32,7 +32,7 @@ returns-clause-body g c =
     let i = c.args.id.now in
     ap (option_map (λ t. t.value)) c.shift_remove-template.ensures.value
     ∙ body_read m c.self.inside.templates.entries i c.self.invariant refl
-    ∙ ap (λ (b : Board). find (is_body_at i) b.bodies) c.self.view_is
+    ∙ ap (λ (b : SetParts). find (is_body_at i) b.bodies) c.self.view_is
 
 pub returns-clause-policy : goal.returns-clause-policy
 returns-clause-policy g c =
@@ -41,7 +41,7 @@ returns-clause-policy g c =
     c.self.inside.template_to_links_map.entries in
     let i = c.args.id.now in
     c.shift_remove-policy.ensures.value ∙ policy_read m i c.self.invariant
-    ∙ ap (λ (b : Board). find (is_policy_at i) b.policies) c.self.view_is
+    ∙ ap (λ (b : SetParts). find (is_policy_at i) b.policies) c.self.view_is
 
 pub returns-clause-taken : goal.returns-clause-taken
 returns-clause-taken g c =
@@ -49,7 +49,7 @@ returns-clause-taken g c =
     maps_of c.self.inside.templates.entries c.self.inside.links.entries
     c.self.inside.template_to_links_map.entries in
     let i = c.args.id.now in
-    let n : has_links (board_in m) i ≡ false = ap (λ (b : Board). has_links b i) c.self.view_is ∙ c.requires in
+    let n : has_links (set_in m) i ≡ false = ap (λ (b : SetParts). has_links b i) c.self.view_is ∙ c.requires in
     let o = c.shift_remove-policy.result in
     (taken_kept m i o _ _ _ c.self.invariant n (c.shift_remove-policy.ensures.value ∙ policy_read m i c.self.invariant)
     (ap shared_of c.shift_remove-template.ensures.entries
@@ -57,4 +57,4 @@ returns-clause-taken g c =
     c.shift_remove-policy.ensures.entries
     (c.unlist.ensures ∙ ap (unlisted o i) (ap lists_of c.shift_remove.ensures.entries
     ∙ read_removed (λ v. v.keys) (same_text i) c.self.inside.template_to_links_map.entries))).1
-    ∙ ap (λ (b : Board). without_id b i) c.self.view_is
+    ∙ ap (λ (b : SetParts). without_id b i) c.self.view_is

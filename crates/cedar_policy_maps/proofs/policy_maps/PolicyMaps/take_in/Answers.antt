@@ -1,7 +1,7 @@
 use Rattle.std.proofs.Common.{sym, subst}
 use Rattle.cedar_body.specs.Bodies.{BodyParts}
 use Rattle.cedar_policy.specs.Policies.{policy_id}
-use Rattle.cedar_policy_maps.specs.Boards.{AreOnce}
+use Rattle.cedar_policy_maps.specs.PolicySets.{AreOnce}
 use Rattle.cedar_policy_maps.specs.Views.{bodies_of}
 use Rattle.cedar_policy_maps.proofs.Entered.{once_after}
 use Rattle.cedar_policy_maps.proofs.policy_maps.PolicyMaps.take_in.Goals as goal
@@ -13,8 +13,8 @@ what_enters-requires-clause-stand g c =
 pub what_enters-requires-clause-bodies : goal.what_enters-requires-clause-bodies
 what_enters-requires-clause-bodies g c =
     once_after (λ (t : BodyParts). t.id) c.args.self.now.bodies
-    (bodies_of c.args.bodies.join.items) c.requires.board.bodies_once
+    (bodies_of c.args.bodies.join.items) c.requires.policy_set.bodies_once
 
 pub what_enters-requires-clause-policies : goal.what_enters-requires-clause-policies
 what_enters-requires-clause-policies g c =
-    once_after policy_id c.args.self.now.policies c.args.policies.join.items c.requires.board.policies_once
+    once_after policy_id c.args.self.now.policies c.args.policies.join.items c.requires.policy_set.policies_once

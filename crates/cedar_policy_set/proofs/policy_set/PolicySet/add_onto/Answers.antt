@@ -1,9 +1,9 @@
 use Rattle.std.specs.Prelude.{◌≡◌, false, refl}
 use Rattle.std.proofs.Common.{sym, ap, ◌∙◌, subst}
 use Rattle.cedar_policy.specs.Policies.{policy_id}
-use Rattle.cedar_policy_maps.specs.Boards.{is_bound}
+use Rattle.cedar_policy_maps.specs.PolicySets.{is_bound}
 use Rattle.cedar_policy_maps.specs.Joins.{CanJoin}
-use Rattle.cedar_policy_maps.specs.laws.BoardLaws.{can_join}
+use Rattle.cedar_policy_maps.specs.laws.SetLaws.{can_join}
 use Rattle.cedar_policy_set.proofs.policy_set.PolicySet.add_onto.Goals as goal
 
 pub put_policy-requires : goal.put_policy-requires

@@ -1,7 +1,7 @@
 use Rattle.std.specs.Prelude.{◌≡◌, Some}
 use Rattle.std.specs.Option.{MatchOption}
 use Rattle.std.proofs.Common.{subst}
-use Rattle.cedar_policy_maps.specs.Boards.{Template, bound_at}
+use Rattle.cedar_policy_maps.specs.PolicySets.{Template, bound_at}
 use Rattle.cedar_binding.specs.Views.{env_of}
 use Rattle.cedar_policy_set.specs.laws.StepLaws.{stands}
 use Rattle.cedar_policy_set.specs.laws.LinkLaws.{link_of_there}

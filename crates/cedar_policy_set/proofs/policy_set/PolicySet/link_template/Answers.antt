@@ -4,7 +4,7 @@ use Rattle.std.proofs.lemmas.Result.{err_from_is_err_and}
 use Rattle.cedar_body.specs.Bodies.{body_slots}
 use Rattle.cedar_binding.specs.Views.{env_of}
 use Rattle.cedar_policy.specs.Policies.{PolicyParts}
-use Rattle.cedar_policy_maps.specs.Boards.{Board, is_bound, with_policy}
+use Rattle.cedar_policy_maps.specs.PolicySets.{SetParts, is_bound, with_policy}
 use Rattle.cedar_policy_set.specs.Steps.{id_conflict}
 use Rattle.cedar_policy_set.specs.laws.StepLaws.{unfit_is_refused, fit_goes_on}
 use Rattle.cedar_policy_set.proofs.policy_set.PolicySet.link_template.Goals as goal
@@ -28,7 +28,7 @@ returns-then-occupied g c =
     ∙ ap (λ (q : PolicyParts). q.link) c.in_ok-policy.ensures.1) in (
       refl,
       fit_goes_on (body_slots c.args.template.value) (env_of c.args.values) _ c.in_ok-policy.ensures.0
-          ∙ ap (λ (b : Board). if is_bound b c.args.new_id then Err (id_conflict c.args.new_id) else Ok kept)
+          ∙ ap (λ (b : SetParts). if is_bound b c.args.new_id then Err (id_conflict c.args.new_id) else Ok kept)
           (sym c.self.view_is)
           ∙ ap (λ b. if b then Err (id_conflict c.args.new_id) else Ok kept) (sym c.if-occupied.ensures)
           ∙ ap (λ i. Err (id_conflict i)) (sym same),
@@ -43,7 +43,7 @@ returns g c =
     } in
     let kept = with_policy c.args.self.now link in
     fit_goes_on (body_slots c.args.template.value) (env_of c.args.values) _ c.in_ok-policy.ensures.0
-    ∙ ap (λ (b : Board). if is_bound b c.args.new_id then Err (id_conflict c.args.new_id) else Ok kept)
+    ∙ ap (λ (b : SetParts). if is_bound b c.args.new_id then Err (id_conflict c.args.new_id) else Ok kept)
     (sym c.self.view_is)
     ∙ ap (λ b. if b then Err (id_conflict c.args.new_id) else Ok kept) (sym c.if-occupied.ensures)
     ∙ ap Ok (ap (λ b. with_policy b link) (sym c.self.view_is)

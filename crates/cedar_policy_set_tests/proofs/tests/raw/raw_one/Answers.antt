@@ -1,7 +1,7 @@
 use Rattle.std.specs.Prelude.{◌≡◌, [], ◌∷◌}
 use Rattle.std.proofs.Common.{sym, subst}
 use Rattle.cedar_policy.specs.Policies.{policy_id}
-use Rattle.cedar_policy_set.specs.Maps.{Maps, CanMakeSet, maps_of}
+use Rattle.cedar_policy_maps.specs.Maps.{Maps, CanMakeSet, maps_of}
 use Rattle.cedar_policy_set_tests.proofs.Single.{one_makes}
 use Rattle.cedar_policy_set_tests.proofs.tests.raw.raw_one.Goals as goal
 

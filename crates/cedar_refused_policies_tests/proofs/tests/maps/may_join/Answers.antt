@@ -4,9 +4,9 @@ use Rattle.std.proofs.lemmas.Bool.{false≢true}
 use Rattle.cedar_body.specs.Bodies.{BodyParts}
 use Rattle.cedar_body.specs.BodyEquality.{same_body}
 use Rattle.cedar_policy.specs.Policies.{policy_id}
-use Rattle.cedar_policy_maps.specs.Boards.{Template, bound_at, is_bound}
+use Rattle.cedar_policy_maps.specs.PolicySets.{Template, bound_at, is_bound}
 use Rattle.cedar_policy_maps.specs.Founds.{found_binding}
-use Rattle.cedar_policy_maps.specs.laws.BoardLaws.{can_join}
+use Rattle.cedar_policy_maps.specs.laws.SetLaws.{can_join}
 use Rattle.cedar_refused_policies_tests.proofs.tests.maps.may_join.Goals as goal
 
 pub returns-in-Some-Template : goal.returns-in-Some-Template

@@ -16,8 +16,8 @@ returns-then-is_empty g c s h =
 pub returns-then-waits : goal.returns-then-waits
 returns-then-waits g c s h =
     let i = c.self.inside in
-    let old : SessionView = record { entities = i.entities; boards = i.sets; is_lost = i.is_lost } in
-    let new : SessionView = record { entities = c.take_ent.new.self; boards = i.sets; is_lost = i.is_lost } in
+    let old : SessionView = record { entities = i.entities; policy_sets = i.sets; is_lost = i.is_lost } in
+    let new : SessionView = record { entities = c.take_ent.new.self; policy_sets = i.sets; is_lost = i.is_lost } in
     let text : c.in_ok-is_text.is_text ≡ true = c.if-not-is_text.false in
     let readable : list_all is_line_byte c.args.line.now ≡ true = sym c.in_ok-is_text.ensures.readable ∙ text in
     let same : map (λ f. f.now) c.deref.result.now ≡ slice_split (λ b. b == 9) c.args.line.now =
@@ -40,7 +40,7 @@ returns-then-on_store g c s h =
     let same : map (λ f. f.now) c.deref-2.result.now ≡ slice_split (λ b. b == 9) c.args.line.now =
     ap (map (λ f. f.now)) c.deref-2.ensures.value ∙ c.in_ok-is_text.ensures.fields text in
     let left = (rw c.if-waits.false at c.in_ok-waits.ensures).1 in
-    let is = subst (λ m. StandsAt (record { entities = m; boards = i.sets; is_lost = i.is_lost }) s) (sym left)
+    let is = subst (λ m. StandsAt (record { entities = m; policy_sets = i.sets; is_lost = i.is_lost }) s) (sym left)
     (subst (λ v. StandsAt v s) (sym c.self.view_is) h) in
     let took = rw c.if-on_store.true at (c.in_ok-on_store.ensures s is) in
     line_taken Entity c.args.line.now (map (λ f. f.now) c.deref-2.result.now) s _ c.args.out.now.items _ readable same
@@ -54,7 +54,7 @@ returns-then-on_sets g c s h =
     let same : map (λ f. f.now) c.deref-3.result.now ≡ slice_split (λ b. b == 9) c.args.line.now =
     ap (map (λ f. f.now)) c.deref-3.ensures.value ∙ c.in_ok-is_text.ensures.fields text in
     let left = (rw c.if-waits.false at c.in_ok-waits.ensures).1 in
-    let is = subst (λ m. StandsAt (record { entities = m; boards = i.sets; is_lost = i.is_lost }) s) (sym left)
+    let is = subst (λ m. StandsAt (record { entities = m; policy_sets = i.sets; is_lost = i.is_lost }) s) (sym left)
     (subst (λ v. StandsAt v s) (sym c.self.view_is) h) in
     let none = rw c.if-on_store.false at (c.in_ok-on_store.ensures s is) in
     let took = rw c.if-on_sets.true at (c.in_ok-on_sets.ensures s none.1) in
@@ -73,11 +73,12 @@ returns g c s h =
     let same-3 : map (λ f. f.now) c.deref-3.result.now ≡ slice_split (λ b. b == 9) line =
     ap (map (λ f. f.now)) c.deref-3.ensures.value ∙ c.in_ok-is_text.ensures.fields text in
     let left = (rw c.if-waits.false at c.in_ok-waits.ensures).1 in
-    let is = subst (λ m. StandsAt (record { entities = m; boards = i.sets; is_lost = i.is_lost }) s) (sym left)
+    let is = subst (λ m. StandsAt (record { entities = m; policy_sets = i.sets; is_lost = i.is_lost }) s) (sym left)
     (subst (λ v. StandsAt v s) (sym c.self.view_is) h) in
     let none = rw c.if-on_store.false at (c.in_ok-on_store.ensures s is) in
     let more = rw c.if-on_sets.false at (c.in_ok-on_sets.ensures s none.1) in
-    line_left line s _ c.args.out.now.items _ (λ e. false≢true (sym c.if-is_empty.false ∙ c.is_empty.ensures ∙ ap (λ l. length l == 0) e))
+    line_left line s _ c.args.out.now.items _ (λ e. false≢true (sym c.if-is_empty.false ∙ c.is_empty.ensures ∙ ap (λ l.
+    length l == 0) e))
     (none_of_line Entity line (map (λ f. f.now) c.deref-2.result.now) same-2 none.0)
     (none_of_line Policy line (map (λ f. f.now) c.deref-3.result.now) same-3 more.0)
     more.1 (more.2 ∙ none.2)

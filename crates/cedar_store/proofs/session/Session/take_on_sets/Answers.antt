@@ -7,8 +7,8 @@ use Rattle.cedar_store.proofs.session.Session.take_on_sets.Goals as goal
 pub returns-in_ok-take-in-Some : goal.returns-in_ok-take-in-Some
 returns-in_ok-take-in-Some g c s h =
     let i = c.self.inside in
-    let old : SessionView = record { entities = i.entities; boards = i.sets; is_lost = i.is_lost } in
-    let new : SessionView = record { entities = i.entities; boards = c.take.new.self; is_lost = i.is_lost } in
+    let old : SessionView = record { entities = i.entities; policy_sets = i.sets; is_lost = i.is_lost } in
+    let new : SessionView = record { entities = i.entities; policy_sets = c.take.new.self; is_lost = i.is_lost } in
     let command = policy_command_of c.in-Some.command in
     let is = subst (λ v. StandsAt v s) (sym c.self.view_is) h in (
       command,

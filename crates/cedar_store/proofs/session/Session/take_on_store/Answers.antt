@@ -8,8 +8,8 @@ use Rattle.cedar_store.proofs.session.Session.take_on_store.Goals as goal
 pub returns-in_ok-take-in-Some : goal.returns-in_ok-take-in-Some
 returns-in_ok-take-in-Some g c s h =
     let i = c.self.inside in
-    let old : SessionView = record { entities = i.entities; boards = i.sets; is_lost = i.is_lost } in
-    let new : SessionView = record { entities = c.take.new.self; boards = i.sets; is_lost = i.is_lost } in
+    let old : SessionView = record { entities = i.entities; policy_sets = i.sets; is_lost = i.is_lost } in
+    let new : SessionView = record { entities = c.take.new.self; policy_sets = i.sets; is_lost = i.is_lost } in
     let command = entity_command_of c.in-Some.command in
     let is = subst (λ v. StandsAt v s) (sym c.self.view_is) h in
     let known = rw c.in-Some.is at c.in_ok-read_entity_command.ensures in (

@@ -1,7 +1,7 @@
 use Rattle.std.proofs.Common.{◌∙◌}
 use Rattle.cedar_ids.specs.Texts.{same_text}
 use Rattle.indexmap.proofs.CallerLemmas.{insert_entry-new}
-use Rattle.cedar_policy_maps.proofs.maps.put_last.Goals as goal
+use Rattle.cedar_policy_maps.proofs.maps.insert_reserved.Goals as goal
 
 pub returns : goal.returns
 returns g c = (rw c.unwrap.ensures at c.insert.ensures.entries)

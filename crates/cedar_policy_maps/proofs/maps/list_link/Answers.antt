@@ -4,7 +4,7 @@ use Rattle.indexmap.specs.IndexSet.{insert_key}
 use Rattle.cedar_policy_maps.specs.Maps.{lists_of}
 use Rattle.std.proofs.lemmas.Result.{on_ok_weaker, on_err_weaker}
 use Rattle.cedar_policy_maps.proofs.Entries.{unwritten, written, rewritten}
-use Rattle.cedar_policy_maps.proofs.maps.list_id.Goals as goal
+use Rattle.cedar_policy_maps.proofs.maps.list_link.Goals as goal
 
 pub returns-in-None-clause-ok : goal.returns-in-None-clause-ok
 returns-in-None-clause-ok g c =
@@ -14,17 +14,17 @@ returns-in-None-clause-ok g c =
 
 pub returns-in-Some-clause-ok : goal.returns-in-Some-clause-ok
 returns-in-Some-clause-ok g c =
-    let w = c.put_id.new.ids in
-    on_ok_weaker c.put_id.result
+    let w = c.insert_id.new.ids in
+    on_ok_weaker c.insert_id.result
     (λ k. ap lists_of (c.get_mut.follows.holds w).0
     ∙ written (same_text c.args.body.now) (λ ks. insert_key same_text ks c.args.id) c.args.map.now.entries
     c.in-Some.ids.now w (sym c.in-Some.ensures.value) k)
-    c.put_id.ensures.ok
+    c.insert_id.ensures.ok
 
 pub returns-in-Some-clause-err : goal.returns-in-Some-clause-err
 returns-in-Some-clause-err g c =
-    let w = c.put_id.new.ids in
-    on_err_weaker c.put_id.result
+    let w = c.insert_id.new.ids in
+    on_err_weaker c.insert_id.result
     (λ k. ap lists_of (c.get_mut.follows.holds w).0
     ∙ rewritten (same_text c.args.body.now) c.args.map.now.entries c.in-Some.ids.now w (sym c.in-Some.ensures.value) k)
-    c.put_id.ensures.err
+    c.insert_id.ensures.err

@@ -4,7 +4,7 @@ use Rattle.cedar_ids.specs.Texts.{same_text}
 use Rattle.indexmap.specs.IndexSet.{insert_key}
 use Rattle.cedar_policy_maps.specs.Maps.{lists_of}
 use Rattle.cedar_policy_maps.proofs.Entries.{unwritten, written}
-use Rattle.cedar_policy_maps.proofs.maps.list_copy.Goals as goal
+use Rattle.cedar_policy_maps.proofs.maps.list_link_copy.Goals as goal
 
 pub returns-in-None : goal.returns-in-None
 returns-in-None g c =
@@ -14,9 +14,9 @@ returns-in-None g c =
 
 pub returns-in-Some : goal.returns-in-Some
 returns-in-Some g c =
-    let w = c.put_copy.new.ids in
-    on_ok_weaker c.put_copy.result
+    let w = c.insert_id_copy.new.ids in
+    on_ok_weaker c.insert_id_copy.result
     (λ k. ap lists_of (c.get_mut.follows.holds w).0
     ∙ written (same_text c.args.body.now) (λ ks. insert_key same_text ks c.args.id.now) c.args.map.now.entries
     c.in-Some.ids.now w (sym c.in-Some.ensures.value) k)
-    c.put_copy.ensures
+    c.insert_id_copy.ensures

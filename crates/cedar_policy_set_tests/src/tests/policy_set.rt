@@ -24,30 +24,30 @@ pub(super) struct Row {
 
 // Up to 20 bodies and up to 20 policies, each in their order.
 #[derive(Clone, Copy, Drop, PartialEq, Eq)]
-pub(super) struct Board {
+pub(super) struct SetParts {
     pub(super) bodies: [Option<Body>; 20],
     pub(super) policies: [Option<Row>; 20],
 }
 
-pub(super) fn empty() -> Board {
-    Board {
+pub(super) fn empty() -> SetParts {
+    SetParts {
         bodies: [None; 20],
         policies: [None; 20],
     }
 }
 
 // Puts a body last.
-pub(super) fn put_body(board: &mut Board, body: Body) {
-    let count = board.bodies.iter().flatten().count();
-    if let Some(place) = board.bodies.get_mut(count) {
+pub(super) fn put_body(policy_set: &mut SetParts, body: Body) {
+    let count = policy_set.bodies.iter().flatten().count();
+    if let Some(place) = policy_set.bodies.get_mut(count) {
         *place = Some(body);
     }
 }
 
 // Puts a policy last.
-pub(super) fn put_row(board: &mut Board, row: Row) {
-    let count = board.policies.iter().flatten().count();
-    if let Some(place) = board.policies.get_mut(count) {
+pub(super) fn put_row(policy_set: &mut SetParts, row: Row) {
+    let count = policy_set.policies.iter().flatten().count();
+    if let Some(place) = policy_set.policies.get_mut(count) {
         *place = Some(row);
     }
 }

@@ -1,4 +1,4 @@
--- That a board stays one: with what joins it, and without what is taken out.
+-- That a policy set stays one: with what joins it, and without what is taken out.
 use Rattle.std.specs.Prelude.{◌≡◌, ℕ, List, [], ◌∷◌, ◌++◌, Bool, true, false, not, ◌||◌, ◌&&◌, Option, Some, None}
 use Rattle.std.specs.Prelude.{MatchOption, refl, is_some}
 use Rattle.std.proofs.Common.{sym, ap, ◌∙◌, cond}
@@ -15,10 +15,12 @@ use Rattle.cedar_body.specs.BodyEquality.{same_body}
 use Rattle.cedar_body.specs.laws.BodyLaws.{same_body_decides}
 use Rattle.cedar_binding.specs.Bindings.{BindsExactly, FitsSlots, wrong_action}
 use Rattle.cedar_policy.specs.Policies.{PolicyParts, policy_id, static_policy}
-use Rattle.cedar_policy_maps.specs.Boards.{Board, Template, empty_board, HasOwnId, bound_at, bound_among, is_bound}
-use Rattle.cedar_policy_maps.specs.Boards.{is_body_at, is_policy_at, links_to, has_links, policy_binding, binding_by}
-use Rattle.cedar_policy_maps.specs.Boards.{with_template, with_policy, with_both, without_id, IsHeldBy, IsHeld, AreHeld}
-use Rattle.cedar_policy_maps.specs.Boards.{IsBoard}
+use Rattle.cedar_policy_maps.specs.PolicySets.{SetParts, Template, empty_set, HasOwnId, bound_at, bound_among, is_bound}
+use Rattle.cedar_policy_maps.specs.PolicySets.{is_body_at, is_policy_at, links_to, has_links, policy_binding}
+use Rattle.cedar_policy_maps.specs.PolicySets.{binding_by}
+use Rattle.cedar_policy_maps.specs.PolicySets.{with_template, with_policy, with_both, without_id, IsHeldBy, IsHeld}
+use Rattle.cedar_policy_maps.specs.PolicySets.{AreHeld}
+use Rattle.cedar_policy_maps.specs.PolicySets.{IsPolicySet}
 use Rattle.cedar_policy_maps.specs.Joins.{CanJoin, CanJoinBy, CanJoinBoth, CanJoinBothBy}
 use Rattle.cedar_policy_maps.specs.laws.OnceLaws.{once_more, once-push, once-filter, filter_none, any-filter_none}
 use Rattle.cedar_policy_maps.specs.laws.OnceLaws.{none_is, find-unless, find-push, find-filter}
@@ -43,10 +45,10 @@ turned : (i j : List ℕ) → same_text i j ≡ false → same_text j i ≡ fals
 turned i j h = same_text_equiv.symm j i ∙ h
 
 -- nothing has a free id
-pub no_policy_at : (b : Board) (i : List ℕ) → is_bound b i ≡ false → list_any (is_policy_at i) b.policies ≡ false
+pub no_policy_at : (b : SetParts) (i : List ℕ) → is_bound b i ≡ false → list_any (is_policy_at i) b.policies ≡ false
 no_policy_at b i h = (or_parts _ _ h).0
 
-pub no_body_at : (b : Board) (i : List ℕ) → is_bound b i ≡ false → list_any (is_body_at i) b.bodies ≡ false
+pub no_body_at : (b : SetParts) (i : List ℕ) → is_bound b i ≡ false → list_any (is_body_at i) b.bodies ≡ false
 no_body_at b i h = (or_parts _ _ h).1
 
 one_more_body : (i : List ℕ) (ts : List BodyParts) (t : BodyParts) → list_any (is_body_at i) ts ≡ false
@@ -59,7 +61,7 @@ one_more_policy i ps p n e = list_any-append (is_policy_at i) ps (p ∷ []) ∙ 
 
 -- ---- what joins
 
-held_with_template : (o : Option (List ℕ)) (b : Board) (t : BodyParts) (p : PolicyParts)
+held_with_template : (o : Option (List ℕ)) (b : SetParts) (t : BodyParts) (p : PolicyParts)
     → same_text t.id (unwrap_or o p.template.id) ≡ false → IsHeldBy o b p → IsHeldBy o (with_template b t) p
 held_with_template None b t p a h = (h.0, h.1, find-push (is_body_at p.template.id) b.bodies t p.template h.2)
 held_with_template (Some l) b t p a h = (
@@ -70,7 +72,7 @@ held_with_template (Some l) b t p a h = (
   h.3,
 )
 
-held_with_policy : (o : Option (List ℕ)) (b : Board) (q p : PolicyParts)
+held_with_policy : (o : Option (List ℕ)) (b : SetParts) (q p : PolicyParts)
     → list_any (is_body_at (policy_id q)) b.bodies ≡ false → IsHeldBy o b p → IsHeldBy o (with_policy b q) p
 held_with_policy None b q p n h = h
 held_with_policy (Some l) b q p n h = (
@@ -81,7 +83,7 @@ held_with_policy (Some l) b q p n h = (
   h.3,
 )
 
-all_with_template : (b : Board) (t : BodyParts) (ps : List PolicyParts) → list_any (is_policy_at t.id) ps ≡ false
+all_with_template : (b : SetParts) (t : BodyParts) (ps : List PolicyParts) → list_any (is_policy_at t.id) ps ≡ false
     → AreHeld b ps → AreHeld (with_template b t) ps
 all_with_template b t [] n h = tt
 all_with_template b t (p ∷ ps) n h = (
@@ -90,17 +92,19 @@ all_with_template b t (p ∷ ps) n h = (
       (or_parts _ _ n).1 h.1,
 )
 
-all_with_policy : (b : Board) (q : PolicyParts) (ps : List PolicyParts)
+all_with_policy : (b : SetParts) (q : PolicyParts) (ps : List PolicyParts)
     → list_any (is_body_at (policy_id q)) b.bodies ≡ false → AreHeld b ps → AreHeld (with_policy b q) ps
 all_with_policy b q [] n h = tt
 all_with_policy b q (p ∷ ps) n h = (held_with_policy p.link b q p n h.0, all_with_policy b q ps n h.1)
 
-held-push : (b : Board) (ps : List PolicyParts) (q : PolicyParts) → AreHeld b ps → IsHeld b q → AreHeld b (ps ++ q ∷ [])
+held-push : (b : SetParts) (ps : List PolicyParts) (q : PolicyParts) → AreHeld b ps → IsHeld b q
+    → AreHeld b (ps ++ q ∷ [])
 held-push b [] q h e = (e, tt)
 held-push b (p ∷ ps) q h e = (h.0, held-push b ps q h.1 e)
 
 -- a template with a free id joins
-pub template_joins : (b : Board) (t : BodyParts) → IsBoard b → is_bound b t.id ≡ false → IsBoard (with_template b t)
+pub template_joins : (b : SetParts) (t : BodyParts) → IsPolicySet b → is_bound b t.id ≡ false
+    → IsPolicySet (with_template b t)
 template_joins b t h n = record {
   bodies_once = once-push body_id b.bodies t h.bodies_once (no_body_at b t.id n);
   policies_once = h.policies_once;
@@ -118,13 +122,13 @@ found_template None (Some t) u e = (refl, cc)
 found_template None None u e = absurd (cc)
 
 -- what a template that is bound says of the orders
-pub template_at : (b : Board) (i : List ℕ) (u : BodyParts) → bound_at b i ≡ Some (Template u)
+pub template_at : (b : SetParts) (i : List ℕ) (u : BodyParts) → bound_at b i ≡ Some (Template u)
     → (list_any (is_policy_at i) b.policies ≡ false) × (find (is_body_at i) b.bodies ≡ Some u)
 template_at b i u e =
     let f = found_template (find (is_policy_at i) b.policies) (find (is_body_at i) b.bodies) u e in
     (none_is (is_policy_at i) b.policies f.0, f.1)
 
-link_held : (o : Option (List ℕ)) (b : Board) (q : PolicyParts) → o ≡ q.link → CanJoinBy o b q
+link_held : (o : Option (List ℕ)) (b : SetParts) (q : PolicyParts) → o ≡ q.link → CanJoinBy o b q
     → IsHeldBy o (with_policy b q) q
 link_held None b q e h = absurd h
 link_held (Some l) b q e h =
@@ -138,13 +142,13 @@ link_held (Some l) b q e h =
       h.2,
     )
 
-pub free_link : (o : Option (List ℕ)) (b : Board) (q : PolicyParts) → o ≡ q.link → CanJoinBy o b q
+pub free_link : (o : Option (List ℕ)) (b : SetParts) (q : PolicyParts) → o ≡ q.link → CanJoinBy o b q
     → is_bound b (policy_id q) ≡ false
 free_link None b q e h = absurd h
 free_link (Some l) b q e h = ap (λ o. is_bound b (unwrap_or o q.template.id)) (sym e) ∙ h.0
 
 -- a link of a template that stands there joins
-pub link_joins : (b : Board) (q : PolicyParts) → IsBoard b → CanJoin b q → IsBoard (with_policy b q)
+pub link_joins : (b : SetParts) (q : PolicyParts) → IsPolicySet b → CanJoin b q → IsPolicySet (with_policy b q)
 link_joins b q h c =
     let free = free_link q.link b q refl c in
     record {
@@ -163,12 +167,12 @@ found_last [] t n = ap (λ v. cond v (Some t) None) (is_itself t.id)
 found_last (u ∷ us) t n = ap (λ v. cond v (Some u) (find (is_body_at t.id) (us ++ t ∷ []))) (or_parts _ _ n).0
     ∙ found_last us t (or_parts _ _ n).1
 
-pub both_free : (o : Option (List ℕ)) (b : Board) (q : PolicyParts) → o ≡ q.link → is_bound b q.template.id ≡ false
+pub both_free : (o : Option (List ℕ)) (b : SetParts) (q : PolicyParts) → o ≡ q.link → is_bound b q.template.id ≡ false
     → CanJoinBothBy o b q → is_bound b (policy_id q) ≡ false
 both_free None b q e n h = ap (λ o. is_bound b (unwrap_or o q.template.id)) (sym e) ∙ n
 both_free (Some l) b q e n h = ap (λ o. is_bound b (unwrap_or o q.template.id)) (sym e) ∙ h.0
 
-both_held : (o : Option (List ℕ)) (b : Board) (q : PolicyParts) → o ≡ q.link → is_bound b q.template.id ≡ false
+both_held : (o : Option (List ℕ)) (b : SetParts) (q : PolicyParts) → o ≡ q.link → is_bound b q.template.id ≡ false
     → CanJoinBothBy o b q → IsHeldBy o (with_both b q.template q) q
 both_held None b q e n h = (h.0, h.1, found_last b.bodies q.template (no_body_at b q.template.id n))
 both_held (Some l) b q e n h =
@@ -181,7 +185,8 @@ both_held (Some l) b q e n h =
     )
 
 -- a policy and its template join together
-pub both_join : (b : Board) (q : PolicyParts) → IsBoard b → CanJoinBoth b q → IsBoard (with_both b q.template q)
+pub both_join : (b : SetParts) (q : PolicyParts) → IsPolicySet b → CanJoinBoth b q
+    → IsPolicySet (with_both b q.template q)
 both_join b q h c =
     let free = both_free q.link b q refl c.0 c.1 in
     let old = all_with_policy b q b.policies (no_body_at b (policy_id q) free) h.held in
@@ -197,14 +202,14 @@ both_join b q h c =
 differs : (i j k : List ℕ) → same_text i j ≡ false → same_text j k ≡ true → not (same_text i k) ≡ true
 differs i j k a e = ap not (ap (same_text i) (sym ((same_text_decides j k).0 e)) ∙ a)
 
-kept_body : (b : Board) (i j : List ℕ) → same_text i j ≡ false
+kept_body : (b : SetParts) (i j : List ℕ) → same_text i j ≡ false
     → find (is_body_at j) (filter (λ t. not (is_body_at i t)) b.bodies) ≡ find (is_body_at j) b.bodies
 kept_body b i j a = find-filter (λ t. not (is_body_at i t)) (is_body_at j) b.bodies (λ t e. differs i j t.id a e)
 
 not_linked : (l : List ℕ) (v : Bool) → (true && v) ≡ false → v ≡ false
 not_linked l v e = e
 
-held_without : (o : Option (List ℕ)) (b : Board) (i : List ℕ) (p : PolicyParts)
+held_without : (o : Option (List ℕ)) (b : SetParts) (i : List ℕ) (p : PolicyParts)
     → same_text i (unwrap_or o p.template.id) ≡ false → (is_some o && same_text i p.template.id) ≡ false
     → IsHeldBy o b p → IsHeldBy o (without_id b i) p
 held_without None b i p a n h = (h.0, h.1, kept_body b i p.template.id a ∙ h.2)
@@ -215,13 +220,13 @@ held_without (Some l) b i p a n h = (
   h.3,
 )
 
-kept_held : (v : Bool) (b : Board) (i : List ℕ) (p : PolicyParts) (ps : List PolicyParts)
+kept_held : (v : Bool) (b : SetParts) (i : List ℕ) (p : PolicyParts) (ps : List PolicyParts)
     → same_text i (policy_id p) ≡ v → links_to i p ≡ false → IsHeld b p →
     AreHeld (without_id b i) ps → AreHeld (without_id b i) (cond (not v) (p ∷ ps) ps)
 kept_held true b i p ps a n h r = r
 kept_held false b i p ps a n h r = (held_without p.link b i p a n h, r)
 
-all_without : (b : Board) (i : List ℕ) (ps : List PolicyParts) → list_any (links_to i) ps ≡ false → AreHeld b ps
+all_without : (b : SetParts) (i : List ℕ) (ps : List PolicyParts) → list_any (links_to i) ps ≡ false → AreHeld b ps
     → AreHeld (without_id b i) (filter (λ p. not (is_policy_at i p)) ps)
 all_without b i [] n h = tt
 all_without b i (p ∷ ps) n h =
@@ -229,14 +234,14 @@ all_without b i (p ∷ ps) n h =
     (all_without b i ps (or_parts _ _ n).1 h.1)
 
 -- where an id has no links, what it is bound to can be taken out
-pub taken_out : (b : Board) (i : List ℕ) → IsBoard b → has_links b i ≡ false → IsBoard (without_id b i)
+pub taken_out : (b : SetParts) (i : List ℕ) → IsPolicySet b → has_links b i ≡ false → IsPolicySet (without_id b i)
 taken_out b i h n = record {
   bodies_once = once-filter body_id (λ t. not (is_body_at i t)) b.bodies h.bodies_once;
   policies_once = once-filter policy_id (λ p. not (is_policy_at i p)) b.policies h.policies_once;
   held = all_without b i b.policies n h.held;
 }
 
-linked_by : (o : Option (List ℕ)) (b : Board) (i : List ℕ) (p q : PolicyParts)
+linked_by : (o : Option (List ℕ)) (b : SetParts) (i : List ℕ) (p q : PolicyParts)
     → find (is_policy_at i) b.policies ≡ Some q → IsHeldBy o b p → (v : Bool)
     → (is_some o && same_text i p.template.id) ≡ v → v ≡ false
 linked_by None b i p q f h v e = sym e
@@ -247,19 +252,19 @@ linked_by (Some l) b i p q f h true e =
     absurd (cc (none, f))
 linked_by (Some l) b i p q f h false e = refl
 
-none_linked : (b : Board) (i : List ℕ) (q : PolicyParts) (ps : List PolicyParts)
+none_linked : (b : SetParts) (i : List ℕ) (q : PolicyParts) (ps : List PolicyParts)
     → find (is_policy_at i) b.policies ≡ Some q → AreHeld b ps → list_any (links_to i) ps ≡ false
 none_linked b i q [] f h = refl
 none_linked b i q (p ∷ ps) f h = ap (λ v. v || list_any (links_to i) ps)
     (linked_by p.link b i p q f h.0 (links_to i p) refl) ∙ none_linked b i q ps f h.1
 
 -- a policy's id has no links
-pub policy_has_no_links : (b : Board) (i : List ℕ) (q : PolicyParts) → IsBoard b
+pub policy_has_no_links : (b : SetParts) (i : List ℕ) (q : PolicyParts) → IsPolicySet b
     → find (is_policy_at i) b.policies ≡ Some q → has_links b i ≡ false
 policy_has_no_links b i q h f = none_linked b i q b.policies f h.held
 
--- what joined under a free id and is taken out again leaves the former board
-pub undone : (b : Board) (p : PolicyParts) → is_bound b (policy_id p) ≡ false
+-- what joined under a free id and is taken out again leaves the former policy set
+pub undone : (b : SetParts) (p : PolicyParts) → is_bound b (policy_id p) ≡ false
     → without_id (with_policy b p) (policy_id p) ≡ b
 undone b p n =
     let ts : filter (λ t. not (is_body_at (policy_id p) t)) b.bodies ≡ b.bodies =
@@ -278,13 +283,13 @@ found_is (Some q) t p e = refl
 found_is None (Some u) p e = absurd (no_template_by p.link p u e)
 found_is None None p e = absurd (cc)
 
-unlinked_by : (b : Board) (i : List ℕ) (o : Option PolicyParts) → IsBoard b → find (is_policy_at i) b.policies ≡ o
-    → is_some o ≡ true → has_links b i ≡ false
+unlinked_by : (b : SetParts) (i : List ℕ) (o : Option PolicyParts) → IsPolicySet b
+    → find (is_policy_at i) b.policies ≡ o → is_some o ≡ true → has_links b i ≡ false
 unlinked_by b i (Some q) h f s = policy_has_no_links b i q h f
 unlinked_by b i None h f s = absurd (cc)
 
 -- what is bound as a policy has no links
-pub bound_policy_unlinked : (b : Board) (i : List ℕ) (p : PolicyParts) → IsBoard b
+pub bound_policy_unlinked : (b : SetParts) (i : List ℕ) (p : PolicyParts) → IsPolicySet b
     → Some (policy_binding p) ≡ bound_at b i → has_links b i ≡ false
 bound_policy_unlinked b i p h e =
     unlinked_by b i (find (is_policy_at i) b.policies) h refl
@@ -306,13 +311,13 @@ neither : (a b : Bool) → a ≡ false → b ≡ false → (a || b) ≡ false
 neither a b p q = cc
 
 -- where nothing is bound nothing has the id
-pub none_bound : (b : Board) (i : List ℕ) → bound_at b i ≡ None → is_bound b i ≡ false
+pub none_bound : (b : SetParts) (i : List ℕ) → bound_at b i ≡ None → is_bound b i ≡ false
 none_bound b i e =
     let u = none_among (find (is_policy_at i) b.policies) (find (is_body_at i) b.bodies) e in
     neither _ _ (none_is (is_policy_at i) b.policies u.0) (none_is (is_body_at i) b.bodies u.1)
 
 -- a link of a missing template may join with it
-pub can_join_both : (o : Option (List ℕ)) (b : Board) (p : PolicyParts) → o ≡ p.link → (o ≡ None → ⊥)
+pub can_join_both : (o : Option (List ℕ)) (b : SetParts) (p : PolicyParts) → o ≡ p.link → (o ≡ None → ⊥)
     → is_bound b (policy_id p) ≡ false → same_text (policy_id p) p.template.id ≡ false →
     FitsSlots (body_slots p.template) p.env → CanJoinBothBy o b p
 can_join_both None b p e n f s t = absurd (n refl)
@@ -321,7 +326,7 @@ can_join_both (Some l) b p e n f s t =
     (ap (is_bound b) (sym own) ∙ f, ap (λ i. same_text i p.template.id) (sym own) ∙ s, t)
 
 -- a link of a template that stands may join
-pub can_join : (o : Option (List ℕ)) (b : Board) (p : PolicyParts) (u : BodyParts) → o ≡ p.link → (o ≡ None → ⊥)
+pub can_join : (o : Option (List ℕ)) (b : SetParts) (p : PolicyParts) (u : BodyParts) → o ≡ p.link → (o ≡ None → ⊥)
     → is_bound b (policy_id p) ≡ false → bound_at b p.template.id ≡ Some (Template u) →
     same_body u p.template ≡ true → FitsSlots (body_slots p.template) p.env → CanJoinBy o b p
 can_join None b p u e n f t s x = absurd (n refl)
@@ -335,14 +340,14 @@ other_id i j false e n = refl
 
 alone_by : (o : Option (List ℕ)) (p : PolicyParts) → (o ≡ Some p.template.id → ⊥)
     → (o ≡ None → p ≡ static_policy p.template) → (o ≡ None → body_slots p.template ≡ []) →
-    FitsSlots (body_slots p.template) p.env → CanJoinBothBy o empty_board p
+    FitsSlots (body_slots p.template) p.env → CanJoinBothBy o empty_set p
 alone_by None p own whole slots total = (whole refl, slots refl)
 alone_by (Some l) p own whole slots total = (refl, other_id l p.template.id (same_text l p.template.id) refl own, total)
 
--- each policy with an id of its own joins the board without a binding
+-- each policy with an id of its own joins the policy set without a binding
 pub alone : (p : PolicyParts) → HasOwnId p → (p.link ≡ None → p ≡ static_policy p.template)
     → (p.link ≡ None → body_slots p.template ≡ []) → BindsExactly (body_slots p.template) p.env →
-    wrong_action p.env ≡ None → CanJoinBoth empty_board p
+    wrong_action p.env ≡ None → CanJoinBoth empty_set p
 alone p own whole slots total action = (
   refl,
   alone_by p.link p own whole slots (record {
