@@ -71,9 +71,9 @@ typedef enum cedar_status {
     CEDAR_OK = 0,
     CEDAR_NO_MEMORY = 1,    /* a request for memory was refused; from each call but those that take no memory */
     CEDAR_CLOSED = 2,       /* a handle is closed */
-    CEDAR_BAD_ARGUMENT = 3, /* a part is not within its text, or a place, a mode or an effect is out of range */
+    CEDAR_BAD_ARGUMENT = 3, /* a part is not within its text, a place or a number is out of range, or nodes are none */
     CEDAR_NOT_A_UID = 4,    /* a text is no uid's */
-    CEDAR_NOT_UTF8 = 5,     /* the bytes of an id, of a key or of a string are not UTF-8 */
+    CEDAR_NOT_UTF8 = 5,     /* the bytes of an id, a key, an annotation's value or a string are not UTF-8 */
     CEDAR_NO_ENTITY = 6,    /* the store has no entity with this uid */
     /* The store refuses: the text of each is given by `cedar_store_refusal`, with the uids that it names. */
     CEDAR_DUPLICATE = 7,      /* two versions of an entity differ; its uid */
@@ -95,7 +95,7 @@ typedef enum cedar_status {
     CEDAR_WITH_LINKS = 22,       /* the template has links */
     CEDAR_NOT_A_TEMPLATE = 23,   /* something else than a template is bound to it */
     CEDAR_NO_STATIC = 24,        /* no policy has this id of a static policy to remove */
-    CEDAR_NOT_STATIC = 25,       /* it is a link's */
+    CEDAR_NOT_STATIC = 25,       /* it is a link's; or of a static policy to add, in which a slot stands */
     /* What is asked for is not there, or what is given is none. */
     CEDAR_NO_BODY = 26,    /* nothing of the kind that a call asks for is bound to this id */
     CEDAR_NOT_A_NAME = 27, /* a text is no name; or, as the key of an annotation, no identifier */
@@ -182,6 +182,33 @@ typedef struct cedar_term {
     size_t from;
     size_t to;
 } cedar_term;
+
+/* ---- bodies of policies */
+
+/* What a policy asks of the principal, the action or the resource, by `kind`: 0 nothing; 1 to be equal to the uid at
+ * `uid`, 2 to what its slot is bound to; 3 to be in that uid, 4 in what its slot is bound to; 5 to be of the type that
+ * is named at `type`, 6 of it and in the uid, 7 of it and in what its slot is bound to. Of an action there are 0 to 4
+ * alone, and 3 asks for it to be in one of some uids that are listed beside. A part that a kind does not name is not
+ * looked at. */
+typedef struct cedar_scope {
+    uint32_t kind;
+    cedar_span uid;
+    cedar_span type;
+} cedar_scope;
+
+/* An annotation: where its key, which is an identifier, and its value, which is any text, stand. */
+typedef struct cedar_annotation {
+    cedar_span key;
+    cedar_span value;
+} cedar_annotation;
+
+/* The effect of a policy or a template (0 permits, 1 forbids), and what it asks of the three. */
+typedef struct cedar_body {
+    uint32_t effect;
+    cedar_scope principal;
+    cedar_scope action;
+    cedar_scope resource;
+} cedar_body;
 
 /* ---- the program and uids: no handle */
 
@@ -382,8 +409,9 @@ uint32_t cedar_store_slice(cedar_store *from, cedar_store *to, const uint8_t *te
  * freed. CEDAR_OK, CEDAR_CLOSED where `from` is closed, CEDAR_NO_MEMORY; any but the first leaves `to` as it was. */
 uint32_t cedar_store_copy(cedar_store *from, cedar_store *to);
 
-/* Whether two stores have the same uids and under each of them entities with the same ancestors, in `answer`, which is
- * written at CEDAR_OK alone. CEDAR_OK, CEDAR_CLOSED. Takes no memory. */
+/* Whether two stores are both partial or neither is, and have the same uids, under each of them entities with the same
+ * attributes, tags, parents and ancestors, in `answer`, which is written at CEDAR_OK alone. CEDAR_OK, CEDAR_CLOSED.
+ * Takes no memory. */
 uint32_t cedar_store_equal(cedar_store *one, cedar_store *other, bool *answer);
 
 /* Copies out the bytes of the texts of the last answer, one after another, from byte `from` on, as many as there is
@@ -420,10 +448,39 @@ void cedar_policies_free(cedar_policies *p);
 uint32_t cedar_policies_add_static(cedar_policies *p, const uint8_t *id, size_t id_len, uint32_t effect);
 
 /* A template with an id, an effect and slots joins the set. The slots are a sum: 1 for the principal's, 2 for the
- * action's, 4 for the resource's. CEDAR_OK, CEDAR_CLOSED, CEDAR_BAD_ARGUMENT where the effect or the slots are none,
- * CEDAR_NOT_UTF8, CEDAR_OCCUPIED, CEDAR_NO_MEMORY. */
+ * action's, 4 for the resource's, and of each the constraint is to be equal to what it is bound to. CEDAR_OK,
+ * CEDAR_CLOSED, CEDAR_BAD_ARGUMENT where the effect or the slots are none, CEDAR_NOT_UTF8, CEDAR_OCCUPIED,
+ * CEDAR_NO_MEMORY. */
 uint32_t cedar_policies_add_template(cedar_policies *p, const uint8_t *id, size_t id_len, uint32_t effect,
                                      uint32_t slots);
+
+/* A static policy with an id and a body joins the set. What `body` says, and all of the lists, are parts of one text:
+ * `annotations`, of which of several with one key the last counts; `uids`, in one of which the action has to be where
+ * its kind is 3, and which are not looked at where it is another; and `nodes`, the one expression that is the clause:
+ * where there is no node there is no clause.
+ *
+ * CEDAR_OK, CEDAR_CLOSED, CEDAR_NO_MEMORY; before the set is asked, and without a text:
+ * CEDAR_BAD_ARGUMENT: the effect or a kind is none, a part that is looked at is not within the text, or the nodes are
+ *   no expression's.
+ * CEDAR_NOT_A_UID: the part of a uid, of a CEDAR_UID too, is no uid's text.
+ * CEDAR_NOT_A_NAME: that of a type, or of a node that names a function or a type, is no name; or that of a key is no
+ *   identifier.
+ * CEDAR_NOT_UTF8: the id, the value of an annotation, or the part of a node that has a string or a name is not UTF-8.
+ * CEDAR_TOO_DEEP: the clause has too many levels.
+ * With a text, and in this order: CEDAR_NOT_STATIC where a slot stands in a constraint or in the clause, and
+ * CEDAR_OCCUPIED. */
+uint32_t cedar_policies_add_static_with(cedar_policies *p, const uint8_t *id, size_t id_len, const uint8_t *text,
+                                        size_t text_len, const cedar_body *body, const cedar_annotation *annotations,
+                                        size_t annotations_len, const cedar_span *uids, size_t uids_len,
+                                        const cedar_node *nodes, size_t nodes_len);
+
+/* A template with an id and a body, given as above, joins the set; its slots are those of its constraints and of its
+ * clause, and there may be none. The statuses are the same but for CEDAR_NOT_STATIC. */
+uint32_t cedar_policies_add_template_with(cedar_policies *p, const uint8_t *id, size_t id_len, const uint8_t *text,
+                                          size_t text_len, const cedar_body *body,
+                                          const cedar_annotation *annotations, size_t annotations_len,
+                                          const cedar_span *uids, size_t uids_len, const cedar_node *nodes,
+                                          size_t nodes_len);
 
 /* A link of a template joins the set under an id. Three parts of a text say what the principal's, the action's and the
  * resource's slot are bound to; an empty part leaves its slot unbound. CEDAR_OK, CEDAR_CLOSED, CEDAR_BAD_ARGUMENT where
@@ -482,6 +539,26 @@ uint32_t cedar_policies_annotation(cedar_policies *p, const uint8_t *id, size_t 
  * nothing, CEDAR_NO_MEMORY; any but the first leaves the answer. */
 uint32_t cedar_policies_annotations(cedar_policies *p, const uint8_t *id, size_t id_len);
 
+/* What the principal, for 0, the action, for 1, or the resource, for 2, has to be by what an id is bound to: its kind,
+ * that of a `cedar_scope`, is in `kind`, which is written at CEDAR_OK alone, and its texts become the answer of the
+ * handle: the name of the type, where there is one, and behind it the text of the uid, or of each uid. Of a link the
+ * slots are filled, and an action that is to be in what its slot is bound to is in a list of one. CEDAR_OK,
+ * CEDAR_CLOSED, CEDAR_BAD_ARGUMENT where `which` is none of the three, CEDAR_NOT_UTF8, CEDAR_NO_BODY where the id is
+ * bound to nothing, CEDAR_NO_MEMORY; any but the first leaves the answer. */
+uint32_t cedar_policies_scope(cedar_policies *p, const uint8_t *id, size_t id_len, uint32_t which, uint32_t *kind);
+
+/* Whether what an id is bound to has a clause, in `has`, which is written at CEDAR_OK alone. Where it has one, that
+ * expression becomes the nodes of the handle, and the text that their parts are of the answer, which is one text. Where
+ * it has none, both stay. A link has that of its template, with its slots. CEDAR_OK, CEDAR_CLOSED, CEDAR_NOT_UTF8,
+ * CEDAR_NO_BODY where the id is bound to nothing, CEDAR_NO_MEMORY; any but the first leaves the answer and the nodes.
+ */
+uint32_t cedar_policies_clause(cedar_policies *p, const uint8_t *id, size_t id_len, bool *has);
+
+/* The condition of what an id is bound to becomes the nodes and the answer so: that the principal is what it has to be,
+ * and (the action is, and (the resource is, and the clause holds)), with `true` for each that asks nothing. A link has
+ * that of its template, with its slots. The statuses are those of `cedar_policies_clause`. */
+uint32_t cedar_policies_condition(cedar_policies *p, const uint8_t *id, size_t id_len);
+
 /* What the principal's, the action's and the resource's slot are bound to, by the link with an id, becomes the answer
  * of the handle: three texts of uids, an empty one where there is no such slot. A static policy binds nothing.
  * CEDAR_OK, CEDAR_CLOSED, CEDAR_NOT_UTF8, CEDAR_NO_BODY where the id is no link's and no static policy's,
@@ -518,6 +595,13 @@ uint32_t cedar_policies_equal(cedar_policies *one, cedar_policies *other, bool *
  * `cedar_policies_new`, and a `cedar_policies_copy` into this handle, there is none. They take no memory. */
 size_t cedar_policies_answer(cedar_policies *p, size_t from, uint8_t *out, size_t room);
 size_t cedar_policies_answer_spans(cedar_policies *p, size_t from, cedar_span *out, size_t room);
+
+/* Copies out the nodes of the last expression, from node `from` on, as many as there is room for, and tells how many
+ * there are in all; a closed handle has none. The last expression is that of the last `cedar_policies_clause` that told
+ * one, or `cedar_policies_condition`, and the parts of its nodes are of the answer that this call left: other calls
+ * leave the nodes, also where they give another answer, but behind the calls that leave no last answer there are none.
+ * Takes no memory. */
+size_t cedar_policies_answer_nodes(cedar_policies *p, size_t from, cedar_node *out, size_t room);
 
 /* Copies out the text of the last refusal of the set, from CEDAR_OCCUPIED to CEDAR_NOT_STATIC, as much as there is room
  * for, and tells how long it is: words, a blank, and the id, the slots or the uid that the refusal names. A call at any

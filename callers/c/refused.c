@@ -3,7 +3,7 @@
  * memory that it wants, and answers and leaves what it would have at once. Or it does without that memory, and does so
  * at once. Last come the calls that take no memory: they make no request. Prints what fails, and ends with `N passed, M
  * failed`. Built with `-Wl,--wrap=malloc -Wl,--wrap=realloc`. */
-#include "nodes.h"
+#include "bodies.h"
 
 /* ---- the refuser */
 
@@ -57,7 +57,9 @@ static void set_up(held *h) {
     CHECK(new_store(&h->t) == CEDAR_OK && build(&h->t, "n n", CEDAR_COMPUTE) == CEDAR_CYCLE);
     CHECK(build(&h->t, "y z", CEDAR_COMPUTE) == CEDAR_OK && cedar_store_partial(&h->t) == CEDAR_OK);
     CHECK(ancestors(&h->s, U("a")) == CEDAR_OK && parents(&h->t, U("y")) == CEDAR_OK);
+    given g = given_whole();
     CHECK(new_set(&h->p) == CEDAR_OK && add_static(&h->p, "a", 0) == CEDAR_OK);
+    CHECK(join_static(&h->p, "w", &g) == CEDAR_OK && IS(clause_of(&h->p, "w"), "$0 @b ="));
     CHECK(add_template(&h->p, "t", 5) == CEDAR_OK && add_template(&h->p, "u", 2) == CEDAR_OK);
     CHECK(link_id(&h->p, "t", "l", U("a"), "", "B::\"b\"") == CEDAR_OK && cedar_policies_ids(&h->p, 0) == CEDAR_OK);
     CHECK(new_set(&h->q) == CEDAR_OK && add_static(&h->q, "a", 1) == CEDAR_OK &&
@@ -263,6 +265,75 @@ static uint32_t asks_annotation(held *h) {
     return answer == (status != CEDAR_OK) ? status : 99;
 }
 
+static uint32_t joins_whole(held *h) {
+    given g = given_whole();
+    return join_static(&h->p, "new", &g);
+}
+
+static uint32_t joins_whole_template(held *h) {
+    given g = given_whole();
+    return join_template(&h->p, "new", &g);
+}
+
+static uint32_t joins_whole_twice(held *h) {
+    given g = given_whole();
+    return join_template(&h->p, "a", &g);
+}
+
+/* Each kind of a constraint that takes memory and is not in the whole body, and slots. */
+static uint32_t joins_slots(held *h) {
+    given g = given_nothing();
+    g.body.principal = put_scope(&g, 3, U("a"), "");
+    g.body.action = put_scope(&g, 1, U("a"), "");
+    g.body.resource = put_scope(&g, 7, "", "B::C");
+    put_nodes(&g.c, "?0 $0 <");
+    return join_template(&h->p, "new", &g);
+}
+
+static uint32_t joins_slot_as_static(held *h) {
+    given g = given_nothing();
+    g.body.principal = put_scope(&g, 5, "", "B::C");
+    put_nodes(&g.c, "?0 $0 <");
+    return join_static(&h->p, "new", &g);
+}
+
+static uint32_t joins_no_name(held *h) {
+    given g = given_whole();
+    g.body.principal.type = put_part(&g, "B::");
+    return join_static(&h->p, "new", &g);
+}
+
+static uint32_t tells_scope(held *h) {
+    uint32_t kind = 9;
+    uint32_t status = cedar_policies_scope(&h->p, TEXT("l"), 0, &kind);
+    return number(status, kind, 1);
+}
+
+static uint32_t tells_scope_of_action(held *h) {
+    uint32_t kind = 9;
+    uint32_t status = cedar_policies_scope(&h->p, TEXT("w"), 1, &kind);
+    return number(status, kind, 3);
+}
+
+static uint32_t tells_scope_of_resource(held *h) {
+    uint32_t kind = 9;
+    uint32_t status = cedar_policies_scope(&h->p, TEXT("t"), 2, &kind);
+    return number(status, kind, 2);
+}
+
+static uint32_t tells_clause(held *h) {
+    bool has = false;
+    uint32_t status = cedar_policies_clause(&h->p, TEXT("w"), &has);
+    return truth(status, has, true);
+}
+
+static uint32_t tells_no_clause(held *h) {
+    bool has = false;
+    uint32_t status = cedar_policies_clause(&h->p, TEXT("a"), &has);
+    return truth(status, has, false);
+}
+
+CALL(tells_condition, cedar_policies_condition(&h->p, TEXT("w")))
 CALL(checks_uid, cedar_uid_check(TEXT("A::B::\"a\"")))
 CALL(checks_no_uid, cedar_uid_check(TEXT("A::B::\"\\n\\q\"")))
 CALL(news, new_store(&h->s))
@@ -380,6 +451,18 @@ static const call CALLS[] = {
     adds_static_twice,
     adds_template,
     adds_template_twice,
+    joins_whole,
+    joins_whole_template,
+    joins_whole_twice,
+    joins_slots,
+    joins_slot_as_static,
+    joins_no_name,
+    tells_scope,
+    tells_scope_of_action,
+    tells_scope_of_resource,
+    tells_clause,
+    tells_no_clause,
+    tells_condition,
     links,
     links_few,
     links_none,
@@ -412,11 +495,8 @@ static const call CALLS[] = {
 
 /* ---- each with its requests refused in turn */
 
-/* Whether two handles tell the same nodes. */
-static bool nodes_alike(held *h, held *like) {
-    cedar_node nodes[MOST_NODES], others[MOST_NODES];
-    size_t count = cedar_store_answer_nodes(&h->s, 0, nodes, MOST_NODES);
-    if (count > MOST_NODES || cedar_store_answer_nodes(&like->s, 0, others, MOST_NODES) != count) return false;
+/* Whether so many nodes are the same. */
+static bool same_nodes(const cedar_node *nodes, const cedar_node *others, size_t count) {
     for (size_t k = 0; k < count; k++) {
         const cedar_node *n = &nodes[k], *o = &others[k];
         if (n->kind != o->kind || n->len != o->len || n->number != o->number || n->at.start != o->at.start ||
@@ -424,6 +504,17 @@ static bool nodes_alike(held *h, held *like) {
             return false;
     }
     return true;
+}
+
+/* Whether two handles tell the same nodes. */
+static bool nodes_alike(held *h, held *like) {
+    cedar_node nodes[MOST_NODES], others[MOST_NODES];
+    size_t count = cedar_store_answer_nodes(&h->s, 0, nodes, MOST_NODES);
+    if (count > MOST_NODES || cedar_store_answer_nodes(&like->s, 0, others, MOST_NODES) != count) return false;
+    if (!same_nodes(nodes, others, count)) return false;
+    count = cedar_policies_answer_nodes(&h->p, 0, nodes, MOST_NODES);
+    if (count > MOST_NODES || cedar_policies_answer_nodes(&like->p, 0, others, MOST_NODES) != count) return false;
+    return same_nodes(nodes, others, count);
 }
 
 /* Whether two handles tell the same answer. */
@@ -532,7 +623,8 @@ static void no_request(void) {
     CHECK(cedar_store_answer_nodes(&h.s, 0, nodes, 8) == 8 && nodes[7].kind == CEDAR_RESIDUAL);
     CHECK(cedar_store_refusal(&h.t, out, sizeof out) == strlen("cycle at " U("y")));
     CHECK(sets_equal(&h.p, &h.q) == 0);
-    CHECK(cedar_policies_answer(&h.p, 0, out, sizeof out) == 3 && cedar_policies_answer_spans(&h.p, 0, spans, 8) == 3);
+    CHECK(cedar_policies_answer(&h.p, 0, out, sizeof out) == 4 && cedar_policies_answer_spans(&h.p, 0, spans, 8) == 4);
+    CHECK(cedar_policies_answer_nodes(&h.p, 0, nodes, 8) == 3 && nodes[2].kind == CEDAR_EQ);
     CHECK(cedar_policies_refusal(&h.p, out, sizeof out) == strlen("occupied a"));
     let_go(&h);
     CHECK(asked == 0);

@@ -246,7 +246,7 @@ static inline uint32_t remove_template(cedar_policies *p, const char *id) {
 
 /* ---- what a handle tells: the texts of its answer, each behind a comma, and its last refusal */
 
-#define ROOM 1024
+#define ROOM 4096
 
 static inline const char *joined(const uint8_t *text, const cedar_span *spans, size_t count) {
     static char out[ROOM];

@@ -2,14 +2,15 @@
 use Rattle.std.specs.Prelude.{◌≡◌, ◌⊎◌, ℕ, Bool, Option, Some, None, Result, Ok, Err}
 use Rattle.std.proofs.Common.{ap, sym, refl, subst, ◌∙◌, inl, inr, arith}
 use Rattle.cedar_c_lists.specs.Reasons.{number_of, status_of, Tells}
+use Rattle.cedar_c_lists.specs.StatusTexts.{TellsValue}
 use Rattle.cedar_c_lists.specs.declared.reason.Reason.{Reason}
 use Rattle.cedar_c_lists.specs.declared.reason.Reason.TheVariants.{NoMemory}
 use Rattle.cedar_c.specs.Statuses.{ok}
 use Rattle.cedar_c.specs.PolicyCalls.{Changes, ChangesBy, FillsBy, IsFilled, Kept}
-use Rattle.cedar_c.specs.PolicyReads.{ChangesAndTells}
+use Rattle.cedar_c.specs.PolicyReads.{ChangesAndCounts, ChangesAndTells}
 use Rattle.cedar_c.specs.declared.policies_handle.Inner.{Inner}
 use Rattle.std.specs.Option.{IsSomeAnd}
-use Rattle.cedar_policy_set.specs.Boards.{Board}
+use Rattle.cedar_policy_maps.specs.PolicySets.{SetParts}
 
 -- what an open handle holds was changed, and put back
 pub changed : (P : Result (Unit {0}) Reason → Kept → Kept → Type 0) (old new : Option Inner) (i k : Inner) (j : Kept)
@@ -40,7 +41,7 @@ holds P k old new n so f zero = elim f.3 [
 ]
 
 -- the same of a change by the set of another handle
-pub changed_by : (P : Board → Result (Unit {0}) Reason → Kept → Kept → Type 0) (other old new : Option Inner)
+pub changed_by : (P : SetParts → Result (Unit {0}) Reason → Kept → Kept → Type 0) (other old new : Option Inner)
     (o l i k : Inner) (j : Kept) (r : Result (Unit {0}) Reason) (n : ℕ) → Some o ≡ other → l ≡ o → Some i ≡ old → k ≡ i
     → new ≡ Some (record { kept = j }) → n ≡ status_of r → P l.kept.set r k.kept j → ChangesBy P other old n new
 changed_by P other old new o l i k j r n beside same was is put status p =
@@ -55,4 +56,12 @@ pub changed_and_told : (P : Result Bool Reason → Kept → Kept → Type 0) (ol
     → Tells r n before told → P r k.kept j → ChangesAndTells P old n new before told
 changed_and_told P old new i k j r n before told was is put tells p =
     subst (λ o. ChangesAndTells P o n new before told) was
+    (r, tells, (record { kept = j }, put, subst (λ (x : Inner). P r x.kept j) is p))
+
+-- the same where a number is told beside
+pub changed_and_counted : (P : Result ℕ Reason → Kept → Kept → Type 0) (old new : Option Inner) (i k : Inner) (j : Kept)
+    (r : Result ℕ Reason) (n : ℕ) (before told : ℕ) → Some i ≡ old → k ≡ i → new ≡ Some (record { kept = j })
+    → TellsValue r n before told → P r k.kept j → ChangesAndCounts P old n new before told
+changed_and_counted P old new i k j r n before told was is put tells p =
+    subst (λ o. ChangesAndCounts P o n new before told) was
     (r, tells, (record { kept = j }, put, subst (λ (x : Inner). P r x.kept j) is p))

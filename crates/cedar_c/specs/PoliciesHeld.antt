@@ -9,9 +9,11 @@ use Rattle.std.specs.Global.{Global}
 use Rattle.std_heap.specs.contracts.GlobalAllocator.TheImpl.{ghosts}
 use Rattle.cedar_c.specs.contracts.policies_handle.Inner.{the_row}
 
+-- what a handle owns at an address
 abbrev pub held_owns : Global → Ptr → Option the_row.Denot → Fml
 held_owns alloc at None = ftrue
 held_owns alloc at (Some x) = box_owns (ghosts.dealloc_token alloc) the_row at x
 
+-- how a proof tells apart what handles hold
 abbrev pub held_coded : Coded (Option the_row.Denot)
 held_coded = coded_option the_row.coded

@@ -3,10 +3,11 @@ use Rattle.std.specs.Prelude.{◌≡◌, ◌↔◌, ◌⊎◌, ℕ, List, Bool, 
 use Rattle.std.specs.Global.{Box}
 use Rattle.std.specs.List.{concat}
 use Rattle.std.specs.Option.{IsSomeAnd}
-use Rattle.cedar_policy_set.specs.BoardEquality.{same_board}
-use Rattle.cedar_policy_set.specs.Boards.{Board}
+use Rattle.cedar_policy_set.specs.SetEquality.{same_policy_set}
+use Rattle.cedar_policy_maps.specs.PolicySets.{SetParts}
 use Rattle.cedar_c_lists.specs.Answers.{spans_from}
 use Rattle.cedar_c_lists.specs.Reasons.{status_of, Tells}
+use Rattle.cedar_c_trees.specs.declared.node.Node.{Node}
 use Rattle.cedar_c_sets.specs.Sets.{IsUntold}
 use Rattle.cedar_c_sets.specs.declared.kept_set.KeptSet.{KeptSet}
 use Rattle.cedar_keyed_hash.specs.declared.KeyedHasher.{KeyedHasher}
@@ -22,9 +23,9 @@ use Rattle.cedar_c.specs.declared.policies_handle.Inner.{Inner}
 abbrev pub Kept : Type 0
 Kept = KeptSet KeyedState KeyedHasher
 
--- an open handle with the set of a board
-abbrev pub HasBoard : Board → Option Inner → Type 0
-HasBoard b o = IsSomeAnd o (λ i. i.kept.set ≡ b)
+-- an open handle with the set of a policy set
+abbrev pub HasSet : SetParts → Option Inner → Type 0
+HasSet b o = IsSomeAnd o (λ i. i.kept.set ≡ b)
 
 -- an open handle that has no last answer and no last refusal
 abbrev pub HasNoTexts : Option Inner → Type 0
@@ -47,7 +48,7 @@ FillsBy made old n new = (r : Result Kept Reason) × (n ≡ status_of r) × IsFi
     × ((r ≡ made) ⊎ (r ≡ Err NoMemory))
 
 -- a closed handle says so; of an open one's policy set something is made, which goes into another handle
-abbrev pub Fills : (Board → Result Kept Reason → Type 0) → Option Inner → ℕ → Option Inner → Option Inner → Type 0
+abbrev pub Fills : (SetParts → Result Kept Reason → Type 0) → Option Inner → ℕ → Option Inner → Option Inner → Type 0
 Fills P None n old new = (n ≡ closed) × (new ≡ old)
 Fills P (Some i) n old new = (r : Result Kept Reason) × (n ≡ status_of r) × IsFilled r old new × P i.kept.set r
 
@@ -60,10 +61,10 @@ Boxes made (Err w) = (made ≡ Err w) ⊎ (w ≡ NoMemory)
 abbrev pub Compares : Option Inner → Option Inner → ℕ → Bool → Bool → Type 0
 Compares None other n old new = (n ≡ closed) × (new ≡ old)
 Compares (Some i) None n old new = (n ≡ closed) × (new ≡ old)
-Compares (Some i) (Some j) n old new = (n ≡ ok) × (new ≡ same_board i.kept.set j.kept.set)
+Compares (Some i) (Some j) n old new = (n ≡ ok) × (new ≡ same_policy_set i.kept.set j.kept.set)
 
 -- a call with the set of another handle; where one is closed, that is said
-abbrev pub ChangesBy : (Board → Result (Unit {0}) Reason → Kept → Kept → Type 0) → Option Inner → Option Inner → ℕ
+abbrev pub ChangesBy : (SetParts → Result (Unit {0}) Reason → Kept → Kept → Type 0) → Option Inner → Option Inner → ℕ
     → Option Inner → Type 0
 ChangesBy P other None n new = (n ≡ closed) × (new ≡ None)
 ChangesBy P None (Some i) n new = (n ≡ closed) × (new ≡ Some i)
@@ -75,10 +76,17 @@ abbrev pub CopiesAnswer : Option Inner → ℕ → List ℕ → ℕ → List ℕ
 CopiesAnswer None from old told new = (told ≡ 0) × (new ≡ old)
 CopiesAnswer (Some i) from old told new = CopiesOut (concat i.kept.answer) from old told new
 
+-- where each text of the last answer stands is copied out; of a closed handle there is none
 abbrev pub CopiesSpans : Option Inner → ℕ → List Span → ℕ → List Span → Type 0
 CopiesSpans None from old told new = (told ≡ 0) × (new ≡ old)
 CopiesSpans (Some i) from old told new = CopiesOut (spans_from 0 i.kept.answer) from old told new
 
+-- so are the nodes of the last expression
+abbrev pub CopiesNodes : Option Inner → ℕ → List Node → ℕ → List Node → Type 0
+CopiesNodes None from old told new = (told ≡ 0) × (new ≡ old)
+CopiesNodes (Some i) from old told new = CopiesOut i.kept.nodes.items from old told new
+
+-- the text of the last refusal is copied out; of a closed handle there is none
 abbrev pub CopiesRefusal : Option Inner → List ℕ → ℕ → List ℕ → Type 0
 CopiesRefusal None old told new = (told ≡ 0) × (new ≡ old)
 CopiesRefusal (Some i) old told new = CopiesOut i.kept.refusal.items 0 old told new

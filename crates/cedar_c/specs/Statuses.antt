@@ -5,8 +5,10 @@ use Rattle.std.specs.Prelude.{ℕ}
 abbrev pub ok : ℕ
 ok = 0
 
+-- memory was refused
 abbrev pub no_memory : ℕ
 no_memory = 1
 
+-- the handle is closed
 abbrev pub closed : ℕ
 closed = 2

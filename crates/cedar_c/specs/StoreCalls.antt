@@ -80,10 +80,12 @@ abbrev pub CopiesAnswer : Option Inner → ℕ → List ℕ → ℕ → List ℕ
 CopiesAnswer None from old told new = (told ≡ 0) × (new ≡ old)
 CopiesAnswer (Some i) from old told new = CopiesOut (concat i.kept.answer) from old told new
 
+-- where each text of the last answer stands is copied out; of a closed handle there is none
 abbrev pub CopiesSpans : Option Inner → ℕ → List Span → ℕ → List Span → Type 0
 CopiesSpans None from old told new = (told ≡ 0) × (new ≡ old)
 CopiesSpans (Some i) from old told new = CopiesOut (spans_from 0 i.kept.answer) from old told new
 
+-- the text of the last refusal is copied out; of a closed handle there is none
 abbrev pub CopiesRefusal : Option Inner → List ℕ → ℕ → List ℕ → Type 0
 CopiesRefusal None old told new = (told ≡ 0) × (new ≡ old)
 CopiesRefusal (Some i) old told new = CopiesOut i.kept.refusal.items 0 old told new

@@ -9,6 +9,7 @@ mod copying;
 mod keys;
 mod parts;
 mod policies;
+mod policies_bodies;
 mod policies_handle;
 mod policies_reads;
 mod program;

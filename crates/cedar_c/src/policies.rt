@@ -1,12 +1,12 @@
 //! Calls on handles of policy sets.
 ghost use Rattle.std.specs.Prelude.{◌≡◌, ◌≢◌, Option, Some, None};
 ghost use Rattle.std.specs.Option.{is_some, option_map};
-ghost use Rattle.cedar_policy_set.specs.Boards.{empty_board};
+ghost use Rattle.cedar_policy_maps.specs.PolicySets.{empty_set};
 ghost use Rattle.cedar_policy_set.specs.Steps.{remove_static_step, remove_template_step, unlink_step};
 ghost use Rattle.cedar_c_sets.specs.Sets.{AddsStatic, AddsTemplate, CopiesSet, Links, ListsIds, MergesSet, Takes};
 ghost use Rattle.cedar_c.specs.Statuses.{ok, no_memory};
 ghost use Rattle.cedar_c.specs.PolicyCalls.{Boxes, Changes, ChangesBy, Compares, CopiesAnswer, CopiesRefusal};
-ghost use Rattle.cedar_c.specs.PolicyCalls.{CopiesSpans, Fills, FillsBy, HasBoard, HasNoTexts};
+ghost use Rattle.cedar_c.specs.PolicyCalls.{CopiesSpans, Fills, FillsBy, HasSet, HasNoTexts};
 
 use crate::copying::copy_out;
 use crate::keys::hasher_of;
@@ -97,7 +97,7 @@ pub extern "C" fn cedar_policies_new(
     seed: u64,
     key: u64,
 ) -> u32
-    ensures new { result ≡ ok → HasBoard empty_board handle.new.held.value }
+    ensures new { result ≡ ok → HasSet empty_set handle.new.held.value }
     ensures untold { result ≡ ok → HasNoTexts handle.new.held.value }
     ensures err { result ≢ ok → (result ≡ no_memory) × (handle.new.held.value ≡ handle.old.held.value) }
 {

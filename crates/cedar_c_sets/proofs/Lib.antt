@@ -1,2 +1,5 @@
+pub mod Found
 pub mod Reading
 pub mod Refusing
+pub mod Showing
+pub mod Slots

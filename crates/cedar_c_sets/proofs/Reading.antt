@@ -3,11 +3,11 @@ use Rattle.std.proofs.Common.{◌≡◌, ℕ, List, [], ◌∷◌, true, false, 
 use Rattle.std.specs.Prelude.{Option, Some, None}
 use Rattle.cedar_ids.specs.TextOf.{IsIdentifierText}
 use Rattle.cedar_annotation.specs.Annotations.{AnnotationsView, value_at}
-use Rattle.cedar_policy_set.specs.Boards.{Board}
+use Rattle.cedar_policy_maps.specs.PolicySets.{SetParts}
 use Rattle.cedar_c_sets.specs.Reads.{IsValueTold}
 
 -- what is found at an id that was read is found at its bytes
-pub found : {X : Type 0} (at : Board → List ℕ → Option X) (b : Board) (i id : List ℕ) (x : X) → i ≡ id
+pub found : {X : Type 0} (at : SetParts → List ℕ → Option X) (b : SetParts) (i id : List ℕ) (x : X) → i ≡ id
     → Some x ≡ at b i → at b id ≡ Some x
 found at b i id x is f = sym (subst (λ n. Some x ≡ at b n) is f)
 

@@ -2,8 +2,8 @@
 use Rattle.std.specs.Prelude.{◌≡◌, ◌⊎◌, ℕ, List, ◌∷◌, Bool, false, ◌++◌, IfOk, MatchResult, Option, Some, None, Result}
 use Rattle.std.specs.Prelude.{Ok, Err}
 use Rattle.std.proofs.Common.{ap, sym, subst, ◌∙◌, inl, inr, arith}
-use Rattle.cedar_policy_set.specs.Boards.{Board, Binding}
-use Rattle.cedar_policy_set.specs.Merge.{Merges, conflicts}
+use Rattle.cedar_policy_maps.specs.PolicySets.{SetParts, Binding}
+use Rattle.cedar_policy_merge.specs.Merge.{Merges, conflicts}
 use Rattle.cedar_policy_set.specs.Refusals.{IsRefusal, told_by_set}
 use Rattle.cedar_policy_set.specs.Steps.{Refusal, occupied, no_body, no_such_template, arity, not_an_action}
 use Rattle.cedar_policy_set.specs.Steps.{id_conflict, no_link, not_a_link, no_template, with_links, not_a_template}
@@ -17,7 +17,7 @@ use Rattle.cedar_c_sets.specs.Sets.{IsToldBy, IsToldFor, named_by, reason_of, ta
 use Rattle.cedar_c_sets.specs.declared.telling.Told.{Told}
 
 -- a step that takes something out is refused as is told; or memory for the text was
-pub told_taking : {E : Type 0} (o : Option Refusal) (step : Result Binding Refusal) (b : Board) (i : List ℕ)
+pub told_taking : {E : Type 0} (o : Option Refusal) (step : Result Binding Refusal) (b : SetParts) (i : List ℕ)
     (told : Result Told E) (w : Reason) (before text : List ℕ) → IsRefusal o step
     → IfOk told (λ t. IsToldFor o t.reason t.text.items)
     → MatchResult told (λ t. (w ≡ t.reason) × (text ≡ t.text.items)) (λ _. (w ≡ reasons.NoMemory) × (text ≡ before))
@@ -39,8 +39,8 @@ told_step (Some x) step (Ok told) w before text r t h =
     inr (x, r, (h.0 ∙ t.0, λ n. h.1 ∙ t.1 n ∙ ap (λ v. words_of v ++ (32 ∷ named_by x)) (sym h.0)))
 
 -- a merge is refused by the first id that conflicts, as is told; or memory was
-merging_told : {A E : Type 0} (entries : A → List (List ℕ × List ℕ)) (e : PolicySetError) (copy now other : Board)
-    (rename : Bool) (new : Board) (told : Result Told E) (w : Reason) (before text : List ℕ) → copy ≡ now
+merging_told : {A E : Type 0} (entries : A → List (List ℕ × List ℕ)) (e : PolicySetError) (copy now other : SetParts)
+    (rename : Bool) (new : SetParts) (told : Result Told E) (w : Reason) (before text : List ℕ) → copy ≡ now
     → Merges entries (Err e) copy other rename new
     → IfOk told (λ t. IsToldFor (told_by_set e) t.reason t.text.items)
     → MatchResult told (λ t. (w ≡ t.reason) × (text ≡ t.text.items)) (λ _. (w ≡ reasons.NoMemory) × (text ≡ before))
@@ -61,7 +61,8 @@ merging_told entries (Occupied i) copy now other rename new (Ok told) w before t
     )
 
 pub told_merging : {A E : Type 0} (entries : A → List (List ℕ × List ℕ)) (r : Result A PolicySetError)
-    (e : PolicySetError) (copy now other : Board) (rename : Bool) (new : Board) (told : Result Told E) (w : Reason)
+    (e : PolicySetError) (copy now other : SetParts) (rename : Bool) (new : SetParts) (told : Result Told E) (w :
+    Reason)
     (before text : List ℕ) → r ≡ Err e → copy ≡ now
     → Merges entries r copy other rename new
     → IfOk told (λ t. IsToldFor (told_by_set e) t.reason t.text.items)

@@ -13,24 +13,27 @@ use Rattle.cedar_body.specs.Bodies.{BodyParts, body_slots}
 use Rattle.cedar_body.specs.BodyTexts.{body_output}
 use Rattle.cedar_policy.specs.Policies.{PolicyParts}
 use Rattle.cedar_policy.specs.PolicyTexts.{policy_output}
-use Rattle.cedar_policy_set.specs.BoardTexts.{board_output}
-use Rattle.cedar_policy_set.specs.Boards.{Board, Binding, Static, Template, Link, bound_at, is_body_at, is_policy_at}
+use Rattle.cedar_policy_set.specs.SetTexts.{set_output}
+use Rattle.cedar_policy_maps.specs.PolicySets.{SetParts, Binding, Static, Template, Link, bound_at, is_body_at}
+use Rattle.cedar_policy_maps.specs.PolicySets.{is_policy_at}
 use Rattle.cedar_policy_set.specs.Steps.{get_linked_step, no_body}
 use Rattle.cedar_c_lists.specs.Texts.{IsNoId}
 use Rattle.cedar_c_lists.specs.declared.reason.Reason.{Reason}
 use Rattle.cedar_c_lists.specs.declared.reason.Reason.TheVariants as reasons
-use Rattle.cedar_c_sets.specs.Sets.{IsEffect, IsSlots, pair_of}
+use Rattle.cedar_c_bodies.specs.Annotated.{IsNoKey}
+use Rattle.cedar_c_bodies.specs.Bodies.{IsEffect}
+use Rattle.cedar_c_sets.specs.Sets.{IsSlots, pair_of}
 use Rattle.cedar_c_sets.specs.declared.kept_set.KeptSet.{KeptSet}
 use Rattle.cedar_c_sets.specs.declared.making.SlotsNamed.{SlotsNamed}
 
 -- ---- what an id is bound to
 
 -- the body with an id, of a static policy or a template
-abbrev pub body_at : Board → List ℕ → Option BodyParts
+abbrev pub body_at : SetParts → List ℕ → Option BodyParts
 body_at b id = find (is_body_at id) b.bodies
 
 -- the policy with an id, a static policy or a link
-abbrev pub policy_at : Board → List ℕ → Option PolicyParts
+abbrev pub policy_at : SetParts → List ℕ → Option PolicyParts
 policy_at b id = find (is_policy_at id) b.policies
 
 -- the body of what is bound: of a link that of its template
@@ -40,7 +43,7 @@ body_bound (Template t) = t
 body_bound (Link l t e) = t
 
 -- the body of what an id is bound to
-abbrev pub bound_body : Board → List ℕ → Option BodyParts
+abbrev pub bound_body : SetParts → List ℕ → Option BodyParts
 bound_body b id = option_map body_bound (bound_at b id)
 
 -- the number of what is bound: 1 for a static policy, 2 for a link, 3 for a template, 0 for nothing
@@ -51,7 +54,7 @@ kind_number (Some (Link l t e)) = 2
 kind_number (Some (Template t)) = 3
 
 -- the number of what an id is bound to; or why it is not told
-abbrev pub KindAt : Board → List ℕ → Result ℕ Reason → Type 0
+abbrev pub KindAt : SetParts → List ℕ → Result ℕ Reason → Type 0
 KindAt b id (Ok n) = IsUtf8 id × (n ≡ kind_number (bound_at b id))
 KindAt b id (Err w) = IsNoId id w
 
@@ -62,8 +65,8 @@ abbrev pub IsUntoldAt : {X : Type 0} → Option X → List ℕ → Reason → Ty
 IsUntoldAt {X = X} found id w = IsNoId id w ⊎ ((w ≡ reasons.NoBody) × IsUtf8 id × (found ≡ None))
 
 -- a value of what is found at an id; or why it is not told
-abbrev pub AsksAt : {X V : Type 0} → (Board → List ℕ → Option X) → (V → X → Type 0) → Board → List ℕ → Result V Reason
-    → Type 0
+abbrev pub AsksAt : {X V : Type 0} → (SetParts → List ℕ → Option X) → (V → X → Type 0) → SetParts → List ℕ
+    → Result V Reason → Type 0
 AsksAt {X = X} at Is b id (Ok v) = IsUtf8 id × ((x : X) × (at b id ≡ Some x) × Is v x)
 AsksAt at Is b id (Err w) = IsUntoldAt (at b id) id w
 
@@ -85,12 +88,13 @@ IsSlotsOf n t = IsSlots n (slots_named t)
 
 -- ---- answers
 
--- texts become the answer, and the set and the last refusal are as they were
+-- texts become the answer, and the set, the nodes and the last refusal are as they were
 abbrev pub IsAnswered : {B H : Type 0} → (List (List ℕ) → Type 0) → KeptSet B H → KeptSet B H → Type 0
-IsAnswered Are i j = (j.set ≡ i.set) × (j.refusal.items ≡ i.refusal.items) × Are j.answer
+IsAnswered Are i j = (j.set ≡ i.set) × (j.refusal.items ≡ i.refusal.items) × (j.nodes.items ≡ i.nodes.items)
+    × Are j.answer
 
 -- texts of what is found at an id become the answer; or why they do not, and all is as it was
-abbrev pub AnswersAt : {X A B H : Type 0} → (Board → List ℕ → Option X) → (X → List (List ℕ) → Type 0) → List ℕ
+abbrev pub AnswersAt : {X A B H : Type 0} → (SetParts → List ℕ → Option X) → (X → List (List ℕ) → Type 0) → List ℕ
     → Result A Reason → KeptSet B H → KeptSet B H → Type 0
 AnswersAt {X = X} at Are id (Ok a) i j = IsUtf8 id × ((x : X) × (at i.set id ≡ Some x) × IsAnswered (Are x) i j)
 AnswersAt at Are id (Err w) i j = (j ≡ i) × IsUntoldAt (at i.set id) id w
@@ -136,7 +140,7 @@ AreBoundIn p texts = AreBoundBy p.env texts
 
 -- the text of a set becomes the answer; or memory was refused, and all is as it was
 abbrev pub AnswersText : {A B H : Type 0} → Result A Reason → KeptSet B H → KeptSet B H → Type 0
-AnswersText (Ok a) i j = IsAnswered (IsOneBy (board_output i.set)) i j
+AnswersText (Ok a) i j = IsAnswered (IsOneBy (set_output i.set)) i j
 AnswersText (Err w) i j = (j ≡ i) × (w ≡ reasons.NoMemory)
 
 -- the ids of the policies on a body become the answer; or why they do not, and all is as it was
@@ -146,12 +150,6 @@ AnswersLinked id (Err w) i j =
     (j ≡ i) × (IsNoId id w ⊎ ((w ≡ reasons.NoBody) × IsUtf8 id × (get_linked_step i.set id ≡ Err (no_body id))))
 
 -- ---- one annotation
-
--- bytes are no identifier's text, and so the key of no annotation; and why they are not taken as one
-abbrev pub IsNoKey : List ℕ → Reason → Type 0
-IsNoKey key w =
-    (w ≡ reasons.NoMemory)
-    ⊎ ((w ≡ reasons.NotAName) × (IsUtf8 key → (k : List ℕ) → IsIdentifierText k key → ⊥))
 
 -- whether there is a value, which is the only text then; else there is no text
 abbrev pub IsValueTold : Option (List ℕ) → Bool → List (List ℕ) → Type 0

@@ -14,9 +14,8 @@ use Rattle.cedar_binding.specs.Bindings.{EnvParts, no_env}
 use Rattle.cedar_binding.specs.BindingTexts.{arity_text}
 use Rattle.cedar_body.specs.Bodies.{BodyParts}
 use Rattle.cedar_body.specs.declared.effect.Effect.{Effect}
-use Rattle.cedar_body.specs.declared.effect.Effect.TheVariants.{Permit, Forbid}
-use Rattle.cedar_policy_set.specs.Boards.{Board, Binding, without_id}
-use Rattle.cedar_policy_set.specs.Merge.{conflicts, merged, new_id, IsRenaming, body_ids, policy_ids}
+use Rattle.cedar_policy_maps.specs.PolicySets.{SetParts, Binding, without_id}
+use Rattle.cedar_policy_merge.specs.Merge.{conflicts, merged, new_id, IsRenaming, body_ids, policy_ids}
 use Rattle.cedar_policy_set.specs.Steps.{Refusal, occupied, no_body, no_such_template, arity, not_an_action}
 use Rattle.cedar_policy_set.specs.Steps.{id_conflict, no_link, not_a_link, no_template, with_links, not_a_template}
 use Rattle.cedar_policy_set.specs.Steps.{no_static, not_static, add_static_step, add_template_step, link_step}
@@ -26,6 +25,7 @@ use Rattle.cedar_c_lists.specs.Answers.{part}
 use Rattle.cedar_c_lists.specs.Reasons.{words_of}
 use Rattle.cedar_c_lists.specs.Stops.{IsStopped, KeepsRefusal}
 use Rattle.cedar_c_lists.specs.Texts.{IsInside, IsNoId, IsReadAt, IsUnreadAt}
+use Rattle.cedar_c_bodies.specs.Bodies.{IsEffect, IsNoEffect}
 use Rattle.cedar_c_sets.specs.declared.kept_set.KeptSet.{KeptSet}
 use Rattle.cedar_c_lists.specs.declared.layout.Span.{Span}
 use Rattle.cedar_c_sets.specs.declared.making.SlotsNamed.{SlotsNamed}
@@ -34,19 +34,12 @@ use Rattle.cedar_c_lists.specs.declared.reason.Reason.TheVariants as reasons
 
 -- ---- numbers and texts
 
--- the number of each effect, and why a number is taken as none
-abbrev pub IsEffect : ℕ → Effect → Type 0
-IsEffect n Permit = n ≡ 0
-IsEffect n Forbid = n ≡ 1
-
-abbrev pub IsNoEffect : ℕ → Reason → Type 0
-IsNoEffect n w = (w ≡ reasons.BadArgument) × ((e : Effect) → IsEffect n e → ⊥)
-
 -- the number of some slots: 1 for the principal's, 2 for the action's and 4 for the resource's; why a number is taken
 -- as none
 abbrev pub IsSlots : ℕ → SlotsNamed → Type 0
 IsSlots n s = n ≡ (if s.principal then 1 else 0) + ((if s.action then 2 else 0) + (if s.resource then 4 else 0))
 
+-- the number is that of no slots
 abbrev pub IsNoSlots : ℕ → Reason → Type 0
 IsNoSlots n w = (w ≡ reasons.BadArgument) × ((s : SlotsNamed) → IsSlots n s → ⊥)
 
@@ -144,19 +137,19 @@ IsToldFor (Some x) w text = IsToldBy x w text
 
 -- ---- steps
 
--- a call that lists nothing keeps the texts of the last answer, and that of the last refusal where it is made or memory
--- is refused
+-- a call that lists nothing keeps the texts of the last answer, the nodes of the last expression, and the text of the
+-- last refusal where it is made or memory is refused
 abbrev pub KeepsTexts : {A B H : Type 0} → Result A Reason → KeptSet B H → KeptSet B H → Type 0
-KeepsTexts r i j = (j.answer ≡ i.answer) × KeepsRefusal r i.refusal.items j.refusal.items
+KeepsTexts r i j = (j.answer ≡ i.answer) × (j.nodes.items ≡ i.nodes.items) × KeepsRefusal r i.refusal.items j.refusal.items
 
 -- the set is that of the step; or it is as it was, and the step is refused as is told, or memory was
-abbrev pub Makes : {A B H : Type 0} → Result Board Refusal → Result A Reason → KeptSet B H → KeptSet B H → Type 0
+abbrev pub Makes : {A B H : Type 0} → Result SetParts Refusal → Result A Reason → KeptSet B H → KeptSet B H → Type 0
 Makes step (Ok a) i j = step ≡ Ok j.set
 Makes step (Err w) i j = (j.set ≡ i.set) × ((w ≡ reasons.NoMemory)
     ⊎ ((x : Refusal) × (step ≡ Err x) × IsToldBy x w j.refusal.items))
 
--- the board without what a step takes out, or why it is refused
-abbrev pub taking : Board → List ℕ → Result Binding Refusal → Result Board Refusal
+-- the policy set without what a step takes out, or why it is refused
+abbrev pub taking : SetParts → List ℕ → Result Binding Refusal → Result SetParts Refusal
 taking b i (Ok x) = Ok (without_id b i)
 taking b i (Err x) = Err x
 
@@ -183,8 +176,8 @@ Links template id text parts r i j =
     × Makes (link_step i.set template id e) r i j × KeepsTexts r i j)
 
 -- what an id is bound to is taken out by a step; or the id is not read
-abbrev pub Takes : {A B H : Type 0} → (Board → List ℕ → Result Binding Refusal) → List ℕ → Result A Reason → KeptSet B H
-    → KeptSet B H → Type 0
+abbrev pub Takes : {A B H : Type 0} → (SetParts → List ℕ → Result Binding Refusal) → List ℕ → Result A Reason
+    → KeptSet B H → KeptSet B H → Type 0
 Takes step id r i j = IsStopped (IsNoId id) r i j ⊎ (IsUtf8 id × Makes (taking i.set id (step i.set id)) r i j
     × KeepsTexts r i j)
 
@@ -194,39 +187,43 @@ Takes step id r i j = IsStopped (IsNoId id) r i j ⊎ (IsUtf8 id × Makes (takin
 abbrev pub pair_of : List ℕ × List ℕ → List (List ℕ)
 pair_of p = p.0 ∷ p.1 ∷ []
 
+-- the texts of a renaming: each old id, and behind it the new one
 abbrev pub renaming_texts : List (List ℕ × List ℕ) → List (List ℕ)
 renaming_texts r = flat_map pair_of r
 
 -- another set is merged into this one, and the answer is the renaming; or the first id that conflicts is told, where
 -- ids keep theirs, or memory was refused, and the set is as it was, as the text of the last refusal is where memory was
 -- refused
-abbrev pub MergesSet : {A B H : Type 0} → Board → Bool → Result A Reason → KeptSet B H → KeptSet B H → Type 0
+abbrev pub MergesSet : {A B H : Type 0} → SetParts → Bool → Result A Reason → KeptSet B H → KeptSet B H → Type 0
 MergesSet other rename (Ok a) i j =
     (r : List (List ℕ × List ℕ)) × IsRenaming i.set other r × (rename ≡ false → conflicts i.set other ≡ [])
-    × (j.set ≡ merged i.set other (new_id r)) × (j.answer ≡ renaming_texts r) × (j.refusal.items ≡ i.refusal.items)
+    × (j.set ≡ merged i.set other (new_id r)) × (j.answer ≡ renaming_texts r) × (j.nodes.items ≡ i.nodes.items)
+    × (j.refusal.items ≡ i.refusal.items)
 MergesSet other rename (Err w) i j =
-    (j.set ≡ i.set) × (j.answer ≡ i.answer) × (w ≡ reasons.NoMemory → j.refusal.items ≡ i.refusal.items)
+    (j.set ≡ i.set) × (j.answer ≡ i.answer) × (j.nodes.items ≡ i.nodes.items)
+    × (w ≡ reasons.NoMemory → j.refusal.items ≡ i.refusal.items)
     × ((w ≡ reasons.NoMemory)
     ⊎ ((rename ≡ false) × ((id : List ℕ) × (rest : List (List ℕ)) × (conflicts i.set other ≡ id ∷ rest)
     × IsToldBy (occupied id) w j.refusal.items)))
 
 -- ---- ids
 
--- the number of each order of a board, and the ids in it
-abbrev pub IsKind : ℕ → Board → List (List ℕ) → Type 0
+-- the number of each order of a policy set, and the ids in it
+abbrev pub IsKind : ℕ → SetParts → List (List ℕ) → Type 0
 IsKind n b ids = ((n ≡ 0) × (ids ≡ body_ids b)) ⊎ ((n ≡ 1) × (ids ≡ policy_ids b))
 
 -- the ids of an order become the answer; or why they do not, and all is as it was
 abbrev pub ListsIds : {A B H : Type 0} → ℕ → Result A Reason → KeptSet B H → KeptSet B H → Type 0
-ListsIds n (Ok a) i j = (j.set ≡ i.set) × (j.refusal.items ≡ i.refusal.items) × IsKind n i.set j.answer
+ListsIds n (Ok a) i j =
+    (j.set ≡ i.set) × (j.refusal.items ≡ i.refusal.items) × (j.nodes.items ≡ i.nodes.items) × IsKind n i.set j.answer
 ListsIds n (Err w) i j = (j ≡ i) × ((w ≡ reasons.NoMemory)
     ⊎ ((w ≡ reasons.BadArgument) × ((ids : List (List ℕ)) → IsKind n i.set ids → ⊥)))
 
 -- no call has answered anything of what is kept, and none was refused
 abbrev pub IsUntold : {B H : Type 0} → KeptSet B H → Type 0
-IsUntold k = (k.answer ≡ []) × (k.refusal.items ≡ [])
+IsUntold k = (k.answer ≡ []) × (k.refusal.items ≡ []) × (k.nodes.items ≡ [])
 
 -- a copy of a set; or why it is not made
-abbrev pub CopiesSet : {B H : Type 0} → Board → Result (KeptSet B H) Reason → Type 0
+abbrev pub CopiesSet : {B H : Type 0} → SetParts → Result (KeptSet B H) Reason → Type 0
 CopiesSet b (Ok k) = (k.set ≡ b) × IsUntold k
 CopiesSet b (Err w) = w ≡ reasons.NoMemory

@@ -1,9 +1,9 @@
 //! A policy set with what its caller was answered last, and the calls on it.
 ghost use Rattle.std.specs.Prelude.{◌≡◌, [], IfOk, MatchResult};
 ghost use Rattle.cedar_binding.specs.Views.{env_of};
-ghost use Rattle.cedar_policy_set.specs.BoardEquality.{same_board};
-ghost use Rattle.cedar_policy_set.specs.Boards.{empty_board};
-ghost use Rattle.cedar_policy_set.specs.Merge.{body_ids, policy_ids};
+ghost use Rattle.cedar_policy_set.specs.SetEquality.{same_policy_set};
+ghost use Rattle.cedar_policy_maps.specs.PolicySets.{empty_set};
+ghost use Rattle.cedar_policy_merge.specs.Merge.{body_ids, policy_ids};
 ghost use Rattle.cedar_policy_set.specs.Refusals.{Steps, told_by_linking};
 ghost use Rattle.cedar_policy_set.specs.Steps.{add_static_step, add_template_step, link_step, unlink_step};
 ghost use Rattle.cedar_policy_set.specs.Steps.{remove_static_step, remove_template_step};
@@ -11,9 +11,11 @@ ghost use Rattle.cedar_c_sets.specs.Sets.{AddsStatic, AddsTemplate, CopiesSet, K
 ghost use Rattle.cedar_c_sets.specs.Sets.{MergesSet, Takes, renaming_texts, taking};
 ghost use Rattle.cedar_c_lists.specs.declared.reason.Reason.TheVariants as reasons;
 
-use crate::making::{bindings_of, effect_of, slots_of, static_policy, template};
+use crate::making::{bindings_of, slots_of, static_policy, template};
 use crate::telling::{Told, by_linking, by_removal, by_set, by_template_removal, by_unlinking};
+use cedar_c_bodies::effect_of;
 use cedar_c_lists::{Answer, Reason, Span, id_of};
+use cedar_c_trees::Node;
 use cedar_ids::policy_id::PolicyID;
 use cedar_policy::{LinkingError, SlotEnv, StaticPolicy, Template};
 use cedar_policy_set::PolicySet;
@@ -21,7 +23,7 @@ use indexmap::IndexMap;
 use std::alloc::{AllocError, Global};
 use std::hash::BuildHasher;
 
-/// A policy set, the texts of the last answer, and the text of the last refusal.
+/// A policy set, the texts of the last answer, the nodes of the last expression, and the text of the last refusal.
 ///
 /// The set hashes ids by what `S` builds, and so do the sets that its calls make. No contract sees the builder; but
 /// code that is generic in it makes none of its own, so each set here has the one that the caller gave.
@@ -29,8 +31,10 @@ use std::hash::BuildHasher;
 pub struct KeptSet<S: BuildHasher> {
     /// The policy set.
     pub set: PolicySet<S>,
-    /// The texts that the last call that lists or merges gave.
+    /// The texts that the last call that answers some gave.
     pub answer: Answer,
+    /// The nodes of the last clause or condition that was read, over the text that was the answer then.
+    pub nodes: Vec<Node>,
     /// The text of the last refusal of a call on the set.
     pub refusal: Vec<u8>,
 }
@@ -97,28 +101,32 @@ impl<S: BuildHasher + Copy> KeptSet<S> {
     pub fn of(alloc: Global, set: PolicySet<S>) -> KeptSet<S>
         ensures set { result.set ≡ set }
         ensures answer { result.answer ≡ [] }
+        ensures nodes { result.nodes.items ≡ [] }
         ensures refusal { result.refusal.items ≡ [] }
     {
         KeptSet {
             set,
             answer: Answer::new(alloc),
+            nodes: Vec::new(alloc),
             refusal: Vec::new(alloc),
         }
     }
 
     /// The set without a binding, which hashes ids by what `hasher` builds. Takes no memory.
     pub fn new(alloc: Global, hasher: S) -> KeptSet<S>
-        ensures set { result.set ≡ empty_board }
+        ensures set { result.set ≡ empty_set }
         ensures answer { result.answer ≡ [] }
+        ensures nodes { result.nodes.items ≡ [] }
         ensures refusal { result.refusal.items ≡ [] }
     {
         KeptSet::of(alloc, PolicySet::with_hasher(alloc, hasher))
     }
 
     // The text of a refusal is kept, and its reason told. Want of memory for the text leaves the one before.
-    fn refuse(&mut self, told: Result<Told, AllocError>) -> Reason
+    pub(crate) fn refuse(&mut self, told: Result<Told, AllocError>) -> Reason
         ensures set { self.new.set ≡ self.old.set }
         ensures answer { self.new.answer ≡ self.old.answer }
+        ensures nodes { self.new.nodes.items ≡ self.old.nodes.items }
         ensures told { MatchResult told
             (λ t. (result ≡ t.reason) × (self.new.refusal.items ≡ t.text.items))
             (λ _. (result ≡ reasons.NoMemory) × (self.new.refusal.items ≡ self.old.refusal.items)) }
@@ -133,7 +141,7 @@ impl<S: BuildHasher + Copy> KeptSet<S> {
     }
 
     // A static policy joins.
-    fn join_static(&mut self, alloc: Global, policy: StaticPolicy) -> Result<(), Reason>
+    pub(crate) fn join_static(&mut self, alloc: Global, policy: StaticPolicy) -> Result<(), Reason>
         ensures makes { Makes (add_static_step self.old.set policy) result self.old self.new }
         ensures texts { KeepsTexts result self.old self.new }
     {
@@ -144,7 +152,7 @@ impl<S: BuildHasher + Copy> KeptSet<S> {
     }
 
     // A template joins.
-    fn join_template(&mut self, alloc: Global, template: Template) -> Result<(), Reason>
+    pub(crate) fn join_template(&mut self, alloc: Global, template: Template) -> Result<(), Reason>
         ensures makes { Makes (add_template_step self.old.set template) result self.old self.new }
         ensures texts { KeepsTexts result self.old self.new }
     {
@@ -321,7 +329,7 @@ impl<S: BuildHasher + Copy> KeptSet<S> {
 
     /// Whether both sets have equal bodies and policies, in equal orders. Takes no memory.
     pub fn is_equal(&self, other: &KeptSet<S>) -> bool
-        ensures { result ≡ same_board self.now.set other.now.set }
+        ensures { result ≡ same_policy_set self.now.set other.now.set }
     {
         self.set == other.set
     }

@@ -5,7 +5,7 @@ ghost use Rattle.cedar_action.specs.Views.{rule_of};
 ghost use Rattle.cedar_binding.specs.Views.{env_of};
 ghost use Rattle.cedar_policy_lines.specs.PolicyCommand.{bound_more};
 ghost use Rattle.cedar_policy_lines.specs.PolicyOutput.{slot_constraint, slot_rule, static_body};
-ghost use Rattle.cedar_c_sets.specs.Sets.{AreBindings, Binds, IsBoundAs, IsEffect, IsNoEffect, IsNoSlots, IsSlots};
+ghost use Rattle.cedar_c_sets.specs.Sets.{AreBindings, Binds, IsBoundAs, IsNoSlots, IsSlots};
 ghost use Rattle.cedar_c_sets.specs.Sets.{IsUnboundAs, IsUnboundBy, template_body};
 
 use cedar_action::ActionConstraint;
@@ -19,17 +19,6 @@ use cedar_policy::{SlotEnv, StaticPolicy, Template, UnexpectedSlotError};
 use cedar_scope::{PrincipalConstraint, ResourceConstraint};
 use cedar_terms::slot::SlotId;
 use std::alloc::{AllocError, Global};
-
-// The effect of a number. `BadArgument` comes where it is none's. Takes no memory.
-pub(crate) fn effect_of(number: u32) -> Result<Effect, Reason>
-    ensures { MatchResult result (IsEffect number) (IsNoEffect number) }
-{
-    match number {
-        0 => Ok(Effect::Permit),
-        1 => Ok(Effect::Forbid),
-        _ => Err(Reason::BadArgument),
-    }
-}
 
 /// The slots of a template.
 #[derive(Clone, Copy)]

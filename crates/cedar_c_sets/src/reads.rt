@@ -1,34 +1,32 @@
 //! The calls that read a policy set: what an id is bound to, and the texts of that and of the set.
-ghost use Rattle.std.specs.Prelude.{◌≡◌, [], ◌∷◌, IfOk, MatchResult};
+ghost use Rattle.std.specs.Prelude.{◌≡◌, [], ◌∷◌, IfOk};
 ghost use Rattle.std.specs.List.{flat_map};
 ghost use Rattle.std.specs.Option.{option_copied};
 ghost use Rattle.std.specs.String.{string_bytes};
 ghost use Rattle.cedar_ids.specs.UidOf.{uid_parts};
-ghost use Rattle.cedar_ids.specs.TextOf.{IsIdentifierText};
 ghost use Rattle.cedar_binding.specs.Bindings.{is_among};
 ghost use Rattle.cedar_binding.specs.Views.{env_of};
 ghost use Rattle.cedar_body.specs.Bodies.{body_slots};
-ghost use Rattle.cedar_policy_set.specs.Boards.{bound_at};
+ghost use Rattle.cedar_policy_maps.specs.PolicySets.{bound_at};
 ghost use Rattle.cedar_c_sets.specs.Reads.{AnswersAnnotation, AnswersAt, AnswersLinked, AnswersText, AreAnnotations};
 ghost use Rattle.cedar_c_sets.specs.Reads.{AreBoundBy, AreBoundIn, AsksAt, IsBodyText, IsBoundText, IsEffectOf};
-ghost use Rattle.cedar_c_sets.specs.Reads.{IsNoKey, IsPolicyText, IsSlotsOf, IsTemplateId, KindAt, body_at};
+ghost use Rattle.cedar_c_sets.specs.Reads.{IsPolicyText, IsSlotsOf, IsTemplateId, KindAt, body_at};
 ghost use Rattle.cedar_c_sets.specs.Reads.{bound_body, kind_number, policy_at};
-ghost use Rattle.cedar_c_sets.specs.Sets.{IsEffect, IsSlots, pair_of};
+ghost use Rattle.cedar_c_bodies.specs.Bodies.{IsEffect};
+ghost use Rattle.cedar_c_sets.specs.Sets.{IsSlots, pair_of};
 
 use crate::kept_set::KeptSet;
 use cedar_annotation::annotation::Iter;
 use cedar_binding::bound_to;
 use cedar_body::Effect;
+use cedar_c_bodies::key_of;
 use cedar_c_lists::{Answer, Reason, id_of};
-use cedar_ids::err::ParseErrors;
-use cedar_ids::id::AnyId;
 use cedar_ids::policy_id::PolicyID;
 use cedar_policy::{SlotEnv, Template};
 use cedar_policy_set::{LinkedIds, PolicySet, PolicySetGetLinksError};
 use cedar_terms::slot::SlotId;
 use std::alloc::{AllocError, Global};
 use std::hash::BuildHasher;
-use std::str;
 
 // The number of what an id is bound to.
 fn kind<S: BuildHasher + Copy>(set: &PolicySet<S>, id: &PolicyID) -> u32
@@ -44,7 +42,10 @@ fn kind<S: BuildHasher + Copy>(set: &PolicySet<S>, id: &PolicyID) -> u32
 }
 
 // The body of what an id is bound to.
-fn body_of<'a, S: BuildHasher + Copy>(set: &'a PolicySet<S>, id: &PolicyID) -> Option<&'a Template>
+pub(crate) fn body_of<'a, S: BuildHasher + Copy>(
+    set: &'a PolicySet<S>,
+    id: &PolicyID,
+) -> Option<&'a Template>
     ensures { option_copied result ≡ bound_body set.now id.now }
 {
     match set.get(id) {
@@ -151,21 +152,6 @@ fn texts_of_bindings(alloc: Global, values: &SlotEnv) -> Result<Answer, AllocErr
     let answer = Answer::new(alloc).with(principal.as_bytes())?;
     let answer = answer.with(action.as_bytes())?;
     answer.with(resource.as_bytes())
-}
-
-// The key of an annotation that bytes are. `NotAName` comes where they are no identifier's.
-fn key_of(alloc: Global, text: &[u8]) -> Result<AnyId, Reason>
-    ensures { MatchResult result (λ k. IsIdentifierText k text.now) (IsNoKey text.now) }
-{
-    let Ok(text) = str::from_utf8(text) else {
-        return Err(Reason::NotAName);
-    };
-    match AnyId::from_normalized_str(alloc, text) {
-        Ok(key) => Ok(key),
-        Err(ParseErrors::Memory) => Err(Reason::NoMemory),
-        Err(ParseErrors::NotNormalized) => Err(Reason::NotAName),
-        Err(ParseErrors::InvalidName) => Err(Reason::NotAName),
-    }
 }
 
 impl<S: BuildHasher + Copy> KeptSet<S> {

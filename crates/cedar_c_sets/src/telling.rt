@@ -1,7 +1,8 @@
 //! The reasons and the texts of what a policy set refuses.
-ghost use Rattle.std.specs.Prelude.{◌≡◌, ◌∷◌, ◌++◌, IfOk};
+ghost use Rattle.std.specs.Prelude.{◌≡◌, ◌∷◌, ◌++◌, IfOk, Some};
 ghost use Rattle.cedar_policy_set.specs.Refusals.{told_by_linking, told_by_removal, told_by_set};
 ghost use Rattle.cedar_policy_set.specs.Refusals.{told_by_template_removal, told_by_unlinking};
+ghost use Rattle.cedar_policy_set.specs.Steps.{not_static};
 ghost use Rattle.cedar_c_lists.specs.Reasons.{words_of};
 ghost use Rattle.cedar_binding.specs.BindingTexts.{arity_text};
 ghost use Rattle.cedar_c_sets.specs.Sets.{IsToldFor};
@@ -12,7 +13,7 @@ use cedar_binding::err::ArityText;
 use cedar_c_lists::{Reason, push_uid};
 use cedar_ids::entity::EntityUID;
 use cedar_ids::policy_id::PolicyID;
-use cedar_policy::LinkingError;
+use cedar_policy::{LinkingError, Template};
 use cedar_policy_set::{
     PolicySetError, PolicySetPolicyRemovalError, PolicySetTemplateRemovalError,
     PolicySetUnlinkError,
@@ -45,6 +46,13 @@ pub(crate) fn by_set(alloc: Global, error: &PolicySetError) -> Result<Told, Allo
         PolicySetError::Occupied { id } => named(alloc, Reason::Occupied, id.as_ref()),
         PolicySetError::Memory => Err(AllocError),
     }
+}
+
+// What is no static policy, for it has slots.
+pub(crate) fn by_slot(alloc: Global, template: &Template) -> Result<Told, AllocError>
+    ensures { IfOk result (λ t. IsToldFor (Some (not_static template.now.id)) t.reason t.text.items) }
+{
+    named(alloc, Reason::NotStatic, template.id().as_ref())
 }
 
 // The slots that bindings lack or have besides.

@@ -43,6 +43,7 @@ closure_reason (tc.MissingTcEdge e) = reasons.NotClosed
 closure_reason (tc.HasCycle e) = reasons.Cycle
 closure_reason tc.Memory = reasons.NoMemory
 
+-- the uids that an error of the closure names
 abbrev pub closure_names : TcError EntityUID → List EntityUID
 closure_names (tc.MissingTcEdge e) = e.child ∷ e.parent ∷ e.grandparent ∷ []
 closure_names (tc.HasCycle e) = vertex_of e ∷ []
@@ -58,6 +59,7 @@ reason_of (errors.ActionParentIsNotAction u p) = reasons.ActionParentIsNotAction
 reason_of (errors.ReservedKey k) = reasons.ReservedKey
 reason_of errors.Memory = reasons.NoMemory
 
+-- the uids that an error of a store names
 abbrev pub uids_named : EntitiesError → List EntityUID
 uids_named (errors.Duplicate u) = u ∷ []
 uids_named (errors.TransitiveClosureError t) = closure_names t
@@ -124,10 +126,12 @@ abbrev pub Adds : {A B H : Type 0} → TCComputation → List EntityView → Sto
     → Type 0
 Adds m L S r k = (given : Result StoreView EntitiesError) × AddGives m L S given × KeepsGiven given r k
 
+-- a list is put over a store, and what that gives is kept
 abbrev pub Upserts : {A B H : Type 0} → TCComputation → List EntityView → StoreView → Result A Reason → KeptStore B H
     → Type 0
 Upserts m L S r k = (given : Result StoreView EntitiesError) × UpsertGives m L S given × KeepsGiven given r k
 
+-- uids are taken out of a store, and what that gives is kept
 abbrev pub Removes : {A B H : Type 0} → TCComputation → List EntityUID → StoreView → Result A Reason → KeptStore B H
     → Type 0
 Removes m U S r k = (given : Result StoreView EntitiesError) × RemoveGives m U S given × KeepsGiven given r k
@@ -141,6 +145,7 @@ BuildsListed text spans n es mode r i j =
     ⊎ ((m : TCComputation) × (L : List EntityView) × IsMode mode m × AreListed text spans n es L
     × Adds m L empty_store r j × KeepsTexts r i j)
 
+-- entities that lists say are added, or that is not read
 abbrev pub AddsListed : {A B H : Type 0} → List ℕ → List Span → ℕ → List Edge → ℕ → Result A Reason → KeptStore B H
     → KeptStore B H → Type 0
 AddsListed text spans n es mode r i j =
@@ -148,6 +153,7 @@ AddsListed text spans n es mode r i j =
     ⊎ ((m : TCComputation) × (L : List EntityView) × IsMode mode m × AreListed text spans n es L × Adds m L i.store r j
     × KeepsTexts r i j)
 
+-- entities that lists say are put over the store, or that is not read
 abbrev pub UpsertsListed : {A B H : Type 0} → List ℕ → List Span → ℕ → List Edge → ℕ → Result A Reason → KeptStore B H
     → KeptStore B H → Type 0
 UpsertsListed text spans n es mode r i j =
@@ -216,6 +222,7 @@ has_parent e q = set.contains e.parents q
 abbrev pub IsAbove : World → EntityUID → EntityUID → Type 0
 IsAbove W u q = Reach (graph W) u q
 
+-- the one uid is a parent of the other in a world
 abbrev pub IsParent : World → EntityUID → EntityUID → Type 0
 IsParent W u q = graph W u q ≡ true
 

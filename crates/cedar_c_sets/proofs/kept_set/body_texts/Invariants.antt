@@ -1,5 +1,5 @@
 use Rattle.std.specs.Prelude.{◌≡◌, ◌++◌, map}
-use Rattle.cedar_policy_set.specs.Merge.{body_ids}
+use Rattle.cedar_policy_merge.specs.Merge.{body_ids}
 use Rattle.cedar_c_sets.proofs.kept_set.body_texts.Given as goal
 
 abbrev pub invariant-loop-template : goal.invariant-loop-template

@@ -14,6 +14,7 @@ returns-in-None g c = (
     (
       refl,
       refl,
+      refl,
       told_none c.args.key.now c.in_ok-key.key c.in-Some.body.now.annotations _ c.in_ok-key.ensures.1
           c.in-None.ensures c.new.ensures,
     ),
@@ -29,6 +30,7 @@ returns g c = (
     found bound_body c.args.self.now.set c.in_ok-id.id c.args.id.now c.in-Some.body.now c.in_ok-id.ensures.1
         c.in-Some.ensures,
     (
+      refl,
       refl,
       refl,
       told_one c.args.key.now c.in_ok-key.key c.in-Some-annotation.annotation.now c.in-Some.body.now.annotations _

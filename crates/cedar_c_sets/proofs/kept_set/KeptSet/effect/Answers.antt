@@ -1,6 +1,6 @@
 use Rattle.std.proofs.Common.{subst}
 use Rattle.cedar_c_sets.specs.Reads.{bound_body}
-use Rattle.cedar_c_sets.specs.Sets.{IsEffect}
+use Rattle.cedar_c_bodies.specs.Bodies.{IsEffect}
 use Rattle.cedar_c_sets.proofs.Reading.{found}
 use Rattle.cedar_c_sets.proofs.kept_set.KeptSet.effect.Goals as goal
 

@@ -5,6 +5,7 @@ use Rattle.cedar_c_sets.proofs.kept_set.KeptSet.join_template.Goals as goal
 pub returns-in-Err-clause-texts : goal.returns-in-Err-clause-texts
 returns-in-Err-clause-texts g c = (
   c.refuse.ensures.answer,
+  c.refuse.ensures.nodes,
   kept_before (told_by_set c.in-Err.error) c.by_set.result c.refuse.result c.args.self.now.refusal.items
       c.refuse.new.self.refusal.items c.by_set.ensures c.refuse.ensures.told,
 )

@@ -8,6 +8,7 @@ pub returns-in-Err : goal.returns-in-Err
 returns-in-Err g c = (
   c.refuse.ensures.set,
   c.refuse.ensures.answer,
+  c.refuse.ensures.nodes,
   kept_before (told_by_set c.in-Err.error) c.by_set.result c.refuse.result c.args.self.now.refusal.items
       c.refuse.new.self.refusal.items c.by_set.ensures c.refuse.ensures.told,
   told_merging (λ r. r.entries) c.merge_policyset.result c.in-Err.error c.in_ok-set.set c.args.self.now.set
@@ -20,4 +21,4 @@ pub returns-in_err-self-in-Ok : goal.returns-in_err-self-in-Ok
 returns-in_err-self-in-Ok g c =
     let want = c.from_residual-in_err-self-in-Ok in
     let p = err_from_is_err_and want.result want.ensures.1 in
-    rw p.1 (refl, refl, λ _. refl, inl p.2)
+    rw p.1 (refl, refl, refl, λ _. refl, inl p.2)

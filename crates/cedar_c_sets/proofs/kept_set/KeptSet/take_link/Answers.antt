@@ -16,6 +16,7 @@ returns-in-Err-clause-makes g c = (
 pub returns-in-Err-clause-texts : goal.returns-in-Err-clause-texts
 returns-in-Err-clause-texts g c = (
   c.refuse.ensures.answer,
+  c.refuse.ensures.nodes,
   kept_before (told_by_unlinking c.in-Err.error) c.by_unlinking.result c.refuse.result c.args.self.now.refusal.items
       c.refuse.new.self.refusal.items c.by_unlinking.ensures c.refuse.ensures.told,
 )

@@ -16,6 +16,7 @@ returns-in-Err-clause-makes g c = (
 pub returns-in-Err-clause-texts : goal.returns-in-Err-clause-texts
 returns-in-Err-clause-texts g c = (
   c.refuse.ensures.answer,
+  c.refuse.ensures.nodes,
   kept_before (told_by_removal c.in-Err.error) c.by_removal.result c.refuse.result c.args.self.now.refusal.items
       c.refuse.new.self.refusal.items c.by_removal.ensures c.refuse.ensures.told,
 )

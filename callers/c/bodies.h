@@ -1,0 +1,107 @@
+/* Bodies of policies and templates as a caller lays them out, for the tests in C. */
+#ifndef CEDAR_BODIES_H
+#define CEDAR_BODIES_H
+#include "nodes.h"
+
+/* A body, with its lists: the uids of an action and the nodes of a clause are those of `c`. */
+typedef struct given {
+    content c;
+    cedar_body body;
+    cedar_annotation annotations[MOST];
+    size_t annotations_len;
+} given;
+
+#define LISTS(g)                                                                                                       \
+    (g).c.l.text, (g).c.l.text_len, &(g).body, (g).annotations, (g).annotations_len, (g).c.l.uids, (g).c.l.uids_len,   \
+        (g).c.nodes, (g).c.nodes_len
+
+/* A policy that permits all. */
+static inline given given_nothing(void) {
+    given g;
+    memset(&g, 0, sizeof g);
+    g.c = with_entities("");
+    return g;
+}
+
+static inline cedar_span put_part(given *g, const char *text) { return put_bytes(&g->c, text, strlen(text)); }
+
+static inline cedar_scope put_scope(given *g, uint32_t kind, const char *uid, const char *type) {
+    cedar_span at = put_part(g, uid);
+    return (cedar_scope){kind, at, put_part(g, type)};
+}
+
+static inline void put_annotation(given *g, const char *key, const char *value) {
+    cedar_span at = put_part(g, key);
+    g->annotations[g->annotations_len++] = (cedar_annotation){at, put_part(g, value)};
+}
+
+/* A body with all that it can have: annotations, of which two have one key, three constraints and a clause. */
+static inline given given_whole(void) {
+    given g = given_nothing();
+    g.body.effect = 1;
+    g.body.principal = put_scope(&g, 6, U("group"), "A");
+    g.body.action = put_scope(&g, 3, "", "");
+    g.body.resource = put_scope(&g, 1, U("file"), "");
+    put_text(&g.c.l, "Action::\"get\"");
+    put_text(&g.c.l, "Action::\"put\"");
+    put_annotation(&g, "why", "so");
+    put_annotation(&g, "if", "");
+    put_annotation(&g, "why", "thus");
+    put_nodes(&g.c, "$0 @b =");
+    return g;
+}
+
+/* ---- calls in short */
+
+static inline uint32_t join_static(cedar_policies *p, const char *id, const given *g) {
+    return cedar_policies_add_static_with(p, TEXT(id), LISTS(*g));
+}
+
+static inline uint32_t join_template(cedar_policies *p, const char *id, const given *g) {
+    return cedar_policies_add_template_with(p, TEXT(id), LISTS(*g));
+}
+
+/* The text of a template or of a static policy, or its status. */
+static inline const char *body_text(cedar_policies *p, const char *id) {
+    static char status_text[16];
+    uint32_t status = cedar_policies_template_text(p, TEXT(id));
+    snprintf(status_text, sizeof status_text, "%u", (unsigned)status);
+    return status ? status_text : policies_answer(p) + 1;
+}
+
+/* The kind of what the principal, for 0, the action, for 1, or the resource, for 2, has to be, and its texts, each
+ * behind a comma; or the status. */
+static inline const char *scoped(cedar_policies *p, const char *id, uint32_t which) {
+    static char out[ROOM + 16];
+    uint32_t kind = 9;
+    uint32_t status = cedar_policies_scope(p, TEXT(id), which, &kind);
+    if (status) {
+        snprintf(out, sizeof out, "status %u", (unsigned)(kind == 9 ? status : 99));
+    } else {
+        snprintf(out, sizeof out, "%u%s", (unsigned)kind, policies_answer(p));
+    }
+    return out;
+}
+
+/* The nodes of the last expression, over the last answer, as words. */
+static inline const char *set_expr(cedar_policies *p) {
+    static char out[ROOM];
+    uint8_t text[ROOM];
+    cedar_node nodes[MOST_NODES];
+    size_t at = 0, count = cedar_policies_answer_nodes(p, 0, nodes, MOST_NODES);
+    cedar_policies_answer(p, 0, text, sizeof text);
+    for (size_t k = 0; k < count && k < MOST_NODES; k++) at += put_out(out + at, sizeof out - at, text, &nodes[k]);
+    out[at ? at - 1 : 0] = 0;
+    return out;
+}
+
+/* The clause as words, `none`, or the status. */
+static inline const char *clause_of(cedar_policies *p, const char *id) {
+    static char status_text[16];
+    bool has = false;
+    uint32_t status = cedar_policies_clause(p, TEXT(id), &has);
+    snprintf(status_text, sizeof status_text, "%u", (unsigned)(has && status ? 99 : status));
+    return status ? status_text : has ? set_expr(p) : "none";
+}
+
+#endif

@@ -1,0 +1,10 @@
+use Rattle.cedar_c_sets.specs.Clauses.{AnswersClause}
+use Rattle.cedar_c.proofs.PolicyChanges.{changed_and_told}
+use Rattle.cedar_c.proofs.policies_bodies.cedar_policies_clause.Goals as goal
+
+pub returns : goal.returns
+returns c =
+    changed_and_told (AnswersClause c.args.id.now) c.args.handle.now.held.value
+    c.opened.result.held.value c.in-Some.inner.value c.deref_mut.result.now c.clause-answer.new.self
+    c.clause-answer.result c.tell.result c.args.has.now c.tell.new.out
+    c.in-Some.ensures.value c.deref_mut.ensures.value c.opened.ensures c.tell.ensures c.clause-answer.ensures

@@ -1,0 +1,10 @@
+use Rattle.cedar_c_sets.specs.Scopes.{AnswersScope}
+use Rattle.cedar_c.proofs.PolicyChanges.{changed_and_counted}
+use Rattle.cedar_c.proofs.policies_bodies.cedar_policies_scope.Goals as goal
+
+pub returns : goal.returns
+returns c =
+    changed_and_counted (AnswersScope c.args.which c.args.id.now) c.args.handle.now.held.value
+    c.opened.result.held.value c.in-Some.inner.value c.deref_mut.result.now c.scope-answer.new.self
+    c.scope-answer.result c.tell_value.result c.args.kind.now c.tell_value.new.out
+    c.in-Some.ensures.value c.deref_mut.ensures.value c.opened.ensures c.tell_value.ensures c.scope-answer.ensures

@@ -1,0 +1,79 @@
+-- The bodies that a caller gives by numbers, by parts of a text and by nodes over it.
+use Rattle.std.specs.Prelude.{◌≡◌, ℕ, List, [], Option, Some, None}
+use Rattle.std.specs.Str.{IsUtf8}
+use Rattle.cedar_terms.specs.ExprTree.{ExprTree}
+use Rattle.cedar_body.specs.Bodies.{BodyParts}
+use Rattle.cedar_body.specs.declared.effect.Effect.{Effect}
+use Rattle.cedar_body.specs.declared.effect.Effect.TheVariants.{Permit, Forbid}
+use Rattle.cedar_c_lists.specs.Texts.{IsNoId}
+use Rattle.cedar_c_lists.specs.declared.layout.Span.{Span}
+use Rattle.cedar_c_lists.specs.declared.reason.Reason.{Reason}
+use Rattle.cedar_c_lists.specs.declared.reason.Reason.TheVariants as reasons
+use Rattle.cedar_c_trees.specs.Items.{Joins}
+use Rattle.cedar_c_trees.specs.Reads.{IsReadAs}
+use Rattle.cedar_c_trees.specs.Refusals.{IsRefused}
+use Rattle.cedar_c_trees.specs.Shapes.{StandsInExpr}
+use Rattle.cedar_c_trees.specs.declared.node.Node.{Node}
+use Rattle.cedar_c_bodies.specs.Annotated.{AreAnnotationsAt, AreNoAnnotationsAt}
+use Rattle.cedar_c_bodies.specs.Scopes.{IsConstraintAt, IsNoConstraintAt, IsNoRuleAt, IsRuleAt}
+use Rattle.cedar_c_bodies.specs.declared.layout.AnnotationAt.{AnnotationAt}
+use Rattle.cedar_c_bodies.specs.declared.layout.Body.{Body}
+use Rattle.cedar_c_bodies.specs.declared.layout.BodyLists.{BodyLists}
+
+-- what a caller gives: a text, numbers and parts of it, annotations, the uids of an action, and the nodes of a clause
+pub record Given : Type 0 where
+  pub text : List ℕ
+  pub body : Body
+  pub annotations : List AnnotationAt
+  pub uids : List Span
+  pub nodes : List Node
+
+-- what lists say
+abbrev pub given_by : BodyLists → Given
+given_by l = record {
+  text = l.text.now;
+  body = l.body;
+  annotations = l.annotations.now;
+  uids = l.uids.now;
+  nodes = l.nodes.now;
+}
+
+-- the number of each effect, and why a number is taken as none
+abbrev pub IsEffect : ℕ → Effect → Type 0
+IsEffect n Permit = n ≡ 0
+IsEffect n Forbid = n ≡ 1
+
+-- the number is that of no effect
+abbrev pub IsNoEffect : ℕ → Reason → Type 0
+IsNoEffect n w = (w ≡ reasons.BadArgument) × ((e : Effect) → IsEffect n e → ⊥)
+
+-- no clause, where there are no nodes; else the expression that they are read as
+abbrev pub IsClauseAt : List ℕ → List Node → Option ExprTree → Type 0
+IsClauseAt text nodes None = nodes ≡ []
+IsClauseAt text nodes (Some e) = IsReadAs Joins text nodes e
+
+-- why that is not read
+abbrev pub IsNoClauseAt : List ℕ → List Node → Reason → Type 0
+IsNoClauseAt text nodes w = (nodes ≡ [] → ⊥) × IsRefused StandsInExpr text nodes w
+
+-- a body is what a caller gives, with these bytes as its id
+pub record IsGiven (id : List ℕ) (G : Given) (b : BodyParts) : Type 0 where
+  pub utf8 : IsUtf8 id
+  pub named : b.id ≡ id
+  pub annotations : AreAnnotationsAt G.text G.annotations b.annotations
+  pub effect : IsEffect G.body.effect b.effect
+  pub principal : IsConstraintAt G.text G.body.principal b.principal
+  pub action : IsRuleAt G.text G.uids G.body.action b.action
+  pub resource : IsConstraintAt G.text G.body.resource b.resource
+  pub clause : IsClauseAt G.text G.nodes b.clause
+
+-- why what a caller gives is not read as a body
+pub data IsNotGiven (id : List ℕ) (G : Given) (w : Reason) : Type 0 where
+  no_memory : w ≡ reasons.NoMemory → IsNotGiven id G w
+  no_effect : IsNoEffect G.body.effect w → IsNotGiven id G w
+  no_id : IsNoId id w → IsNotGiven id G w
+  no_annotations : AreNoAnnotationsAt G.text G.annotations w → IsNotGiven id G w
+  no_principal : IsNoConstraintAt G.text G.body.principal w → IsNotGiven id G w
+  no_action : IsNoRuleAt G.text G.uids G.body.action w → IsNotGiven id G w
+  no_resource : IsNoConstraintAt G.text G.body.resource w → IsNotGiven id G w
+  no_clause : IsNoClauseAt G.text G.nodes w → IsNotGiven id G w

@@ -1,0 +1,40 @@
+-- What principal, action and resource have to be, told by a number and by texts.
+use Rattle.std.specs.Prelude.{◌≡◌, ℕ, List, [], ◌∷◌}
+use Rattle.std.specs.List.{AllZip}
+use Rattle.std.specs.Option.{IfSome}
+use Rattle.cedar_ids.specs.Name.{NameParts}
+use Rattle.cedar_ids.specs.Printed.{printed_name, uid_output}
+use Rattle.cedar_ids.specs.Uid.{UidParts}
+use Rattle.cedar_scope.specs.Scope.{Constraint, any, within, equals, of_type, of_type_within, to_uid, to_slot}
+use Rattle.cedar_action.specs.Rules.{ActionRule, any_action, among, just, among_slot, just_slot}
+
+-- a text of a uid: where no byte of its eid is past ASCII, the one that it is written as
+abbrev pub IsUidText : UidParts → List ℕ → Type 0
+IsUidText u text = IfSome (uid_output u) (λ t. text ≡ t)
+
+-- one such text
+abbrev pub IsOneUid : UidParts → List (List ℕ) → Type 0
+IsOneUid u texts = (t : List ℕ) × IsUidText u t × (texts ≡ t ∷ [])
+
+-- the texts of a type and of a uid
+abbrev pub IsTypeAndUid : NameParts → UidParts → List (List ℕ) → Type 0
+IsTypeAndUid t u texts = (x : List ℕ) × IsUidText u x × (texts ≡ printed_name t ∷ x ∷ [])
+
+-- the number of a constraint, and the texts that it has: of its type, and behind that of its uid
+abbrev pub TellsConstraint : Constraint → ℕ → List (List ℕ) → Type 0
+TellsConstraint any n texts = (n ≡ 0) × (texts ≡ [])
+TellsConstraint (equals (to_uid u)) n texts = (n ≡ 1) × IsOneUid u texts
+TellsConstraint (equals to_slot) n texts = (n ≡ 2) × (texts ≡ [])
+TellsConstraint (within (to_uid u)) n texts = (n ≡ 3) × IsOneUid u texts
+TellsConstraint (within to_slot) n texts = (n ≡ 4) × (texts ≡ [])
+TellsConstraint (of_type t) n texts = (n ≡ 5) × (texts ≡ printed_name t ∷ [])
+TellsConstraint (of_type_within t (to_uid u)) n texts = (n ≡ 6) × IsTypeAndUid t u texts
+TellsConstraint (of_type_within t to_slot) n texts = (n ≡ 7) × (texts ≡ printed_name t ∷ [])
+
+-- the number of what an action has to be, and the texts of its uids
+abbrev pub TellsRule : ActionRule → ℕ → List (List ℕ) → Type 0
+TellsRule any_action n texts = (n ≡ 0) × (texts ≡ [])
+TellsRule (just u) n texts = (n ≡ 1) × IsOneUid u texts
+TellsRule just_slot n texts = (n ≡ 2) × (texts ≡ [])
+TellsRule (among us) n texts = (n ≡ 3) × AllZip IsUidText us texts
+TellsRule among_slot n texts = (n ≡ 4) × (texts ≡ [])

@@ -1,0 +1,14 @@
+//! The bodies of policies and templates as callers in C give them: numbers, parts of one text, and nodes over it. No
+//! policy set and no handle is known here.
+#![tactic(auto)]
+
+mod annotated;
+mod bodies;
+mod layout;
+mod scopes;
+mod told;
+
+pub use annotated::key_of;
+pub use bodies::{effect_of, template_of};
+pub use layout::{AnnotationAt, Body, BodyLists, Scope};
+pub use told::{constraint_told, rule_told};

@@ -1,0 +1,35 @@
+-- What joins a policy set by the bodies that a caller gives.
+use Rattle.std.specs.Prelude.{◌⊎◌, ℕ, List, [], ◌∷◌, Result, Err}
+use Rattle.cedar_terms.specs.declared.slot.SlotId.{SlotId}
+use Rattle.cedar_body.specs.Bodies.{BodyParts, body_slots}
+use Rattle.cedar_policy_maps.specs.PolicySets.{SetParts}
+use Rattle.cedar_policy_set.specs.Steps.{Refusal, not_static, add_static_step, add_template_step}
+use Rattle.cedar_c_lists.specs.Stops.{IsStopped}
+use Rattle.cedar_c_lists.specs.declared.reason.Reason.{Reason}
+use Rattle.cedar_c_bodies.specs.Bodies.{Given, IsGiven, IsNotGiven}
+use Rattle.cedar_c_sets.specs.Sets.{KeepsTexts, Makes}
+use Rattle.cedar_c_sets.specs.declared.kept_set.KeptSet.{KeptSet}
+
+-- a body with these slots joins as a static policy where there are none, and is else refused as no static one
+abbrev pub static_step_with : List SlotId → SetParts → BodyParts → Result SetParts Refusal
+static_step_with [] b t = add_static_step b t
+static_step_with (s ∷ ss) b t = Err (not_static t.id)
+
+-- a body joins so, by its slots
+abbrev pub static_step : SetParts → BodyParts → Result SetParts Refusal
+static_step b t = static_step_with (body_slots t) b t
+
+-- the body that a caller gives joins by a step; or it is not read, and all is as it was
+abbrev pub JoinsBy : {A B H : Type 0} → (SetParts → BodyParts → Result SetParts Refusal) → List ℕ → Given
+    → Result A Reason → KeptSet B H → KeptSet B H → Type 0
+JoinsBy step id G r i j =
+    IsStopped (IsNotGiven id G) r i j
+    ⊎ ((b : BodyParts) × IsGiven id G b × Makes (step i.set b) r i j × KeepsTexts r i j)
+
+-- it joins as a static policy
+abbrev pub AddsStaticWith : {A B H : Type 0} → List ℕ → Given → Result A Reason → KeptSet B H → KeptSet B H → Type 0
+AddsStaticWith id G r i j = JoinsBy static_step id G r i j
+
+-- it joins as a template
+abbrev pub AddsTemplateWith : {A B H : Type 0} → List ℕ → Given → Result A Reason → KeptSet B H → KeptSet B H → Type 0
+AddsTemplateWith id G r i j = JoinsBy add_template_step id G r i j

@@ -1,0 +1,175 @@
+//! The call that reads what principal, action and resource have to be.
+ghost use Rattle.std.specs.Prelude.{◌≡◌, IfOk, MatchResult};
+ghost use Rattle.std.specs.Option.{option_map};
+ghost use Rattle.cedar_action.specs.Views.{rule_of};
+ghost use Rattle.cedar_c_bodies.specs.Told.{TellsConstraint, TellsRule};
+ghost use Rattle.cedar_c_sets.specs.Scopes.{AnswersScope, TellsFound, TellsScope, action_at, principal_at, resource_at};
+ghost use Rattle.cedar_c_sets.specs.laws.Finding.{IsScopeless, IsUnfound};
+
+use crate::kept_set::KeptSet;
+use cedar_action::ActionConstraint;
+use cedar_c_bodies::{constraint_told, rule_told};
+use cedar_c_lists::{Answer, Reason, id_of};
+use cedar_ids::policy_id::PolicyID;
+use cedar_policy_set::PolicySet;
+use cedar_scope::{PrincipalConstraint, ResourceConstraint};
+use std::alloc::{AllocError, Global};
+use std::hash::BuildHasher;
+
+// What the principal has to be by what an id is bound to.
+fn principal_at<S: BuildHasher + Copy>(
+    alloc: Global,
+    set: &PolicySet<S>,
+    id: &PolicyID,
+) -> Result<Option<PrincipalConstraint>, AllocError>
+    ensures { IfOk result (λ c. c ≡ principal_at set.now id.now) }
+{
+    match set.get(id) {
+        Some(policy) => {
+            let constraint = policy.principal_constraint(alloc)?;
+            Ok(Some(constraint))
+        }
+        None => match set.get_template(id) {
+            Some(template) => {
+                let constraint = template.principal_constraint().clone()?;
+                Ok(Some(constraint))
+            }
+            None => Ok(None),
+        },
+    }
+}
+
+// What the action has to be by that.
+fn action_at<S: BuildHasher + Copy>(
+    alloc: Global,
+    set: &PolicySet<S>,
+    id: &PolicyID,
+) -> Result<Option<ActionConstraint>, AllocError>
+    ensures { IfOk result (λ c. option_map rule_of c ≡ action_at set.now id.now) }
+{
+    match set.get(id) {
+        Some(policy) => {
+            let constraint = policy.action_constraint(alloc)?;
+            Ok(Some(constraint))
+        }
+        None => match set.get_template(id) {
+            Some(template) => {
+                let constraint = template.action_constraint().clone()?;
+                Ok(Some(constraint))
+            }
+            None => Ok(None),
+        },
+    }
+}
+
+// What the resource has to be by that.
+fn resource_at<S: BuildHasher + Copy>(
+    alloc: Global,
+    set: &PolicySet<S>,
+    id: &PolicyID,
+) -> Result<Option<ResourceConstraint>, AllocError>
+    ensures { IfOk result (λ c. c ≡ resource_at set.now id.now) }
+{
+    match set.get(id) {
+        Some(policy) => {
+            let constraint = policy.resource_constraint(alloc)?;
+            Ok(Some(constraint))
+        }
+        None => match set.get_template(id) {
+            Some(template) => {
+                let constraint = template.resource_constraint().clone()?;
+                Ok(Some(constraint))
+            }
+            None => Ok(None),
+        },
+    }
+}
+
+// What the principal has to be, told by a number and by texts.
+fn principal_told<S: BuildHasher + Copy>(
+    alloc: Global,
+    set: &PolicySet<S>,
+    id: &PolicyID,
+) -> Result<(u32, Answer), Reason>
+    ensures { MatchResult result (λ r. TellsFound TellsConstraint (principal_at set.now id.now) r.0 r.1)
+        (IsUnfound (principal_at set.now id.now)) }
+{
+    let found = principal_at(alloc, set, id)?;
+    match found {
+        None => Err(Reason::NoBody),
+        Some(constraint) => {
+            let told = constraint_told(alloc, constraint.as_inner())?;
+            Ok(told)
+        }
+    }
+}
+
+// What the action has to be, told so.
+fn action_told<S: BuildHasher + Copy>(
+    alloc: Global,
+    set: &PolicySet<S>,
+    id: &PolicyID,
+) -> Result<(u32, Answer), Reason>
+    ensures { MatchResult result (λ r. TellsFound TellsRule (action_at set.now id.now) r.0 r.1)
+        (IsUnfound (action_at set.now id.now)) }
+{
+    let found = action_at(alloc, set, id)?;
+    match found {
+        None => Err(Reason::NoBody),
+        Some(rule) => {
+            let told = rule_told(alloc, &rule)?;
+            Ok(told)
+        }
+    }
+}
+
+// What the resource has to be, told so.
+fn resource_told<S: BuildHasher + Copy>(
+    alloc: Global,
+    set: &PolicySet<S>,
+    id: &PolicyID,
+) -> Result<(u32, Answer), Reason>
+    ensures { MatchResult result (λ r. TellsFound TellsConstraint (resource_at set.now id.now) r.0 r.1)
+        (IsUnfound (resource_at set.now id.now)) }
+{
+    let found = resource_at(alloc, set, id)?;
+    match found {
+        None => Err(Reason::NoBody),
+        Some(constraint) => {
+            let told = constraint_told(alloc, constraint.as_inner())?;
+            Ok(told)
+        }
+    }
+}
+
+// What one of the three has to be, told so.
+fn scope_told<S: BuildHasher + Copy>(
+    alloc: Global,
+    set: &PolicySet<S>,
+    id: &PolicyID,
+    which: u32,
+) -> Result<(u32, Answer), Reason>
+    ensures { MatchResult result (λ r. TellsScope which set.now id.now r.0 r.1) (IsScopeless which set.now id.now) }
+{
+    match which {
+        0 => principal_told(alloc, set, id),
+        1 => action_told(alloc, set, id),
+        2 => resource_told(alloc, set, id),
+        _ => Err(Reason::BadArgument),
+    }
+}
+
+impl<S: BuildHasher + Copy> KeptSet<S> {
+    /// What the principal, for 0, the action, for 1, or the resource, for 2, has to be by what an id is bound to, told as
+    /// the kind of a `Scope`; its texts become the answer, that of its type and behind it those of its uids. A link has
+    /// its slots filled. `BadArgument` comes where the number is none of the three, `NoBody` where the id is bound to
+    /// nothing. Takes memory; a refusal leaves the answer as it was.
+    pub fn scope(&mut self, alloc: Global, id: &[u8], which: u32) -> Result<u32, Reason>
+        ensures { AnswersScope which id.now result self.old self.new }
+    {
+        let id = id_of(alloc, id)?;
+        let (kind, texts) = scope_told(alloc, &self.set, &id, which)?;
+        self.answer = texts;
+        Ok(kind)
+    }
+}
