@@ -2,7 +2,7 @@
 import pickle
 import time
 
-from cedar_store import Policies, Store
+from cedar_store import Entity, Policies, Store
 
 SIZE, CHILDREN, ASKED, LISTED = 50_000, 8, 1_000_000, 100_000
 
@@ -27,6 +27,16 @@ def told(what, seconds, count=1):
         print(f"{what:<52} {seconds * 1e3:8.1f} ms")
     else:
         print(f"{what:<52} {seconds / count * 1e6:8.2f} us each")
+
+
+def contents(parents):
+    """What attributes cost: entities with three each, and reading one of ten nodes."""
+    grades = {f"g{k}": k for k in range(4)} | {"last": True}
+    made = [Entity(own, of, attrs={"age": 41, "name": own, "grades": grades}) for own, of in parents.items()]
+    seconds, store = least(lambda: Store(made))
+    told("building it of entities with three attributes each", seconds)
+    owns = list(parents)[:10_000]
+    told("10,000 times a record of five pairs read", least(lambda: [store.get(own, "grades") for own in owns])[0], 10_000)
 
 
 def main():
@@ -56,6 +66,7 @@ def main():
     seconds, pickled = least(lambda: pickle.dumps(store))
     told("pickling it", seconds)
     told("making it of that", least(lambda: len(pickle.loads(pickled)))[0])
+    contents(entities)
     with store.slice(list(entities)[:1000]) as part:
         told(f"the text of a store of {len(part)} entities", least(lambda: str(part))[0])
     policies = Policies()

@@ -1,8 +1,9 @@
 """The tests of policy sets, which `test_cedar_store.py` runs too."""
 import unittest
 
-from cedar_store import Bound, Closed, Effect, Policies, Refused
+from cedar_store import Bound, Closed, Constraint, Effect, Policies, Refused
 from cedar_store._library import has
+from cedar_store.values import ACTION, CONTEXT, PRINCIPAL, RESOURCE, Lit, Slot
 
 ZEROS = bytes(16)
 
@@ -112,6 +113,95 @@ class SetReads(unittest.TestCase):
         policies.close()
         with self.assertRaises(Closed):
             policies.get("s")
+
+
+@unittest.skipUnless(has("policies_scope"), "the library has no calls that take and tell bodies")
+class Bodies(unittest.TestCase):
+    def setUp(self):
+        self.policies = Policies(key=ZEROS)
+
+    def test_gives_a_whole_body_and_reads_it_back(self):
+        policies, when = self.policies, PRINCIPAL.eq(Lit(1)) & ~CONTEXT.is_in(ACTION)
+        asked = (
+            Constraint.is_entity_type_in("A", uid("group")),
+            Constraint.is_in('Action::"get"', 'Action::"put"'),
+            Constraint.is_eq(uid("file")),
+        )
+        given = dict(zip(("principal", "action", "resource"), asked), annotations={"why": "é", "if": ""}, when=when)
+        for join, id in ((policies.add_static, "s"), (policies.add_template, "t")):
+            join(id, Effect.FORBID, **given)
+            told = (policies.principal_constraint(id), policies.action_constraint(id), policies.resource_constraint(id))
+            self.assertEqual(told, asked)
+            self.assertEqual((policies.effect(id), policies.annotations(id)), (Effect.FORBID, {"if": "", "why": "é"}))
+            self.assertEqual(policies.non_scope_constraints(id), when)
+        self.assertEqual(policies.condition("s").below[1].below[1].below[1], when)
+        self.assertEqual((policies.get("s"), policies.get("t")), (Bound.STATIC, Bound.TEMPLATE))
+
+    def test_takes_each_kind_of_a_constraint(self):
+        policies, group = self.policies, uid("group")
+        of_all = [
+            Constraint.any(), Constraint.is_eq(group), Constraint.is_eq_slot(), Constraint.is_in(group),
+            Constraint.is_in_slot(),
+        ]
+        typed = [
+            Constraint.is_entity_type("B::C"), Constraint.is_entity_type_in("B::C", group),
+            Constraint.is_entity_type_in_slot("B::C"),
+        ]
+        for name, tell, kinds in (
+            ("principal", policies.principal_constraint, of_all + typed),
+            ("action", policies.action_constraint, of_all + [Constraint.is_in(), Constraint.is_in(group, group)]),
+            ("resource", policies.resource_constraint, of_all + typed),
+        ):
+            for place, constraint in enumerate(kinds):
+                id = f"{name} {place}"
+                policies.add_template(id, **{name: constraint})
+                self.assertEqual(tell(id), constraint)
+                self.assertEqual(policies.slots(id), {name} if constraint.kind in (2, 4, 7) else set())
+        policies.link("principal 7", "l", principal=uid("a"))
+        self.assertEqual(policies.principal_constraint("l"), Constraint.is_entity_type_in("B::C", uid("a")))
+        policies.link("action 4", "m", action='Action::"go"')
+        self.assertEqual(policies.action_constraint("m"), Constraint.is_in('Action::"go"'))
+
+    def test_is_the_same_without_a_body(self):
+        other = Policies(key=ZEROS)
+        self.policies.add_static("s")
+        other.add_static("s", principal=Constraint.any())
+        self.policies.add_template("t", principal=True, resource=True)
+        other.add_template("t", principal=Constraint.is_eq_slot(), action=False, resource=True)
+        self.assertTrue(self.policies == other)
+        self.assertIsNone(other.non_scope_constraints("s"))
+        other.add_static("u", when=True)
+        self.assertEqual(other.non_scope_constraints("u"), Lit(True))
+
+    def test_refuses_bodies(self):
+        add, within = self.policies.add_static, Constraint.is_in
+        for given, reason in (
+            (dict(when=PRINCIPAL.eq(Slot("?principal"))), "not static"),
+            (dict(resource=Constraint.is_in_slot()), "not static"),
+            (dict(principal=within("a")), "not a uid"),
+            (dict(action=within(uid("a"), "b")), "not a uid"),
+            (dict(resource=Constraint.is_entity_type("A::")), "not a name"),
+            (dict(action=Constraint.is_entity_type("A")), "bad argument"),
+            (dict(principal=Constraint(8)), "bad argument"),
+            (dict(annotations={"not so": ""}), "not a name"),
+            (dict(annotations={"so": "\ud800"}), "not UTF-8"),
+            (dict(when=RESOURCE.is_type("1")), "not a name"),
+        ):
+            with self.assertRaises(Refused) as caught:
+                add("s", **given)
+            self.assertEqual(caught.exception.reason, reason, given)
+        self.assertEqual(self.policies.bodies(), [])
+        for given in (dict(principal=within()), dict(resource=within(uid("a"), uid("b"))), dict(action=Constraint(1))):
+            with self.assertRaises(ValueError):
+                add("s", **given)
+        add("s", when=True)
+        with self.assertRaises(Refused) as caught:
+            add("s", when=True)
+        self.assertEqual((caught.exception.reason, str(caught.exception)), ("occupied", "occupied s"))
+        for call in (self.policies.principal_constraint, self.policies.non_scope_constraints, self.policies.condition):
+            with self.assertRaises(Refused) as caught:
+                call("x")
+            self.assertEqual(caught.exception.reason, "no body")
 
 
 if __name__ == "__main__":

@@ -13,8 +13,8 @@ A store or a set is of the thread that made it: another thread's call raises `Wr
 go of last is freed by its own thread, at that thread's next call on a store or a set, and `ResourceWarning` says so. As
 a thread ends, all that it made is freed.
 
-Entities may have attributes and tags, as `Entity` and the module `values` have them. A library from before that lacks
-some calls: `NotImplementedError` says so.
+Entities may have attributes and tags, as `Entity` and the module `values` have them, and policies constraints
+(`Constraint`), annotations and a condition. A library from before that lacks some calls: `NotImplementedError` says so.
 
 The maps of a store or a set hash by a key of 16 bytes, drawn by `os.urandom` where none is given, so that whoever picks
 ids cannot pick such as collide. No answer depends on it, but for which of several cycles or of several missing
@@ -23,6 +23,7 @@ ancestors a refusal names.
 from __future__ import annotations
 
 from . import values
+from ._bodies import Constraint
 from ._entity import Entity, Unknown
 from ._library import run, status_text, version
 from ._policies import Bound, Effect, Env, Policies
@@ -35,6 +36,7 @@ __version__ = "0.1.0"
 __all__ = [
     "Bound",
     "Closed",
+    "Constraint",
     "Effect",
     "Entities",
     "Entity",

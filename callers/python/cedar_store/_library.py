@@ -54,7 +54,13 @@ _DECLARED: Dict[str, Tuple[Any, List[Any]]] = {
     "policies_ids": (_U, [_P, _U]),
     "policies_annotation": (_U, [_P] + _TEXT + _TEXT + [_P]),
     "policies_text": (_U, [_P]),
+    "policies_scope": (_U, [_P] + _TEXT + [_U, _P]),
+    "policies_clause": (_U, [_P] + _TEXT + [_P]),
+    "policies_condition": (_U, [_P] + _TEXT),
+    "policies_answer_nodes": (_N, [_P, _N, _P, _N]),
 }
+for _join in ("static", "template"):
+    _DECLARED[f"policies_add_{_join}_with"] = (_U, [_P] + _TEXT + _TEXT + [_P] + [_P, _N] * 3)
 for _read in ("get", "effect", "slots"):
     _DECLARED[f"policies_{_read}"] = (_U, [_P] + _TEXT + [_P])
 for _read in ("annotations", "env", "template_id", "linked", "policy_text", "template_text"):
@@ -82,7 +88,8 @@ def _path() -> str:
     left = os.path.join(callers, "out", "libcedar.so")
     if os.path.exists(os.path.join(callers, "c", "cedar.h")) and os.path.exists(left):
         return left
-    raise ImportError("there is no libcedar.so: run callers/run in the checkout, or name it by CEDAR_LIBRARY")
+    raise ImportError("there is no libcedar.so: run callers/run in the checkout, or name it by CEDAR_LIBRARY, "
+                      "as the one that callers/try leaves, unproved, in callers/out/try")
 
 
 _LIBRARY = ctypes.CDLL(_path())

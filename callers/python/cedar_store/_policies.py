@@ -3,12 +3,15 @@ from __future__ import annotations
 
 import ctypes
 import enum
-from typing import Any, Dict, FrozenSet, List, NamedTuple, Optional
+from typing import Any, Dict, FrozenSet, List, Mapping, NamedTuple, Optional, Union
 
+from ._bodies import ANY, Body, Constraint, told
+from ._expressions import Expr, Operand
 from ._held import Held
 from ._library import Laid, function, newer, quick, text_of
 from ._refusals import NOT_A_UID, number_of, refuse
 from ._uids import EntityUid
+from .values import NODE_SIZE, expr_from_nodes, unpacked
 
 _add_static, _add_template = function("policies_add_static"), function("policies_add_template")
 _link, _unlink = function("policies_link"), function("policies_unlink")
@@ -19,6 +22,9 @@ _annotation, _annotations = newer("policies_annotation"), newer("policies_annota
 _env, _template_id, _linked = newer("policies_env"), newer("policies_template_id"), newer("policies_linked")
 _text, _policy_text = newer("policies_text"), newer("policies_policy_text")
 _template_text = newer("policies_template_text")
+_add_static_with, _add_template_with = newer("policies_add_static_with"), newer("policies_add_template_with")
+_scope, _clause, _condition = newer("policies_scope"), newer("policies_clause"), newer("policies_condition")
+_answer_nodes = newer("policies_answer_nodes")
 
 
 class Effect(enum.IntEnum):
@@ -57,22 +63,49 @@ class Policies(Held):
     _answer = quick("policies_answer", ctypes.c_size_t)
     _answer_spans = quick("policies_answer_spans", ctypes.c_size_t)
 
-    def add_static(self, id: str, effect: int = Effect.PERMIT) -> None:
-        """A static policy, which constrains nothing, joins."""
-        self._call(_add_static, *text_of(id), number_of(effect, Effect))
+    def add_static(
+        self,
+        id: str,
+        effect: int = Effect.PERMIT,
+        *,
+        principal: Constraint = ANY,
+        action: Constraint = ANY,
+        resource: Constraint = ANY,
+        annotations: Mapping[str, str] = {},
+        when: Optional[Operand] = None,
+    ) -> None:
+        """A static policy joins; by itself it constrains nothing. `when` is its clause.
+
+        Refused as `not static` where a slot stands in it.
+        """
+        number = number_of(effect, Effect)
+        if (principal, action, resource) == (ANY, ANY, ANY) and not annotations and when is None:
+            return self._call(_add_static, *text_of(id), number)
+        body = Body(number, principal, action, resource, annotations, when)
+        self._call(_add_static_with, *text_of(id), *body.arguments())
 
     def add_template(
         self,
         id: str,
         effect: int = Effect.PERMIT,
         *,
-        principal: bool = False,
-        action: bool = False,
-        resource: bool = False,
+        principal: Union[bool, Constraint] = False,
+        action: Union[bool, Constraint] = False,
+        resource: Union[bool, Constraint] = False,
+        annotations: Mapping[str, str] = {},
+        when: Optional[Operand] = None,
     ) -> None:
-        """A template with these slots joins."""
-        slots = bool(principal) + 2 * bool(action) + 4 * bool(resource)
-        self._call(_add_template, *text_of(id), number_of(effect, Effect), slots)
+        """A template joins. Of the three True stands for `Constraint.is_eq_slot()`, and False for no constraint."""
+        asked = principal, action, resource
+        number = number_of(effect, Effect)
+        if not any(isinstance(one, Constraint) for one in asked) and not annotations and when is None:
+            slots = sum(bit for bit, one in zip(_SLOTS, asked) if one)
+            return self._call(_add_template, *text_of(id), number, slots)
+        constraints = [
+            one if isinstance(one, Constraint) else Constraint.is_eq_slot() if one else ANY for one in asked
+        ]
+        body = Body(number, constraints[0], constraints[1], constraints[2], annotations, when)
+        self._call(_add_template_with, *text_of(id), *body.arguments())
 
     def link(
         self,
@@ -157,6 +190,40 @@ class Policies(Held):
         """All annotations, in the order of the bytes of their keys."""
         texts = self._texts(_annotations, *text_of(id))
         return dict(zip(texts[::2], texts[1::2]))
+
+    def _constraint(self, id: str, which: int) -> Constraint:
+        kind = ctypes.c_uint32(0)
+        self._call(_scope, *text_of(id), which, ctypes.byref(kind))
+        return told(kind.value, self._answered())
+
+    def principal_constraint(self, id: str) -> Constraint:
+        """What the principal has to be by what an id is bound to; a link has its slots filled."""
+        return self._constraint(id, 0)
+
+    def action_constraint(self, id: str) -> Constraint:
+        """What the action has to be by that."""
+        return self._constraint(id, 1)
+
+    def resource_constraint(self, id: str) -> Constraint:
+        """What the resource has to be by that."""
+        return self._constraint(id, 2)
+
+    def _expression(self) -> Expr:
+        count = _answer_nodes(self._at, 0, b"", 0)
+        out = ctypes.create_string_buffer(NODE_SIZE * count)
+        _answer_nodes(self._at, 0, out, count)
+        return expr_from_nodes(self._answer_bytes(), unpacked(out.raw))
+
+    def non_scope_constraints(self, id: str) -> Optional[Expr]:
+        """The clause of what an id is bound to, or None; a link has that of its template, with its slots."""
+        has = ctypes.c_bool(False)
+        self._call(_clause, *text_of(id), ctypes.byref(has))
+        return self._expression() if has.value else None
+
+    def condition(self, id: str) -> Expr:
+        """The constraints and the clause as one expression; a link has that of its template, with its slots."""
+        self._call(_condition, *text_of(id))
+        return self._expression()
 
     def env(self, id: str) -> Env:
         """What the slots of a link are bound to; a static policy binds none."""
