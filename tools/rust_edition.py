@@ -1,9 +1,11 @@
 #!/usr/bin/env python3
 """Writes the Rust edition: the cargo package in `rust/`, whose modules are the crates of the layer without their contracts.
 
-usage: tools/rust_edition.py [--check | --tests FOLDER]
+usage: tools/rust_edition.py [--check | --tests FOLDER | --callers FOLDER]
 With --check nothing is written: it says which files differ from what would be written, and fails where one does. With
 --tests a copy of the package is written to a folder, with the layer's own tests as its modules: `cargo test --lib` there.
+With --callers a copy is written that has the crates of the library for C as its modules too: `cargo build` there makes a
+static library with the functions of `callers/c/cedar.h` (`callers/try`). What stands as it is to be is not written again.
 
 What is proved is the layer in `crates/`; its text is taken from there by these rules, in this order:
 
@@ -34,7 +36,7 @@ from rust_edition.functions import Table, functions, imports_of, kind_of
 from rust_edition.ghosts import without_ghosts
 from rust_edition.items import File, Writer
 from rust_edition.trees import parse, text
-from rust_edition import calls, notes, otherwise, tests, texts
+from rust_edition import calls, exports, notes, otherwise, tests, texts
 
 TOP = os.path.dirname(os.path.dirname(os.path.abspath(__file__)))
 SRC = os.path.join(TOP, 'rust', 'src')
@@ -49,22 +51,38 @@ edition = "2024"
 opt-level = 1
 debug = 0
 '''
+ARCHIVE = '''[package]
+name = "cedar_c"
+version = "0.1.0"
+edition = "2024"
+
+[lib]
+crate-type = ["staticlib"]
+
+[workspace]
+
+# checks of bounds, overflow and `debug_assert!` stay; a panic ends the program
+[profile.dev]
+opt-level = 1
+debug = 0
+panic = "abort"
+'''
 BEFORE, AFTER = otherwise.entries()
 LISTS = SimpleNamespace(
     choices=exceptions.CHOICES, dropped=exceptions.DROPPED | exceptions.UNASKED, dropped_impls=exceptions.DROPPED_IMPLS,
     wide=exceptions.WIDE, hidden=exceptions.HIDDEN, dropped_types=exceptions.DROPPED_TYPES, unused=exceptions.UNUSED,
-    inlined=exceptions.INLINED)
+    inlined=exceptions.INLINED, crates=exceptions.CRATES)
 
 
-def read_files():
-    """the sources of the layer, without what only proofs look at"""
+def read_files(crates):
+    """the sources of some crates, without what only proofs look at"""
     files = []
-    for crate in exceptions.CRATES:
+    for crate in crates:
         folder = os.path.join(TOP, 'crates', crate, 'src')
         for name in sorted(os.listdir(folder)):
-            if name.endswith('.rt'):
+            if name.endswith('.rt') and (crate, name[:-3]) not in exceptions.DROPPED_FILES:
                 nodes = without_ghosts(source_of(folder, crate, name[:-3]))
-                imports = imports_of(nodes, crate, exceptions.CRATES)
+                imports = imports_of(nodes, crate, crates)
                 files.append(File(crate, name[:-3], nodes, imports))
     return files
 
@@ -81,7 +99,8 @@ def table_of(files):
     for file in files:
         for f, owner, trait in functions(file.nodes):
             table.note(file.crate, file.module, f, owner, trait)
-            if kind_of(f.answer) == 'result' and f.body is not None and trait is None and 'fmt' not in f.answer:
+            told = 'fmt' in f.answer or f.answer.endswith(exceptions.TOLD)
+            if kind_of(f.answer) == 'result' and f.body is not None and trait is None and not told:
                 body = without_memory_arms(without_allocators(f.body))
                 open_.append((file, f, owner, body))
     changed = True
@@ -96,7 +115,7 @@ def table_of(files):
     return table
 
 
-def asked_for(files, heads):
+def asked_for(files, heads, crates):
     """the names that crates are asked for at their heads, where the heads of others are as they are given"""
     out = set()
     by_hand = [os.path.join(HAND, name) for name in sorted(os.listdir(HAND))] + [os.path.join(HAND, '..', 'lib.rs')]
@@ -107,7 +126,7 @@ def asked_for(files, heads):
             trees.append((file.crate, head))
     for crate, nodes in trees:
         for path in texts.uses_in(nodes):
-            if path[0] == 'crate' and path[1] in exceptions.CRATES:
+            if path[0] == 'crate' and path[1] in crates:
                 path = path[1:]
             of = crate if path[0] == 'crate' else path[0]
             if len(path) == 2 or crate is None:
@@ -122,17 +141,17 @@ def read(path):
 
 def written(file, writer, asked):
     """the text of a file of the package"""
-    nodes = file.nodes
+    nodes, crates = file.nodes, writer.lists.crates
     if file.module == 'lib':
         nodes = texts.pruned(nodes, file.crate, asked)
     nodes = calls.said_at_calls(writer.items(nodes, file))
     source = texts.renamed(text(nodes))
     nodes, paths = texts.take_uses(parse(source))
-    body = texts.public_uses(text(nodes), file.crate, exceptions.CRATES)
+    body = texts.public_uses(text(nodes), file.crate, crates)
     more = [('std', 'fmt'), ('std', 'error', 'Error'), ('crate', 'cedar_keyed_hash', 'KeyedState')]
     if file.crate == 'cedar_keyed_hash':
         more.pop()
-    uses = texts.uses_of(paths, parse(body), file.crate, exceptions.CRATES, more)
+    uses = texts.uses_of(paths, parse(body), file.crate, crates, more)
     head, rest = head_of(body)
     source = notes.without_proofs(head + '\n'.join(uses) + '\n\n' + rest, file.module == 'lib')
     source = otherwise.said(source, AFTER.get((file.crate, file.module), []), f'{file.crate}/{file.module} after')
@@ -154,7 +173,7 @@ def package(files, table, lists, more=frozenset()):
     writer = Writer(table, lists)
     heads, asked = {}, set()
     while True:
-        asked = asked_for(files, heads) | more
+        asked = asked_for(files, heads, lists.crates) | more
         pruned = {f.crate: texts.pruned(f.nodes, f.crate, asked) for f in files if f.module == 'lib'}
         if {c: text(n) for c, n in pruned.items()} == {c: text(n) for c, n in heads.items()}:
             break
@@ -163,7 +182,8 @@ def package(files, table, lists, more=frozenset()):
     for file in files:
         name = 'mod' if file.module == 'lib' else file.module
         out[os.path.join(file.crate, name + '.rs')] = written(file, writer, asked)
-    faults = [f'no rule knows {u}' for u in writer.unknown] + [f for name in out for f in notes.faults(name, out[name])]
+    faults = [f'no rule knows {u}' for u in writer.unknown]
+    faults += [f for name in out if name.split(os.sep)[0] in exceptions.CRATES for f in notes.faults(name, out[name])]
     for fault in faults:
         print(fault, file=sys.stderr)
     return out, bool(faults)
@@ -213,7 +233,7 @@ def write(sources, folder):
 
 def write_tests(folder):
     """a copy of the package with the layer's tests as modules"""
-    files = read_files()
+    files = read_files(exceptions.CRATES)
     table = table_of(files)
     lists = SimpleNamespace(**{**vars(LISTS), 'dropped': exceptions.DROPPED, 'hidden': set()})
     sources, is_faulty = package(files, table, lists, tests.asked_for(TOP))
@@ -229,14 +249,46 @@ def write_tests(folder):
     sys.exit(1 if is_faulty else 0)
 
 
+def write_callers(folder):
+    """a copy of the package with the library for C as modules"""
+    dropped = LISTS.dropped - exceptions.ASKED_FROM_C | exceptions.UNASKED_FROM_C
+    crates = exceptions.CRATES + exceptions.CALLERS
+    files = read_files(crates)
+    lists = SimpleNamespace(**{**vars(LISTS), 'dropped': dropped, 'hidden': set(), 'crates': crates})
+    sources, is_faulty = package(files, table_of(files), lists)
+    found = exports.exports(files)
+    sources = exports.exported(sources, found)
+    head = read(os.path.join(SRC, 'lib.rs')).replace('#![forbid(unsafe_code)]', '#![deny(unsafe_code)]')
+    sources['lib.rs'] = '#![allow(warnings)]\n' + head + ''.join(f'mod {name};\n' for name in exceptions.CALLERS)
+    for name in sorted(os.listdir(HAND)):
+        sources[os.path.join('handwritten', name)] = read(os.path.join(HAND, name))
+    write_differing({os.path.join('src', name): sources[name] for name in sources} | {'Cargo.toml': ARCHIVE}, folder)
+    faults = exports.faults(found, TOP)
+    for fault in faults:
+        print(fault, file=sys.stderr)
+    sys.exit(1 if is_faulty or faults else 0)
+
+
+def write_differing(sources, folder):
+    """the files below a folder become these; one that stands so already keeps its time"""
+    for base, _, names in os.walk(os.path.join(folder, 'src')):
+        for path in [os.path.join(base, name) for name in names]:
+            if os.path.relpath(path, folder) not in sources:
+                os.remove(path)
+    paths = {os.path.join(folder, name): source for name, source in sources.items()}
+    write({path: s for path, s in paths.items() if not os.path.isfile(path) or read(path) != s}, '')
+
+
 def main():
     if len(sys.argv) == 3 and sys.argv[1] == '--tests':
         write_tests(sys.argv[2])
+    if len(sys.argv) == 3 and sys.argv[1] == '--callers':
+        write_callers(sys.argv[2])
     if sys.argv[1:] not in ([], ['--check']):
         sys.exit(__doc__)
     if shutil.which('rustfmt') is None:
         sys.exit('rustfmt is missing: the text is laid out by it')
-    files = read_files()
+    files = read_files(exceptions.CRATES)
     sources, is_unknown = package(files, table_of(files), LISTS)
     with tempfile.TemporaryDirectory() as folder:
         due = exampled(laid_out(sources, folder))

@@ -53,7 +53,7 @@ class Place:
         return None
 
     def of_method(self, name):
-        kinds = self.table.methods.get(name, set()) | ({'memory'} if name in STD_METHODS else set())
+        kinds = self.table.of_methods(self.crate, name) | ({'memory'} if name in STD_METHODS else set())
         return self.one(kinds, name)
 
     def one(self, kinds, name):
@@ -158,7 +158,7 @@ def without_memory_arms(nodes):
         if isinstance(n, Group):
             n = Group(n.open, without_memory_arms(n.items))
             if n.open == '{' and any(is_p(x, '=>') for x in n.items):
-                kept = [a for a in arms(n.items) if 'Memory' not in plain(a.pattern)]
+                kept = [a for a in arms(n.items) if not re.search(r'\bMemory\b', plain(a.pattern))]
                 if len(kept) < len(arms(n.items)):
                     n = Group('{', from_arms(kept))
         out.append(n)

@@ -10,7 +10,14 @@ cedar_entity_lines cedar_policy_lines cedar_store cedar_talk'''.split()
 CHOICES = {
     ('cedar_replay', 'policies', 'link'): 'result',
     ('cedar_policy_lines', 'making', 'link'): 'result',
+    ('cedar_c_stores', 'listing', 'add'): 'memory',
+    ('cedar_c_stores', 'reads', 'entity'): 'memory',
+    ('cedar_c_sets', 'kept_set', 'link'): 'result',
+    ('cedar_c_sets', 'clauses', 'condition'): 'memory',
 }
+
+# What functions answer by that tell a reason though none may be left: what calls them makes a status of it.
+TOLD = ', Reason>'
 
 # Functions that the package does not have, as proofs alone ask for them: (type or file, name).
 DROPPED = {('KeyedState', 'new'), ('fresh', 'count_ids'), ('fresh', 'size'), ('node', 'listed'),
@@ -22,6 +29,10 @@ UNASKED = {
     ('Entity', 'with_shared_parents'), ('Entity', 'remove_shared_ancestor'), ('Entity', 'remove_shared_parent'),
     ('UidSet', 'is_ascending'), ('UidSet', 'retain'),
 }
+# Of those what the library for C asks for; what it does without, as proofs alone ask for it; and files of it that go.
+ASKED_FROM_C = {('Entity', 'with_shared_parents')}
+UNASKED_FROM_C = {('Held', 'of_parts'), ('Held', 'into_parts')}
+DROPPED_FILES = {('cedar_c', 'parts')}
 DROPPED_TYPES = {'Linked', 'Direct', 'Streams'}
 DROPPED_IMPLS = {('Linked', 'Drop'), ('Linked', 'Deref'), ('Direct', 'Streams')}
 
@@ -29,7 +40,7 @@ DROPPED_IMPLS = {('Linked', 'Drop'), ('Linked', 'Deref'), ('Direct', 'Streams')}
 UNUSED = {
     ('component_lists', 'add'): {'n'}, ('component_lists', 'add_range'): {'n'}, ('list_order', 'take_all'): {'n'},
     ('components', 'meet'): {'graph', 'i'}, ('close', 'goes_back'): {'read'},
-    ('closed', 'knows_reached'): {'read'},
+    ('close', 'listed_for'): {'read'}, ('closed', 'knows_reached'): {'read'},
 }
 
 # Public functions whose parameters take what can be gone through, or what is a text: (type or file, name), and how each
@@ -78,3 +89,6 @@ INLINED = {('cedar_keyed_hash', 'lib'), ('cedar_uid_sets', 'fronts')}
 TESTS = '''cedar_test_helpers cedar_store_texts cedar_ids_tests cedar_graph_tests cedar_uid_sets_tests cedar_terms_tests
 cedar_entity_tests cedar_entities_tests cedar_slice_tests cedar_scope_tests cedar_policy_tests cedar_policy_set_tests
 cedar_replay_tests cedar_store_tests cedar_talk_tests'''.split()
+
+# The crates of the library for C, lowest first.
+CALLERS = 'cedar_c_lists cedar_c_trees cedar_c_bodies cedar_c_stores cedar_c_sets cedar_c'.split()

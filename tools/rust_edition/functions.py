@@ -157,10 +157,12 @@ class Table:
     """What each function of the project answers."""
 
     def __init__(self):
-        self.free, self.owned, self.methods, self.macros = {}, {}, {}, {}
+        self.free, self.owned, self.methods, self.macros, self.crates = {}, {}, {}, {}, []
 
     def note(self, crate, module, f, owner, trait):
         kind = kind_of(f.answer)
+        if crate not in self.crates:
+            self.crates.append(crate)
         if owner is None:
             self.free.setdefault((crate, f.name), {})[module] = kind
             return
@@ -168,7 +170,7 @@ class Table:
         if trait == 'trait':
             self.owned.setdefault(('V', f.name), set()).add(kind)
         if f.is_method():
-            self.methods.setdefault(f.name, set()).add(kind)
+            self.methods.setdefault(f.name, {}).setdefault(crate, set()).add(kind)
 
     def set_value(self, crate, module, f, owner):
         """from now on the function gives a value"""
@@ -177,7 +179,13 @@ class Table:
         else:
             self.owned[owner, f.name] = {'memory'}
             if f.is_method():
-                self.methods[f.name] = self.methods[f.name] - {'result'} | {'memory'}
+                kinds = self.methods[f.name][crate]
+                self.methods[f.name][crate] = kinds - {'result'} | {'memory'}
+
+    def of_methods(self, crate, name):
+        """the kinds of the methods of a name that a crate may call: its own, and those of crates noted before it"""
+        below = self.crates[:self.crates.index(crate) + 1]
+        return {kind for of, kinds in self.methods.get(name, {}).items() if of in below for kind in kinds}
 
     def of_free(self, crate, module, name, imports):
         """the kind of a free function as it is called in a file"""

@@ -10,7 +10,7 @@ CODE = [
     (r'\s*\+ Drop\b', ''), (r':\s*Drop\b(?=\s*[,>{=])', ''), (r'\bDrop \+ ', ''),
     (r'\bRcStr::from_str\b', 'Arc::<str>::from'), (r'\bRcStr\b', 'Arc<str>'),
     (r'\bString::from_str\b', 'String::from'), (r'\bVecDeque::from_vec\b', 'VecDeque::from'),
-    (r'\bBox::into_inner\((\w+)\)', r'*\1'), (r'\bpush_reserved\b', 'push'),
+    (r', Global>', '>'), (r'\bBox::into_inner\((\w+)\)', r'*\1'), (r'\bpush_reserved\b', 'push'),
     (r'BuildHasherDefault<FoldHasher>', 'KeyedState'), (r'\bBuildHasherDefault::new\(\)', 'KeyedState::default()'),
     (r'\bfinal fn\b', 'fn'), (r'let (\w+): KeyedState = ', r'let \1 = '),
     (r'\.values\(\)\.as_slice\(\)', '.values()'),
@@ -19,7 +19,7 @@ CODE = [
 ]
 # a trait whose methods alone are used in a file is brought in for these
 METHODS = {
-    'StaticallyTyped': ['type_of'], 'TCNode': ['add_edge_to', 'out_edges', 'get_key'], 'Hash': ['hash'],
+    'StaticallyTyped': ['type_of'], 'TCNode': ['add_edge_to', 'add_edges_to', 'out_edges', 'get_key'], 'Hash': ['hash'],
     'Deref': ['deref'], 'Write': ['write_all', 'flush'], 'Read': ['read'],
 }
 
