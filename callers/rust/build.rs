@@ -1,5 +1,5 @@
-//! Links the two archives. They stand in the folder that CEDAR_LIBRARY_DIR names or, where nothing does, in `../out`, where
-//! `callers/run` puts them.
+//! Links the two archives. They stand in the folder that CEDAR_LIBRARY_DIR names or, where nothing does, in `../out`,
+//! where `callers/run` puts them.
 use std::path::Path;
 
 fn main() {
@@ -12,7 +12,8 @@ fn main() {
         assert!(
             path.is_file(),
             "there is no {}. Run callers/run in the checkout, which leaves both archives in callers/out; or let \
-             CEDAR_LIBRARY_DIR name the folder that has libcedar_c.a and liblibc_c.a",
+             CEDAR_LIBRARY_DIR name the folder that has libcedar_c.a and liblibc_c.a, as callers/out/try, where \
+             callers/try leaves them, unproved",
             path.display()
         );
     }

@@ -52,14 +52,15 @@ fn shared(list: &[(Name, Row)]) -> Vec<Arc<Entity>> {
 }
 
 fn rows_of(store: &Entities) -> Rows {
-    let row = |entity: &Entity| Row {
-        parents: entity.parents().map(name_of).collect(),
-        indirect: entity.indirect_ancestors().map(name_of).collect(),
-    };
-    store
-        .iter()
-        .map(|entity| (name_of(entity.uid()), row(entity)))
-        .collect()
+    let mut rows = Rows::new();
+    for entity in store.iter() {
+        let row = Row {
+            parents: entity.parents().map(name_of).collect(),
+            indirect: entity.indirect_ancestors().map(name_of).collect(),
+        };
+        rows.insert(name_of(entity.uid()), row);
+    }
+    rows
 }
 
 /// What is reached over the edges that rows have: over parents alone, or over all ancestors.

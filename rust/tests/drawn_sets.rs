@@ -1,4 +1,8 @@
 //! Lists of calls on policy sets, drawn, beside a plain model: one list of bindings in the order in which they came.
+#![allow(
+    unreachable_patterns,
+    reason = "the errors of the crate for the library have one variant more"
+)]
 mod common;
 
 use cedar_store::ast::{
@@ -261,6 +265,7 @@ fn linked(set: &PolicySet, name: &str) -> Vec<String> {
 fn by_set(error: PolicySetError) -> (&'static str, String) {
     match error {
         PolicySetError::Occupied { id } => ("occupied", id.to_string()),
+        other => panic!("{other}"),
     }
 }
 
@@ -277,6 +282,7 @@ fn by_unlinking(error: PolicySetUnlinkError) -> (&'static str, String) {
     match error {
         PolicySetUnlinkError::UnlinkingError(id) => ("no link", id.to_string()),
         PolicySetUnlinkError::NotLinkError(id) => ("not a link", id.to_string()),
+        other => panic!("{other}"),
     }
 }
 
@@ -284,6 +290,7 @@ fn by_removal(error: PolicySetPolicyRemovalError) -> (&'static str, String) {
     match error {
         PolicySetPolicyRemovalError::RemovePolicyNoLinkError(id) => ("no policy", id.to_string()),
         PolicySetPolicyRemovalError::RemovePolicyNoTemplateError(id) => ("no body", id.to_string()),
+        other => panic!("{other}"),
     }
 }
 
@@ -292,6 +299,7 @@ fn by_template_removal(error: PolicySetTemplateRemovalError) -> (&'static str, S
         PolicySetTemplateRemovalError::RemovePolicyNoTemplateError(id) => ("no body", id.to_string()),
         PolicySetTemplateRemovalError::RemoveTemplateWithLinksError(id) => ("links", id.to_string()),
         PolicySetTemplateRemovalError::NotTemplateError(id) => ("not a template", id.to_string()),
+        other => panic!("{other}"),
     }
 }
 

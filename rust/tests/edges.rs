@@ -1,11 +1,11 @@
 //! Cases at the edges, each of which some wrong line of the package would answer otherwise.
 mod common;
+#[path = "common/policies.rs"]
+mod policies;
 
-use cedar_store::ast::{
-    Effect, Entity, EntityType, Id, PolicySet, PrincipalConstraint, ResourceConstraint, SlotEnv, SlotId,
-};
-use cedar_store::entities::{Entities, TCComputation};
-use common::{id, principal_template, resource, resource_template, template, uid};
+use cedar_store::ast::{Effect, EntityType, Id, PolicySet, PrincipalConstraint, ResourceConstraint, SlotEnv, SlotId};
+use common::{id, resource, uid};
+use policies::{principal_template, resource_template, template};
 use std::sync::Arc;
 
 #[test]
@@ -72,50 +72,4 @@ fn constraints_without_a_reference_stand_before_those_with_one() {
             assert_eq!(one.cmp(other).is_eq(), one == other, "{one} {other}");
         }
     }
-}
-
-#[test]
-fn stores_are_equal_where_their_uids_and_modes_are() {
-    let store = |texts: &[&str]| {
-        let entities = texts.iter().map(|text| Entity::with_uid(uid(text)));
-        Entities::from_entities(entities, TCComputation::ComputeNow).unwrap()
-    };
-    let (one, other, more) = (
-        store(&[r#"A::"a""#]),
-        store(&[r#"A::"b""#]),
-        store(&[r#"A::"a""#, r#"A::"b""#]),
-    );
-    assert!(one == one.clone());
-    for unlike in [&other, &more, &one.clone().partial()] {
-        assert!(one != *unlike);
-        assert!(*unlike != one);
-    }
-}
-
-/// Entities that come with indirect ancestors: an edit of them goes by what is held, not down from the uids alone.
-#[test]
-fn what_comes_with_indirect_ancestors_is_edited_by_what_is_held() {
-    let name = |number: usize| uid(&format!(r#"A::"{number}""#));
-    let entities: Vec<Entity> = (0..100)
-        .map(|number| {
-            let mut entity = Entity::with_uid(name(number));
-            entity.add_parent(name(number + 1));
-            // one more ancestor than the parents imply
-            entity.add_indirect_ancestor(name(500));
-            entity
-        })
-        .collect();
-    let mut store = Entities::from_entities(entities, TCComputation::ComputeNow).unwrap();
-    // so many edits elsewhere that a store that is known to be plain lists who is a child of whom
-    for number in 1_000..1_040 {
-        let other = Arc::new(Entity::with_uid(name(number)));
-        store = store.upsert_entities([other], TCComputation::ComputeNow).unwrap();
-    }
-    let mut parent = Entity::with_uid(name(500));
-    parent.add_parent(name(501));
-    store = store
-        .upsert_entities([Arc::new(parent)], TCComputation::ComputeNow)
-        .unwrap();
-    let first = store.stored(&name(0)).expect("it is held");
-    assert!(first.is_descendant_of(&name(501)), "{first}");
 }

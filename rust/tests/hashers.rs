@@ -1,12 +1,15 @@
 //! Stores, policy sets, closures and runs under other builders of hashers: two keys, one by which all ids collide, and one of
 //! another order. None shows in what calls answer.
 mod common;
+#[path = "common/policies.rs"]
+mod policies;
 
 use cedar_store::ast::{Entity, EntityUID, PolicySet};
 use cedar_store::entities::{Entities, TCComputation};
 use cedar_store::program::run_with;
 use cedar_store::{KeyedState, slice};
-use common::{Drawn, id, permit, principal, principal_template};
+use common::{Drawn, id, principal};
+use policies::{permit, principal_template};
 use std::collections::HashMap;
 use std::hash::{BuildHasher, Hasher};
 use std::sync::Arc;

@@ -1,5 +1,7 @@
 //! Much of everything: deep trees of expressions and values, sets of many policies, stores of many entities.
 mod common;
+#[path = "common/policies.rs"]
+mod policies;
 
 use cedar_store::ast::{
     ActionConstraint, Annotations, Effect, Entity, EntityUID, Expr, PartialValue, PolicyID, PolicySet,
@@ -7,7 +9,8 @@ use cedar_store::ast::{
 };
 use cedar_store::entities::{Dereference, Entities, EntitiesError, TCComputation};
 use cedar_store::slice;
-use common::{id, permit, principal, principal_template};
+use common::{id, principal};
+use policies::{permit, principal_template};
 use std::collections::HashSet;
 use std::collections::hash_map::DefaultHasher;
 use std::hash::{Hash, Hasher};

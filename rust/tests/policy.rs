@@ -1,5 +1,7 @@
 //! The cases of constraints, bodies, templates and linking that the original has, under its names.
 mod common;
+#[path = "common/policies.rs"]
+mod policies;
 
 use cedar_store::ast::{
     ActionConstraint, Annotations, Effect, EntityIterator, EntityReference, EntityType, EntityUID, Expr, LinkingError,
@@ -57,7 +59,7 @@ fn all_templates() -> Vec<Template> {
 }
 
 fn with_scope(name: &str, principal: PrincipalConstraint, resource: ResourceConstraint) -> Arc<Template> {
-    shared(common::template(name, Effect::Forbid, principal, resource))
+    shared(policies::template(name, Effect::Forbid, principal, resource))
 }
 
 #[test]

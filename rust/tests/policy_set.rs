@@ -1,11 +1,14 @@
 //! The cases of policy sets that the original has, under its names. Where the original parses a policy, it is made here.
 mod common;
+#[path = "common/policies.rs"]
+mod policies;
 
 use cedar_store::ast::{
     ActionConstraint, Annotations, Effect, Expr, LinkingError, Policy, PolicyID, PolicySet, PolicySetError,
     PrincipalConstraint, ResourceConstraint, SlotEnv, SlotId, StaticPolicy, Template,
 };
-use common::{id, permit, principal, principal_template, resource, resource_template, shared, uid, with_eid};
+use common::{id, principal, resource, shared, uid, with_eid};
+use policies::{permit, principal_template, resource_template};
 
 fn truth(value: bool) -> Option<Expr> {
     Some(Expr::val(value))
@@ -98,7 +101,7 @@ fn policy_merge_with_conflicts() {
     let before = one.clone();
     match one.merge_policyset(&other, false) {
         Err(PolicySetError::Occupied { id: told }) => assert_eq!(told, id("policy1")),
-        Ok(renaming) => panic!("{renaming:?}"),
+        other => panic!("{other:?}"),
     }
     assert_eq!(one, before);
     let renaming = one.merge_policyset(&other, true).expect("a conflict is renamed");
@@ -147,7 +150,7 @@ fn linking_missing_template() {
         Err(LinkingError::NoSuchTemplate { id: told }) => assert_eq!(told, id("template")),
         other => panic!("{other:?}"),
     }
-    let slotless = common::template(
+    let slotless = policies::template(
         "template",
         Effect::Permit,
         PrincipalConstraint::any(),
@@ -160,7 +163,7 @@ fn linking_missing_template() {
 #[test]
 fn linkinv_valid_link() {
     let mut set = PolicySet::new();
-    let template = common::template(
+    let template = policies::template(
         "template",
         Effect::Permit,
         PrincipalConstraint::is_eq_slot(),
@@ -220,7 +223,7 @@ fn policy_sets() {
     let mut set = PolicySet::new();
     assert!(set.is_empty());
     let slotless = || {
-        common::template(
+        policies::template(
             "template",
             Effect::Permit,
             PrincipalConstraint::any(),
@@ -233,7 +236,12 @@ fn policy_sets() {
     assert!(set.add_template(slotless()).is_err());
     assert!(!set.is_empty());
     let jane = PrincipalConstraint::is_eq(shared(with_eid("jane")));
-    let second = StaticPolicy::try_from(common::template("id2", Effect::Forbid, jane, ResourceConstraint::any()));
+    let second = StaticPolicy::try_from(policies::template(
+        "id2",
+        Effect::Forbid,
+        jane,
+        ResourceConstraint::any(),
+    ));
     assert!(set.add_static(second.expect("no slot")).is_ok());
     assert!(set.add_template(principal_template("template2")).is_ok());
     set.link(id("template2"), id("link"), principal(with_eid("example")))

@@ -1,10 +1,13 @@
 //! What is shared between threads is read by all of them, and what one edits is its own.
 mod common;
+#[path = "common/policies.rs"]
+mod policies;
 
 use cedar_store::ast::{Entity, EntityUID, Expr, Policy, PolicySet, Template, Value};
 use cedar_store::entities::{Dereference, Entities, TCComputation};
 use cedar_store::slice;
-use common::{Drawn, id, permit, principal, principal_template};
+use common::{Drawn, id, principal};
+use policies::{permit, principal_template};
 use std::sync::{Arc, Barrier};
 use std::thread;
 

@@ -1,8 +1,9 @@
-//! What a tree of 100,000 entities costs through this crate, and what the same costs in plain hash maps of Rust and by the program of
-//! the library in one call. Prints the least of three runs, in seconds of the processor where Linux tells them, and else by the clock:
-//! `cargo run --release --example figures`.
-use cedar_store_proved::TCComputation::ComputeNow;
-use cedar_store_proved::{is_uid, run, Entities, Entity};
+//! What a tree of 100,000 entities costs through this crate, and what the same costs in plain hash maps of Rust and by
+//! the program of the library in one call. Prints the least of three runs, in seconds of the processor where Linux
+//! tells them, and else by the clock: `cargo run --release --example figures`.
+use cedar_store_proved::ast::{Entity, EntityUID, Value};
+use cedar_store_proved::entities::{Entities, TCComputation::ComputeNow};
+use cedar_store_proved::{is_uid, run};
 use std::collections::{HashMap, HashSet};
 use std::hint::black_box;
 use std::time::Instant;
@@ -61,33 +62,78 @@ fn print(what: &str, seconds: f64) {
     println!("{what:<58} {seconds:8.4} s");
 }
 
+fn read(uid: &str) -> EntityUID {
+    EntityUID::from_normalized_str(uid).unwrap()
+}
+
 fn through_the_crate(pairs: &[(String, String)]) -> usize {
-    let entity = |place| Entity::with_uid(uid(place)).with_parents(parent(place).map(uid));
+    let entity = |place| {
+        let parents = parent(place).map(|parent| read(&uid(parent)));
+        Entity::with_uid(read(&uid(place))).with_parents(parents)
+    };
     let entities: Vec<Entity> = (0..SIZE).map(entity).collect();
     let (seconds, store) = least(|| Entities::from_entities(&entities, ComputeNow).unwrap());
     print("from_entities through this crate", seconds);
+    let asked: Vec<_> = pairs
+        .iter()
+        .map(|(child, other)| (read(child), read(other)))
+        .collect();
     let asks = || {
-        pairs
-            .iter()
-            .filter(|(child, other)| store.is_descendant_of(child, other).unwrap())
-            .count()
+        let is_below = |(child, other): &&(EntityUID, EntityUID)| {
+            store.is_descendant_of(child, other).unwrap()
+        };
+        asked.iter().filter(is_below).count()
     };
     let (seconds, count) = least(asks);
     print("is_descendant_of through this crate", seconds);
-    let read = || {
-        let are_uids =
-            |(child, other): &&(String, String)| is_uid(child).unwrap() && is_uid(other).unwrap();
-        pairs.iter().filter(are_uids).count()
+    let found = || {
+        let is_below = |(child, other): &&(EntityUID, EntityUID)| {
+            store.entity(child).unwrap().is_descendant_of(other)
+        };
+        asked.iter().filter(is_below).count()
     };
-    print("is_uid of both of its uids", least(read).0);
+    print("the same of entities that are looked up", least(found).0);
+    let are_uids =
+        |(child, other): &&(String, String)| is_uid(child).unwrap() && is_uid(other).unwrap();
+    print(
+        "is_uid of both of its uids",
+        least(|| pairs.iter().filter(are_uids).count()).0,
+    );
     let lists = || {
-        pairs
-            .iter()
-            .map(|(child, _)| store.ancestors(child).unwrap().len())
-            .sum::<usize>()
+        let count = |(child, _): &(EntityUID, EntityUID)| store.ancestors(child).unwrap().len();
+        asked.iter().map(count).sum::<usize>()
     };
     print("ancestors through this crate", least(lists).0);
+    with_content(entities, &asked);
     count
+}
+
+// The same tree, each entity with two attributes.
+fn with_content(entities: Vec<Entity>, asked: &[(EntityUID, EntityUID)]) {
+    let full = |entity: Entity| {
+        let names = ["a", "b"].map(Value::from);
+        entity
+            .with_attr("level", Value::from(7))
+            .with_attr("names", Value::set(names, None))
+    };
+    let entities: Vec<Entity> = entities.into_iter().map(full).collect();
+    let (seconds, store) = least(|| Entities::from_entities(&entities, ComputeNow).unwrap());
+    print("from_entities with two attributes each", seconds);
+    let reads = || {
+        let is_there =
+            |(child, _): &&(EntityUID, EntityUID)| store.get(child, "names").unwrap().is_some();
+        asked.iter().filter(is_there).count()
+    };
+    print("one of the attributes", least(reads).0);
+    let wholes = || {
+        let whole =
+            |(child, _): &(EntityUID, EntityUID)| store.entity(child).unwrap().into_entity();
+        asked
+            .iter()
+            .map(|pair| whole(pair).attrs_len())
+            .sum::<usize>()
+    };
+    print("whole entities", least(wholes).0);
 }
 
 type Above = HashMap<String, HashSet<String>>;

@@ -1,131 +1,91 @@
-//! Entities: those that are handed to a store, and those that a store has.
-use crate::refusal::Refusal;
-use crate::stored::Entities;
+//! Entities: what is handed to a store, and what is read of one.
+use crate::errors::EntitiesError;
+use crate::slots::{StaticType, StaticallyTyped};
+use crate::stored::{Entities, TCComputation};
 use crate::uid::EntityUID;
+use crate::value::PartialValue;
+use std::collections::{btree_map, btree_set, BTreeMap, BTreeSet, HashSet};
 use std::fmt;
 use std::hash::{Hash, Hasher};
+use std::iter::Chain;
 
-/// An entity to be handed to a store: its uid, as `A::B::"c"`, and its parents. Attributes and tags do not cross.
+/// An entity: its uid, its attributes and tags, its parents, and the indirect ancestors that it has.
+///
+/// `==` and the hash look at the uid alone; [`Entity::deep_eq`] looks at the rest too. It is plain data until a store
+/// is made of it: but for [`Entity::validate`] nothing here calls the library. What is said to be a parent and an
+/// indirect ancestor crosses as a parent alone.
 ///
 /// ```
-/// use cedar_store_proved::Entity;
-/// let entity = Entity::with_uid("User::\"alice\"").with_parent("Group::\"staff\"");
-/// assert_eq!(entity.uid(), "User::\"alice\"");
-/// assert_eq!(entity.parents().collect::<Vec<_>>(), ["Group::\"staff\""]);
+/// use cedar_store_proved::ast::{Entity, EntityUID, PartialValue, Value};
+/// let uid = |text| EntityUID::from_normalized_str(text).unwrap();
+/// let alice = Entity::with_uid(uid(r#"User::"alice""#))
+///     .with_parent(uid(r#"Group::"staff""#))
+///     .with_attr("age", Value::from(41))
+///     .with_tag("team", Value::from("blue"));
+/// assert_eq!(alice.get("age"), Some(&PartialValue::from(Value::from(41))));
+/// assert!(alice.is_child_of(&uid(r#"Group::"staff""#)) && alice.get_tag("age").is_none());
 /// ```
-#[derive(Clone, Debug, PartialEq, Eq, Hash)]
+#[derive(Clone, Debug)]
 pub struct Entity {
-    uid: String,
-    parents: Vec<String>,
+    uid: EntityUID,
+    attrs: BTreeMap<String, PartialValue>,
+    indirect_ancestors: BTreeSet<EntityUID>,
+    parents: BTreeSet<EntityUID>,
+    tags: BTreeMap<String, PartialValue>,
 }
 
 impl Entity {
-    /// An entity without parents.
-    pub fn with_uid(uid: impl Into<String>) -> Entity {
+    /// An entity with these attributes and tags, indirect ancestors and parents. Of several pairs with one key the last
+    /// counts. Whether parents and indirect ancestors are apart is not looked at.
+    pub fn new_with_attr_partial_value(
+        uid: EntityUID,
+        attrs: impl IntoIterator<Item = (String, PartialValue)>,
+        indirect_ancestors: HashSet<EntityUID>,
+        parents: HashSet<EntityUID>,
+        tags: impl IntoIterator<Item = (String, PartialValue)>,
+    ) -> Entity {
         Entity {
-            uid: uid.into(),
-            parents: Vec::new(),
+            uid,
+            attrs: attrs.into_iter().collect(),
+            indirect_ancestors: indirect_ancestors.into_iter().collect(),
+            parents: parents.into_iter().collect(),
+            tags: tags.into_iter().collect(),
+        }
+    }
+
+    /// An entity with a uid and nothing else.
+    pub fn with_uid(uid: EntityUID) -> Entity {
+        Entity {
+            uid,
+            attrs: BTreeMap::new(),
+            indirect_ancestors: BTreeSet::new(),
+            parents: BTreeSet::new(),
+            tags: BTreeMap::new(),
         }
     }
 
     /// The entity with one more parent.
-    pub fn with_parent(mut self, parent: impl Into<String>) -> Entity {
-        self.parents.push(parent.into());
+    pub fn with_parent(mut self, parent: EntityUID) -> Entity {
+        self.add_parent(parent);
         self
     }
 
     /// The entity with these parents too.
-    pub fn with_parents<P: Into<String>>(mut self, parents: impl IntoIterator<Item = P>) -> Entity {
-        self.parents.extend(parents.into_iter().map(Into::into));
+    pub fn with_parents(mut self, parents: impl IntoIterator<Item = EntityUID>) -> Entity {
+        self.extend(parents);
         self
     }
 
-    /// One more parent.
-    pub fn add_parent(&mut self, parent: impl Into<String>) {
-        self.parents.push(parent.into());
+    /// The entity with this attribute at a key, in the place of any that it has there.
+    pub fn with_attr(mut self, key: impl Into<String>, value: impl Into<PartialValue>) -> Entity {
+        self.attrs.insert(key.into(), value.into());
+        self
     }
 
-    /// The uid.
-    pub fn uid(&self) -> &str {
-        &self.uid
-    }
-
-    /// The parents, in the order in which they were given.
-    pub fn parents(&self) -> impl Iterator<Item = &str> {
-        self.parents.iter().map(String::as_str)
-    }
-}
-
-impl<P: Into<String>> Extend<P> for Entity {
-    /// These parents too.
-    fn extend<I: IntoIterator<Item = P>>(&mut self, parents: I) {
-        self.parents.extend(parents.into_iter().map(Into::into));
-    }
-}
-
-/// What a look-up of a uid finds.
-#[derive(Clone, Debug)]
-pub enum Dereference<T> {
-    /// There is nothing with that uid.
-    NoSuchEntity,
-    /// The store is partial and lacks it: what it has is not known. In `cedar-store` this has the unknown of that name.
-    Residual(EntityUID),
-    /// What was found.
-    Data(T),
-}
-
-impl<T> Dereference<T> {
-    /// What was found, if something was.
-    pub fn data(self) -> Option<T> {
-        match self {
-            Dereference::Data(found) => Some(found),
-            _ => None,
-        }
-    }
-
-    /// What was found.
-    ///
-    /// # Panics
-    ///
-    /// Where nothing was found, or where that is not known.
-    #[track_caller]
-    pub fn unwrap(self) -> T {
-        match self {
-            Dereference::Data(found) => found,
-            Dereference::NoSuchEntity => panic!("unwrap() called on NoSuchEntity"),
-            Dereference::Residual(uid) => panic!("unwrap() called on Residual({uid:?})"),
-        }
-    }
-
-    /// What was found, as [`Dereference::unwrap`] gives it.
-    ///
-    /// # Panics
-    ///
-    /// Where nothing was found, or where that is not known.
-    #[track_caller]
-    pub fn expect(self, msg: &str) -> T {
-        match self {
-            Dereference::Data(found) => found,
-            Dereference::NoSuchEntity => panic!("expect() called on NoSuchEntity, msg: {msg}"),
-            Dereference::Residual(uid) => {
-                panic!("expect() called on Residual({uid:?}), msg: {msg}")
-            }
-        }
-    }
-}
-
-/// An entity that a store has. Its calls are those of the store with its uid, and are refused by `Memory`, and by `NotAUid` where they
-/// take another uid. `==` looks at uids alone.
-#[derive(Clone, Debug)]
-pub struct StoredEntity<'a> {
-    store: &'a Entities,
-    uid: EntityUID,
-}
-
-impl<'a> StoredEntity<'a> {
-    /// The entity that a store has with a uid.
-    pub(crate) fn of(store: &'a Entities, uid: EntityUID) -> StoredEntity<'a> {
-        StoredEntity { store, uid }
+    /// The entity with this tag at a key, in the place of any that it has there.
+    pub fn with_tag(mut self, key: impl Into<String>, value: impl Into<PartialValue>) -> Entity {
+        self.tags.insert(key.into(), value.into());
+        self
     }
 
     /// The uid.
@@ -133,88 +93,274 @@ impl<'a> StoredEntity<'a> {
         &self.uid
     }
 
-    /// Whether it is a descendant of a uid, over parents, however many.
-    pub fn is_descendant_of(&self, ancestor: impl AsRef<str>) -> Result<bool, Refusal> {
-        self.store.is_descendant_of(&self.uid, ancestor)
+    /// The attribute at a key.
+    pub fn get(&self, key: &str) -> Option<&PartialValue> {
+        self.attrs.get(key)
     }
 
-    /// Whether a uid is a parent of it.
-    pub fn is_child_of(&self, parent: impl AsRef<str>) -> Result<bool, Refusal> {
-        self.store.is_child_of(&self.uid, parent)
-    }
-
-    /// Whether a uid is an ancestor of it and, in a store that was computed, no parent.
-    pub fn is_indirect_descendant_of(&self, ancestor: impl AsRef<str>) -> Result<bool, Refusal> {
-        self.store.is_indirect_descendant_of(&self.uid, ancestor)
-    }
-
-    /// The ancestors, in the order of uids.
-    pub fn ancestors(&self) -> Result<Vec<EntityUID>, Refusal> {
-        self.store.ancestors(&self.uid)
-    }
-
-    /// The parents, in the order of uids.
-    pub fn parents(&self) -> Result<Vec<EntityUID>, Refusal> {
-        self.store.parents(&self.uid)
-    }
-
-    /// The ancestors that are, in a store that was computed, no parents, in the order of uids.
-    pub fn indirect_ancestors(&self) -> Result<Vec<EntityUID>, Refusal> {
-        self.store.indirect_ancestors(&self.uid)
-    }
-
-    /// The keys of the attributes, in the order of their bytes.
-    pub fn keys(&self) -> Result<Vec<String>, Refusal> {
-        self.store.keys(&self.uid)
-    }
-
-    /// The keys of the tags, in the order of their bytes.
-    pub fn tag_keys(&self) -> Result<Vec<String>, Refusal> {
-        self.store.tag_keys(&self.uid)
+    /// The tag at a key.
+    pub fn get_tag(&self, key: &str) -> Option<&PartialValue> {
+        self.tags.get(key)
     }
 
     /// How many attributes there are.
-    pub fn attrs_len(&self) -> Result<usize, Refusal> {
-        self.store.attrs_len(&self.uid)
+    pub fn attrs_len(&self) -> usize {
+        self.attrs.len()
     }
 
     /// How many tags there are.
-    pub fn tags_len(&self) -> Result<usize, Refusal> {
-        self.store.tags_len(&self.uid)
+    pub fn tags_len(&self) -> usize {
+        self.tags.len()
     }
 
-    /// Whether both have the same uid, attributes, tags and ancestors.
-    pub fn deep_eq(&self, other: &StoredEntity<'_>) -> Result<bool, Refusal> {
-        if self != other {
-            return Ok(false);
+    /// Whether a uid is a parent.
+    pub fn is_child_of(&self, other: &EntityUID) -> bool {
+        self.parents.contains(other)
+    }
+
+    /// Whether a uid is an indirect ancestor.
+    pub fn is_indirect_descendant_of(&self, other: &EntityUID) -> bool {
+        self.indirect_ancestors.contains(other)
+    }
+
+    /// Whether a uid is a parent or an indirect ancestor.
+    pub fn is_descendant_of(&self, other: &EntityUID) -> bool {
+        self.is_child_of(other) || self.is_indirect_descendant_of(other)
+    }
+
+    /// The keys of the attributes, in byte order.
+    pub fn keys(&self) -> Keys<'_> {
+        Keys(self.attrs.keys())
+    }
+
+    /// The keys of the tags, in byte order.
+    pub fn tag_keys(&self) -> Keys<'_> {
+        Keys(self.tags.keys())
+    }
+
+    /// The attributes with their keys, in byte order of the keys.
+    pub fn attrs(&self) -> Pairs<'_> {
+        Pairs(self.attrs.iter())
+    }
+
+    /// The tags with their keys, in byte order of the keys.
+    pub fn tags(&self) -> Pairs<'_> {
+        Pairs(self.tags.iter())
+    }
+
+    /// The parents, each once, in the order of uids.
+    pub fn parents(&self) -> Uids<'_> {
+        self.parents.iter()
+    }
+
+    /// The indirect ancestors, each once, in the order of uids.
+    pub fn indirect_ancestors(&self) -> Uids<'_> {
+        self.indirect_ancestors.iter()
+    }
+
+    /// The parents, and then the indirect ancestors, each in the order of uids.
+    pub fn ancestors(&self) -> Ancestors<'_> {
+        self.parents.iter().chain(&self.indirect_ancestors)
+    }
+
+    /// The ancestors, each once, in the order of uids.
+    pub fn ancestors_in_order(&self) -> Union<'_> {
+        self.parents.union(&self.indirect_ancestors)
+    }
+
+    /// Whether both have the same uid, attributes, tags and ancestors, whichever of these are parents.
+    ///
+    /// ```
+    /// use cedar_store_proved::ast::{Entity, EntityUID, Value};
+    /// let a = Entity::with_uid(EntityUID::from_normalized_str(r#"A::"a""#).unwrap());
+    /// let other = a.clone().with_attr("k", Value::from(true));
+    /// assert!(a == other && !a.deep_eq(&other));
+    /// ```
+    pub fn deep_eq(&self, other: &Entity) -> bool {
+        self.uid == other.uid
+            && self.attrs == other.attrs
+            && self.tags == other.tags
+            && self.ancestors_in_order().eq(other.ancestors_in_order())
+    }
+
+    /// The uid, the attributes, the indirect ancestors, the parents and the tags.
+    #[allow(clippy::type_complexity)]
+    pub fn into_inner(
+        self,
+    ) -> (
+        EntityUID,
+        BTreeMap<String, PartialValue>,
+        HashSet<EntityUID>,
+        HashSet<EntityUID>,
+        BTreeMap<String, PartialValue>,
+    ) {
+        let indirect_ancestors = self.indirect_ancestors.into_iter().collect();
+        let parents = self.parents.into_iter().collect();
+        (self.uid, self.attrs, indirect_ancestors, parents, self.tags)
+    }
+
+    /// One more indirect ancestor, unless it is a parent.
+    pub fn add_indirect_ancestor(&mut self, uid: EntityUID) {
+        if !self.parents.contains(&uid) {
+            self.indirect_ancestors.insert(uid);
         }
-        self.store.has_equal(&self.uid, other.store)
     }
 
-    /// Its uid and its parents, to be handed to a store.
-    pub fn to_entity(&self) -> Result<Entity, Refusal> {
-        Ok(Entity::with_uid(&self.uid).with_parents(self.parents()?))
+    /// One more parent, which is no indirect ancestor then.
+    pub fn add_parent(&mut self, uid: EntityUID) {
+        self.indirect_ancestors.remove(&uid);
+        self.parents.insert(uid);
+    }
+
+    /// A uid is no indirect ancestor then.
+    pub fn remove_indirect_ancestor(&mut self, uid: &EntityUID) {
+        self.indirect_ancestors.remove(uid);
+    }
+
+    /// A uid is no parent then.
+    pub fn remove_parent(&mut self, uid: &EntityUID) {
+        self.parents.remove(uid);
+    }
+
+    /// There is no indirect ancestor then.
+    pub fn remove_all_indirect_ancestors(&mut self) {
+        self.indirect_ancestors.clear();
+    }
+
+    /// Looks for what is wrong with the entity by itself. Refused by the first of `SelfAncestor`, `DuplicateAncestor`,
+    /// `ActionParentIsNotAction` and `ReservedKey` that there is, the last two as a store of it alone tells them; and
+    /// by `Refused` for want of memory and for a value or an expression of more than 1,000 levels.
+    ///
+    /// ```
+    /// use cedar_store_proved::ast::{Entity, EntityUID};
+    /// let uid = |text| EntityUID::from_normalized_str(text).unwrap();
+    /// let action = Entity::with_uid(uid(r#"Action::"go""#));
+    /// assert!(action.is_valid() && action.with_parent(uid(r#"User::"alice""#)).validate().is_err());
+    /// ```
+    pub fn validate(&self) -> Result<(), EntitiesError> {
+        let uid = self.uid.clone();
+        if self.is_descendant_of(&uid) {
+            return Err(EntitiesError::SelfAncestor { uid });
+        }
+        if let Some(twice) = self.parents.intersection(&self.indirect_ancestors).next() {
+            let ancestor = twice.clone();
+            return Err(EntitiesError::DuplicateAncestor { uid, ancestor });
+        }
+        let alone = Entities::from_entities([self], TCComputation::AssumeAlreadyComputed)?;
+        Ok(alone.validate()?)
+    }
+
+    /// Whether [`Entity::validate`] finds nothing.
+    pub fn is_valid(&self) -> bool {
+        self.validate().is_ok()
+    }
+
+    /// The entity, unless [`Entity::validate`] finds something.
+    pub fn try_validate(self) -> Result<Entity, EntitiesError> {
+        self.validate()?;
+        Ok(self)
+    }
+
+    // Whether it has more than parents.
+    pub(crate) fn has_content(&self) -> bool {
+        !(self.attrs.is_empty() && self.tags.is_empty() && self.indirect_ancestors.is_empty())
     }
 }
 
-impl PartialEq for StoredEntity<'_> {
-    fn eq(&self, other: &Self) -> bool {
+impl Extend<EntityUID> for Entity {
+    /// These parents too.
+    fn extend<I: IntoIterator<Item = EntityUID>>(&mut self, parents: I) {
+        parents
+            .into_iter()
+            .for_each(|parent| self.add_parent(parent));
+    }
+}
+
+impl PartialEq for Entity {
+    /// Whether both have the same uid.
+    fn eq(&self, other: &Entity) -> bool {
         self.uid == other.uid
     }
 }
 
-impl Eq for StoredEntity<'_> {}
+impl Eq for Entity {}
 
-impl Hash for StoredEntity<'_> {
+impl Hash for Entity {
     fn hash<H: Hasher>(&self, state: &mut H) {
         self.uid.hash(state);
     }
 }
 
-impl fmt::Display for StoredEntity<'_> {
-    /// Writes lines for the uid, the attributes and the ancestors.
+// Writes things with marks between them.
+fn write_joined<T: fmt::Display>(
+    things: impl Iterator<Item = T>,
+    mark: &str,
+    f: &mut fmt::Formatter<'_>,
+) -> fmt::Result {
+    for (place, thing) in things.enumerate() {
+        if place > 0 {
+            f.write_str(mark)?;
+        }
+        write!(f, "{thing}")?;
+    }
+    Ok(())
+}
+
+impl fmt::Display for Entity {
+    /// Writes lines for the uid, the attributes and the ancestors, as a store does. Tags are not written.
     fn fmt(&self, f: &mut fmt::Formatter<'_>) -> fmt::Result {
-        let text = self.store.text_of(&self.uid).map_err(|_| fmt::Error)?;
-        f.write_str(&text)
+        write!(f, "{}:\n  attrs:", self.uid)?;
+        let pair = |(key, value): (&str, &PartialValue)| format!("{key}: {value}");
+        write_joined(self.attrs().map(pair), "; ", f)?;
+        f.write_str("\n  ancestors:")?;
+        write_joined(self.ancestors_in_order(), ", ", f)
+    }
+}
+
+impl StaticallyTyped for Entity {
+    /// The type of the uid.
+    fn type_of(&self) -> StaticType {
+        self.uid.type_of()
+    }
+}
+
+/// Uids, in their order.
+pub type Uids<'a> = btree_set::Iter<'a, EntityUID>;
+
+/// Ancestors, the parents first.
+pub type Ancestors<'a> = Chain<Uids<'a>, Uids<'a>>;
+
+/// Ancestors, in the order of uids.
+pub type Union<'a> = btree_set::Union<'a, EntityUID>;
+
+/// Keys, in byte order.
+#[derive(Clone, Debug)]
+pub struct Keys<'a>(btree_map::Keys<'a, String, PartialValue>);
+
+impl<'a> Iterator for Keys<'a> {
+    type Item = &'a str;
+
+    fn next(&mut self) -> Option<&'a str> {
+        self.0.next().map(String::as_str)
+    }
+
+    fn size_hint(&self) -> (usize, Option<usize>) {
+        self.0.size_hint()
+    }
+}
+
+/// Keys with what stands at them, in byte order of the keys.
+#[derive(Clone, Debug)]
+pub struct Pairs<'a>(btree_map::Iter<'a, String, PartialValue>);
+
+impl<'a> Iterator for Pairs<'a> {
+    type Item = (&'a str, &'a PartialValue);
+
+    fn next(&mut self) -> Option<(&'a str, &'a PartialValue)> {
+        self.0.next().map(|(key, value)| (key.as_str(), value))
+    }
+
+    fn size_hint(&self) -> (usize, Option<usize>) {
+        self.0.size_hint()
     }
 }

@@ -2,8 +2,9 @@
 use std::collections::hash_map::RandomState;
 use std::hash::BuildHasher;
 
-/// The key by which the maps of a store or a set hash: two numbers that whoever picks ids does not know. No answer depends on it but
-/// which of several cycles or of several missing ancestors a refusal names; it keeps strangers from picking ids that collide.
+/// The key by which the maps of a store or a set hash: two numbers that whoever picks ids does not know. No answer
+/// depends on it but which of several cycles or of several missing ancestors a refusal names; it keeps strangers from
+/// picking ids that collide.
 ///
 /// ```
 /// use cedar_store_proved::{Entities, Key};

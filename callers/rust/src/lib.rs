@@ -1,59 +1,167 @@
 //! Stores of entities and policy sets of the Cedar authorization language.
 //!
-//! The calls are those of a static library whose functions are proved, up to the boundary that `cedar.h` describes; this crate
-//! lays lists out for it, copies answers out of it, and lets go of what it holds. It is tested, not proved.
+//! The calls are those of a static library whose functions are proved, up to the boundary that `cedar.h` describes;
+//! this crate lays lists out for it, copies answers out of it, and lets go of what it holds. It is tested, not proved.
 //!
-//! Uids are texts as `A::B::"c"`: a type, and an id in quotes, escaped; an [`EntityUID`] is one that was read. Ids of policies are
-//! any text.
+//! What it shares with the package `cedar-store` it has under the same names and paths, with the same arguments and
+//! answers: a program over that scope changes the crate's name alone. The crate's page lists what is not shared.
 //!
-//! What has a name of the package `cedar-store` means what it means there, over texts and with refusals for want of memory; the
-//! crate's page says what differs.
-#![warn(missing_docs)]
+//! ```
+//! use cedar_store_proved::ast::{Entity, EntityUID};
+//! use cedar_store_proved::entities::{Dereference, Entities, TCComputation};
+//!
+//! # fn main() -> Result<(), Box<dyn std::error::Error>> {
+//! let uid = EntityUID::from_normalized_str;
+//! let (alice, staff, all) = (uid(r#"User::"alice""#)?, uid(r#"Group::"staff""#)?, uid(r#"Group::"all""#)?);
+//! let mut entities = [alice.clone(), staff.clone(), all.clone()].map(Entity::with_uid);
+//! entities[0].add_parent(staff.clone());
+//! entities[1].add_parent(all.clone());
+//! let store = Entities::from_entities(entities, TCComputation::ComputeNow)?;
+//! assert!(matches!(store.entity(&alice), Dereference::Data(e) if e.is_descendant_of(&all)));
+//! # Ok(())
+//! # }
+//! ```
+#![deny(missing_docs)]
 #![deny(unsafe_code)]
 
+mod action;
+mod annotation;
+mod body;
+mod body_lists;
 mod entity;
+mod errors;
+mod expr;
 #[allow(unsafe_code)]
 mod ffi;
+mod invalid;
 mod key;
 mod lists;
+mod name;
+mod nodes;
+mod policies_iters;
+mod policies_read;
+mod policies_told;
+mod policy;
 mod policy_set;
 mod refusal;
+mod scope;
+mod slots;
 mod stored;
+mod stored_entity;
+mod template;
 mod uid;
+mod value;
+mod value_walk;
 
-pub use entity::{Dereference, Entity, StoredEntity};
+pub use ast::{Effect, Entity, EntityUID, PolicyID, PolicySet, SlotEnv, SlotId, Value};
+pub use entities::{Dereference, Entities, TCComputation};
 pub use key::Key;
-pub use policy_set::{Effect, PolicySet, SlotEnv, Slots};
+pub use policies_read::Renaming;
+pub use policies_told::Bound;
+pub use policy::Slots;
 pub use refusal::{Reason, Refusal};
-pub use stored::{Entities, IntoIter, Iter, TCComputation};
-pub use uid::{Eid, EntityType, EntityUID};
 
-/// Uids, entities and policy sets, at the paths that they have in the package `cedar-store`. Each type of error is [`Refusal`] here.
+/// Ids, entities, values, expressions, constraints, policies, templates and policy sets.
 pub mod ast {
-    pub use crate::{Effect, Eid, Entity, EntityType, EntityUID, PolicySet, SlotEnv};
-    pub use crate::{
-        Refusal as LinkingError, Refusal as ParseErrors, Refusal as PolicySetError,
-        Refusal as PolicySetPolicyRemovalError, Refusal as PolicySetTemplateRemovalError,
-        Refusal as PolicySetUnlinkError,
+    pub use crate::action::{ActionConstraint, EntityIterator};
+    pub use crate::annotation::{Annotation, Annotations};
+    pub use crate::body::{TemplateBody, TemplateBodyImpl};
+    pub use crate::entity::Entity;
+    pub use crate::errors::{
+        LinkingError, ParseErrors, PolicySetError, PolicySetGetLinksError,
+        PolicySetPolicyRemovalError, PolicySetTemplateRemovalError, PolicySetUnlinkError,
     };
+    pub use crate::expr::{Expr, ExprNode};
+    pub use crate::invalid::{
+        ActionTypesError, ExprValidationError, NonEmpty, PolicySetValidationError,
+        TemplateValidationError, UnexpectedSlotError,
+    };
+    pub use crate::name::{AnyId, Id, Name};
+    pub use crate::policy::{Effect, Policy, PolicyID};
+    pub use crate::policy_set::PolicySet;
+    pub use crate::scope::{
+        EntityReference, PrincipalConstraint, PrincipalOrResource, PrincipalOrResourceConstraint,
+        ResourceConstraint,
+    };
+    pub use crate::slots::{Slot, SlotEnv, SlotId, StaticType, StaticallyTyped, Unknown, Var};
+    pub use crate::template::{StaticPolicy, Template};
+    pub use crate::uid::{Eid, EntityType, EntityUID, ACTION_ENTITY_TYPE};
+    pub use crate::value::{ExtensionValue, Literal, PartialValue, Value, ValueKind};
+
+    /// Annotations, and their iterators.
+    pub mod annotation {
+        pub use crate::annotation::{Annotation, Annotations, IntoIter, Iter};
+    }
+
+    /// Entities and what names them.
+    pub mod entity {
+        pub use super::{Eid, Entity, EntityType, EntityUID, ACTION_ENTITY_TYPE};
+    }
+
+    /// Ids and names.
+    pub mod name {
+        pub use super::{AnyId, Id, Name};
+    }
 }
 
-/// Stores of entities, at the paths that they have in the package `cedar-store`. The type of error is [`Refusal`] here.
+/// Stores of entities.
 pub mod entities {
-    pub use crate::{
-        Dereference, Entities, IntoIter, Iter, Refusal as EntitiesError, TCComputation,
-    };
+    pub use crate::errors::EntitiesError;
+    pub use crate::stored::{Entities, TCComputation};
+    pub use crate::stored_entity::{Dereference, IntoIter, Iter, StoredEntity};
 
     /// Why a call on a store is refused.
     pub mod err {
-        pub use crate::Refusal as EntitiesError;
+        pub use crate::errors::EntitiesError;
     }
+}
+
+/// The iterators that calls answer, by name.
+pub mod iters {
+    pub use crate::action::{ActionTypeNames, EntityIterator};
+    pub use crate::entity::{Ancestors, Keys, Pairs, Uids, Union};
+    pub use crate::policies_iters::{
+        AllTemplates, IntoPolicies, LinkedIds, Policies, StaticPolicies, Templates,
+    };
+    pub use crate::scope::ConstraintTypeNames;
+    pub use crate::template::Slots;
+}
+
+/// Where a thing was read, and why a text is refused.
+pub mod parser {
+    pub use crate::name::Loc;
+
+    /// Why a text is refused.
+    pub mod err {
+        pub use crate::errors::ParseErrors;
+    }
+}
+
+/// What is wrong with ancestors.
+pub mod transitive_closure {
+    pub use crate::errors::{HasCycle, MissingTcEdge, TcError};
 }
 
 // The program of the page is tried too.
 #[cfg(doctest)]
 #[doc = include_str!("../README.md")]
 struct Page;
+
+/// The slice of a store at some uids: the entities with these, and those that it has among their ancestors. Ends the
+/// program where memory is refused; [`Entities::slice`] does not.
+///
+/// ```
+/// use cedar_store_proved::ast::{Entity, EntityUID};
+/// use cedar_store_proved::entities::{Entities, TCComputation};
+/// let uid = |text| EntityUID::from_normalized_str(text).unwrap();
+/// let (a, b) = (uid(r#"A::"a""#), uid(r#"A::"b""#));
+/// let entities = [Entity::with_uid(a.clone()).with_parent(b.clone()), Entity::with_uid(b)];
+/// let store = Entities::from_entities(entities, TCComputation::ComputeNow).unwrap();
+/// assert_eq!(cedar_store_proved::slice(&store, &[a]).len(), 2);
+/// ```
+pub fn slice(store: &Entities, uids: &[EntityUID]) -> Entities {
+    store.slice(uids).expect("memory for a slice")
+}
 
 /// Whether a text is a uid's. Refused by `Memory`.
 ///
@@ -69,8 +177,8 @@ pub fn is_uid(text: &str) -> Result<bool, Refusal> {
     }
 }
 
-/// What the program writes for all lines of an input, and the status of its run, 0 or 2, with a key that is drawn. Refused by
-/// `Memory`.
+/// What the program writes for all lines of an input, and the status of its run, 0 or 2, with a key that is drawn.
+/// Refused by `Memory`.
 ///
 /// ```
 /// let (out, status) = cedar_store_proved::run(b"ent\tA::\"a\"\nbuild\n").unwrap();

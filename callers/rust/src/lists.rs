@@ -1,11 +1,14 @@
-//! Lists as the library takes them: one text, the part of it that is each uid, and edges to parents.
+//! Lists as the library takes them: one text, the part of it that is each uid, edges to parents, and what else entities
+//! have.
 use crate::entity::Entity;
+use crate::nodes::{Draft, Node, Term};
+use crate::uid::EntityUID;
 use std::borrow::Borrow;
 use std::collections::HashMap;
 
 /// A part of a text.
 #[repr(C)]
-#[derive(Clone, Copy)]
+#[derive(Clone, Copy, Default)]
 pub(crate) struct Span {
     pub(crate) start: usize,
     pub(crate) end: usize,
@@ -28,15 +31,32 @@ pub(crate) struct Lists {
     pub(crate) edges: Vec<Edge>,
 }
 
+/// Uids and edges, and beside them edges to indirect ancestors, attributes and tags.
+pub(crate) struct Content {
+    pub(crate) lists: Lists,
+    pub(crate) above: Vec<Edge>,
+    pub(crate) terms: Vec<Term>,
+    pub(crate) nodes: Vec<Node>,
+}
+
+// Where each uid stands in lists.
+type Places<'a> = HashMap<&'a str, usize>;
+
 impl Lists {
-    // Puts a uid behind the others. Its place among them is answered.
-    fn put(&mut self, uid: &str) -> usize {
+    /// Puts a text behind what there is, as no uid. Where it stands is answered.
+    pub(crate) fn part(&mut self, text: &str) -> Span {
         let start = self.text.len();
-        self.text.push_str(uid);
-        self.uids.push(Span {
+        self.text.push_str(text);
+        Span {
             start,
             end: self.text.len(),
-        });
+        }
+    }
+
+    /// Puts a uid behind the others. Its place among them is answered.
+    pub(crate) fn put(&mut self, uid: &str) -> usize {
+        let at = self.part(uid);
+        self.uids.push(at);
         self.uids.len() - 1
     }
 
@@ -49,22 +69,77 @@ impl Lists {
         lists
     }
 
-    /// Entities, and behind them those of their parents that are none of them. A parent that comes often is written once.
-    pub(crate) fn of_entities(entities: impl IntoIterator<Item = impl Borrow<Entity>>) -> Lists {
-        let entities: Vec<_> = entities.into_iter().collect();
-        let entities: Vec<&Entity> = entities.iter().map(Borrow::borrow).collect();
-        let mut lists = Lists::of_texts(entities.iter().map(|entity| entity.uid()));
+    // The uids of entities, and where each stands first.
+    fn of_uids<'a>(entities: &[&'a Entity]) -> (Lists, Places<'a>) {
+        let uids = || entities.iter().map(|entity| entity.uid().as_str());
+        let mut lists = Lists::of_texts(uids());
         lists.count = entities.len();
         let mut places = HashMap::with_capacity(entities.len());
-        for (place, entity) in entities.iter().enumerate() {
-            places.entry(entity.uid()).or_insert(place);
+        for (place, uid) in uids().enumerate() {
+            places.entry(uid).or_insert(place);
         }
+        (lists, places)
+    }
+
+    // The place of a uid. One that comes often is written once.
+    fn place<'a>(&mut self, places: &mut Places<'a>, uid: &'a EntityUID) -> usize {
+        *places
+            .entry(uid.as_str())
+            .or_insert_with(|| self.put(uid.as_str()))
+    }
+
+    /// Entities, and behind them those of their parents that are none of them.
+    pub(crate) fn of_entities(entities: &[impl Borrow<Entity>]) -> Lists {
+        let entities: Vec<&Entity> = entities.iter().map(Borrow::borrow).collect();
+        let (mut lists, mut places) = Lists::of_uids(&entities);
         for (from, entity) in entities.iter().enumerate() {
             for parent in entity.parents() {
-                let to = *places.entry(parent).or_insert_with(|| lists.put(parent));
+                let to = lists.place(&mut places, parent);
                 lists.edges.push(Edge { from, to });
             }
         }
         lists
+    }
+}
+
+impl Content {
+    /// Entities with all that they have, and behind them those of their ancestors that are none of them.
+    pub(crate) fn of_entities(entities: &[impl Borrow<Entity>]) -> Content {
+        let entities: Vec<&Entity> = entities.iter().map(Borrow::borrow).collect();
+        let (mut lists, mut places) = Lists::of_uids(&entities);
+        let (mut above, mut terms) = (Vec::new(), Vec::new());
+        for (from, entity) in entities.iter().enumerate() {
+            for parent in entity.parents() {
+                let to = lists.place(&mut places, parent);
+                lists.edges.push(Edge { from, to });
+            }
+            for ancestor in entity.indirect_ancestors() {
+                let to = lists.place(&mut places, ancestor);
+                above.push(Edge { from, to });
+            }
+        }
+        let mut draft = Draft::over(&mut lists);
+        for (of, entity) in entities.iter().enumerate() {
+            let attrs = entity.attrs().map(|(key, value)| (0, key, value));
+            let tags = entity.tags().map(|(key, value)| (1, key, value));
+            for (part, key, value) in attrs.chain(tags) {
+                let key = draft.key(key);
+                let (from, to) = draft.term(value);
+                terms.push(Term {
+                    of,
+                    part,
+                    key,
+                    from,
+                    to,
+                });
+            }
+        }
+        let nodes = draft.into_nodes();
+        Content {
+            lists,
+            above,
+            terms,
+            nodes,
+        }
     }
 }

@@ -1,4 +1,6 @@
 //! Why a call was refused.
+use crate::ffi;
+use crate::policy::PolicyID;
 use crate::uid::EntityUID;
 use std::fmt;
 
@@ -50,58 +52,69 @@ pub enum Reason {
     NotATemplate,
     /// No policy has the id of a static policy to remove.
     NoStatic,
-    /// It is a link's.
+    /// It is a link's; or a slot stands in a static policy to add.
     NotStatic,
     /// Nothing of the kind that is asked for is bound to an id.
     NoBody,
-    /// A text is no name.
+    /// A text is no name, or no identifier where that is asked for.
     NotAName,
     /// Something has too many levels.
     TooDeep,
 }
 
+// The reasons, each with its status.
+const STATUSES: [(u32, Reason); 26] = [
+    (1, Reason::Memory),
+    (3, Reason::BadArgument),
+    (4, Reason::NotAUid),
+    (6, Reason::NoEntity),
+    (7, Reason::Duplicate),
+    (8, Reason::Cycle),
+    (9, Reason::NotClosed),
+    (10, Reason::SelfAncestor),
+    (11, Reason::DuplicateAncestor),
+    (12, Reason::ActionParentIsNotAction),
+    (13, Reason::ReservedKey),
+    (14, Reason::Occupied),
+    (15, Reason::NoSuchTemplate),
+    (16, Reason::Arity),
+    (17, Reason::NotAnAction),
+    (18, Reason::IdConflict),
+    (19, Reason::NoLink),
+    (20, Reason::NotALink),
+    (21, Reason::NoTemplate),
+    (22, Reason::WithLinks),
+    (23, Reason::NotATemplate),
+    (24, Reason::NoStatic),
+    (25, Reason::NotStatic),
+    (26, Reason::NoBody),
+    (27, Reason::NotAName),
+    (28, Reason::TooDeep),
+];
+
 impl Reason {
-    pub(crate) fn of(status: u32) -> Reason {
-        match status {
-            1 => Reason::Memory,
-            4 => Reason::NotAUid,
-            6 => Reason::NoEntity,
-            7 => Reason::Duplicate,
-            8 => Reason::Cycle,
-            9 => Reason::NotClosed,
-            10 => Reason::SelfAncestor,
-            11 => Reason::DuplicateAncestor,
-            12 => Reason::ActionParentIsNotAction,
-            13 => Reason::ReservedKey,
-            14 => Reason::Occupied,
-            15 => Reason::NoSuchTemplate,
-            16 => Reason::Arity,
-            17 => Reason::NotAnAction,
-            18 => Reason::IdConflict,
-            19 => Reason::NoLink,
-            20 => Reason::NotALink,
-            21 => Reason::NoTemplate,
-            22 => Reason::WithLinks,
-            23 => Reason::NotATemplate,
-            24 => Reason::NoStatic,
-            25 => Reason::NotStatic,
-            26 => Reason::NoBody,
-            27 => Reason::NotAName,
-            28 => Reason::TooDeep,
-            _ => Reason::BadArgument,
-        }
+    fn of(status: u32) -> Reason {
+        let found = STATUSES.iter().find(|(known, _)| *known == status);
+        found.map_or(Reason::BadArgument, |(_, reason)| *reason)
+    }
+
+    // The words with which the text of a refusal begins.
+    fn words(self) -> String {
+        let found = STATUSES.iter().find(|(_, reason)| *reason == self);
+        found.map_or_else(String::new, |(status, _)| ffi::words_for(*status))
     }
 }
 
-/// A refused call: the reason, and a text with the uids or the id that it names.
+/// A refused call: the reason, and a text with the uids or the id that it names. Each error of a type of its own is
+/// one, by `From`.
 ///
 /// ```
-/// use cedar_store_proved::{PolicySet, Effect, Reason};
+/// use cedar_store_proved::{Effect, PolicySet, Reason, Refusal};
 /// let mut set = PolicySet::new();
-/// set.add_static("p", Effect::Permit).unwrap();
-/// let refusal = set.add_static("p", Effect::Forbid).unwrap_err();
-/// assert_eq!(refusal.reason(), Reason::Occupied);
-/// assert_eq!(refusal.to_string(), "occupied p");
+/// assert_eq!(set.effect("p").unwrap_err().reason(), Reason::NoBody);
+/// set.bind_static("p", Effect::Permit).unwrap();
+/// let refusal = Refusal::from(set.bind_static("p", Effect::Forbid).unwrap_err());
+/// assert_eq!((refusal.reason(), refusal.to_string().as_str()), (Reason::Occupied, "occupied p"));
 /// ```
 #[derive(Clone, Debug, PartialEq, Eq)]
 pub struct Refusal {
@@ -134,19 +147,41 @@ impl Refusal {
         Refusal { reason, text }
     }
 
+    /// The refusal for a reason that names something, as the library writes it.
+    pub(crate) fn naming<N: fmt::Display>(reason: Reason, names: &[N]) -> Refusal {
+        let mut text = reason.words();
+        for name in names {
+            text += &format!(" {name}");
+        }
+        Refusal { reason, text }
+    }
+
     /// The reason.
     pub fn reason(&self) -> Reason {
         self.reason
     }
 
-    /// The uids that the text names, in its order: of `NotClosed` the entity, its ancestor, and the one that is missing. None for what
-    /// names an id or a key.
+    /// What the text says behind the words for the reason: the id of a policy, a key, or slots.
+    pub(crate) fn said(&self) -> &str {
+        let words = self.reason.words();
+        let behind = self.text.get(words.len()..).unwrap_or_default();
+        behind.strip_prefix(' ').unwrap_or(behind)
+    }
+
+    /// The id of a policy or a template that the text names.
+    pub(crate) fn id(&self) -> PolicyID {
+        PolicyID::from_string(self.said())
+    }
+
+    /// The uids that the text names, in its order: of `NotClosed` the entity, its ancestor, and the one that is
+    /// missing. None for what names an id or a key.
     ///
     /// ```
-    /// use cedar_store_proved::{Entities, Entity, TCComputation};
-    /// let entities = [Entity::with_uid("A::\"a\"").with_parent("A::\"a\"")];
-    /// let refusal = Entities::from_entities(entities, TCComputation::ComputeNow).err().unwrap();
-    /// assert_eq!(refusal.uids(), ["A::\"a\""]);
+    /// use cedar_store_proved::{Entities, Entity, EntityUID, TCComputation};
+    /// let a = EntityUID::from_normalized_str(r#"A::"a""#).unwrap();
+    /// let own_parent = Entity::with_uid(a.clone()).with_parent(a.clone());
+    /// let refusal = Entities::new().add([own_parent], TCComputation::ComputeNow).unwrap_err();
+    /// assert_eq!(refusal.uids(), [a]);
     /// ```
     pub fn uids(&self) -> Vec<EntityUID> {
         match self.reason {
@@ -173,7 +208,7 @@ fn named(text: &str) -> Vec<EntityUID> {
             ' ' if !is_quoted => start = at + 1,
             '"' if is_quoted => {
                 is_quoted = false;
-                uids.push(EntityUID::written(text[start..=at].to_owned()));
+                uids.push(EntityUID::written(&text[start..=at]));
             }
             '"' => is_quoted = true,
             _ => {}

@@ -1,19 +1,22 @@
 //! Stores of entities.
-use crate::entity::{Dereference, Entity, StoredEntity};
-use crate::ffi::{Held, Stores};
+use crate::entity::Entity;
+use crate::errors::EntitiesError;
+use crate::expr::Expr;
+use crate::ffi::{Change, Held, Stores};
 use crate::key::Key;
-use crate::lists::Lists;
+use crate::lists::{Content, Lists};
+use crate::nodes;
 use crate::refusal::Refusal;
+use crate::slots::{StaticallyTyped, Unknown};
+use crate::stored_entity::{Dereference, IntoIter, Iter, StoredEntity, MEMORY};
 use crate::uid::EntityUID;
+use crate::value::PartialValue;
 use std::borrow::Borrow;
+use std::collections::HashSet;
 use std::fmt;
-use std::vec;
 
 // As many entities are written by one call of the library.
 const FEW: usize = 100;
-
-// What is said where a call that cannot tell a refusal is refused memory.
-const MEMORY: &str = "memory for what a store has";
 
 /// How a call sees to it that ancestors are closed.
 ///
@@ -25,46 +28,48 @@ pub enum TCComputation {
     /// Nothing else is checked.
     #[default]
     ComputeNow,
-    /// What is put in is taken to have all its ancestors as parents: nothing is computed. Afterwards, behind a removal
-    /// too, the whole store is checked, and refused where an ancestor is missing or an entity is its own.
+    /// What is put in is taken to have all its ancestors: nothing is computed. Afterwards, behind a removal too, the
+    /// whole store is checked, and refused where an ancestor is missing or an entity is its own.
     EnforceAlreadyComputed,
     /// As `EnforceAlreadyComputed`, but nothing is checked, and no cycle is refused.
     AssumeAlreadyComputed,
 }
 
-/// A store of entities. `==` looks at the uids alone and at whether it is partial; [`Entities::deep_eq`] looks at the ancestors too.
+/// A store of entities.
 ///
-/// What iterates over it, compares it by `==` or collects its entities ends the program where memory is refused, as std's own lists
-/// do; all other calls are refused by `Memory`. It is collected of entities, computed, as a `Result`:
+/// The calls that the crate in Rust has too have its names and take and give what they do there: a changing one takes
+/// the store and gives it back. Beside them stand calls with uids, as [`Entities::get`], which are one call of the
+/// library each and answer a [`Refusal`] for want of memory too, and `add`, `upsert` and `remove`, which change the
+/// store where it stands. A uid is an [`EntityUID`] there, or a text, which is refused as `NotAUid` where it is none.
+///
+/// `==` looks at the uids alone and at whether it is partial; [`Entities::deep_eq`] looks at the rest too. What
+/// iterates over it, compares it by `==`, clones it or asks a [`StoredEntity`] ends the program where memory is
+/// refused, as std's own lists do.
 ///
 /// ```
-/// use cedar_store_proved::{Entities, Entity, Refusal};
-/// let uids = ["A::\"a\"", "A::\"b\""];
-/// let store: Result<Entities, Refusal> = uids.map(Entity::with_uid).into_iter().collect();
-/// let store = store.unwrap();
-/// for entity in &store {
-///     assert!(uids.contains(&entity.uid().as_str()));
-/// }
+/// use cedar_store_proved::ast::{Entity, EntityUID};
+/// use cedar_store_proved::entities::{Dereference, Entities, TCComputation};
+/// let uid = |text| EntityUID::from_normalized_str(text).unwrap();
+/// let (alice, staff, all) = (uid(r#"User::"alice""#), uid(r#"Group::"staff""#), uid(r#"Group::"all""#));
+/// let mut entities = [alice.clone(), staff.clone()].map(Entity::with_uid);
+/// entities[0].add_parent(staff.clone());
+/// entities[1].add_parent(all.clone());
+/// let store = Entities::from_entities(entities, TCComputation::ComputeNow).unwrap();
+/// assert!(matches!(store.entity(&alice), Dereference::Data(e) if e.is_descendant_of(&all)));
+/// let store = store.remove_entities([staff.clone()], TCComputation::ComputeNow).unwrap();
+/// assert!(!store.is_descendant_of(&alice, &all).unwrap());
 /// ```
 ///
 /// It is of the thread that made it: neither `Send` nor `Sync`.
 ///
 /// ```compile_fail
 /// fn sends<T: Send>(_: T) {}
-/// sends(cedar_store_proved::Entities::new());
+/// sends(cedar_store_proved::entities::Entities::new());
 /// ```
 ///
 /// ```compile_fail
 /// fn shares<T: Sync>(_: T) {}
-/// shares(cedar_store_proved::Entities::new());
-/// ```
-///
-/// ```
-/// use cedar_store_proved::{Entities, Entity, TCComputation};
-/// let alice = Entity::with_uid("User::\"alice\"").with_parent("Group::\"staff\"");
-/// let staff = Entity::with_uid("Group::\"staff\"").with_parent("Group::\"all\"");
-/// let store = Entities::from_entities([alice, staff], TCComputation::ComputeNow).unwrap();
-/// assert!(store.is_descendant_of("User::\"alice\"", "Group::\"all\"").unwrap());
+/// shares(cedar_store_proved::entities::Entities::new());
 /// ```
 pub struct Entities {
     held: Held<Stores>,
@@ -82,13 +87,14 @@ impl Entities {
         Refusal::judged(status, || self.held.words())
     }
 
-    /// The store without entities, with a key that is drawn. Ends the program where its few bytes of memory are refused;
-    /// [`Entities::with_key`] does not.
+    /// The store without entities, with a key that is drawn. Ends the program where its few bytes of memory are
+    /// refused; [`Entities::with_key`] does not.
     pub fn new() -> Entities {
         Entities::with_key(Key::drawn()).expect("memory for an empty store")
     }
 
-    /// The store without entities, whose map, and those of its copies and slices, hash by this key. Refused by `Memory`.
+    /// The store without entities, whose map, and those of its copies and slices, hash by this key. Refused by
+    /// `Memory`.
     ///
     /// ```
     /// use cedar_store_proved::{Entities, Key};
@@ -99,82 +105,135 @@ impl Entities {
         Entities::of(Held::new(key))
     }
 
-    /// A store of these entities, with a key that is drawn. An entity that comes twice is one, if both have the same parents.
+    /// A store of these entities, with a key that is drawn. An entity that comes twice is one, if both have the same
+    /// attributes, tags and ancestors.
     ///
-    /// Refused by `Duplicate`, by `Cycle`, by `NotClosed` where that is enforced, by `NotAUid` and `Memory`.
+    /// Refused by `Duplicate`, by `TransitiveClosureError` for a cycle, and where that is enforced for a missing
+    /// ancestor, and by `Refused` for want of memory and for a value or an expression of more than 1,000 levels.
     ///
     /// ```
-    /// use cedar_store_proved::{Entities, Entity, Reason, TCComputation};
-    /// let entities = [Entity::with_uid("A::\"a\""), Entity::with_uid("A::\"a\"").with_parent("A::\"b\"")];
-    /// let refusal = Entities::from_entities(entities, TCComputation::ComputeNow).err().unwrap();
-    /// assert_eq!(refusal.reason(), Reason::Duplicate);
-    /// assert_eq!(refusal.to_string(), "duplicate entity A::\"a\"");
+    /// use cedar_store_proved::ast::{Entity, EntityUID};
+    /// use cedar_store_proved::entities::{Entities, EntitiesError, TCComputation};
+    /// let uid = |text| EntityUID::from_normalized_str(text).unwrap();
+    /// let a = Entity::with_uid(uid(r#"A::"a""#));
+    /// let other = a.clone().with_parent(uid(r#"A::"b""#));
+    /// let given = Entities::from_entities([a, other], TCComputation::ComputeNow);
+    /// assert_eq!(given.unwrap_err(), EntitiesError::Duplicate(uid(r#"A::"a""#)));
     /// ```
     pub fn from_entities(
         entities: impl IntoIterator<Item = impl Borrow<Entity>>,
         mode: TCComputation,
-    ) -> Result<Entities, Refusal> {
+    ) -> Result<Entities, EntitiesError> {
         let mut store = Entities::with_key(Key::drawn())?;
-        let status = store.held.build(&Lists::of_entities(entities), mode as u32);
-        store.judged(status)?;
+        store.changed(Change::Build, entities, mode)?;
         Ok(store)
     }
 
-    /// Adds entities. One that the store has already has to have the same ancestors, and changes nothing.
+    // Entities that have parents alone cross without the rest.
+    fn changed(
+        &mut self,
+        change: Change,
+        entities: impl IntoIterator<Item = impl Borrow<Entity>>,
+        mode: TCComputation,
+    ) -> Result<(), Refusal> {
+        let entities: Vec<_> = entities.into_iter().collect();
+        let status = if entities.iter().any(|entity| entity.borrow().has_content()) {
+            let content = Content::of_entities(&entities);
+            self.held.change_with(change, &content, mode as u32)
+        } else {
+            let lists = Lists::of_entities(&entities);
+            self.held.change(change, &lists, mode as u32)
+        };
+        self.judged(status)
+    }
+
+    /// The store with these entities too. One that it has already has to have the same attributes, tags and ancestors,
+    /// and changes nothing.
     ///
-    /// Refused as [`Entities::from_entities`] is. `NotAUid` leaves the store as it was; `Memory` does, or leaves it without entities;
-    /// any other refusal leaves it without entities: who wants it copies it first ([`Entities::try_clone`]).
+    /// Refused as [`Entities::from_entities`] is; the store is gone then: who wants it takes a [`Entities::try_clone`]
+    /// first.
     ///
     /// ```
-    /// use cedar_store_proved::{Entities, Entity, Reason, TCComputation};
-    /// let child = Entity::with_uid("A::\"a\"").with_parent("A::\"b\"");
-    /// let mut store = Entities::from_entities([child], TCComputation::ComputeNow).unwrap();
-    /// let above = Entity::with_uid("A::\"b\"").with_parent("A::\"a\"");
-    /// let refusal = store.add_entities([above], TCComputation::ComputeNow).unwrap_err();
-    /// assert_eq!(refusal.reason(), Reason::Cycle);
-    /// assert!(store.is_empty());
+    /// use cedar_store_proved::ast::{Entity, EntityUID};
+    /// use cedar_store_proved::entities::{Entities, TCComputation};
+    /// let uid = |text| EntityUID::from_normalized_str(text).unwrap();
+    /// let (a, b) = (uid(r#"A::"a""#), uid(r#"A::"b""#));
+    /// let child = Entity::with_uid(a.clone()).with_parent(b.clone());
+    /// let store = Entities::from_entities([child], TCComputation::ComputeNow).unwrap();
+    /// let above = Entity::with_uid(b).with_parent(a);
+    /// assert!(store.add_entities([above], TCComputation::ComputeNow).is_err());
     /// ```
     pub fn add_entities(
-        &mut self,
+        mut self,
         entities: impl IntoIterator<Item = impl Borrow<Entity>>,
         mode: TCComputation,
-    ) -> Result<(), Refusal> {
-        let status = self.held.add(&Lists::of_entities(entities), mode as u32);
-        self.judged(status)
+    ) -> Result<Entities, EntitiesError> {
+        self.add(entities, mode)?;
+        Ok(self)
     }
 
-    /// Puts entities into the store, each in the place of any with its uid; of several with one uid the last counts.
+    /// The store with these entities, each in the place of any with its uid; of several with one uid the last counts.
     ///
     /// Refused as [`Entities::add_entities`] is, but for `Duplicate`.
+    pub fn upsert_entities(
+        mut self,
+        entities: impl IntoIterator<Item = impl Borrow<Entity>>,
+        mode: TCComputation,
+    ) -> Result<Entities, EntitiesError> {
+        self.upsert(entities, mode)?;
+        Ok(self)
+    }
+
+    /// The store without the entities with these uids, which are no parents either then. Uids that it lacks change
+    /// nothing.
+    ///
+    /// Refused as [`Entities::add_entities`] is, but for `Duplicate` and depth; over a computed store for want of
+    /// memory alone.
+    pub fn remove_entities(
+        mut self,
+        uids: impl IntoIterator<Item = EntityUID>,
+        mode: TCComputation,
+    ) -> Result<Entities, EntitiesError> {
+        self.remove(uids, mode)?;
+        Ok(self)
+    }
+
+    /// Adds entities where the store stands, as [`Entities::add_entities`] does.
+    ///
+    /// A refusal by `Memory` leaves the store as it was or without entities, one by `TooDeep` as it was, and any other
+    /// without entities.
     ///
     /// ```
-    /// use cedar_store_proved::{Entities, Entity, TCComputation};
-    /// let child = Entity::with_uid("A::\"a\"").with_parent("A::\"b\"");
-    /// let mut store = Entities::from_entities([child], TCComputation::ComputeNow).unwrap();
-    /// store.upsert_entities([Entity::with_uid("A::\"a\"")], TCComputation::ComputeNow).unwrap();
-    /// assert!(store.ancestors("A::\"a\"").unwrap().is_empty());
+    /// use cedar_store_proved::ast::{Entity, EntityUID, Value};
+    /// use cedar_store_proved::{Entities, Reason, TCComputation};
+    /// let a = EntityUID::from_normalized_str(r#"A::"a""#).unwrap();
+    /// let mut store = Entities::new();
+    /// store.add([Entity::with_uid(a.clone())], TCComputation::ComputeNow).unwrap();
+    /// let other = Entity::with_uid(a).with_attr("k", Value::from(1));
+    /// assert_eq!(store.add([other], TCComputation::ComputeNow).unwrap_err().reason(), Reason::Duplicate);
+    /// assert!(store.is_empty());
     /// ```
-    pub fn upsert_entities(
+    pub fn add(
         &mut self,
         entities: impl IntoIterator<Item = impl Borrow<Entity>>,
         mode: TCComputation,
     ) -> Result<(), Refusal> {
-        let status = self.held.upsert(&Lists::of_entities(entities), mode as u32);
-        self.judged(status)
+        self.changed(Change::Add, entities, mode)
     }
 
-    /// Takes the entities with these uids out; they are no parents either then. Uids that the store lacks change nothing.
-    ///
-    /// Refused as [`Entities::add_entities`] is, but for `Duplicate`; over a computed store by `NotAUid` and `Memory` alone.
-    ///
-    /// ```
-    /// use cedar_store_proved::{Entities, Entity, TCComputation};
-    /// let entities = [Entity::with_uid("A::\"a\"").with_parent("A::\"b\""), Entity::with_uid("A::\"b\"")];
-    /// let mut store = Entities::from_entities(entities, TCComputation::ComputeNow).unwrap();
-    /// store.remove_entities(["A::\"b\""], TCComputation::ComputeNow).unwrap();
-    /// assert!(!store.is_descendant_of("A::\"a\"", "A::\"b\"").unwrap());
-    /// ```
-    pub fn remove_entities<U: AsRef<str>>(
+    /// Puts entities over the store where it stands, as [`Entities::upsert_entities`] does. A refusal leaves what that
+    /// of [`Entities::add`] leaves.
+    pub fn upsert(
+        &mut self,
+        entities: impl IntoIterator<Item = impl Borrow<Entity>>,
+        mode: TCComputation,
+    ) -> Result<(), Refusal> {
+        self.changed(Change::Upsert, entities, mode)
+    }
+
+    /// Takes entities out where the store stands, as [`Entities::remove_entities`] does. `NotAUid` leaves the store as
+    /// it was; any other refusal leaves what that of [`Entities::add`] leaves.
+    pub fn remove<U: AsRef<str>>(
         &mut self,
         uids: impl IntoIterator<Item = U>,
         mode: TCComputation,
@@ -200,30 +259,36 @@ impl Entities {
         Ok(answer)
     }
 
-    /// The entity with a uid, if there is one. Refused by `NotAUid` and `Memory`.
+    /// The entity with a uid, if there is one: one call of the library. Ends the program where memory is refused;
+    /// [`Entities::contains`] does not.
     ///
     /// ```
-    /// use cedar_store_proved::{Dereference, Entities, Entity, TCComputation};
-    /// let entities = [Entity::with_uid("A::\"a\"").with_parent("A::\"b\"")];
-    /// let store = Entities::from_entities(entities, TCComputation::ComputeNow).unwrap();
-    /// let entity = store.entity("A::\"a\"").unwrap().unwrap();
-    /// assert!(entity.is_descendant_of("A::\"b\"").unwrap());
-    /// assert!(matches!(store.entity("A::\"b\"").unwrap(), Dereference::NoSuchEntity));
-    /// let store = store.partial();
-    /// assert!(matches!(store.entity("A::\"b\"").unwrap(), Dereference::Residual(_)));
+    /// use cedar_store_proved::ast::{Entity, EntityUID};
+    /// use cedar_store_proved::entities::{Dereference, Entities, TCComputation};
+    /// let uid = |text| EntityUID::from_normalized_str(text).unwrap();
+    /// let (a, b) = (uid(r#"A::"a""#), uid(r#"A::"b""#));
+    /// let store = Entities::from_entities([Entity::with_uid(a.clone())], TCComputation::ComputeNow).unwrap();
+    /// assert_eq!(store.entity(&a).unwrap().attrs_len(), 0);
+    /// assert!(matches!(store.entity(&b), Dereference::NoSuchEntity));
+    /// assert!(matches!(store.partial().entity(&b), Dereference::Residual(_)));
     /// ```
-    pub fn entity(&self, uid: impl AsRef<str>) -> Result<Dereference<StoredEntity<'_>>, Refusal> {
-        let (status, found) = self.held.entity(uid.as_ref());
-        self.judged(status)?;
-        let named = || EntityUID::written(uid.as_ref().to_owned());
-        Ok(match found {
+    pub fn entity(&self, uid: &EntityUID) -> Dereference<StoredEntity<'_>> {
+        let (status, found) = self.held.entity(uid.as_str());
+        self.judged(status).expect(MEMORY);
+        match found {
             0 => Dereference::NoSuchEntity,
-            1 => Dereference::Residual(named()),
-            _ => Dereference::Data(StoredEntity::of(self, named())),
-        })
+            1 => Dereference::Residual(unknown_of(uid)),
+            _ => Dereference::Data(StoredEntity::of(self, uid.clone())),
+        }
     }
 
-    /// The store, which is partial now: an entity that it lacks is not known then. A copy of it is partial, a slice is not.
+    /// The entity with a uid, if there is one, as [`Entities::entity`] gives it.
+    pub fn stored(&self, uid: &EntityUID) -> Option<StoredEntity<'_>> {
+        self.entity(uid).data()
+    }
+
+    /// The store, which is partial now: an entity that it lacks is not known then. A copy of it is partial, a slice is
+    /// not.
     pub fn partial(mut self) -> Entities {
         self.held.partial();
         self
@@ -234,18 +299,17 @@ impl Entities {
         self.held.is_partial()
     }
 
-    /// Whether an entity is a descendant of a uid, over parents, however many. Refused by `NoEntity` where the store has no entity
-    /// with the first uid, by `NotAUid` and `Memory`.
+    /// Whether an entity is a descendant of a uid, over parents, however many: one call of the library, and no text is
+    /// copied. Refused by `NoEntity` where the store has no entity with the first uid, by `NotAUid` and `Memory`.
     pub fn is_descendant_of(
         &self,
         child: impl AsRef<str>,
         ancestor: impl AsRef<str>,
     ) -> Result<bool, Refusal> {
-        let (status, answer) = self
-            .held
-            .is_descendant_of(child.as_ref(), ancestor.as_ref());
-        self.judged(status)?;
-        Ok(answer)
+        self.answered(
+            self.held
+                .is_descendant_of(child.as_ref(), ancestor.as_ref()),
+        )
     }
 
     /// Whether a uid is a parent of an entity. Refused as [`Entities::is_descendant_of`] is.
@@ -254,9 +318,7 @@ impl Entities {
         child: impl AsRef<str>,
         parent: impl AsRef<str>,
     ) -> Result<bool, Refusal> {
-        let (status, answer) = self.held.is_child_of(child.as_ref(), parent.as_ref());
-        self.judged(status)?;
-        Ok(answer)
+        self.answered(self.held.is_child_of(child.as_ref(), parent.as_ref()))
     }
 
     /// Whether a uid is an ancestor of an entity and, in a store that was computed, no parent of it. Refused as
@@ -266,9 +328,14 @@ impl Entities {
         child: impl AsRef<str>,
         ancestor: impl AsRef<str>,
     ) -> Result<bool, Refusal> {
-        let (status, answer) = self
-            .held
-            .is_indirect_descendant_of(child.as_ref(), ancestor.as_ref());
+        self.answered(
+            self.held
+                .is_indirect_descendant_of(child.as_ref(), ancestor.as_ref()),
+        )
+    }
+
+    // What a call wrote at a status.
+    fn answered<T>(&self, (status, answer): (u32, T)) -> Result<T, Refusal> {
         self.judged(status)?;
         Ok(answer)
     }
@@ -276,14 +343,13 @@ impl Entities {
     // The texts of the answer that a call made, as uids.
     fn named(&self, status: u32) -> Result<Vec<EntityUID>, Refusal> {
         self.judged(status)?;
-        let texts = self.held.answer().into_iter();
-        Ok(texts.map(EntityUID::written).collect())
+        Ok(self.held.answer(EntityUID::written))
     }
 
     // The texts of the answer that a call made.
     fn told(&self, status: u32) -> Result<Vec<String>, Refusal> {
         self.judged(status)?;
-        Ok(self.held.answer())
+        Ok(self.held.answer(str::to_owned))
     }
 
     /// The ancestors of an entity, in the order of uids. Refused as [`Entities::is_descendant_of`] is.
@@ -296,8 +362,8 @@ impl Entities {
         self.named(self.held.parents(uid.as_ref()))
     }
 
-    /// The ancestors of an entity that are, in a store that was computed, no parents of it, in the order of uids. Refused as
-    /// [`Entities::is_descendant_of`] is.
+    /// The ancestors of an entity that are, in a store that was computed, no parents of it, in the order of uids.
+    /// Refused as [`Entities::is_descendant_of`] is.
     pub fn indirect_ancestors(&self, uid: impl AsRef<str>) -> Result<Vec<EntityUID>, Refusal> {
         self.named(self.held.indirect_ancestors(uid.as_ref()))
     }
@@ -307,12 +373,10 @@ impl Entities {
         self.named(self.held.uids())
     }
 
-    /// The entities, each once, in an order that the key picks. Ends the program where memory is refused; [`Entities::uids`] does not.
+    /// The entities, each once, in an order that the key picks. Ends the program where memory is refused;
+    /// [`Entities::uids`] does not.
     pub fn iter(&self) -> Iter<'_> {
-        Iter {
-            store: self,
-            uids: self.uids().expect(MEMORY).into_iter(),
-        }
+        Iter::of(self)
     }
 
     /// The keys of an entity's attributes, in the order of their bytes. Refused as [`Entities::is_descendant_of`] is.
@@ -327,72 +391,115 @@ impl Entities {
 
     /// How many attributes an entity has. Refused as [`Entities::is_descendant_of`] is.
     pub fn attrs_len(&self, uid: impl AsRef<str>) -> Result<usize, Refusal> {
-        let (status, count) = self.held.attrs_len(uid.as_ref());
-        self.judged(status)?;
-        Ok(count)
+        self.answered(self.held.attrs_len(uid.as_ref()))
     }
 
     /// How many tags an entity has. Refused as [`Entities::is_descendant_of`] is.
     pub fn tags_len(&self, uid: impl AsRef<str>) -> Result<usize, Refusal> {
-        let (status, count) = self.held.tags_len(uid.as_ref());
-        self.judged(status)?;
-        Ok(count)
+        self.answered(self.held.tags_len(uid.as_ref()))
     }
 
-    // Whether both stores have equal entities with a uid. One has the same as itself.
-    pub(crate) fn has_equal(&self, uid: &EntityUID, other: &Entities) -> Result<bool, Refusal> {
-        if std::ptr::eq(self, other) {
-            return Ok(true);
+    // The value whose nodes a call told, if it told one.
+    fn valued(&self, given: (u32, bool)) -> Result<Option<PartialValue>, Refusal> {
+        if !self.answered(given)? {
+            return Ok(None);
         }
-        let (status, answer) = self.held.has_equal(uid.as_str(), &other.held);
-        self.judged(status)?;
-        Ok(answer)
+        let value = nodes::read(&self.held.answer_text(), &self.held.nodes());
+        Ok(Some(value.expect("the library writes nodes of a value")))
     }
 
-    // The text of the store, in parts. The call that makes the whole looks through all entities for each, so it is asked for few; the
-    // parents of one entity are listed in the order of uids.
+    /// The attribute of an entity at a key, if it has one: one call of the library, and two that copy it out. Refused
+    /// as [`Entities::is_descendant_of`] is.
+    ///
+    /// ```
+    /// use cedar_store_proved::ast::{Entity, EntityUID, Value};
+    /// use cedar_store_proved::{Entities, TCComputation};
+    /// let a = EntityUID::from_normalized_str(r#"A::"a""#).unwrap();
+    /// let entity = Entity::with_uid(a.clone()).with_attr("k", Value::set([Value::from("x")], None));
+    /// let store = Entities::from_entities([entity], TCComputation::ComputeNow).unwrap();
+    /// assert_eq!(store.get(&a, "k").unwrap().unwrap().to_string(), r#"["x"]"#);
+    /// assert!(store.get(&a, "j").unwrap().is_none());
+    /// ```
+    pub fn get(&self, uid: impl AsRef<str>, key: &str) -> Result<Option<PartialValue>, Refusal> {
+        self.valued(self.held.get(uid.as_ref(), key))
+    }
+
+    /// The tag of an entity at a key, as [`Entities::get`] gives an attribute.
+    pub fn get_tag(
+        &self,
+        uid: impl AsRef<str>,
+        key: &str,
+    ) -> Result<Option<PartialValue>, Refusal> {
+        self.valued(self.held.get_tag(uid.as_ref(), key))
+    }
+
+    // All of an entity. A key that is listed has a value.
+    pub(crate) fn whole(&self, uid: EntityUID) -> Result<Entity, Refusal> {
+        let (mut attrs, mut tags) = (Vec::new(), Vec::new());
+        for key in self.keys(&uid)? {
+            let value = self.get(&uid, &key)?;
+            attrs.extend(value.map(|value| (key, value)));
+        }
+        for key in self.tag_keys(&uid)? {
+            let value = self.get_tag(&uid, &key)?;
+            tags.extend(value.map(|value| (key, value)));
+        }
+        let all = |uids: Vec<EntityUID>| HashSet::from_iter(uids);
+        let above = all(self.indirect_ancestors(&uid)?);
+        let parents = all(self.parents(&uid)?);
+        Ok(Entity::new_with_attr_partial_value(
+            uid, attrs, above, parents, tags,
+        ))
+    }
+
+    /// Whether the entities that two stores have with a uid have the same attributes, tags and ancestors. Refused by
+    /// `NoEntity` where one has none, by `NotAUid` and `Memory`.
+    pub fn entity_equal(&self, uid: impl AsRef<str>, other: &Entities) -> Result<bool, Refusal> {
+        self.answered(self.held.has_equal(uid.as_ref(), &other.held))
+    }
+
+    // The text of the store, in parts. The call that makes the whole looks through all entities for each, so it is
+    // asked for few.
     fn texts(&self) -> Result<Vec<String>, Refusal> {
         if self.len() <= FEW {
             return self.told(self.held.text());
         }
-        let uids = self.uids()?;
-        let below = Entity::with_uid(&uids[0]).with_parents(&uids);
-        let order = Entities::from_entities([below], TCComputation::AssumeAlreadyComputed)?;
-        let ordered = order.parents(&uids[0])?;
-        ordered
-            .iter()
+        let mut uids = self.uids()?;
+        uids.sort();
+        uids.iter()
             .map(|uid| Ok(self.text_of(uid)? + "\n"))
             .collect()
     }
 
     // The text of the entity with a uid.
     pub(crate) fn text_of(&self, uid: &EntityUID) -> Result<String, Refusal> {
-        Ok(self.told(self.held.entity_text(uid.as_str()))?.concat())
+        self.judged(self.held.entity_text(uid.as_str()))?;
+        Ok(self.held.answer_text())
     }
 
-    /// Looks for what is wrong with the store: with its ancestors, and then with the entity that has the least uid of those with a
-    /// fault. Refused by that, from `Cycle` to `ReservedKey`, and by `Memory`; the store stays.
-    ///
-    /// ```
-    /// use cedar_store_proved::{Entities, Entity, Reason, TCComputation};
-    /// let entities = [Entity::with_uid("Action::\"go\"").with_parent("A::\"a\"")];
-    /// let store = Entities::from_entities(entities, TCComputation::ComputeNow).unwrap();
-    /// assert_eq!(store.try_validate().unwrap_err().reason(), Reason::ActionParentIsNotAction);
-    /// ```
-    pub fn try_validate(&self) -> Result<(), Refusal> {
+    /// Looks for what is wrong with the store: with its ancestors, and then with the entity that has the least uid of
+    /// those with a fault. Refused by that, from `Cycle` to `ReservedKey`, and by `Memory`; the store stays.
+    pub fn validate(&self) -> Result<(), Refusal> {
         self.judged(self.held.validate())
     }
 
-    /// The slice of the store at some uids: the entities with these, and those that it has among their ancestors. Refused by
-    /// `NotAUid` and `Memory`.
+    /// The store, unless something is wrong with it, as [`Entities::validate`] says.
     ///
     /// ```
-    /// use cedar_store_proved::{Entities, Entity, TCComputation};
-    /// let entities = [Entity::with_uid("A::\"a\"").with_parent("A::\"b\""), Entity::with_uid("A::\"b\""), Entity::with_uid("A::\"c\"")];
-    /// let store = Entities::from_entities(entities, TCComputation::ComputeNow).unwrap();
-    /// let slice = store.slice(["A::\"a\""]).unwrap();
-    /// assert_eq!(slice.len(), 2);
+    /// use cedar_store_proved::ast::{Entity, EntityUID};
+    /// use cedar_store_proved::entities::{Entities, EntitiesError, TCComputation};
+    /// let uid = |text| EntityUID::from_normalized_str(text).unwrap();
+    /// let entity = Entity::with_uid(uid(r#"Action::"go""#)).with_parent(uid(r#"A::"a""#));
+    /// let store = Entities::from_entities([entity], TCComputation::ComputeNow).unwrap();
+    /// assert!(matches!(store.try_validate(), Err(EntitiesError::ActionParentIsNotAction { .. })));
     /// ```
+    pub fn try_validate(self) -> Result<Entities, EntitiesError> {
+        self.validate()?;
+        Ok(self)
+    }
+
+    /// The slice of the store at some uids: the entities with these, and those that it has among their ancestors.
+    /// Refused by `NotAUid` and `Memory`. The function [`slice`](crate::slice) is that of the crate in Rust.
     pub fn slice<U: AsRef<str>>(
         &self,
         uids: impl IntoIterator<Item = U>,
@@ -405,55 +512,17 @@ impl Entities {
         Entities::of(self.held.copy())
     }
 
-    /// Whether both have the same uids and under each of them entities with the same ancestors.
+    /// Whether both have the same uids and under each of them entities with the same attributes, tags and ancestors,
+    /// and both are partial or neither is. Takes no memory.
     pub fn deep_eq(&self, other: &Entities) -> bool {
         self.held.is_equal(&other.held)
     }
 }
 
-/// The entities of a store, each once.
-#[derive(Clone, Debug)]
-pub struct Iter<'a> {
-    store: &'a Entities,
-    uids: vec::IntoIter<EntityUID>,
+// What stands for an entity that a partial store lacks.
+fn unknown_of(uid: &EntityUID) -> Expr {
+    Expr::unknown(Unknown::new_with_type(uid.as_str(), uid.type_of()))
 }
-
-impl<'a> Iterator for Iter<'a> {
-    type Item = StoredEntity<'a>;
-
-    fn next(&mut self) -> Option<StoredEntity<'a>> {
-        let uid = self.uids.next()?;
-        Some(StoredEntity::of(self.store, uid))
-    }
-
-    fn size_hint(&self) -> (usize, Option<usize>) {
-        self.uids.size_hint()
-    }
-}
-
-impl ExactSizeIterator for Iter<'_> {}
-
-/// The entities of a store that is taken apart, each once, with their parents.
-#[derive(Debug)]
-pub struct IntoIter {
-    store: Entities,
-    uids: vec::IntoIter<EntityUID>,
-}
-
-impl Iterator for IntoIter {
-    type Item = Entity;
-
-    fn next(&mut self) -> Option<Entity> {
-        let stored = StoredEntity::of(&self.store, self.uids.next()?);
-        Some(stored.to_entity().expect(MEMORY))
-    }
-
-    fn size_hint(&self) -> (usize, Option<usize>) {
-        self.uids.size_hint()
-    }
-}
-
-impl ExactSizeIterator for IntoIter {}
 
 impl<'a> IntoIterator for &'a Entities {
     type Item = StoredEntity<'a>;
@@ -469,15 +538,21 @@ impl IntoIterator for Entities {
     type IntoIter = IntoIter;
 
     fn into_iter(self) -> IntoIter {
-        let uids = self.uids().expect(MEMORY).into_iter();
-        IntoIter { store: self, uids }
+        IntoIter::of(self)
     }
 }
 
-impl FromIterator<Entity> for Result<Entities, Refusal> {
+impl FromIterator<Entity> for Result<Entities, EntitiesError> {
     /// The store of entities, computed, as [`Entities::from_entities`] makes it.
     fn from_iter<I: IntoIterator<Item = Entity>>(entities: I) -> Self {
         Entities::from_entities(entities, TCComputation::ComputeNow)
+    }
+}
+
+impl Clone for Entities {
+    /// A copy, which shares the entities. Ends the program where memory is refused; [`Entities::try_clone`] does not.
+    fn clone(&self) -> Entities {
+        self.try_clone().expect(MEMORY)
     }
 }
 

@@ -1,6 +1,8 @@
-//! The closures that the original tests, over stores: who is above whom in graphs without and with cycles, and after an update.
+//! The closures that the original tests, over stores: who is above whom in graphs without and with cycles, and after an
+//! update.
 mod short;
-use cedar_store_proved::{Entities, Reason};
+use cedar_store_proved::entities::Entities;
+use cedar_store_proved::{Reason, Refusal};
 use short::*;
 
 // A graph: what is given, for each entity all that is above it, and for graphs with cycles who stands on one.
@@ -95,7 +97,7 @@ fn acyclic_graphs_are_closed() {
         for (name, due) in graph.above {
             assert_eq!(above(&closed, name), *due, "{name} in {}", graph.given);
         }
-        assert!(closed.try_validate().is_ok());
+        assert!(closed.validate().is_ok());
     }
 }
 
@@ -111,13 +113,14 @@ fn what_is_not_closed_is_found() {
     for graph in ACYCLIC {
         let given = Entities::from_entities(listed(graph.given), ASSUME).unwrap();
         assert_eq!(
-            given.try_validate().unwrap_err().reason(),
+            given.validate().unwrap_err().reason(),
             Reason::NotClosed,
             "{}",
             graph.given
         );
         let enforced = Entities::from_entities(listed(graph.given), ENFORCE);
-        assert_eq!(enforced.unwrap_err().reason(), Reason::NotClosed);
+        let refusal = Refusal::from(enforced.unwrap_err());
+        assert_eq!(refusal.reason(), Reason::NotClosed);
     }
 }
 
@@ -132,10 +135,7 @@ fn what_is_closed_stays_as_it_is() {
         let spec = rows.collect::<Vec<_>>().join(";");
         for mode in [NOW, ENFORCE, ASSUME] {
             let again = Entities::from_entities(listed(&spec), mode).unwrap();
-            assert!(
-                again.deep_eq(&closed) && again.try_validate().is_ok(),
-                "{spec}"
-            );
+            assert!(again.deep_eq(&closed) && again.validate().is_ok(), "{spec}");
         }
     }
 }
@@ -146,7 +146,7 @@ fn cycles_are_found_in_each_mode() {
         refused_for_cycle(Entities::from_entities(listed(given), NOW), on);
         refused_for_cycle(Entities::from_entities(listed(&reversed(given)), NOW), on);
         let assumed = Entities::from_entities(listed(given), ASSUME).unwrap();
-        assert!(assumed.try_validate().is_err());
+        assert!(assumed.validate().is_err());
         assert!(Entities::from_entities(listed(given), ENFORCE).is_err());
     }
 }
@@ -156,7 +156,7 @@ fn a_closed_graph_with_a_cycle_is_refused_for_it() {
     let given = "a abc;b abc;c abc;d abc";
     refused_for_cycle(Entities::from_entities(listed(given), ENFORCE), "abc");
     let assumed = Entities::from_entities(listed(given), ASSUME).unwrap();
-    refused_for_cycle(assumed.try_validate(), "abc");
+    refused_for_cycle(assumed.validate(), "abc");
     refused(
         Entities::from_entities(listed("a b;b b"), ENFORCE),
         Reason::Cycle,
@@ -180,7 +180,7 @@ fn an_update_takes_the_old_way_and_brings_the_new() {
         (above(&after, "c"), above(&after, "d")),
         ("".into(), "".into())
     );
-    assert!(after.try_validate().is_ok());
+    assert!(after.validate().is_ok());
 }
 
 #[test]
@@ -191,6 +191,6 @@ fn an_entity_that_is_its_own_parent_is_refused() {
         "cycle at A::\"s\"",
     );
     let assumed = Entities::from_entities(listed("s s"), ASSUME).unwrap();
-    refused(assumed.try_validate(), Reason::Cycle, "cycle at A::\"s\"");
-    assert!(store("o").try_validate().is_ok());
+    refused(assumed.validate(), Reason::Cycle, "cycle at A::\"s\"");
+    assert!(store("o").validate().is_ok());
 }

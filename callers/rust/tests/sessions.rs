@@ -1,5 +1,5 @@
-//! 10,000 sessions that are drawn: each is run by the program as a whole, and taken line by line through the crate, and both write
-//! the same for each line.
+//! 10,000 sessions that are drawn: each is run by the program as a whole, and taken line by line through the crate, and
+//! both write the same for each line.
 mod session;
 use cedar_store_proved::{run, run_with_key, Key};
 use session::{Dice, Line, Session};

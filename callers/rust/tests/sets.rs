@@ -1,6 +1,7 @@
 //! Worked cases of policy sets: joining, linking, taking out, and merging with and without renaming.
 mod short;
-use cedar_store_proved::{Effect, PolicySet, Reason, Slots};
+use cedar_store_proved::ast::{Effect, PolicySet, PolicySetError, SlotId};
+use cedar_store_proved::{Reason, Slots};
 use short::*;
 
 const LACKS: &str = "the following slots were not provided as arguments: ";
@@ -48,17 +49,19 @@ fn links_bind_exactly_the_slots() {
 #[test]
 fn the_actions_slot_takes_actions_alone() {
     let mut held = set(&["template t par", "template u a"]);
-    let bound = |uid| cedar_store_proved::SlotEnv::action(uid);
-    assert_eq!(
-        held.link("t", "l", bound("A::\"x\"")).unwrap_err().reason(),
-        Reason::Arity
+    let action = |uid| bound(SlotId::action(), uid);
+    let text = format!("arity: {LACKS}?resource,?principal");
+    refused(
+        held.link("t", "l", action("A::\"x\"")),
+        Reason::Arity,
+        &text,
     );
     refused(
-        held.link("u", "l", bound("A::\"x\"")),
+        held.link("u", "l", action("A::\"x\"")),
         Reason::NotAnAction,
         "not an action A::\"x\"",
     );
-    held.link("u", "l", bound("N::Action::\"v\"")).unwrap();
+    held.link("u", "l", action("N::Action::\"v\"")).unwrap();
     assert_eq!(ids(&held), ("t u".into(), "l".into()));
 }
 
@@ -83,7 +86,7 @@ fn what_is_no_template_is_not_linked() {
 #[test]
 fn refusals_of_a_link_come_in_an_order() {
     let mut held = set(&["template u a", "permit s"]);
-    let action = |uid| cedar_store_proved::SlotEnv::action(uid);
+    let action = |uid| bound(SlotId::action(), uid);
     refused(
         held.link("none", "s", action("A::\"x\"")),
         Reason::NoSuchTemplate,
@@ -107,16 +110,6 @@ fn refusals_of_a_link_come_in_an_order() {
         held.link("u", "u", action("Action::\"x\"")),
         Reason::IdConflict,
         "occupied u",
-    );
-    refused(
-        held.link("u", "new", action("x")),
-        Reason::NotAUid,
-        "not a uid",
-    );
-    refused(
-        held.link("u", "new", action("")),
-        Reason::NotAUid,
-        "not a uid",
     );
 }
 
@@ -144,24 +137,24 @@ fn an_id_is_bound_once() {
 fn what_leaves_closes_up() {
     let mut held = set(&["template t p", "link t l p", "link t m p"]);
     refused(
-        held.remove_static("l"),
+        held.remove_static(&id("l")),
         Reason::NotStatic,
         "not a static policy l",
     );
     assert_eq!(ids(&held).1, "l m");
     refused(
-        held.remove_template("t"),
+        held.remove_template(&id("t")),
         Reason::WithLinks,
         "template with links t",
     );
-    held.unlink("l").unwrap();
+    held.unlink(&id("l")).unwrap();
     assert_eq!(ids(&held), ("t".into(), "m".into()));
-    refused(held.unlink("l"), Reason::NoLink, "no link l");
-    refused(held.unlink("t"), Reason::NotALink, "not a link t");
-    held.unlink("m").unwrap();
-    held.remove_template("t").unwrap();
+    refused(held.unlink(&id("l")), Reason::NoLink, "no link l");
+    refused(held.unlink(&id("t")), Reason::NotALink, "not a link t");
+    held.unlink(&id("m")).unwrap();
+    held.remove_template(&id("t")).unwrap();
     refused(
-        held.remove_template("t"),
+        held.remove_template(&id("t")),
         Reason::NoTemplate,
         "no template t",
     );
@@ -172,27 +165,27 @@ fn what_leaves_closes_up() {
 fn each_call_takes_out_its_kind_alone() {
     let mut held = set(&["permit s", "template t p", "link t l p"]);
     refused(
-        held.remove_static("t"),
+        held.remove_static(&id("t")),
         Reason::NoStatic,
         "no static policy t",
     );
     refused(
-        held.remove_static("x"),
+        held.remove_static(&id("x")),
         Reason::NoStatic,
         "no static policy x",
     );
     refused(
-        held.remove_template("s"),
+        held.remove_template(&id("s")),
         Reason::NotATemplate,
         "not a template s",
     );
     refused(
-        held.remove_template("l"),
+        held.remove_template(&id("l")),
         Reason::NotATemplate,
         "not a template l",
     );
-    refused(held.unlink("s"), Reason::NotALink, "not a link s");
-    held.remove_static("s").unwrap();
+    refused(held.unlink(&id("s")), Reason::NotALink, "not a link s");
+    held.remove_static(&id("s")).unwrap();
     assert_eq!(ids(&held), ("t".into(), "l".into()));
 }
 
@@ -202,9 +195,9 @@ fn linking_and_unlinking_leaves_the_set() {
     let before = held.try_clone().unwrap();
     join(&mut held, "link t m pr").unwrap();
     assert!(held != before);
-    held.unlink("m").unwrap();
+    held.unlink(&id("m")).unwrap();
     assert!(held == before);
-    held.unlink("l").unwrap();
+    held.unlink(&id("l")).unwrap();
     join(&mut held, "link t l pr").unwrap();
     assert!(held != before, "the link is the last now");
 }
@@ -218,12 +211,12 @@ fn equal_sets_bind_equal_things_in_equal_orders() {
     assert!(set(&of) != set(&["permit a", "template t r", "link t l r"]));
     let mut bound_to_another = set(&["permit a", "template t p"]);
     bound_to_another
-        .link("t", "l", cedar_store_proved::SlotEnv::principal("A::\"z\""))
+        .link("t", "l", bound(SlotId::principal(), "A::\"z\""))
         .unwrap();
     assert!(set(&of) != bound_to_another);
     let mut forbids = PolicySet::new();
     forbids
-        .add_template("t", Effect::Forbid, Slots::principal())
+        .bind_template("t", Effect::Forbid, Slots::principal())
         .unwrap();
     assert!(forbids != set(&["template t p"]));
 }
@@ -255,11 +248,11 @@ fn a_renamed_template_takes_its_links_along() {
     assert_eq!(renamed(here.merge_policyset(&other, true)), "t>policy0");
     assert_eq!(ids(&here), ("t policy0".into(), "l".into()));
     refused(
-        here.remove_template("policy0"),
+        here.remove_template(&id("policy0")),
         Reason::WithLinks,
         "template with links policy0",
     );
-    here.remove_template("t").unwrap();
+    here.remove_template(&id("t")).unwrap();
     let mut here = set(&["template t p", "link t x p"]);
     assert_eq!(
         renamed(here.merge_policyset(&set(&["template x -"]), true)),
@@ -272,7 +265,7 @@ fn what_both_bind_alike_is_bound_once() {
     let mut here = set(&["template t p", "link t l p"]);
     let mut other = set(&["template t p", "link t l p"]);
     other
-        .link("t", "m", cedar_store_proved::SlotEnv::principal("A::\"y\""))
+        .link("t", "m", bound(SlotId::principal(), "A::\"y\""))
         .unwrap();
     assert_eq!(renamed(here.merge_policyset(&other, false)), "");
     assert_eq!(ids(&here), ("t".into(), "l m".into()));
@@ -307,7 +300,9 @@ fn each_pair_of_kinds_under_one_id() {
             match merged.merge_policyset(&other, false) {
                 Ok(renaming) => assert!(one == two && renaming.is_empty() && merged == set(here)),
                 Err(refusal) => assert!(
-                    one != two && refusal.to_string() == "occupied x" && merged == set(here)
+                    one != two
+                        && refusal == PolicySetError::Occupied { id: id("x") }
+                        && merged == set(here)
                 ),
             }
             let due = if one == two { "" } else { "x>policy0" };
@@ -326,9 +321,10 @@ fn a_hundred_conflicts() {
         words.extend((0..further).map(|_| String::from("permit policy100")));
         let mut here = of(&hundred("permit"));
         let renaming = here.merge_policyset(&of(&words), true).unwrap();
-        let due = |k: usize| (format!("policy{k}"), format!("policy{}", 100 + further + k));
-        assert_eq!(renaming, (0..100).map(due).collect::<Vec<_>>());
-        assert_eq!(here.policies().unwrap().len(), 200 + further);
+        let numbered = |k: usize| id(&format!("policy{k}"));
+        let due = |k: usize| (numbered(k), numbered(100 + further + k));
+        assert!(renaming.into_iter().eq((0..100).map(due)));
+        assert_eq!(here.policies().count(), 200 + further);
     }
 }
 
@@ -364,15 +360,15 @@ fn conflicts_are_found_in_four_passes() {
 fn any_text_is_an_id() {
     let mut held = PolicySet::new();
     for id in ["", " ", "it's \"x\"\n", "é", "\0"] {
-        held.add_static(id, Effect::Permit).unwrap();
+        held.bind_static(id, Effect::Permit).unwrap();
         refused(
-            held.add_static(id, Effect::Permit),
+            held.bind_static(id, Effect::Permit),
             Reason::Occupied,
             &format!("occupied {id}"),
         );
     }
     assert_eq!(
-        held.policies().unwrap(),
+        held.policy_ids().unwrap(),
         ["", " ", "it's \"x\"\n", "é", "\0"]
     );
 }

@@ -1,6 +1,8 @@
 //! Worked cases of stores: building, adding, overwriting, removing and slicing, in the three modes.
 mod short;
-use cedar_store_proved::{is_uid, Entities, Entity, Reason};
+use cedar_store_proved::ast::{Entity, EntityUID};
+use cedar_store_proved::entities::Entities;
+use cedar_store_proved::{is_uid, Reason};
 use short::*;
 
 #[test]
@@ -30,34 +32,24 @@ fn uids_are_read_exactly() {
     ];
     for text in well {
         assert!(is_uid(text).unwrap(), "{text}");
+        assert_eq!(EntityUID::from_normalized_str(text).unwrap(), text);
     }
     for text in ill {
         assert!(!is_uid(text).unwrap(), "{text}");
+        assert!(EntityUID::from_normalized_str(text).is_err(), "{text}");
     }
 }
 
 #[test]
 fn a_text_that_is_no_uid_is_refused_and_leaves_the_store() {
     let mut held = store("a b");
-    refused(
-        held.add_entities(&[Entity::with_uid("A::x")], NOW),
-        Reason::NotAUid,
-        "not a uid",
-    );
-    refused(
-        held.upsert_entities(&[Entity::with_uid(uid("x")).with_parent("b")], NOW),
-        Reason::NotAUid,
-        "not a uid",
-    );
-    refused(
-        held.remove_entities(["a"], NOW),
-        Reason::NotAUid,
-        "not a uid",
-    );
+    refused(held.remove(["a"], NOW), Reason::NotAUid, "not a uid");
+    refused(held.get("a", "k"), Reason::NotAUid, "not a uid");
+    refused(held.ancestors("a"), Reason::NotAUid, "not a uid");
     refused(held.slice(["a"]), Reason::NotAUid, "not a uid");
     refused(held.contains("a"), Reason::NotAUid, "not a uid");
     refused(
-        held.is_descendant_of(&uid("a"), "b"),
+        held.is_descendant_of(uid("a"), "b"),
         Reason::NotAUid,
         "not a uid",
     );
@@ -73,8 +65,11 @@ fn uids_are_ordered_by_basename_then_path_then_eid() {
         "AA::\"aaa\"",
         "A::AA::\"n\"",
     ];
-    let held =
-        Entities::from_entities(&[Entity::with_uid(uid("a")).with_parents(parents)], NOW).unwrap();
+    let held = Entities::from_entities(
+        &[Entity::with_uid(uid("a")).with_parents(parents.map(read))],
+        NOW,
+    )
+    .unwrap();
     let due = [
         "AA::\"aaa\"",
         "AA::\"zzz\"",
@@ -82,8 +77,8 @@ fn uids_are_ordered_by_basename_then_path_then_eid() {
         "B::AA::\"m\"",
         "B::\"aaa\"",
     ];
-    assert_eq!(held.ancestors(&uid("a")).unwrap(), due);
-    assert_eq!(held.parents(&uid("a")).unwrap(), due);
+    assert_eq!(held.ancestors(uid("a")).unwrap(), due);
+    assert_eq!(held.parents(uid("a")).unwrap(), due);
 }
 
 #[test]
@@ -140,10 +135,10 @@ fn cycles_are_refused() {
 fn a_refused_store_is_empty_and_goes_on() {
     let mut held = store("a b");
     let copy = held.try_clone().unwrap();
-    refused_for_cycle(held.add_entities(listed("b a"), NOW), "ab");
+    refused_for_cycle(held.add(listed("b a"), NOW), "ab");
     assert!(held.is_empty());
     assert_eq!((copy.len(), above(&copy, "a")), (1, "b".into()));
-    held.add_entities(listed("b a"), NOW).unwrap();
+    held.add(listed("b a"), NOW).unwrap();
     assert_eq!(above(&held, "b"), "a");
 }
 
@@ -185,7 +180,7 @@ fn what_is_given_may_be_enforced_or_assumed() {
     );
     let held = Entities::from_entities(listed("a b;b c"), ASSUME).unwrap();
     assert_eq!(above(&held, "a"), "b");
-    refused(held.try_validate(), Reason::NotClosed, text);
+    refused(held.validate(), Reason::NotClosed, text);
     assert_eq!(held.len(), 2);
     let closed = Entities::from_entities(listed("a bc;b c"), ENFORCE).unwrap();
     assert!(closed.deep_eq(&store("a b;b c")) && closed.try_validate().is_ok());
@@ -287,19 +282,19 @@ fn a_chain_of_five_hundred() {
         .collect();
     let held = Entities::from_entities(&chain, NOW).unwrap();
     let count: usize = (0..500)
-        .map(|i| held.ancestors(&uid(i)).unwrap().len())
+        .map(|i| held.ancestors(uid(i)).unwrap().len())
         .sum();
     assert_eq!(count, 124_750);
-    assert!(held.is_descendant_of(&uid(0), &uid(499)).unwrap());
-    assert!(!held.is_descendant_of(&uid(499), &uid(0)).unwrap());
-    assert!(held.try_validate().is_ok());
+    assert!(held.is_descendant_of(uid(0), uid(499)).unwrap());
+    assert!(!held.is_descendant_of(uid(499), uid(0)).unwrap());
+    assert!(held.validate().is_ok());
 }
 
 #[test]
 fn actions_stand_below_actions_alone() {
     let one = |child: &str, parents: &[&str]| {
         Entities::from_entities(
-            &[Entity::with_uid(child).with_parents(parents.iter().copied())],
+            &[Entity::with_uid(read(child)).with_parents(parents.iter().map(|uid| read(uid)))],
             NOW,
         )
         .unwrap()
@@ -317,7 +312,7 @@ fn actions_stand_below_actions_alone() {
     refused(both, Reason::ActionParentIsNotAction, text);
     assert!(one(view, &[read]).is_ok() && one("User::\"x\"", &[read]).is_ok());
     refused(
-        one("N::Action::\"v\"", &[&uid("a")]),
+        one("N::Action::\"v\"", &["A::\"a\""]),
         Reason::ActionParentIsNotAction,
         "ancestor of an action that is none N::Action::\"v\" A::\"a\"",
     );
@@ -326,10 +321,10 @@ fn actions_stand_below_actions_alone() {
 #[test]
 fn the_fault_of_the_least_uid_is_named() {
     let entities = ["b", "a"]
-        .map(|name| Entity::with_uid(format!("Action::\"{name}\"")).with_parent(uid("x")));
+        .map(|name| Entity::with_uid(read(&format!("Action::\"{name}\""))).with_parent(uid("x")));
     let held = Entities::from_entities(&entities, NOW).unwrap();
     let text = "ancestor of an action that is none Action::\"a\" A::\"x\"";
-    refused(held.try_validate(), Reason::ActionParentIsNotAction, text);
+    refused(held.validate(), Reason::ActionParentIsNotAction, text);
 }
 
 #[test]
@@ -351,21 +346,18 @@ fn slices_hold_what_is_asked_for_and_what_is_above() {
 #[test]
 fn what_is_not_there_has_no_ancestors() {
     let held = store("a b");
-    refused(held.ancestors(&uid("b")), Reason::NoEntity, "no entity");
-    refused(held.parents(&uid("z")), Reason::NoEntity, "no entity");
+    refused(held.ancestors(uid("b")), Reason::NoEntity, "no entity");
+    refused(held.parents(uid("z")), Reason::NoEntity, "no entity");
     refused(
-        held.is_descendant_of(&uid("b"), &uid("c")),
+        held.is_descendant_of(uid("b"), uid("c")),
         Reason::NoEntity,
         "no entity",
     );
-    assert!(held.entity(uid("b")).unwrap().data().is_none());
-    let entity = held.entity(uid("a")).unwrap().unwrap();
+    assert!(held.entity(&uid("b")).data().is_none() && held.stored(&uid("b")).is_none());
+    let entity = held.entity(&uid("a")).unwrap();
     assert_eq!(*entity.uid(), uid("a"));
-    assert_eq!(entity.ancestors().unwrap(), uids("b"));
-    assert_eq!(entity.parents().unwrap(), uids("b"));
-    assert!(
-        entity.is_descendant_of(uid("b")).unwrap() && !entity.is_descendant_of(uid("a")).unwrap()
-    );
+    assert!(entity.ancestors().eq(&uids("b")) && entity.parents().eq(&uids("b")));
+    assert!(entity.is_descendant_of(&uid("b")) && !entity.is_descendant_of(&uid("a")));
 }
 
 #[test]

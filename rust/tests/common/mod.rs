@@ -1,10 +1,7 @@
-//! What the tests make things with: uids, entities, policies and templates by short words, and drawn numbers.
+//! What the tests make things with: uids, entities, ids and bindings by short words, and drawn numbers.
 #![allow(dead_code, reason = "each file of tests takes what it needs")]
 
-use cedar_store::ast::{
-    ActionConstraint, Annotations, Effect, Entity, EntityUID, Expr, PolicyID, PrincipalConstraint, ResourceConstraint,
-    SlotEnv, SlotId, StaticPolicy, Template,
-};
+use cedar_store::ast::{Entity, EntityUID, PolicyID, SlotEnv, SlotId};
 use std::collections::HashMap;
 use std::sync::Arc;
 
@@ -36,55 +33,6 @@ pub fn graph(rows: &[(&str, &[&str])]) -> HashMap<EntityUID, Entity> {
 
 pub fn id(text: &str) -> PolicyID {
     PolicyID::from_string(text)
-}
-
-/// A permit of everything, with a clause.
-pub fn permit(name: &str, clause: Option<Expr>) -> StaticPolicy {
-    StaticPolicy::new(
-        id(name),
-        None,
-        Annotations::new(),
-        Effect::Permit,
-        PrincipalConstraint::any(),
-        ActionConstraint::any(),
-        ResourceConstraint::any(),
-        clause,
-    )
-    .expect("a clause without slots")
-}
-
-/// A template with these constraints and no clause.
-pub fn template(name: &str, effect: Effect, principal: PrincipalConstraint, resource: ResourceConstraint) -> Template {
-    Template::new(
-        id(name),
-        None,
-        Annotations::new(),
-        effect,
-        principal,
-        ActionConstraint::any(),
-        resource,
-        None,
-    )
-}
-
-/// A template whose principal is a slot.
-pub fn principal_template(name: &str) -> Template {
-    template(
-        name,
-        Effect::Permit,
-        PrincipalConstraint::is_eq_slot(),
-        ResourceConstraint::any(),
-    )
-}
-
-/// A template whose resource is a slot.
-pub fn resource_template(name: &str) -> Template {
-    template(
-        name,
-        Effect::Forbid,
-        PrincipalConstraint::any(),
-        ResourceConstraint::is_eq_slot(),
-    )
 }
 
 /// What binds the principal alone.

@@ -1,8 +1,10 @@
 //! Lines of the program, drawn; and the same lines taken one by one through the crate.
-use cedar_store_proved::{
-    Dereference, Effect, Entities, Entity, PolicySet, Reason, Refusal, SlotEnv, Slots,
-    TCComputation,
+use cedar_store_proved::ast::{
+    ActionConstraint, Annotations, Effect, Entity, EntityUID, PolicyID, PolicySet, PolicySetError,
+    PrincipalConstraint, ResourceConstraint, SlotEnv, SlotId, StaticPolicy, Template,
 };
+use cedar_store_proved::entities::{Dereference, Entities, TCComputation};
+use cedar_store_proved::{Reason, Refusal, Slots};
 use std::fmt;
 
 /// Numbers that look drawn, and are the same for the same seed.
@@ -81,8 +83,10 @@ pub enum Line {
     Remove(Vec<Uid>, TCComputation),
     Slice(Vec<Uid>),
     Anc(Uid),
-    Static(&'static str, bool),
-    Template(&'static str, &'static str, Slots),
+    /// An id, whether it permits, and whether the crate is given a body.
+    Static(&'static str, bool, bool),
+    /// An id, the word for slots, these, and whether the crate is given a body.
+    Template(&'static str, &'static str, Slots, bool),
     Link(&'static str, &'static str, [Option<Uid>; 3]),
     Unlink(&'static str),
     Other,
@@ -136,10 +140,10 @@ impl Line {
     fn of_sets(dice: &mut Dice) -> Line {
         let id = dice.one(&IDS);
         match dice.below(14) {
-            0..=1 => Line::Static(id, dice.below(2) == 0),
+            0..=1 => Line::Static(id, dice.below(2) == 0, dice.below(2) == 0),
             2..=4 => {
                 let (word, slots) = dice.one(&TEMPLATES);
-                Line::Template(dice.one(&IDS[1..5]), word, slots)
+                Line::Template(dice.one(&IDS[1..5]), word, slots, dice.below(2) == 0)
             }
             5..=8 => Line::Link(dice.one(&IDS[1..5]), id, bindings(dice)),
             9 => Line::Unlink(id),
@@ -175,9 +179,9 @@ impl fmt::Display for Line {
             Line::Remove(uids, _) => write!(f, "remove{}", tabbed(uids)),
             Line::Slice(uids) => write!(f, "slice{}", tabbed(uids)),
             Line::Anc(uid) => write!(f, "anc\t{uid}"),
-            Line::Static(id, true) => write!(f, "static\t{id}\tpermit"),
-            Line::Static(id, false) => write!(f, "static\t{id}\tforbid"),
-            Line::Template(id, word, _) => write!(f, "template\t{id}\t{word}"),
+            Line::Static(id, true, _) => write!(f, "static\t{id}\tpermit"),
+            Line::Static(id, false, _) => write!(f, "static\t{id}\tforbid"),
+            Line::Template(id, word, ..) => write!(f, "template\t{id}\t{word}"),
             Line::Link(template, id, values) => {
                 write!(f, "link\t{template}\t{id}")?;
                 let named = ["principal", "action", "resource"].into_iter().zip(values);
@@ -210,8 +214,13 @@ fn escaped(id: &str) -> String {
     id.escape_debug().to_string()
 }
 
+fn uid(text: Uid) -> EntityUID {
+    EntityUID::from_normalized_str(text).unwrap()
+}
+
 // A refusal as the program writes it.
-fn told(refusal: Refusal) -> String {
+fn told(refusal: impl Into<Refusal>) -> String {
+    let refusal = refusal.into();
     let text = refusal.to_string();
     let named = |words: &str| {
         text.strip_prefix(words)
@@ -236,8 +245,26 @@ fn told(refusal: Refusal) -> String {
     }
 }
 
-fn well(given: Result<(), Refusal>) -> String {
-    given.map_or_else(told, |()| String::from("ok\n"))
+fn well<T, E: Into<Refusal>>(given: Result<T, E>) -> String {
+    given.map_or_else(told, |_| String::from("ok\n"))
+}
+
+// The template that asks of three to be equal to what these slots are bound to, as the program's has it.
+fn whole(id: &str, effect: Effect, slots: Slots) -> Template {
+    let principal = match slots.principal {
+        true => PrincipalConstraint::is_eq_slot(),
+        false => PrincipalConstraint::any(),
+    };
+    let action = match slots.action {
+        true => ActionConstraint::is_eq_slot(),
+        false => ActionConstraint::any(),
+    };
+    let resource = match slots.resource {
+        true => ResourceConstraint::is_eq_slot(),
+        false => ResourceConstraint::any(),
+    };
+    let (id, none) = (PolicyID::from_string(id), Annotations::new());
+    Template::new(id, None, none, effect, principal, action, resource, None)
 }
 
 fn tabbed(word: &str, fields: impl IntoIterator<Item = impl fmt::Display>) -> String {
@@ -264,7 +291,10 @@ impl Session {
         let rows: Vec<Entity> = self
             .store
             .iter()
-            .map(|entity| Entity::with_uid(entity.uid()).with_parents(entity.ancestors().unwrap()))
+            .map(|entity| {
+                let parents = entity.ancestors().cloned();
+                Entity::with_uid(entity.uid().clone()).with_parents(parents)
+            })
             .collect();
         assert_eq!(rows.len(), self.store.len());
         for mode in MODES {
@@ -282,31 +312,38 @@ impl Session {
 
     // A removal leaves the same in each mode.
     fn removed(&mut self, uids: &[Uid], mode: TCComputation) -> Result<(), Refusal> {
-        let mut computed = self.store.try_clone()?;
-        computed.remove_entities(uids, TCComputation::ComputeNow)?;
-        self.store.remove_entities(uids, mode)?;
+        let computed = self.store.try_clone()?;
+        let gone = uids.iter().map(|text| uid(text));
+        let computed = computed.remove_entities(gone, TCComputation::ComputeNow)?;
+        self.store.remove(uids, mode)?;
         assert!(computed.deep_eq(&self.store));
         Ok(())
     }
 
     // The ancestors of an entity are those that it is a descendant of, and its parents are among them.
     fn asked(&self, uid: Uid) -> String {
-        let Dereference::Data(entity) = self.store.entity(uid).unwrap() else {
-            assert_eq!(
-                self.store.ancestors(uid).unwrap_err().reason(),
-                Reason::NoEntity
-            );
+        let Dereference::Data(entity) = self.store.entity(&self::uid(uid)) else {
+            let refusal = self.store.ancestors(uid).unwrap_err();
+            assert_eq!(refusal.reason(), Reason::NoEntity);
             return String::from("no entity\n");
         };
-        let (ancestors, parents) = (entity.ancestors().unwrap(), entity.parents().unwrap());
-        let far = entity.indirect_ancestors().unwrap();
-        for other in UIDS {
-            let above = ancestors.iter().any(|one| one == other);
-            assert_eq!(entity.is_descendant_of(other).unwrap(), above);
-            let is_child = entity.is_child_of(other).unwrap();
-            assert_eq!(is_child, parents.iter().any(|one| one == other));
-            let is_far_below = entity.is_indirect_descendant_of(other).unwrap();
-            assert_eq!(is_far_below, far.iter().any(|one| one == other));
+        let ancestors: Vec<&EntityUID> = entity.ancestors_in_order().collect();
+        assert!(self
+            .store
+            .ancestors(uid)
+            .unwrap()
+            .iter()
+            .eq(ancestors.iter().copied()));
+        for other in UIDS.map(self::uid) {
+            let above = ancestors.contains(&&other);
+            assert_eq!(entity.is_descendant_of(&other), above);
+            let is_child = entity.is_child_of(&other);
+            assert_eq!(is_child, entity.parents().any(|one| *one == other));
+            let is_far_below = entity.is_indirect_descendant_of(&other);
+            assert_eq!(
+                is_far_below,
+                entity.indirect_ancestors().any(|one| *one == other)
+            );
             assert_eq!(above, is_child || is_far_below);
         }
         tabbed("anc", ancestors)
@@ -315,19 +352,16 @@ impl Session {
     fn entities(&mut self, line: &Line) -> Option<String> {
         let now = TCComputation::ComputeNow;
         let given = match line {
-            Line::Ent(uid, parents) => {
+            Line::Ent(own, parents) => {
+                let parents = parents.iter().map(|text| uid(text));
                 self.waiting
-                    .push(Entity::with_uid(*uid).with_parents(parents.iter().copied()));
+                    .push(Entity::with_uid(uid(own)).with_parents(parents));
                 return Some(String::new());
             }
             Line::Anc(uid) => return Some(self.asked(uid)),
             Line::Build => self.built(),
-            Line::Add => self
-                .store
-                .add_entities(std::mem::take(&mut self.waiting), now),
-            Line::Upsert => self
-                .store
-                .upsert_entities(std::mem::take(&mut self.waiting), now),
+            Line::Add => self.store.add(std::mem::take(&mut self.waiting), now),
+            Line::Upsert => self.store.upsert(std::mem::take(&mut self.waiting), now),
             Line::Remove(uids, mode) => self.removed(uids, *mode),
             Line::Slice(uids) => self.store.slice(uids).map(|slice| self.store = slice),
             _ => return None,
@@ -341,7 +375,7 @@ impl Session {
             Ok(renaming) => {
                 let ids = renaming
                     .iter()
-                    .flat_map(|(old, new)| [escaped(old), escaped(new)]);
+                    .flat_map(|(old, new)| [old.to_string(), new.to_string()]);
                 tabbed("ok", ids)
             }
             Err(refusal) => {
@@ -351,29 +385,52 @@ impl Session {
         }
     }
 
+    fn add_static(
+        &mut self,
+        id: &str,
+        permits: bool,
+        is_whole: bool,
+    ) -> Result<(), PolicySetError> {
+        let effect = match permits {
+            true => Effect::Permit,
+            false => Effect::Forbid,
+        };
+        if !is_whole {
+            return self.set.bind_static(id, effect);
+        }
+        let policy = StaticPolicy::try_from(whole(id, effect, Slots::none()));
+        let policy = policy.expect("no slot stands in it");
+        match id.len() % 2 {
+            0 => self.set.add_static(policy),
+            _ => self.set.add(policy.into()),
+        }
+    }
+
     fn policies(&mut self, line: &Line) -> Option<String> {
-        let ids = |ids: Vec<String>| ids.into_iter().map(|id| escaped(&id)).collect::<Vec<_>>();
         Some(match line {
-            Line::Static(id, true) => well(self.set.add_static(id, Effect::Permit)),
-            Line::Static(id, false) => well(self.set.add_static(id, Effect::Forbid)),
-            Line::Template(id, _, slots) => well(self.set.add_template(id, Effect::Permit, *slots)),
+            Line::Static(id, permits, is_whole) => well(self.add_static(id, *permits, *is_whole)),
+            Line::Template(id, _, slots, false) => {
+                well(self.set.bind_template(id, Effect::Permit, *slots))
+            }
+            Line::Template(id, _, slots, true) => {
+                well(self.set.add_template(whole(id, Effect::Permit, *slots)))
+            }
             Line::Link(template, id, [principal, action, resource]) => {
-                let values = SlotEnv {
-                    principal: *principal,
-                    action: *action,
-                    resource: *resource,
-                };
+                let bound = SlotId::ALL.into_iter().zip([principal, action, resource]);
+                let values: SlotEnv = bound
+                    .filter_map(|(slot, text)| text.map(|text| (slot, uid(text))))
+                    .collect();
                 well(self.set.link(template, id, values))
             }
-            Line::Unlink(id) => well(self.set.unlink(id)),
+            Line::Unlink(id) => well(self.set.unlink(&PolicyID::from_string(id))),
             Line::Other => {
                 std::mem::swap(&mut self.set, &mut self.aside);
                 String::from("ok\n")
             }
             Line::Merge(rename) => self.merged(*rename),
             Line::Ids => {
-                let bodies = tabbed("bodies", ids(self.set.bodies().unwrap()));
-                bodies + &tabbed("policies", ids(self.set.policies().unwrap()))
+                let bodies = tabbed("bodies", self.set.all_templates().map(|body| body.id()));
+                bodies + &tabbed("policies", self.set.policies().map(|policy| policy.id()))
             }
             Line::Empty => String::new(),
             _ => return None,

@@ -1,0 +1,147 @@
+//! Annotations of policies and templates: keys and texts that no decision depends on.
+use crate::name::{escaped, AnyId, Loc};
+use std::cmp::Ordering;
+use std::collections::{btree_map, BTreeMap};
+use std::fmt;
+use std::hash::{Hash, Hasher};
+
+/// The value of an annotation: a text, and where it stands, which no comparison looks at.
+#[derive(Clone, Debug, Default)]
+pub struct Annotation {
+    /// The text.
+    pub val: String,
+    /// Where it stands, if that is known.
+    pub loc: Option<Loc>,
+}
+
+impl Annotation {
+    /// The annotation with a text, or with the empty one.
+    pub fn with_optional_value(val: Option<String>, loc: Option<Loc>) -> Annotation {
+        let val = val.unwrap_or_default();
+        Annotation { val, loc }
+    }
+}
+
+impl AsRef<str> for Annotation {
+    fn as_ref(&self) -> &str {
+        &self.val
+    }
+}
+
+impl PartialEq for Annotation {
+    fn eq(&self, other: &Annotation) -> bool {
+        self.val == other.val
+    }
+}
+
+impl Eq for Annotation {}
+
+impl PartialOrd for Annotation {
+    fn partial_cmp(&self, other: &Annotation) -> Option<Ordering> {
+        Some(self.cmp(other))
+    }
+}
+
+impl Ord for Annotation {
+    fn cmp(&self, other: &Annotation) -> Ordering {
+        self.val.cmp(&other.val)
+    }
+}
+
+impl Hash for Annotation {
+    fn hash<H: Hasher>(&self, state: &mut H) {
+        self.val.hash(state);
+    }
+}
+
+impl fmt::Display for Annotation {
+    fn fmt(&self, f: &mut fmt::Formatter<'_>) -> fmt::Result {
+        write!(f, "\"{}\"", escaped(&self.val))
+    }
+}
+
+/// The annotations of a policy or a template, in the order of their keys.
+///
+/// ```
+/// use cedar_store_proved::ast::{Annotation, Annotations, AnyId};
+/// let key = AnyId::from_normalized_str("owner").unwrap();
+/// let alice = Annotation::with_optional_value(Some("alice".into()), None);
+/// let annotations = Annotations::from_iter([(key.clone(), alice.clone())]);
+/// assert_eq!(annotations.get(&key), Some(&alice));
+/// assert_eq!(annotations.to_string(), "@owner(\"alice\")\n");
+/// ```
+#[derive(Clone, Debug, Default, PartialEq, Eq, PartialOrd, Ord, Hash)]
+pub struct Annotations {
+    pairs: BTreeMap<AnyId, Annotation>,
+}
+
+/// Annotations with their keys, lent.
+pub type Iter<'a> = btree_map::Iter<'a, AnyId, Annotation>;
+
+/// Annotations with their keys, handed over.
+pub type IntoIter = btree_map::IntoIter<AnyId, Annotation>;
+
+impl Annotations {
+    /// No annotation.
+    pub fn new() -> Annotations {
+        Annotations::default()
+    }
+
+    /// Those of some pairs, of which the last with a key counts.
+    pub fn try_from_iter(pairs: impl IntoIterator<Item = (AnyId, Annotation)>) -> Annotations {
+        pairs.into_iter().collect()
+    }
+
+    /// The annotation at a key.
+    pub fn get(&self, key: &AnyId) -> Option<&Annotation> {
+        self.pairs.get(key)
+    }
+
+    /// All of them, with their keys, in the order of these.
+    pub fn iter(&self) -> Iter<'_> {
+        self.pairs.iter()
+    }
+
+    /// Whether there is none.
+    pub fn is_empty(&self) -> bool {
+        self.pairs.is_empty()
+    }
+}
+
+impl From<BTreeMap<AnyId, Annotation>> for Annotations {
+    fn from(pairs: BTreeMap<AnyId, Annotation>) -> Annotations {
+        Annotations { pairs }
+    }
+}
+
+impl FromIterator<(AnyId, Annotation)> for Annotations {
+    fn from_iter<I: IntoIterator<Item = (AnyId, Annotation)>>(pairs: I) -> Annotations {
+        let pairs = pairs.into_iter().collect();
+        Annotations { pairs }
+    }
+}
+
+impl IntoIterator for Annotations {
+    type Item = (AnyId, Annotation);
+    type IntoIter = IntoIter;
+
+    fn into_iter(self) -> IntoIter {
+        self.pairs.into_iter()
+    }
+}
+
+impl<'a> IntoIterator for &'a Annotations {
+    type Item = (&'a AnyId, &'a Annotation);
+    type IntoIter = Iter<'a>;
+
+    fn into_iter(self) -> Iter<'a> {
+        self.iter()
+    }
+}
+
+impl fmt::Display for Annotations {
+    fn fmt(&self, f: &mut fmt::Formatter<'_>) -> fmt::Result {
+        self.iter()
+            .try_for_each(|(key, annotation)| writeln!(f, "@{key}({annotation})"))
+    }
+}

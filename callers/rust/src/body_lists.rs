@@ -1,0 +1,176 @@
+//! Bodies of policies as they cross: one text, and the parts of it that constraints, annotations and a clause are; and
+//! constraints as they come back.
+use crate::action::ActionConstraint;
+use crate::annotation::Annotation;
+use crate::body::TemplateBody;
+use crate::lists::{Lists, Span};
+use crate::name::{AnyId, Name};
+use crate::nodes::{Draft, Node};
+use crate::scope::{EntityReference, PrincipalOrResourceConstraint};
+use crate::uid::{EntityType, EntityUID};
+use std::sync::Arc;
+
+/// What is asked of the principal, the action or the resource, by a kind, with the parts that the kind has.
+#[repr(C)]
+#[derive(Clone, Copy, Default)]
+pub(crate) struct Scope {
+    kind: u32,
+    uid: Span,
+    ty: Span,
+}
+
+/// Where the key and the value of an annotation stand.
+#[repr(C)]
+#[derive(Clone, Copy)]
+pub(crate) struct Annotated {
+    key: Span,
+    value: Span,
+}
+
+/// The effect, and what is asked of the three.
+#[repr(C)]
+pub(crate) struct Head {
+    effect: u32,
+    principal: Scope,
+    action: Scope,
+    resource: Scope,
+}
+
+/// A body: its head, its annotations and the nodes of its clause, over one text; the uids are those of a list that the
+/// action has to be in.
+pub(crate) struct BodyLists {
+    pub(crate) lists: Lists,
+    pub(crate) head: Head,
+    pub(crate) annotations: Vec<Annotated>,
+    pub(crate) nodes: Vec<Node>,
+}
+
+const ANY: u32 = 0;
+const EQ: u32 = 1;
+const EQ_SLOT: u32 = 2;
+const IN: u32 = 3;
+const IN_SLOT: u32 = 4;
+const IS: u32 = 5;
+const IS_IN: u32 = 6;
+const IS_IN_SLOT: u32 = 7;
+
+/// Whether what is asked by a kind has texts.
+pub(crate) fn has_texts(kind: u32) -> bool {
+    !matches!(kind, ANY | EQ_SLOT | IN_SLOT)
+}
+
+// The kind with a uid, or that with the slot, as the reference is, with its parts.
+fn referring(lists: &mut Lists, reference: &EntityReference, kinds: (u32, u32)) -> Scope {
+    let (with_uid, with_slot) = kinds;
+    let (kind, uid) = match reference {
+        EntityReference::EUID(euid) => (with_uid, lists.part(euid.as_str())),
+        EntityReference::Slot(_) => (with_slot, Span::default()),
+    };
+    let ty = Span::default();
+    Scope { kind, uid, ty }
+}
+
+fn scope(lists: &mut Lists, asked: &PrincipalOrResourceConstraint) -> Scope {
+    use PrincipalOrResourceConstraint as Asked;
+    let named = |lists: &mut Lists, ty: &EntityType| lists.part(ty.name().as_str());
+    match asked {
+        Asked::Any => Scope::default(),
+        Asked::Eq(reference) => referring(lists, reference, (EQ, EQ_SLOT)),
+        Asked::In(reference) => referring(lists, reference, (IN, IN_SLOT)),
+        Asked::Is(ty) => Scope {
+            kind: IS,
+            ty: named(lists, ty),
+            ..Scope::default()
+        },
+        Asked::IsIn(ty, reference) => Scope {
+            ty: named(lists, ty),
+            ..referring(lists, reference, (IS_IN, IS_IN_SLOT))
+        },
+    }
+}
+
+// What is asked of the action. The uids of a list become those of the lists.
+fn action(lists: &mut Lists, asked: &ActionConstraint) -> Scope {
+    let mut uid = Span::default();
+    let kind = match asked {
+        ActionConstraint::Any => ANY,
+        ActionConstraint::Eq(euid) => {
+            uid = lists.part(euid.as_str());
+            EQ
+        }
+        ActionConstraint::In(euids) => {
+            for euid in euids {
+                lists.put(euid.as_str());
+            }
+            IN
+        }
+        ActionConstraint::EqSlot(_) => EQ_SLOT,
+        ActionConstraint::InSlot(_) => IN_SLOT,
+    };
+    let ty = Span::default();
+    Scope { kind, uid, ty }
+}
+
+impl BodyLists {
+    /// A body, but for its id.
+    pub(crate) fn of(body: &TemplateBody) -> BodyLists {
+        let mut lists = Lists::default();
+        let head = Head {
+            effect: body.effect() as u32,
+            principal: scope(&mut lists, body.principal_constraint().as_inner()),
+            action: action(&mut lists, body.action_constraint()),
+            resource: scope(&mut lists, body.resource_constraint().as_inner()),
+        };
+        let annotation = |(key, annotation): (&AnyId, &Annotation)| {
+            let key = lists.part(key.as_ref());
+            let value = lists.part(&annotation.val);
+            Annotated { key, value }
+        };
+        let annotations = body.annotations().map(annotation).collect();
+        let mut draft = Draft::over(&mut lists);
+        if let Some(clause) = body.non_scope_constraints() {
+            draft.clause(clause);
+        }
+        let nodes = draft.into_nodes();
+        BodyLists {
+            lists,
+            head,
+            annotations,
+            nodes,
+        }
+    }
+}
+
+fn read_uid(text: &str) -> Arc<EntityUID> {
+    Arc::new(EntityUID::written(text))
+}
+
+/// What is asked of a principal or a resource, of a kind and its texts, or nothing where they are none. The library
+/// tells no such.
+pub(crate) fn read_scope(kind: u32, texts: &[String]) -> Option<PrincipalOrResourceConstraint> {
+    use PrincipalOrResourceConstraint as Asked;
+    let named = |ty: &str| Arc::new(EntityType::from(Name::written(ty)));
+    Some(match (kind, texts) {
+        (ANY, []) => Asked::any(),
+        (EQ, [uid]) => Asked::is_eq(read_uid(uid)),
+        (EQ_SLOT, []) => Asked::is_eq_slot(),
+        (IN, [uid]) => Asked::is_in(read_uid(uid)),
+        (IN_SLOT, []) => Asked::is_in_slot(),
+        (IS, [ty]) => Asked::is_entity_type(named(ty)),
+        (IS_IN, [ty, uid]) => Asked::is_entity_type_in(named(ty), read_uid(uid)),
+        (IS_IN_SLOT, [ty]) => Asked::is_entity_type_in_slot(named(ty)),
+        _ => return None,
+    })
+}
+
+/// What is asked of the action, in the same way.
+pub(crate) fn read_action(kind: u32, texts: &[String]) -> Option<ActionConstraint> {
+    Some(match (kind, texts) {
+        (ANY, []) => ActionConstraint::any(),
+        (EQ, [uid]) => ActionConstraint::Eq(read_uid(uid)),
+        (EQ_SLOT, []) => ActionConstraint::is_eq_slot(),
+        (IN, uids) => ActionConstraint::In(uids.iter().map(|uid| read_uid(uid)).collect()),
+        (IN_SLOT, []) => ActionConstraint::is_in_slot(),
+        _ => return None,
+    })
+}

@@ -1,0 +1,606 @@
+//! Why calls are refused, by the names that the crate in Rust has: a type for each kind of call. Each has one variant
+//! more, `Refused`, for what that crate does not refuse.
+use crate::ffi;
+use crate::policy::PolicyID;
+use crate::refusal::{Reason, Refusal};
+use crate::slots::SlotId;
+use crate::uid::EntityUID;
+use std::error::Error;
+use std::fmt;
+use std::fmt::{Debug, Display};
+
+/// Why a text was not read.
+#[derive(Clone, Debug, PartialEq, Eq)]
+pub enum ParseErrors {
+    /// The text is no uid's, though what stands before its first `::"` is a name, if anything does.
+    NotNormalized,
+    /// The text is no identifier, or no name, as the call asked for; of a uid, what stands before the first `::"` is no
+    /// name.
+    InvalidName,
+    /// Memory was refused.
+    Refused(Refusal),
+}
+
+impl ParseErrors {
+    /// Why a text is no uid's.
+    pub(crate) fn of_uid(text: &str) -> ParseErrors {
+        let is_name = |ty: &str| !matches!(ffi::make_uid(ty, ""), Err(27));
+        match text.split_once("::\"") {
+            Some((ty, _)) if text.ends_with('"') && !is_name(ty) => ParseErrors::InvalidName,
+            _ => ParseErrors::NotNormalized,
+        }
+    }
+}
+
+/// Three keys that show that ancestors are not closed: `child` has an edge to `parent` and `parent` has one to
+/// `grandparent`, but `child` has none to `grandparent`.
+#[derive(Clone, Debug, PartialEq, Eq)]
+pub struct MissingTcEdge<K> {
+    /// The key that lacks an edge.
+    pub child: K,
+    /// The key that `child` has an edge to.
+    pub parent: K,
+    /// The key that `parent` has an edge to and `child` has not.
+    pub grandparent: K,
+}
+
+/// A key that lies on a cycle.
+#[derive(Clone, Debug, PartialEq, Eq)]
+pub struct HasCycle<K> {
+    vertex: K,
+}
+
+impl<K> HasCycle<K> {
+    /// The fault that names this key.
+    pub fn new(vertex: K) -> HasCycle<K> {
+        HasCycle { vertex }
+    }
+
+    /// The key that lies on a cycle.
+    pub fn vertex_with_loop(&self) -> &K {
+        &self.vertex
+    }
+
+    /// The key, by value.
+    pub fn into_vertex(self) -> K {
+        self.vertex
+    }
+}
+
+/// Why ancestors were not closed, or are not.
+#[derive(Clone, Debug, PartialEq, Eq)]
+pub enum TcError<K: Debug + Display> {
+    /// An edge that leads over another key is missing.
+    MissingTcEdge(MissingTcEdge<K>),
+    /// There is a cycle.
+    HasCycle(HasCycle<K>),
+}
+
+/// Why a call on a store is refused, or what is wrong with a store.
+///
+/// ```
+/// use cedar_store_proved::ast::{Entity, EntityUID};
+/// use cedar_store_proved::entities::{Entities, EntitiesError, TCComputation};
+/// use cedar_store_proved::transitive_closure::TcError;
+/// let a = EntityUID::from_normalized_str(r#"A::"a""#).unwrap();
+/// let own_parent = Entity::with_uid(a.clone()).with_parent(a.clone());
+/// match Entities::from_entities([own_parent], TCComputation::ComputeNow) {
+///     Err(EntitiesError::TransitiveClosureError(TcError::HasCycle(cycle))) => {
+///         assert_eq!(cycle.vertex_with_loop(), &a);
+///     }
+///     other => panic!("{other:?}"),
+/// }
+/// ```
+#[derive(Clone, Debug, PartialEq, Eq)]
+pub enum EntitiesError {
+    /// Two versions of an entity differ.
+    Duplicate(EntityUID),
+    /// There is a cycle, or an ancestor of an ancestor is missing.
+    TransitiveClosureError(TcError<EntityUID>),
+    /// An entity is among its own ancestors. Ancestors are looked at first, so a store tells it as a cycle.
+    SelfAncestor {
+        /// Its uid.
+        uid: EntityUID,
+    },
+    /// An ancestor is a parent and an indirect ancestor.
+    DuplicateAncestor {
+        /// The entity.
+        uid: EntityUID,
+        /// The ancestor.
+        ancestor: EntityUID,
+    },
+    /// An action has an ancestor that is none.
+    ActionParentIsNotAction {
+        /// The action.
+        uid: EntityUID,
+        /// The ancestor.
+        parent: EntityUID,
+    },
+    /// A key of a record is reserved.
+    ReservedKey(String),
+    /// Memory was refused (`Reason::Memory`), or a value or an expression has more than 1,000 levels
+    /// (`Reason::TooDeep`).
+    Refused(Refusal),
+}
+
+/// Why a policy or a template does not join a set.
+#[derive(Clone, Debug, PartialEq, Eq)]
+pub enum PolicySetError {
+    /// The id is bound already.
+    Occupied {
+        /// The id.
+        id: PolicyID,
+    },
+    /// Memory was refused (`Reason::Memory`), a clause has more than 1,000 levels (`Reason::TooDeep`), or a slot stands
+    /// in what came as a static policy (`Reason::NotStatic`).
+    Refused(Refusal),
+}
+
+/// Why a template is not linked.
+#[derive(Clone, Debug, PartialEq, Eq)]
+pub enum LinkingError {
+    /// The bound ids are not the ids of the template's slots.
+    ArityError {
+        /// The slots of the template that are not bound.
+        unbound_values: Vec<SlotId>,
+        /// The bound ids that are no slots of the template, in their order.
+        extra_values: Vec<SlotId>,
+    },
+    /// The action's slot is bound to a uid that is no action.
+    NotAnAction {
+        /// The uid.
+        uid: EntityUID,
+    },
+    /// There is no template of this id.
+    NoSuchTemplate {
+        /// The id that was looked for.
+        id: PolicyID,
+    },
+    /// The id that the link was to have is bound already.
+    PolicyIdConflict {
+        /// The id.
+        id: PolicyID,
+    },
+    /// Memory was refused.
+    Refused(Refusal),
+}
+
+/// Why a link is not taken out.
+#[derive(Clone, Debug, PartialEq, Eq)]
+pub enum PolicySetUnlinkError {
+    /// Nothing is bound to this id.
+    UnlinkingError(PolicyID),
+    /// This id is a static policy's or a template's.
+    NotLinkError(PolicyID),
+    /// Memory was refused.
+    Refused(Refusal),
+}
+
+/// Why a static policy is not taken out.
+#[derive(Clone, Debug, PartialEq, Eq)]
+pub enum PolicySetPolicyRemovalError {
+    /// No policy has this id.
+    RemovePolicyNoLinkError(PolicyID),
+    /// This id is a link's.
+    RemovePolicyNoTemplateError(PolicyID),
+    /// Memory was refused.
+    Refused(Refusal),
+}
+
+/// Why a template is not taken out.
+#[derive(Clone, Debug, PartialEq, Eq)]
+pub enum PolicySetTemplateRemovalError {
+    /// Nothing is bound to this id.
+    RemovePolicyNoTemplateError(PolicyID),
+    /// The template of this id has links.
+    RemoveTemplateWithLinksError(PolicyID),
+    /// This id is a static policy's or a link's.
+    NotTemplateError(PolicyID),
+    /// Memory was refused.
+    Refused(Refusal),
+}
+
+/// Why the policies on a body are not listed.
+#[derive(Clone, Debug, PartialEq, Eq)]
+pub enum PolicySetGetLinksError {
+    /// There is no body of this id.
+    MissingTemplate(PolicyID),
+}
+
+// ---- from what the library says
+
+fn three(uids: Vec<EntityUID>) -> Option<[EntityUID; 3]> {
+    uids.try_into().ok()
+}
+
+impl From<Refusal> for EntitiesError {
+    fn from(refusal: Refusal) -> EntitiesError {
+        let mut uids = refusal.uids().into_iter();
+        match (refusal.reason(), uids.next(), uids.next()) {
+            (Reason::Duplicate, Some(uid), _) => EntitiesError::Duplicate(uid),
+            (Reason::Cycle, Some(uid), _) => {
+                EntitiesError::TransitiveClosureError(TcError::HasCycle(HasCycle::new(uid)))
+            }
+            (Reason::NotClosed, ..) => match three(refusal.uids()) {
+                Some([child, parent, grandparent]) => {
+                    let edge = MissingTcEdge {
+                        child,
+                        parent,
+                        grandparent,
+                    };
+                    EntitiesError::TransitiveClosureError(TcError::MissingTcEdge(edge))
+                }
+                None => EntitiesError::Refused(refusal),
+            },
+            (Reason::SelfAncestor, Some(uid), _) => EntitiesError::SelfAncestor { uid },
+            (Reason::DuplicateAncestor, Some(uid), Some(ancestor)) => {
+                EntitiesError::DuplicateAncestor { uid, ancestor }
+            }
+            (Reason::ActionParentIsNotAction, Some(uid), Some(parent)) => {
+                EntitiesError::ActionParentIsNotAction { uid, parent }
+            }
+            (Reason::ReservedKey, ..) => EntitiesError::ReservedKey(refusal.said().to_owned()),
+            _ => EntitiesError::Refused(refusal),
+        }
+    }
+}
+
+impl From<Refusal> for PolicySetError {
+    fn from(refusal: Refusal) -> PolicySetError {
+        match refusal.reason() {
+            Reason::Occupied => PolicySetError::Occupied { id: refusal.id() },
+            _ => PolicySetError::Refused(refusal),
+        }
+    }
+}
+
+// The slots of a list, as it is written.
+fn listed(text: &str) -> Vec<SlotId> {
+    let slots = text.split(',');
+    let slot = |word: &str| SlotId::ALL.into_iter().find(|id| id.to_string() == word);
+    slots.filter_map(slot).collect()
+}
+
+const UNBOUND: &str = "the following slots were not provided as arguments: ";
+const EXTRA: &str =
+    "he following slots were provided as arguments, but did not exist in the template: ";
+
+impl From<Refusal> for LinkingError {
+    fn from(refusal: Refusal) -> LinkingError {
+        match (refusal.reason(), refusal.uids().pop()) {
+            (Reason::Arity, _) => {
+                let (before, extra) = refusal
+                    .said()
+                    .split_once(EXTRA)
+                    .unwrap_or((refusal.said(), ""));
+                let unbound = before.strip_prefix(UNBOUND).unwrap_or_default();
+                LinkingError::ArityError {
+                    unbound_values: listed(unbound.trim_end_matches(". T")),
+                    extra_values: listed(extra),
+                }
+            }
+            (Reason::NotAnAction, Some(uid)) => LinkingError::NotAnAction { uid },
+            (Reason::NoSuchTemplate, _) => LinkingError::NoSuchTemplate { id: refusal.id() },
+            (Reason::IdConflict, _) => LinkingError::PolicyIdConflict { id: refusal.id() },
+            _ => LinkingError::Refused(refusal),
+        }
+    }
+}
+
+impl From<Refusal> for PolicySetUnlinkError {
+    fn from(refusal: Refusal) -> PolicySetUnlinkError {
+        match refusal.reason() {
+            Reason::NoLink => PolicySetUnlinkError::UnlinkingError(refusal.id()),
+            Reason::NotALink => PolicySetUnlinkError::NotLinkError(refusal.id()),
+            _ => PolicySetUnlinkError::Refused(refusal),
+        }
+    }
+}
+
+impl From<Refusal> for PolicySetPolicyRemovalError {
+    fn from(refusal: Refusal) -> PolicySetPolicyRemovalError {
+        use PolicySetPolicyRemovalError as E;
+        match refusal.reason() {
+            Reason::NoStatic => E::RemovePolicyNoLinkError(refusal.id()),
+            Reason::NotStatic => E::RemovePolicyNoTemplateError(refusal.id()),
+            _ => E::Refused(refusal),
+        }
+    }
+}
+
+impl From<Refusal> for PolicySetTemplateRemovalError {
+    fn from(refusal: Refusal) -> PolicySetTemplateRemovalError {
+        use PolicySetTemplateRemovalError as E;
+        match refusal.reason() {
+            Reason::NoTemplate => E::RemovePolicyNoTemplateError(refusal.id()),
+            Reason::WithLinks => E::RemoveTemplateWithLinksError(refusal.id()),
+            Reason::NotATemplate => E::NotTemplateError(refusal.id()),
+            _ => E::Refused(refusal),
+        }
+    }
+}
+
+// ---- and back, where one type of refusal is wanted
+
+impl From<ParseErrors> for Refusal {
+    fn from(error: ParseErrors) -> Refusal {
+        match error {
+            ParseErrors::NotNormalized => Refusal::new(4, Vec::new),
+            ParseErrors::InvalidName => Refusal::new(27, Vec::new),
+            ParseErrors::Refused(refusal) => refusal,
+        }
+    }
+}
+
+impl From<EntitiesError> for Refusal {
+    fn from(error: EntitiesError) -> Refusal {
+        use EntitiesError as E;
+        match error {
+            E::Duplicate(uid) => Refusal::naming(Reason::Duplicate, &[uid]),
+            E::TransitiveClosureError(TcError::HasCycle(cycle)) => {
+                Refusal::naming(Reason::Cycle, &[cycle.vertex])
+            }
+            E::TransitiveClosureError(TcError::MissingTcEdge(edge)) => {
+                let uids = [edge.child, edge.parent, edge.grandparent];
+                Refusal::naming(Reason::NotClosed, &uids)
+            }
+            E::SelfAncestor { uid } => Refusal::naming(Reason::SelfAncestor, &[uid]),
+            E::DuplicateAncestor { uid, ancestor } => {
+                Refusal::naming(Reason::DuplicateAncestor, &[uid, ancestor])
+            }
+            E::ActionParentIsNotAction { uid, parent } => {
+                Refusal::naming(Reason::ActionParentIsNotAction, &[uid, parent])
+            }
+            E::ReservedKey(key) => Refusal::naming(Reason::ReservedKey, &[key]),
+            E::Refused(refusal) => refusal,
+        }
+    }
+}
+
+impl From<PolicySetError> for Refusal {
+    fn from(error: PolicySetError) -> Refusal {
+        match error {
+            PolicySetError::Occupied { id } => Refusal::naming(Reason::Occupied, &[id.as_ref()]),
+            PolicySetError::Refused(refusal) => refusal,
+        }
+    }
+}
+
+impl From<LinkingError> for Refusal {
+    fn from(error: LinkingError) -> Refusal {
+        match error {
+            LinkingError::ArityError { .. } => Refusal::naming(Reason::Arity, &[error]),
+            LinkingError::NotAnAction { uid } => Refusal::naming(Reason::NotAnAction, &[uid]),
+            LinkingError::NoSuchTemplate { id } => {
+                Refusal::naming(Reason::NoSuchTemplate, &[id.as_ref()])
+            }
+            LinkingError::PolicyIdConflict { id } => {
+                Refusal::naming(Reason::IdConflict, &[id.as_ref()])
+            }
+            LinkingError::Refused(refusal) => refusal,
+        }
+    }
+}
+
+impl From<PolicySetUnlinkError> for Refusal {
+    fn from(error: PolicySetUnlinkError) -> Refusal {
+        use PolicySetUnlinkError as E;
+        match error {
+            E::UnlinkingError(id) => Refusal::naming(Reason::NoLink, &[id.as_ref()]),
+            E::NotLinkError(id) => Refusal::naming(Reason::NotALink, &[id.as_ref()]),
+            E::Refused(refusal) => refusal,
+        }
+    }
+}
+
+impl From<PolicySetPolicyRemovalError> for Refusal {
+    fn from(error: PolicySetPolicyRemovalError) -> Refusal {
+        use PolicySetPolicyRemovalError as E;
+        match error {
+            E::RemovePolicyNoLinkError(id) => Refusal::naming(Reason::NoStatic, &[id.as_ref()]),
+            E::RemovePolicyNoTemplateError(id) => {
+                Refusal::naming(Reason::NotStatic, &[id.as_ref()])
+            }
+            E::Refused(refusal) => refusal,
+        }
+    }
+}
+
+impl From<PolicySetTemplateRemovalError> for Refusal {
+    fn from(error: PolicySetTemplateRemovalError) -> Refusal {
+        use PolicySetTemplateRemovalError as E;
+        match error {
+            E::RemovePolicyNoTemplateError(id) => {
+                Refusal::naming(Reason::NoTemplate, &[id.as_ref()])
+            }
+            E::RemoveTemplateWithLinksError(id) => {
+                Refusal::naming(Reason::WithLinks, &[id.as_ref()])
+            }
+            E::NotTemplateError(id) => Refusal::naming(Reason::NotATemplate, &[id.as_ref()]),
+            E::Refused(refusal) => refusal,
+        }
+    }
+}
+
+impl From<PolicySetGetLinksError> for Refusal {
+    fn from(_: PolicySetGetLinksError) -> Refusal {
+        Refusal::new(26, Vec::new)
+    }
+}
+
+// ---- how they are written: as the crate in Rust writes them
+
+impl fmt::Display for ParseErrors {
+    fn fmt(&self, f: &mut fmt::Formatter<'_>) -> fmt::Result {
+        match self {
+            ParseErrors::NotNormalized => f.write_str("not a normalized entity uid"),
+            ParseErrors::InvalidName => f.write_str("not a valid name"),
+            ParseErrors::Refused(refusal) => write!(f, "{refusal}"),
+        }
+    }
+}
+
+impl<K: Debug + Display> fmt::Display for TcError<K> {
+    fn fmt(&self, f: &mut fmt::Formatter<'_>) -> fmt::Result {
+        match self {
+            TcError::MissingTcEdge(MissingTcEdge { child, parent, grandparent }) => write!(
+                f,
+                "expected all transitive edges to exist, but `{child}` -> `{parent}` and `{parent}` -> `{grandparent}` \
+                 exists, while `{child}` -> `{grandparent}` does not"
+            ),
+            TcError::HasCycle(cycle) => {
+                write!(f, "input graph has a cycle containing vertex `{}`", cycle.vertex)
+            }
+        }
+    }
+}
+
+impl fmt::Display for EntitiesError {
+    fn fmt(&self, f: &mut fmt::Formatter<'_>) -> fmt::Result {
+        use EntitiesError as E;
+        match self {
+            E::Duplicate(uid) => write!(f, "duplicate entity `{uid}`"),
+            E::TransitiveClosureError(error) => write!(f, "{error}"),
+            E::SelfAncestor { uid } => write!(f, "entity `{uid}` is its own ancestor"),
+            E::DuplicateAncestor { uid, ancestor } => {
+                write!(
+                    f,
+                    "entity `{uid}` has `{ancestor}` as parent and as indirect ancestor"
+                )
+            }
+            E::ActionParentIsNotAction { uid, parent } => {
+                write!(
+                    f,
+                    "action `{uid}` has the ancestor `{parent}`, which is not an action"
+                )
+            }
+            E::ReservedKey(key) => write!(f, "the key `{key}` is reserved"),
+            E::Refused(refusal) => write!(f, "{refusal}"),
+        }
+    }
+}
+
+impl fmt::Display for PolicySetError {
+    fn fmt(&self, f: &mut fmt::Formatter<'_>) -> fmt::Result {
+        match self {
+            PolicySetError::Occupied { id } => write!(f, "duplicate template or policy id `{id}`"),
+            PolicySetError::Refused(refusal) => write!(f, "{refusal}"),
+        }
+    }
+}
+
+fn joined(slots: &[SlotId]) -> String {
+    slots
+        .iter()
+        .map(SlotId::to_string)
+        .collect::<Vec<_>>()
+        .join(",")
+}
+
+impl fmt::Display for LinkingError {
+    fn fmt(&self, f: &mut fmt::Formatter<'_>) -> fmt::Result {
+        match self {
+            LinkingError::ArityError {
+                unbound_values,
+                extra_values,
+            } => {
+                let (unbound, extra) = (joined(unbound_values), joined(extra_values));
+                match (unbound.is_empty(), extra.is_empty()) {
+                    (_, true) => write!(f, "{UNBOUND}{unbound}"),
+                    (true, false) => write!(f, "t{EXTRA}{extra}"),
+                    (false, false) => write!(f, "{UNBOUND}{unbound}. T{EXTRA}{extra}"),
+                }
+            }
+            LinkingError::NotAnAction { uid } => {
+                write!(
+                    f,
+                    "the action slot is bound to `{uid}`, which is not an action"
+                )
+            }
+            LinkingError::NoSuchTemplate { id } => {
+                write!(f, "failed to find a template with id `{id}`")
+            }
+            LinkingError::PolicyIdConflict { id } => {
+                write!(
+                    f,
+                    "template-linked policy id `{id}` conflicts with an existing policy id"
+                )
+            }
+            LinkingError::Refused(refusal) => write!(f, "{refusal}"),
+        }
+    }
+}
+
+impl fmt::Display for PolicySetUnlinkError {
+    fn fmt(&self, f: &mut fmt::Formatter<'_>) -> fmt::Result {
+        use PolicySetUnlinkError as E;
+        match self {
+            E::UnlinkingError(id) => {
+                write!(
+                    f,
+                    "unable to unlink policy id `{id}` because it does not exist"
+                )
+            }
+            E::NotLinkError(id) => {
+                write!(
+                    f,
+                    "unable to remove link with policy id `{id}` because it is a static policy"
+                )
+            }
+            E::Refused(refusal) => write!(f, "{refusal}"),
+        }
+    }
+}
+
+impl fmt::Display for PolicySetPolicyRemovalError {
+    fn fmt(&self, f: &mut fmt::Formatter<'_>) -> fmt::Result {
+        use PolicySetPolicyRemovalError as E;
+        let (id, list) = match self {
+            E::RemovePolicyNoLinkError(id) => (id, "link"),
+            E::RemovePolicyNoTemplateError(id) => (id, "template"),
+            E::Refused(refusal) => return write!(f, "{refusal}"),
+        };
+        write!(
+            f,
+            "unable to remove static policy id `{id}` from {list} list because it does not exist"
+        )
+    }
+}
+
+impl fmt::Display for PolicySetTemplateRemovalError {
+    fn fmt(&self, f: &mut fmt::Formatter<'_>) -> fmt::Result {
+        use PolicySetTemplateRemovalError as E;
+        let (id, why) = match self {
+            E::RemovePolicyNoTemplateError(id) => (id, "does not exist"),
+            E::RemoveTemplateWithLinksError(id) => (id, "still has active links"),
+            E::NotTemplateError(id) => {
+                return write!(
+                    f,
+                    "unable to remove template with policy id `{id}` because it is a static policy"
+                );
+            }
+            E::Refused(refusal) => return write!(f, "{refusal}"),
+        };
+        write!(
+            f,
+            "unable to remove template id `{id}` from template list because it {why}"
+        )
+    }
+}
+
+impl fmt::Display for PolicySetGetLinksError {
+    fn fmt(&self, f: &mut fmt::Formatter<'_>) -> fmt::Result {
+        let PolicySetGetLinksError::MissingTemplate(id) = self;
+        write!(f, "No template `{id}`")
+    }
+}
+
+impl<K: Debug + Display> Error for TcError<K> {}
+impl Error for ParseErrors {}
+impl Error for EntitiesError {}
+impl Error for PolicySetError {}
+impl Error for LinkingError {}
+impl Error for PolicySetUnlinkError {}
+impl Error for PolicySetPolicyRemovalError {}
+impl Error for PolicySetTemplateRemovalError {}
+impl Error for PolicySetGetLinksError {}

@@ -1,0 +1,158 @@
+//! Walks over values without recursion: comparing, hashing and writing.
+use crate::name::escaped;
+use crate::value::{Value, ValueKind};
+use std::cmp::Ordering;
+use std::collections::btree_map;
+use std::fmt;
+use std::hash::{Hash, Hasher};
+use std::slice;
+use std::sync::Arc;
+
+// What is left to compare of two sets or of two records.
+enum Pair<'a> {
+    Sets(slice::Iter<'a, Value>, slice::Iter<'a, Value>),
+    Records(
+        btree_map::Iter<'a, String, Value>,
+        btree_map::Iter<'a, String, Value>,
+    ),
+}
+
+// What comes next of two things side by side.
+enum Step<'a> {
+    // Nothing does, or what was compared differs.
+    Decided(Ordering),
+    // Two values.
+    Values(&'a Value, &'a Value),
+}
+
+impl<'a> Pair<'a> {
+    fn next(&mut self) -> Step<'a> {
+        match self {
+            Pair::Sets(ones, others) => match (ones.next(), others.next()) {
+                (Some(one), Some(other)) => Step::Values(one, other),
+                (one, other) => Step::Decided(one.is_some().cmp(&other.is_some())),
+            },
+            Pair::Records(ones, others) => match (ones.next(), others.next()) {
+                (Some((key, one)), Some((other_key, other))) => match key.cmp(other_key) {
+                    Ordering::Equal => Step::Values(one, other),
+                    decided => Step::Decided(decided),
+                },
+                (one, other) => Step::Decided(one.is_some().cmp(&other.is_some())),
+            },
+        }
+    }
+}
+
+// The place of a kind among the four.
+fn place(kind: &ValueKind) -> u8 {
+    match kind {
+        ValueKind::Lit(_) => 0,
+        ValueKind::Set(_) => 1,
+        ValueKind::Record(_) => 2,
+        ValueKind::ExtensionValue(_) => 3,
+    }
+}
+
+// How two kinds stand, where that is told without going down; else what is to be compared is put onto a list.
+fn begin<'a>(one: &'a ValueKind, other: &'a ValueKind, pending: &mut Vec<Pair<'a>>) -> Ordering {
+    match (one, other) {
+        (ValueKind::Lit(one), ValueKind::Lit(other)) => return one.cmp(other),
+        (ValueKind::ExtensionValue(one), ValueKind::ExtensionValue(other)) => {
+            return one.cmp(other)
+        }
+        (ValueKind::Set(one), ValueKind::Set(other)) if Arc::ptr_eq(one, other) => {}
+        (ValueKind::Record(one), ValueKind::Record(other)) if Arc::ptr_eq(one, other) => {}
+        (ValueKind::Set(one), ValueKind::Set(other)) => {
+            pending.push(Pair::Sets(one.iter(), other.iter()));
+        }
+        (ValueKind::Record(one), ValueKind::Record(other)) => {
+            pending.push(Pair::Records(one.iter(), other.iter()));
+        }
+        _ => return place(one).cmp(&place(other)),
+    }
+    Ordering::Equal
+}
+
+/// How two values of these kinds stand: by kind, then by what they hold. The first elements or pairs that differ
+/// decide, and else the lengths do.
+pub(crate) fn compare(one: &ValueKind, other: &ValueKind) -> Ordering {
+    let mut pending = Vec::new();
+    let mut decided = begin(one, other, &mut pending);
+    while let (Ordering::Equal, Some(pair)) = (decided, pending.last_mut()) {
+        match pair.next() {
+            Step::Values(one, other) => decided = begin(&one.value, &other.value, &mut pending),
+            Step::Decided(as_told) => {
+                decided = as_told;
+                pending.pop();
+            }
+        }
+    }
+    decided
+}
+
+/// Hashes a value: each kind, what it says itself, and how many stand below it, from the top on.
+pub(crate) fn feed<H: Hasher>(kind: &ValueKind, state: &mut H) {
+    let mut pending = vec![kind];
+    while let Some(kind) = pending.pop() {
+        place(kind).hash(state);
+        match kind {
+            ValueKind::Lit(literal) => literal.hash(state),
+            ValueKind::Set(elements) => {
+                elements.len().hash(state);
+                pending.extend(elements.iter().map(|element| &element.value));
+            }
+            ValueKind::Record(fields) => {
+                fields.len().hash(state);
+                fields.keys().for_each(|key| key.hash(state));
+                pending.extend(fields.values().map(|value| &value.value));
+            }
+            ValueKind::ExtensionValue(extension) => extension.hash(state),
+        }
+    }
+}
+
+// What is left to write.
+enum Piece<'a> {
+    Mark(&'static str),
+    Key(&'a str),
+    Kind(&'a ValueKind),
+}
+
+// Puts the pieces of what stands below a value onto a list whose end comes first.
+fn push_below<'a>(kind: &'a ValueKind, pending: &mut Vec<Piece<'a>>) {
+    let first = pending.len();
+    match kind {
+        ValueKind::Set(elements) => {
+            for (place, element) in elements.iter().enumerate() {
+                pending.push(Piece::Mark(if place == 0 { "[" } else { ", " }));
+                pending.push(Piece::Kind(&element.value));
+            }
+            pending.push(Piece::Mark(if elements.is_empty() { "[]" } else { "]" }));
+        }
+        ValueKind::Record(fields) => {
+            for (place, (key, value)) in fields.iter().enumerate() {
+                pending.push(Piece::Mark(if place == 0 { "{" } else { ", " }));
+                pending.push(Piece::Key(key));
+                pending.push(Piece::Kind(&value.value));
+            }
+            pending.push(Piece::Mark(if fields.is_empty() { "{}" } else { "}" }));
+        }
+        ValueKind::Lit(_) | ValueKind::ExtensionValue(_) => {}
+    }
+    pending[first..].reverse();
+}
+
+/// Writes a value.
+pub(crate) fn show(kind: &ValueKind, f: &mut fmt::Formatter<'_>) -> fmt::Result {
+    let mut pending = vec![Piece::Kind(kind)];
+    while let Some(piece) = pending.pop() {
+        match piece {
+            Piece::Mark(mark) => f.write_str(mark)?,
+            Piece::Key(key) => write!(f, "\"{}\": ", escaped(key))?,
+            Piece::Kind(ValueKind::Lit(literal)) => write!(f, "{literal}")?,
+            Piece::Kind(ValueKind::ExtensionValue(extension)) => write!(f, "{extension}")?,
+            Piece::Kind(kind) => push_below(kind, &mut pending),
+        }
+    }
+    Ok(())
+}

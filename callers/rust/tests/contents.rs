@@ -1,0 +1,202 @@
+//! Stores of entities with attributes, tags and indirect ancestors: built, changed, read back, compared, written and
+//! refused.
+mod drawn;
+mod short;
+use cedar_store_proved::ast::{Entity, PartialValue, Value};
+use cedar_store_proved::entities::{Entities, EntitiesError};
+use cedar_store_proved::Reason;
+use drawn::Dice;
+use short::*;
+
+fn number(value: i64) -> PartialValue {
+    PartialValue::from(Value::from(value))
+}
+
+// An entity with a number at a key, below some parents.
+fn numbered(name: &str, parents: &str, key: &str, value: i64) -> Entity {
+    let entity = Entity::with_uid(uid(name)).with_parents(uids(parents));
+    entity.with_attr(key, number(value))
+}
+
+#[test]
+fn attributes_and_tags_are_told_apart() {
+    let a = numbered("a", "b", "k", 2)
+        .with_tag("k", number(3))
+        .with_attr("", Value::from(true))
+        .with_tag("z", Value::from("z"))
+        .with_attr("é", Value::from(false));
+    let store = Entities::from_entities([numbered("b", "", "k", 1), a.clone()], NOW).unwrap();
+    let of = |name: &str| {
+        (
+            store.attrs_len(uid(name)).unwrap(),
+            store.tags_len(uid(name)).unwrap(),
+        )
+    };
+    assert_eq!((of("a"), of("b")), ((3, 2), (1, 0)));
+    assert_eq!(store.keys(uid("a")).unwrap(), ["", "k", "é"]);
+    assert_eq!(store.tag_keys(uid("a")).unwrap(), ["k", "z"]);
+    assert_eq!(store.get(uid("a"), "k").unwrap(), Some(number(2)));
+    assert_eq!(store.get_tag(uid("a"), "k").unwrap(), Some(number(3)));
+    assert_eq!(store.get(uid("b"), "k").unwrap(), Some(number(1)));
+    assert_eq!(store.get_tag(uid("b"), "k").unwrap(), None);
+    assert_eq!(store.get(uid("a"), "z").unwrap(), None);
+    let stored = store.entity(&uid("a")).unwrap();
+    assert_eq!((stored.attrs_len(), stored.tags_len()), (3, 2));
+    assert!(stored.keys().eq(["", "k", "é"]) && stored.tag_keys().eq(["k", "z"]));
+    assert!(stored.attrs().eq(a.attrs()) && stored.tags().eq(a.tags()));
+    assert!(stored.deep_eq(&a) && stored.into_entity().deep_eq(&a));
+    refused(store.get(uid("z"), "k"), Reason::NoEntity, "no entity");
+    refused(store.get_tag("z", "k"), Reason::NotAUid, "not a uid");
+}
+
+#[test]
+fn what_changes_a_store_brings_and_takes_content() {
+    let mut held = store("b c");
+    held.add([numbered("a", "b", "k", 1)], NOW).unwrap();
+    assert_eq!(held.get(uid("a"), "k").unwrap(), Some(number(1)));
+    assert_eq!(above(&held, "a"), "bc");
+    // the same once more, with all its ancestors, changes nothing
+    held.add([numbered("a", "bc", "k", 1)], NOW).unwrap();
+    assert_eq!(parents(&held, "a"), "b");
+    let before = held.clone();
+    held.upsert([numbered("a", "b", "k", 2)], NOW).unwrap();
+    assert_eq!(held.get(uid("a"), "k").unwrap(), Some(number(2)));
+    assert_eq!(before.get(uid("a"), "k").unwrap(), Some(number(1)));
+    assert!(!held.deep_eq(&before) && held == before);
+    assert!(!held.entity_equal(uid("a"), &before).unwrap());
+    assert!(held.entity_equal(uid("b"), &before).unwrap());
+    let slice = held.slice([uid("a")]).unwrap();
+    assert_eq!(slice.get(uid("a"), "k").unwrap(), Some(number(2)));
+    held.upsert(listed("a b"), NOW).unwrap();
+    assert_eq!(held.attrs_len(uid("a")).unwrap(), 0);
+    held.remove([uid("b")], NOW).unwrap();
+    assert_eq!(above(&held, "a"), "");
+}
+
+#[test]
+fn versions_that_differ_in_content_are_two() {
+    let (one, other) = (numbered("a", "b", "k", 1), numbered("a", "b", "k", 2));
+    let tagged = Entity::with_uid(uid("a"))
+        .with_parent(uid("b"))
+        .with_tag("k", number(1));
+    let plain = listed("a b").remove(0);
+    for differing in [&other, &tagged, &plain] {
+        let given = Entities::from_entities([&one, differing], NOW);
+        assert_eq!(given.unwrap_err(), EntitiesError::Duplicate(uid("a")));
+        let store = Entities::from_entities([&one], NOW).unwrap();
+        let text = "duplicate entity A::\"a\"";
+        refused(
+            store.clone().add_entities([differing], NOW),
+            Reason::Duplicate,
+            text,
+        );
+        assert!(store
+            .upsert_entities([differing], NOW)
+            .unwrap()
+            .stored(&uid("a"))
+            .unwrap()
+            .deep_eq(differing));
+    }
+    assert_eq!(Entities::from_entities([&one, &one], NOW).unwrap().len(), 1);
+}
+
+#[test]
+fn indirect_ancestors_are_given_and_told() {
+    let mut a = Entity::with_uid(uid("a")).with_parent(uid("b"));
+    a.add_indirect_ancestor(uid("c"));
+    let b = listed("b c").remove(0);
+    let store = Entities::from_entities([&a, &b], ENFORCE).unwrap();
+    let stored = store.entity(&uid("a")).unwrap();
+    assert!(stored.is_child_of(&uid("b")) && stored.is_indirect_descendant_of(&uid("c")));
+    assert!(!stored.is_child_of(&uid("c")) && !stored.is_indirect_descendant_of(&uid("b")));
+    assert!(stored.parents().eq(&uids("b")) && stored.indirect_ancestors().eq(&uids("c")));
+    assert!(store.deep_eq(&short::store("a b;b c")));
+    // a parent is no indirect ancestor once it has crossed
+    let both = Entity::new_with_attr_partial_value(
+        uid("a"),
+        [],
+        uids("bc").into_iter().collect(),
+        uids("b").into_iter().collect(),
+        [],
+    );
+    let store = Entities::from_entities([both, b.clone()], ENFORCE).unwrap();
+    assert_eq!(store.indirect_ancestors(uid("a")).unwrap(), uids("c"));
+    a.remove_all_indirect_ancestors();
+    let text = "ancestors not closed at A::\"a\" A::\"b\" A::\"c\"";
+    refused(
+        Entities::from_entities([&a, &b], ENFORCE),
+        Reason::NotClosed,
+        text,
+    );
+    a.add_indirect_ancestor(uid("a"));
+    refused(
+        Entities::from_entities([a], NOW),
+        Reason::Cycle,
+        "cycle at A::\"a\"",
+    );
+}
+
+#[test]
+fn a_reserved_key_is_a_fault() {
+    for key in ["__entity", "__extn", "__expr"] {
+        let value = Value::set([Value::record([(key, Value::from(1))], None)], None);
+        let entity = Entity::with_uid(uid("a")).with_tag("k", value);
+        let store = Entities::from_entities([&entity], NOW).unwrap();
+        refused(
+            store.validate(),
+            Reason::ReservedKey,
+            &format!("reserved key {key}"),
+        );
+        let due = EntitiesError::ReservedKey(key.into());
+        assert_eq!(store.try_validate().unwrap_err(), due);
+        assert!(entity.validate().unwrap_err() == due && !entity.is_valid());
+    }
+    assert!(numbered("a", "b", "__entity", 1).is_valid());
+}
+
+// What a store and an entity write is the same, but that the one is written by the library.
+#[test]
+fn drawn_entities_are_told_as_they_were_given() {
+    let dice = &mut Dice::new(3);
+    for _ in 0..1000 {
+        let entity = drawn::entity(dice);
+        let store = Entities::from_entities([&entity], ASSUME).unwrap();
+        let stored = store.entity(entity.uid()).unwrap();
+        assert_eq!(stored.to_string(), entity.to_string());
+        let told = stored.clone().into_entity();
+        assert!(told.deep_eq(&entity), "{told}\n{entity}");
+        assert!(told.parents().eq(entity.parents()));
+        let near = |uid| !entity.is_child_of(uid);
+        assert!(told
+            .indirect_ancestors()
+            .eq(entity.indirect_ancestors().filter(|uid| near(uid))));
+        assert_eq!(entity.validate().is_ok(), store.try_validate().is_ok());
+    }
+}
+
+// Stores that are taken apart and made again, and what two of them have with one uid.
+#[test]
+fn drawn_stores_are_made_again() {
+    let (dice, mut unlike) = (&mut Dice::new(4), 0);
+    for _ in 0..300 {
+        let entities: Vec<Entity> = (0..dice.below(12)).map(|_| drawn::entity(dice)).collect();
+        let store = Entities::new().upsert_entities(&entities, ASSUME).unwrap();
+        for (place, entity) in entities.iter().enumerate() {
+            let last = entities[place + 1..].iter().all(|other| other != entity);
+            let told = store.entity(entity.uid()).unwrap();
+            assert!(told.deep_eq(entity) || !last);
+            unlike += usize::from(!told.deep_eq(entity));
+        }
+        let parts: Vec<Entity> = store.clone().into_iter().collect();
+        let again = Entities::from_entities(&parts, ASSUME).unwrap();
+        assert!(again.deep_eq(&store) && again == store);
+        for entity in &parts {
+            assert!(again.entity_equal(entity.uid(), &store).unwrap());
+            let edited = entity.clone().with_attr("new", number(1));
+            let other = store.clone().upsert_entities([edited], ASSUME).unwrap();
+            assert!(!other.entity_equal(entity.uid(), &store).unwrap());
+            assert!(!other.deep_eq(&store) && other == store);
+        }
+    }
+    assert!(unlike > 50, "{unlike}");
+}

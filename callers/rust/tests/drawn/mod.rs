@@ -1,0 +1,205 @@
+//! Values, expressions, entities and bodies of policies that are drawn: the same for the same seed.
+#![allow(dead_code)]
+use cedar_store_proved::ast::{
+    ActionConstraint, Annotation, Annotations, AnyId, Effect, Entity, EntityType, EntityUID, Expr,
+    ExtensionValue, Name, PartialValue, PolicyID, PrincipalConstraint,
+    PrincipalOrResourceConstraint, ResourceConstraint, SlotEnv, SlotId, StaticType, Template,
+    Unknown, Value, Var,
+};
+use std::sync::Arc;
+
+/// Numbers that look drawn.
+pub struct Dice(u64);
+
+impl Dice {
+    pub fn new(seed: u64) -> Dice {
+        Dice(seed.wrapping_mul(0x9E37_79B9_7F4A_7C15) | 1)
+    }
+
+    /// A number below another.
+    pub fn below(&mut self, end: usize) -> usize {
+        self.0 ^= self.0 << 13;
+        self.0 ^= self.0 >> 7;
+        self.0 ^= self.0 << 17;
+        (self.0.wrapping_mul(0x2545_F491_4F6C_DD1D) >> 33) as usize % end
+    }
+
+    fn one<T: Clone>(&mut self, of: &[T]) -> T {
+        of[self.below(of.len())].clone()
+    }
+}
+
+const TEXTS: [&str; 8] = ["", "a", "b", "it's", "é🦀", "a\0b", "\"\\\n", "\u{200b}"];
+
+fn name(dice: &mut Dice) -> Name {
+    Name::from_normalized_str(dice.one(&["ip", "decimal", "N::f"])).unwrap()
+}
+
+fn entity_type(dice: &mut Dice) -> EntityType {
+    EntityType::from_normalized_str(dice.one(&["User", "A::B"])).unwrap()
+}
+
+pub fn uid(dice: &mut Dice) -> EntityUID {
+    let ty = dice.one(&["A", "B", "N::A", "Action"]);
+    EntityUID::with_eid_and_type(ty, dice.one(&TEXTS)).unwrap()
+}
+
+fn number(dice: &mut Dice) -> i64 {
+    dice.one(&[0, 1, -1, 7, i64::MIN, i64::MAX])
+}
+
+/// A value of at most some levels below the first.
+pub fn value(dice: &mut Dice, depth: usize) -> Value {
+    let count = dice.below(4);
+    match dice.below(if depth > 0 { 8 } else { 5 }) {
+        0 => Value::from(dice.below(2) == 0),
+        1 => Value::from(number(dice)),
+        2 => Value::from(dice.one(&TEXTS)),
+        3 => Value::from(uid(dice)),
+        4 => Value::from(ExtensionValue {
+            func: name(dice),
+            arg: dice.one(&TEXTS).into(),
+        }),
+        5 | 6 => Value::set((0..count).map(|_| value(dice, depth - 1)), None),
+        _ => {
+            let pair = |_| (dice.one(&TEXTS), value(dice, depth - 1));
+            Value::record((0..count).map(pair), None)
+        }
+    }
+}
+
+/// An expression of at most some levels below the first.
+pub fn expr(dice: &mut Dice, depth: usize) -> Expr {
+    if depth == 0 || dice.below(4) == 0 {
+        return match dice.below(7) {
+            0 => Expr::val(dice.below(2) == 0),
+            1 => Expr::val(number(dice)),
+            2 => Expr::val(dice.one(&TEXTS)),
+            3 => Expr::val(uid(dice)),
+            4 => Expr::var(dice.one(&[Var::Principal, Var::Action, Var::Resource, Var::Context])),
+            5 => Expr::slot(dice.one(&SlotId::ALL)),
+            _ => Expr::unknown(unknown(dice)),
+        };
+    }
+    let count = dice.below(3);
+    let mut below = || expr(dice, depth - 1);
+    let (left, right) = (below(), below());
+    match dice.below(7) {
+        0 => Expr::set((0..count).map(|_| expr(dice, depth - 1))),
+        1 => Expr::call(name(dice), vec![left, right]),
+        2 => Expr::not(left),
+        3 => Expr::and(left, right),
+        4 => Expr::is_eq(left, right),
+        5 => Expr::is_in(left, right),
+        _ => Expr::is_entity_type(left, entity_type(dice)),
+    }
+}
+
+fn unknown(dice: &mut Dice) -> Unknown {
+    let name = dice.one(&TEXTS);
+    match dice.below(2) {
+        0 => Unknown::new_untyped(name),
+        _ => Unknown::new_with_type(
+            name,
+            StaticType::Entity {
+                ty: entity_type(dice),
+            },
+        ),
+    }
+}
+
+/// A value, or seldom an expression.
+pub fn term(dice: &mut Dice) -> PartialValue {
+    match dice.below(3) {
+        0 => PartialValue::from(expr(dice, 3)),
+        _ => PartialValue::from(value(dice, 3)),
+    }
+}
+
+/// An entity with some of all that there is. It is none of its own ancestors.
+pub fn entity(dice: &mut Dice) -> Entity {
+    let mut entity = Entity::with_uid(uid(dice));
+    for _ in 0..dice.below(4) {
+        entity = entity.with_attr(dice.one(&TEXTS), term(dice));
+    }
+    for _ in 0..dice.below(3) {
+        entity = entity.with_tag(dice.one(&TEXTS), term(dice));
+    }
+    for _ in 0..dice.below(3) {
+        entity.add_parent(uid(dice));
+        entity.add_indirect_ancestor(uid(dice));
+    }
+    let own = entity.uid().clone();
+    entity.remove_parent(&own);
+    entity.remove_indirect_ancestor(&own);
+    entity
+}
+
+/// What is asked of a principal or a resource, of any kind.
+pub fn asked(dice: &mut Dice) -> PrincipalOrResourceConstraint {
+    let (ty, euid) = (Arc::new(entity_type(dice)), Arc::new(uid(dice)));
+    match dice.below(8) {
+        0 => PrincipalOrResourceConstraint::any(),
+        1 => PrincipalOrResourceConstraint::is_eq(euid),
+        2 => PrincipalOrResourceConstraint::is_eq_slot(),
+        3 => PrincipalOrResourceConstraint::is_in(euid),
+        4 => PrincipalOrResourceConstraint::is_in_slot(),
+        5 => PrincipalOrResourceConstraint::is_entity_type(ty),
+        6 => PrincipalOrResourceConstraint::is_entity_type_in(ty, euid),
+        _ => PrincipalOrResourceConstraint::is_entity_type_in_slot(ty),
+    }
+}
+
+/// What is asked of an action, of any kind.
+pub fn asked_of_action(dice: &mut Dice) -> ActionConstraint {
+    let count = dice.below(4);
+    match dice.below(5) {
+        0 => ActionConstraint::any(),
+        1 => ActionConstraint::is_eq(uid(dice)),
+        2 => ActionConstraint::is_eq_slot(),
+        3 => ActionConstraint::is_in((0..count).map(|_| uid(dice))),
+        _ => ActionConstraint::is_in_slot(),
+    }
+}
+
+pub fn annotations(dice: &mut Dice) -> Annotations {
+    let pair = |dice: &mut Dice| {
+        let key = AnyId::from_normalized_str(dice.one(&["a", "if", "B", "_c", "owner"])).unwrap();
+        let val = Some(dice.one(&TEXTS).into());
+        (key, Annotation::with_optional_value(val, None))
+    };
+    (0..dice.below(4)).map(|_| pair(dice)).collect()
+}
+
+/// A template with some of all that there is.
+pub fn template(dice: &mut Dice, id: &PolicyID) -> Template {
+    let clause = (dice.below(3) > 0).then(|| expr(dice, 4));
+    Template::new(
+        id.clone(),
+        None,
+        annotations(dice),
+        dice.one(&[Effect::Permit, Effect::Forbid]),
+        PrincipalConstraint::new(asked(dice)),
+        asked_of_action(dice),
+        ResourceConstraint::new(asked(dice)),
+        clause,
+    )
+}
+
+/// What binds some slots, mostly those of a template, and mostly the action's to an action.
+pub fn bindings(dice: &mut Dice, template: &Template) -> SlotEnv {
+    let mut values = SlotEnv::new();
+    for slot in SlotId::ALL {
+        let is_slot = template.slots().any(|one| one.id == slot);
+        if is_slot != (dice.below(10) == 0) {
+            let uid = match (slot, dice.below(5)) {
+                (SlotId::Action, 1..) => {
+                    EntityUID::with_eid_and_type("N::Action", dice.one(&TEXTS)).unwrap()
+                }
+                _ => uid(dice),
+            };
+            values.insert(slot, uid);
+        }
+    }
+    values
+}
