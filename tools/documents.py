@@ -6,7 +6,7 @@
 - each path in backticks that begins with a folder of the repository is there;
 - each file that a row of docs/MAP.md names behind a crate is one of that crate, and no other file of it is called so;
 - `tools/map.py` and `tools/definitions.py` run. Each public definition of specs/ outside of specs/laws has a comment above it, and each
-  file a first comment, but for as many as lacked one before: a count that may fall and not grow;
+  file of a crate a first comment;
 - what docs/CALLING.md quotes of Rattle stands in cedar_uses, or in the program's `main`, as it is quoted;
 - what docs/GUIDE.md quotes stands in the guide's program in its language, or in what an example writes; and docs/hierarchy.svg, which it
   shows, draws the uids and the edges of the text that it quotes;
@@ -26,8 +26,6 @@ import map as files_by_comment
 
 PASSED, FAILED = [0], []
 FOLDERS = ('docs', 'crates', 'callers', 'tools', 'rust', '.ci')
-# As many public definitions have no comment above them, and as many files no first comment. Whoever gives one theirs lowers the number.
-WITHOUT_COMMENT, WITHOUT_FIRST_LINE = 91, 5
 # what pages name that is called as a crate might be, and is a function of the library for C
 EXPORTS = {'cedar_run'}
 
@@ -102,8 +100,8 @@ def check_comments():
         for words in ([], ['cedar_entities']):
             holds(f'{script} {" ".join(words)} does not run', runs(script, *words))
     lacking, bare = len(definitions.bare()), len(files_by_comment.bare())
-    holds(f'{lacking} definitions have no comment above them: tools/definitions.py --bare lists them', lacking <= WITHOUT_COMMENT)
-    holds(f'{bare} files have no first comment: tools/map.py --bare lists them', bare <= WITHOUT_FIRST_LINE)
+    holds(f'{lacking} definitions have no comment above them: tools/definitions.py --bare lists them', lacking == 0)
+    holds(f'{bare} files have no first comment: tools/map.py --bare lists them', bare == 0)
 
 
 def squeezed(text):

@@ -23,8 +23,10 @@ pair_hash p = fed.str p.0 ++ fed.str p.1
 abbrev pub same_annotations : AnnotationsView → AnnotationsView → Bool
 same_annotations = pointwise same_pair
 
+-- annotations compare pair by pair, in the order of their keys
 abbrev pub annotations_cmp : AnnotationsView → AnnotationsView → Ordering
 annotations_cmp = slice_cmp pair_cmp
 
+-- what annotations feed to a hasher
 abbrev pub annotations_hash : AnnotationsView → List (List ℕ)
 annotations_hash ps = fed.slice pair_hash ps

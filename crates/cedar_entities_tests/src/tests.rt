@@ -1,3 +1,4 @@
+// The tests of stores, and the builders of hashers that they run under.
 mod store_edits;
 mod store_faults;
 mod store_many;

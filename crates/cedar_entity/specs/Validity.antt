@@ -26,10 +26,12 @@ abbrev mutual
   reserved_in (record_value fs) = reserved_in_record fs
   reserved_in (extension_value f a) = None
 
+  -- the first reserved key in a list of values
   pub reserved_in_all : ValueTrees → Option (List ℕ)
   reserved_in_all no_values = None
   reserved_in_all (value_then v vs) = option_or (reserved_in v) (reserved_in_all vs)
 
+  -- the first reserved key among those of a record and in its values
   pub reserved_in_record : FieldTrees → Option (List ℕ)
   reserved_in_record no_fields = None
   reserved_in_record (field_then k v fs) = if is_reserved_key k then Some k else option_or (reserved_in v)

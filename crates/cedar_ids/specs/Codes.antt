@@ -23,6 +23,7 @@ uid_parts_code =
     code_by (NameParts × List ℕ) (coded× name_code text_code)
     (λ u. (u.name, u.eid)) (λ p. record { name = p.0; eid = p.1 }) (λ _. refl)
 
+-- a uid is made of its parts again
 pub uid_parts-back : (u : EntityUID) → uids.EntityUID (uid_parts u) ≡ u
 uid_parts-back (uids.EntityUID u) = refl
 

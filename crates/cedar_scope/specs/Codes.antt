@@ -13,10 +13,12 @@ abbrev pub reference_with : Option UidParts → Reference
 reference_with None = to_slot
 reference_with (Some u) = to_uid u
 
+-- a reference is made of its uid, if it has one, again
 pub reference_with-referred_uid : (r : Reference) → reference_with (referred_uid r) ≡ r
 reference_with-referred_uid (to_uid u) = refl
 reference_with-referred_uid to_slot = refl
 
+-- how a proof tells references apart
 abbrev pub reference_code : Coded Reference
 reference_code =
     code_by (Option UidParts) (coded_option uid_parts_code) referred_uid reference_with reference_with-referred_uid
@@ -36,6 +38,7 @@ constraint_with-parts (equals r) = refl
 constraint_with-parts (of_type t) = refl
 constraint_with-parts (of_type_within t r) = refl
 
+-- how a proof tells constraints apart
 abbrev pub constraint_code : Coded Constraint
 constraint_code =
     code_by (ℕ × (Option NameParts × Option Reference))

@@ -27,6 +27,7 @@ constraint_cmp =
 abbrev pub same_reference : Reference → Reference → Bool
 same_reference = eq_by_cmp reference_cmp
 
+-- whether two constraints are the same
 abbrev pub same_constraint : Constraint → Constraint → Bool
 same_constraint = eq_by_cmp constraint_cmp
 
@@ -40,6 +41,7 @@ abbrev pub type_hash : Option NameParts → List (List ℕ)
 type_hash None = []
 type_hash (Some t) = name_hash_input t
 
+-- what a reference feeds to a hasher, where a constraint has one
 abbrev pub part_hash : Option Reference → List (List ℕ)
 part_hash None = []
 part_hash (Some r) = reference_hash r

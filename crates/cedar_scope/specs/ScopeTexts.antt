@@ -28,6 +28,7 @@ constraint_text v (of_type t) = variable_text v ++ (codes " is " ++ printed_name
 constraint_text v (of_type_within t r) =
     variable_text v ++ (codes " is " ++ (printed_name t ++ (codes " in " ++ reference_text (slot_id_of v) r)))
 
+-- whether the text of a reference has ASCII alone
 abbrev pub is_ascii_reference : Reference → Bool
 is_ascii_reference (to_uid u) = is_ascii_uid u
 is_ascii_reference to_slot = true

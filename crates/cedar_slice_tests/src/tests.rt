@@ -1,3 +1,4 @@
+// The tests of slices, and the builders of hashers that they run under.
 mod stores;
 mod worked;
 mod worlds;

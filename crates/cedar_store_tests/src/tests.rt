@@ -1,3 +1,4 @@
+// The tests of lines and runs, and the ways to run that they try.
 mod edits;
 mod known_lines;
 mod line_by_line;

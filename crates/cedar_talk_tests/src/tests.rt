@@ -1,3 +1,4 @@
+// The tests of a conversation, and what their rows stand for.
 mod cut;
 mod told;
 mod turns;

@@ -58,6 +58,7 @@ abbrev mutual
   expr_key (binary_node o x y) = fork (nat_key 7) (fork (operator_key o) (fork (expr_key x) (expr_key y)))
   expr_key (is_node e t) = fork (nat_key 8) (fork (expr_key e) (name_key t))
 
+  -- the key of a list of expressions
   pub exprs_key : ExprTrees → Key
   exprs_key no_exprs = nat_key 0
   exprs_key (expr_then e es) = fork (expr_key e) (exprs_key es)

@@ -77,6 +77,7 @@ abbrev mutual
   is_ascii_expr (binary_node o x y) = is_ascii_expr x && is_ascii_expr y
   is_ascii_expr (is_node e t) = is_ascii_expr e
 
+  -- whether the text of each of a list has ASCII alone
   pub are_ascii_exprs : ExprTrees → Bool
   are_ascii_exprs no_exprs = true
   are_ascii_exprs (expr_then e es) = is_ascii_expr e && are_ascii_exprs es

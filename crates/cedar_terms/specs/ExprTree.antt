@@ -67,6 +67,7 @@ abbrev mutual
   expr_size (binary_node o x y) = 1 + (expr_size x + expr_size y)
   expr_size (is_node e t) = 1 + expr_size e
 
+  -- how many nodes a list of expressions has
   pub exprs_size : ExprTrees → ℕ
   exprs_size no_exprs = 0
   exprs_size (expr_then e es) = expr_size e + exprs_size es

@@ -71,10 +71,12 @@ abbrev mutual
   is_ascii_value (record_value fs) = are_ascii_fields fs
   is_ascii_value (extension_value f a) = is_ascii a
 
+  -- whether the text of each of a list has ASCII alone
   pub are_ascii_values : ValueTrees → Bool
   are_ascii_values no_values = true
   are_ascii_values (value_then v vs) = is_ascii_value v && are_ascii_values vs
 
+  -- whether each key and the text of each value of a record has
   pub are_ascii_fields : FieldTrees → Bool
   are_ascii_fields no_fields = true
   are_ascii_fields (field_then k v fs) = (is_ascii k && is_ascii_value v) && are_ascii_fields fs

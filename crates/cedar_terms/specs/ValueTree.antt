@@ -74,10 +74,12 @@ abbrev mutual
   value_size (record_value fs) = 1 + fields_size fs
   value_size (extension_value f a) = 1
 
+  -- how many nodes a list of values has
   pub values_size : ValueTrees → ℕ
   values_size no_values = 0
   values_size (value_then v vs) = value_size v + values_size vs
 
+  -- how many nodes the values of a record have
   pub fields_size : FieldTrees → ℕ
   fields_size no_fields = 0
   fields_size (field_then k v fs) = value_size v + fields_size fs

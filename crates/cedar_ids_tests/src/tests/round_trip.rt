@@ -1,3 +1,4 @@
+// Uids that are printed and read back: nothing is lost but where they stood.
 ghost use Rattle.std.specs.Prelude.{◌≡◌, IfOk, IsTrue};
 ghost use Rattle.cedar_ids.specs.UidOf.{uid_parts};
 ghost use Rattle.cedar_ids.specs.Escape.{is_ascii};
