@@ -55,7 +55,7 @@ fn main() -> Result<(), Box<dyn Error>> {
     // an id names one thing
     match live.add_static(anything("for alice", Effect::Forbid)?) {
         Err(PolicySetError::Occupied { id }) => println!("refused: {id} is taken"),
-        Ok(()) => unreachable!("the id is a link's"),
+        other => unreachable!("the id is a link's: {other:?}"),
     }
     // a link binds every slot
     match live.link(id("per user"), id("for nobody"), SlotEnv::new()) {
