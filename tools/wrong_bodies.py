@@ -92,7 +92,8 @@ def bodies(text):
         begins = BEGINS.match(lines[at])
         if begins:
             opens = at
-            while opens < len(lines) and lines[opens] != begins[1] + '{' and not (opens == at and lines[at].endswith('{')):
+            while opens < len(lines) and lines[opens] != begins[1] + '{' and not (
+                    lines[opens].endswith('{') and (opens == at or lines[opens].startswith(begins[1] + ')'))):
                 if lines[opens].endswith(('}', ';')) and opens == at:
                     break
                 opens += 1
@@ -223,12 +224,15 @@ class Crate:
         """Tries edits of bodies, one of each function at a time. Returns those that are to be tried alone."""
         alone = []
         while edits:
-            now, later, taken = [], [], set()
+            now, later, taken, texts = [], [], set(), {}
             for edit in edits:
-                if edit.function in taken or len(now) == MOST:
+                text = texts.get(edit.file, edit.text)
+                # What an edit before it wrote may be what this one replaces.
+                if edit.function in taken or len(now) == MOST or any(text.count(old) != 1 for old, _ in edit.pairs):
                     later.append(edit)
                 else:
                     taken.add(edit.function)
+                    texts[edit.file] = edit.edited(text)
                     now.append(edit)
             waits, more = self.together(now)
             edits = later + waits
