@@ -1,0 +1,4 @@
+pub mod Finding
+pub mod Reading
+pub mod Scanning
+pub mod Slots

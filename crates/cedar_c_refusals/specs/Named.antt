@@ -1,0 +1,87 @@
+-- What the text of a refusal names, and where it stands.
+use Rattle.std.specs.Prelude.{◌≡◌, ◌≤◌, ◌≢◌, ◌⊎◌, ℕ, List, ◌∷◌, ◌++◌, Bool, true, false, IsTrue, Option, None, Some, length, slice_get}
+use Rattle.std.specs.List.{AllByRecursion, flat_map}
+use Rattle.std.specs.Option.{MatchOption}
+use Rattle.cedar_ids.specs.Printed.{printed_uid}
+use Rattle.cedar_ids.specs.TextOf.{IsName}
+use Rattle.cedar_ids.specs.UidOf.{uid_parts}
+use Rattle.cedar_ids.specs.declared.entity.EntityUID.{EntityUID}
+use Rattle.cedar_binding.specs.BindingTexts.{arity_text}
+use Rattle.cedar_terms.specs.SlotTree.{slot_text}
+use Rattle.cedar_terms.specs.declared.slot.SlotId.{SlotId}
+use Rattle.cedar_c_lists.specs.Answers.{part}
+use Rattle.cedar_c_lists.specs.Reasons.{number_of, words_of}
+use Rattle.cedar_c_lists.specs.StatusTexts.{IsNoReason}
+use Rattle.cedar_c_lists.specs.Texts.{IsAsciiUid, IsInside, spaced}
+use Rattle.cedar_c_lists.specs.declared.layout.Span.{Span}
+use Rattle.cedar_c_lists.specs.declared.reason.Reason.{Reason}
+use Rattle.cedar_c_lists.specs.declared.reason.Reason.TheVariants as reasons
+
+-- whether uids stand behind the words of a refusal
+abbrev pub names_uids : Reason → Bool
+names_uids reasons.Duplicate = true
+names_uids reasons.Cycle = true
+names_uids reasons.NotClosed = true
+names_uids reasons.SelfAncestor = true
+names_uids reasons.DuplicateAncestor = true
+names_uids reasons.ActionParentIsNotAction = true
+names_uids reasons.NotAnAction = true
+names_uids w = false
+
+-- whether one name stands behind them, an id or a key
+abbrev pub names_one : Reason → Bool
+names_one reasons.ReservedKey = true
+names_one reasons.Occupied = true
+names_one reasons.NoSuchTemplate = true
+names_one reasons.IdConflict = true
+names_one reasons.NoLink = true
+names_one reasons.NotALink = true
+names_one reasons.NoTemplate = true
+names_one reasons.WithLinks = true
+names_one reasons.NotATemplate = true
+names_one reasons.NoStatic = true
+names_one reasons.NotStatic = true
+names_one w = false
+
+-- the type of a uid is a name, and no byte of its eid is past ASCII
+abbrev pub IsWritten : EntityUID → Type 0
+IsWritten u = IsName (uid_parts u).name × IsAsciiUid u
+
+-- all of them are such
+abbrev pub AreWritten : List EntityUID → Type 0
+AreWritten us = AllByRecursion IsWritten us
+
+-- a part of a text is that of the uid at a place
+abbrev pub IsUidIn : List ℕ → List EntityUID → ℕ → Span → Type 0
+IsUidIn text us k s =
+    (u : EntityUID) × (slice_get us k ≡ Some u) × IsInside text s × (part text s ≡ printed_uid (uid_parts u))
+
+-- a part of a text is a name
+abbrev pub IsNameIn : List ℕ → List ℕ → Span → Type 0
+IsNameIn text name s = IsInside text s × (part text s ≡ name)
+
+-- a part of a text is the slot at a place
+abbrev pub IsSlotIn : List ℕ → List SlotId → ℕ → Span → Type 0
+IsSlotIn text ss k s = (x : SlotId) × (slice_get ss k ≡ Some x) × IsInside text s × (part text s ≡ slot_text x)
+
+-- of the text of a refusal that names uids: where the one at a place stands, and nothing where there are no more
+abbrev pub PartsUids : Reason → List ℕ → ℕ → Option Span → Type 0
+PartsUids w text k r = IsTrue (names_uids w) → (us : List EntityUID) → AreWritten us
+    → text ≡ words_of w ++ flat_map spaced us → MatchOption r (length us ≤ k) (IsUidIn text us k)
+
+-- of one that names an id or a key: where it stands, which is at place 0
+abbrev pub PartsName : Reason → List ℕ → ℕ → Option Span → Type 0
+PartsName w text k r = IsTrue (names_one w) → (name : List ℕ) → text ≡ words_of w ++ (32 ∷ name)
+    → MatchOption r (k ≢ 0) (λ s. (k ≡ 0) × IsNameIn text name s)
+
+-- of one that names slots: where the one at a place stands, of those that are not bound and then of those that are bound
+-- and no slots, and nothing where there are no more
+abbrev pub PartsSlots : Reason → List ℕ → ℕ → Option Span → Type 0
+PartsSlots w text k r = w ≡ reasons.Arity → (unbound extra : List SlotId)
+    → text ≡ words_of w ++ (32 ∷ arity_text unbound extra)
+    → MatchOption r (length (unbound ++ extra) ≤ k) (IsSlotIn text (unbound ++ extra) k)
+
+-- where what a refusal with a status names at a place stands in its text; a number that is no status names nothing
+abbrev pub IsPartOf : ℕ → List ℕ → ℕ → Option Span → Type 0
+IsPartOf status text k r = ((w : Reason) × (number_of w ≡ status) × PartsUids w text k r × PartsName w text k r
+    × PartsSlots w text k r) ⊎ (IsNoReason status × (r ≡ None))

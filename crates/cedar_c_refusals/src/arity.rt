@@ -1,0 +1,77 @@
+//! Where the slots that a refusal names stand in its text.
+ghost use Rattle.std.specs.Prelude.{◌≡◌, ◌≤◌, ◌∷◌, ◌++◌, List, ℕ, length};
+ghost use Rattle.std.specs.Option.{MatchOption};
+ghost use Rattle.cedar_binding.specs.BindingTexts.{arity_text};
+ghost use Rattle.cedar_terms.specs.declared.slot.SlotId.{SlotId};
+ghost use Rattle.cedar_c_refusals.specs.Named.{IsSlotIn};
+ghost use Rattle.cedar_c_refusals.specs.laws.Marks.{after_slots, behind_slot, from_mark};
+
+use cedar_c_lists::Span;
+
+// The text from its first `?` on; nothing where there is none.
+#[tactic(auto, unfolding(crate::specs::laws::Marks::from_mark))]
+fn from_mark(text: &[u8]) -> &[u8]
+    ensures from { result.now ≡ from_mark text.now }
+    ensures length { length result.now ≤ length text.now }
+{
+    let mut rest = text;
+    while let Some((first, behind)) = rest.split_first() {
+        if *first == b'?' {
+            return rest;
+        }
+        rest = behind;
+    }
+    rest
+}
+
+// What stands behind the first byte and the small letters that follow it.
+#[tactic(auto, unfolding(crate::specs::laws::Marks::behind_letters))]
+fn behind_slot(text: &[u8]) -> &[u8]
+    ensures behind { result.now ≡ behind_slot text.now }
+    ensures length { length result.now ≤ length text.now }
+{
+    let Some((_mark, mut rest)) = text.split_first() else {
+        return text;
+    };
+    while let Some((first, behind)) = rest.split_first() {
+        if !first.is_ascii_lowercase() {
+            return rest;
+        }
+        rest = behind;
+    }
+    rest
+}
+
+// What stands behind so many slots.
+#[tactic(auto, unfolding(crate::specs::laws::Marks::after_slots))]
+fn behind_slots(text: &[u8], count: usize) -> &[u8]
+    ensures behind { result.now ≡ after_slots count text.now }
+    ensures length { length result.now ≤ length text.now }
+{
+    let mut rest = text;
+    for _ in 0..count {
+        if rest.is_empty() {
+            return rest;
+        }
+        rest = behind_slot(from_mark(rest));
+    }
+    rest
+}
+
+// Where the slot with a place stands, of those that the text of a refusal names behind words, which are so many bytes.
+pub(crate) fn slot_part(text: &[u8], from: usize, place: usize) -> Option<Span>
+    ensures { (unbound extra : List SlotId) → (words : List ℕ) → length words ≡ from
+        → text.now ≡ words ++ (32 ∷ arity_text unbound extra)
+        → MatchOption result (length (unbound ++ extra) ≤ place) (IsSlotIn text.now (unbound ++ extra) place) }
+{
+    let names = text.get(from..)?;
+    let rest = from_mark(behind_slots(names, place));
+    if rest.is_empty() {
+        return None;
+    }
+    let behind = behind_slot(rest);
+    Some(Span {
+        start: text.len() - rest.len(),
+        end: text.len() - behind.len(),
+    })
+}
