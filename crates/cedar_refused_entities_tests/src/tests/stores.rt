@@ -16,6 +16,7 @@ use cedar_refusals::{
     shown_copied, tried_rows, unmade, with_last, with_word,
 };
 use cedar_slice::slice;
+use cedar_trial_edits::{would_add, would_upsert};
 use std::alloc::{AllocError, Global};
 use std::hash::BuildHasherDefault;
 use std::rc::Rc;
@@ -301,6 +302,11 @@ const READING: &str = "
     - Dereference::clone | unknown | unknown(\"u\")
     slice | from: a b, b c, d / / k=1; a | a b / c / / , b c / / / ,
     slice | from: a b, b c, d / / k=1; x d d | d / / k=1 / ,
+    would_add | from: a b, b c; c d, x a | done
+    would_add | from: a b, b c; a c | ! duplicate entity `A::\"a\"`
+    would_add | from: a b; c c | ! input graph has a cycle containing vertex `A::\"c\"`
+    would_upsert | from: a b, b c; b d, e | done
+    would_upsert | from: a b, b c; b b | ! input graph has a cycle containing vertex `A::\"b\"`
 ";
 
 // Whether looking a uid up gave this.
@@ -383,6 +389,24 @@ fn residual_copied(alloc: Global, number: usize, row: Row<'_>) -> Tried {
     }
 }
 
+// What the trial of an edit says.
+fn edit_tried(alloc: Global, number: usize, row: Row<'_>) -> Tried {
+    let (calls, texts) = row.given.rsplit_once(';').unwrap_or((row.given, ""));
+    on(
+        alloc,
+        number,
+        both(store_of(alloc, calls), shared(alloc, texts)),
+        |(store, list)| {
+            let answer = if row.call == "would_add" {
+                would_add(alloc, store, list.as_slice())
+            } else {
+                would_upsert(alloc, store, list.as_slice())
+            };
+            judged(alloc, answer, row.want, |_done| row.want == "done")
+        },
+    )
+}
+
 impl Calls for OnReading {
     fn tried(&self, alloc: Global, number: usize, row: Row<'_>) -> Tried {
         match row.call {
@@ -400,6 +424,7 @@ impl Calls for OnReading {
             },
             "Dereference::clone" => residual_copied(alloc, number, row),
             "slice" => sliced(alloc, number, row),
+            "would_add" | "would_upsert" => edit_tried(alloc, number, row),
             _ => unmade(),
         }
     }

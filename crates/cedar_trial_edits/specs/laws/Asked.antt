@@ -1,0 +1,27 @@
+-- The part of a store that a trial of an edit looks at.
+use Rattle.std.specs.Prelude.{◌≡◌, true, List}
+use Rattle.std.specs.FinSet as set
+use Rattle.std.specs.List.{AllByRecursion}
+use Rattle.std.specs.Set.{is_member}
+use Rattle.cedar_ids.specs.UidOf.{same_uid}
+use Rattle.cedar_ids.specs.declared.entity.EntityUID.{EntityUID}
+use Rattle.cedar_entity.specs.View.{EntityView}
+use Rattle.cedar_entities.specs.Plain.{StoreView, IsPlainStore}
+use Rattle.cedar_entities.specs.World.{World}
+use Rattle.cedar_slice.specs.Slices.{sliced, IsPlainSlice}
+
+-- the list has the uid of an entity and those of its parents
+abbrev pub IsAsked : List EntityUID → EntityView → Type 0
+IsAsked U e = (is_member same_uid U e.uid ≡ true)
+    × ((p : EntityUID) → set.contains e.parents p ≡ true → is_member same_uid U p ≡ true)
+
+-- and those of each of some entities
+abbrev pub AreAsked : List EntityUID → List EntityView → Type 0
+AreAsked U L = AllByRecursion (IsAsked U) L
+
+-- N is the slice of S at uids that have those of each of some entities
+pub record IsPartFor (S : StoreView) (L : List EntityView) (N : StoreView) : Type 0 where
+  pub uids : List EntityUID
+  pub asked : AreAsked uids L
+  pub held : N.held ≡ sliced S.held uids
+  pub plain : (W : World) → IsPlainStore W S → IsPlainSlice W uids N

@@ -1,0 +1,59 @@
+//! The uids that a trial of an edit asks the store for, and the list once more.
+ghost use Rattle.std.specs.Prelude.{◌≡◌, ◌||◌, IfOk, OnOk};
+ghost use Rattle.std.specs.FinSet as set;
+ghost use Rattle.std.specs.Set.{is_member};
+ghost use Rattle.cedar_ids.specs.UidOf.{same_uid};
+ghost use Rattle.cedar_ids.specs.declared.entity.EntityUID.{EntityUID};
+ghost use Rattle.cedar_entities.specs.Plain.{entities_in};
+ghost use Rattle.cedar_trial_edits.specs.laws.Asked.{AreAsked};
+
+use cedar_entities::Entity;
+use cedar_ids::entity::EntityUID;
+use std::alloc::{AllocError, Global};
+use std::rc::Rc;
+
+// Puts the parents of an entity at the end of a list.
+fn push_parents(uids: &mut Vec<EntityUID>, entity: &Entity) -> Result<(), AllocError>
+    ensures { OnOk result ((q : EntityUID) → is_member same_uid uids.new.items q
+        ≡ (is_member same_uid uids.old.items q || set.contains entity.now.parents q)) }
+{
+    for parent in entity.parents() {
+        uids.push(parent.clone()?)?;
+    }
+    Ok(())
+}
+
+// Puts the uid of an entity and its parents at the end of a list.
+fn push_asked(uids: &mut Vec<EntityUID>, entity: &Entity) -> Result<(), AllocError>
+    ensures { OnOk result ((q : EntityUID) → is_member same_uid uids.new.items q
+        ≡ (is_member same_uid uids.old.items q
+        || (same_uid q entity.now.uid || set.contains entity.now.parents q))) }
+{
+    uids.push(entity.uid().clone()?)?;
+    push_parents(uids, entity)
+}
+
+// The uids of some entities and of their parents.
+pub(crate) fn asked_by(alloc: Global, list: &[Rc<Entity>]) -> Result<Vec<EntityUID>, AllocError>
+    ensures { IfOk result (λ v. AreAsked v.items (entities_in list.now)) }
+{
+    let mut uids = Vec::new(alloc);
+    for entity in list {
+        push_asked(&mut uids, entity)?;
+    }
+    Ok(uids)
+}
+
+// The entities, shared once more.
+pub(crate) fn shared_again(
+    alloc: Global,
+    list: &[Rc<Entity>],
+) -> Result<Vec<Rc<Entity>>, AllocError>
+    ensures { IfOk result (λ v. entities_in v.items ≡ entities_in list.now) }
+{
+    let mut copies = Vec::with_capacity(alloc, list.len())?;
+    for entity in list {
+        copies.push(entity.clone()?)?;
+    }
+    Ok(copies)
+}
