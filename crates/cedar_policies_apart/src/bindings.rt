@@ -1,0 +1,27 @@
+//! Copies of what slots are bound to, which share nothing with what they are copies of.
+use cedar_apart::uid_apart;
+use cedar_binding::{SlotEnv, bound_to, no_bindings};
+use cedar_terms::slot::SlotId;
+use std::alloc::{AllocError, Global};
+
+// Binds a slot as it is bound elsewhere, if it is.
+fn bind_as(
+    alloc: Global,
+    own: &mut SlotEnv,
+    values: &SlotEnv,
+    slot: SlotId,
+) -> Result<(), AllocError> {
+    if let Some(uid) = bound_to(values, slot) {
+        own.insert(slot, uid_apart(alloc, uid)?)?;
+    }
+    Ok(())
+}
+
+// A copy of bindings.
+pub(crate) fn bindings_apart(alloc: Global, values: &SlotEnv) -> Result<SlotEnv, AllocError> {
+    let mut own = no_bindings(alloc);
+    bind_as(alloc, &mut own, values, SlotId::Principal)?;
+    bind_as(alloc, &mut own, values, SlotId::Action)?;
+    bind_as(alloc, &mut own, values, SlotId::Resource)?;
+    Ok(own)
+}

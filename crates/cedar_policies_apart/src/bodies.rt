@@ -1,0 +1,99 @@
+//! Copies of bodies of policies and templates, which share nothing with what they are copies of.
+ghost use Rattle.std.specs.Prelude.{◌≡◌, IfOk};
+ghost use Rattle.std.specs.Option.{option_copied};
+
+use crate::constraints::{constraint_apart, rule_apart};
+use cedar_annotation::annotation::Iter;
+use cedar_annotation::{Annotation, Annotations};
+use cedar_apart::expr_apart;
+use cedar_ids::id::AnyId;
+use cedar_policy::{StaticPolicy, Template};
+use cedar_scope::{PrincipalConstraint, ResourceConstraint};
+use cedar_terms::Expr;
+use std::alloc::{AllocError, Global};
+
+// A copy of the key of an annotation.
+fn key_apart(alloc: Global, key: &AnyId) -> Result<AnyId, AllocError>
+    ensures { IfOk result (λ k. k ≡ key.now) }
+{
+    match AnyId::from_normalized_str(alloc, key.as_ref()) {
+        Ok(own) => Ok(own),
+        Err(_want) => Err(AllocError),
+    }
+}
+
+// A copy of an annotation. It has no location.
+fn annotation_apart(alloc: Global, annotation: &Annotation) -> Result<Annotation, AllocError>
+    ensures { IfOk result (λ a. a ≡ annotation.now) }
+{
+    let val = String::from_str(alloc, annotation.as_ref())?;
+    Ok(Annotation { val, loc: None })
+}
+
+// Copies of annotations, with their keys.
+fn annotations_apart(alloc: Global, annotations: Iter<'_>) -> Result<Annotations, AllocError> {
+    let mut own = Vec::new(alloc);
+    for (key, annotation) in annotations {
+        let key = key_apart(alloc, key)?;
+        let annotation = annotation_apart(alloc, annotation)?;
+        own.push((key, annotation))?;
+    }
+    Annotations::try_from_iter(alloc, own)
+}
+
+// A copy of a clause, if there is one.
+fn clause_apart(alloc: Global, clause: Option<&Expr>) -> Result<Option<Expr>, AllocError>
+    ensures { IfOk result (λ c. c ≡ option_copied clause.entry) }
+{
+    match clause {
+        None => Ok(None),
+        Some(clause) => {
+            let own = expr_apart(alloc, clause)?;
+            Ok(Some(own))
+        }
+    }
+}
+
+// A copy of a template.
+pub(crate) fn template_apart(alloc: Global, template: &Template) -> Result<Template, AllocError> {
+    let annotations = annotations_apart(alloc, template.annotations())?;
+    let principal = constraint_apart(alloc, template.principal_constraint().as_inner())?;
+    let action = rule_apart(alloc, template.action_constraint())?;
+    let resource = constraint_apart(alloc, template.resource_constraint().as_inner())?;
+    let clause = clause_apart(alloc, template.non_scope_constraints())?;
+    Template::new(
+        alloc,
+        template.id().clone()?,
+        None,
+        annotations,
+        template.effect(),
+        PrincipalConstraint::new(principal),
+        action,
+        ResourceConstraint::new(resource),
+        clause,
+    )
+}
+
+// A static policy of its own, with a body that has no slot. Where the body has one, it is refused.
+pub(crate) fn static_apart(alloc: Global, template: &Template) -> Result<StaticPolicy, AllocError> {
+    let annotations = annotations_apart(alloc, template.annotations())?;
+    let principal = constraint_apart(alloc, template.principal_constraint().as_inner())?;
+    let action = rule_apart(alloc, template.action_constraint())?;
+    let resource = constraint_apart(alloc, template.resource_constraint().as_inner())?;
+    let clause = clause_apart(alloc, template.non_scope_constraints())?;
+    let made = StaticPolicy::new(
+        alloc,
+        template.id().clone()?,
+        None,
+        annotations,
+        template.effect(),
+        PrincipalConstraint::new(principal),
+        action,
+        ResourceConstraint::new(resource),
+        clause,
+    );
+    match made {
+        Ok(policy) => Ok(policy),
+        Err(_slot) => Err(AllocError),
+    }
+}

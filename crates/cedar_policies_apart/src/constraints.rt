@@ -1,0 +1,110 @@
+//! Copies of what principal, action and resource have to be, which share nothing with what they are copies of.
+ghost use Rattle.std.specs.Prelude.{◌≡◌, IfOk, map};
+ghost use Rattle.cedar_ids.specs.UidOf.{uid_parts};
+ghost use Rattle.cedar_ids.specs.Views.{type_name};
+ghost use Rattle.cedar_action.specs.Views.{rule_of};
+ghost use Rattle.cedar_scope.specs.Views.{constraint_of, reference_of};
+
+use cedar_action::ActionConstraint;
+use cedar_apart::{type_apart, uid_apart};
+use cedar_ids::entity::{EntityType, EntityUID};
+use cedar_scope::{EntityReference, PrincipalOrResourceConstraint};
+use std::alloc::{AllocError, Global};
+use std::rc::Rc;
+
+// A copy of a uid, to be shared within the copy.
+fn own_uid(alloc: Global, uid: &EntityUID) -> Result<Rc<EntityUID>, AllocError>
+    ensures { IfOk result (λ u. uid_parts u.value ≡ uid_parts uid.now) }
+{
+    let uid = uid_apart(alloc, uid)?;
+    let own = Rc::new(alloc, uid)?;
+    Ok(own)
+}
+
+// A copy of a type, to be shared within the copy.
+fn own_type(alloc: Global, ty: &EntityType) -> Result<Rc<EntityType>, AllocError>
+    ensures { IfOk result (λ t. type_name t.value ≡ type_name ty.now) }
+{
+    let ty = type_apart(alloc, ty)?;
+    let own = Rc::new(alloc, ty)?;
+    Ok(own)
+}
+
+// A copy of what is referred to.
+fn reference_apart(
+    alloc: Global,
+    reference: &EntityReference,
+) -> Result<EntityReference, AllocError>
+    ensures { IfOk result (λ r. reference_of r ≡ reference_of reference.now) }
+{
+    match reference {
+        EntityReference::EUID(uid) => {
+            let own = own_uid(alloc, uid)?;
+            Ok(EntityReference::EUID(own))
+        }
+        EntityReference::Slot(_) => Ok(EntityReference::Slot(None)),
+    }
+}
+
+// A copy of what a principal or a resource has to be.
+pub(crate) fn constraint_apart(
+    alloc: Global,
+    constraint: &PrincipalOrResourceConstraint,
+) -> Result<PrincipalOrResourceConstraint, AllocError>
+    ensures { IfOk result (λ c. constraint_of c ≡ constraint_of constraint.now) }
+{
+    match constraint {
+        PrincipalOrResourceConstraint::Any => Ok(PrincipalOrResourceConstraint::Any),
+        PrincipalOrResourceConstraint::In(reference) => {
+            let own = reference_apart(alloc, reference)?;
+            Ok(PrincipalOrResourceConstraint::In(own))
+        }
+        PrincipalOrResourceConstraint::Eq(reference) => {
+            let own = reference_apart(alloc, reference)?;
+            Ok(PrincipalOrResourceConstraint::Eq(own))
+        }
+        PrincipalOrResourceConstraint::Is(ty) => {
+            let own = own_type(alloc, ty)?;
+            Ok(PrincipalOrResourceConstraint::Is(own))
+        }
+        PrincipalOrResourceConstraint::IsIn(ty, reference) => {
+            let own = own_type(alloc, ty)?;
+            let within = reference_apart(alloc, reference)?;
+            Ok(PrincipalOrResourceConstraint::IsIn(own, within))
+        }
+    }
+}
+
+// Copies of uids.
+fn uids_apart(alloc: Global, uids: &[Rc<EntityUID>]) -> Result<Vec<EntityUID>, AllocError>
+    ensures { IfOk result (λ v. map uid_parts v.items ≡ map (λ u. uid_parts u.value) uids.now) }
+{
+    let mut own = Vec::new(alloc);
+    for uid in uids {
+        let copy = uid_apart(alloc, uid)?;
+        own.push(copy)?;
+    }
+    Ok(own)
+}
+
+// A copy of what an action has to be.
+pub(crate) fn rule_apart(
+    alloc: Global,
+    rule: &ActionConstraint,
+) -> Result<ActionConstraint, AllocError>
+    ensures { IfOk result (λ c. rule_of c ≡ rule_of rule.now) }
+{
+    match rule {
+        ActionConstraint::Any => Ok(ActionConstraint::Any),
+        ActionConstraint::In(uids) => {
+            let own = uids_apart(alloc, uids)?;
+            ActionConstraint::is_in(alloc, own)
+        }
+        ActionConstraint::Eq(uid) => {
+            let own = own_uid(alloc, uid)?;
+            Ok(ActionConstraint::Eq(own))
+        }
+        ActionConstraint::InSlot(_) => Ok(ActionConstraint::InSlot(None)),
+        ActionConstraint::EqSlot(_) => Ok(ActionConstraint::EqSlot(None)),
+    }
+}

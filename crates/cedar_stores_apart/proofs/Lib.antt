@@ -1,0 +1,3 @@
+pub mod SameEntity
+pub mod SameFields
+pub mod Stored

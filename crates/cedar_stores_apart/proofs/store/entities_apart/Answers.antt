@@ -1,0 +1,17 @@
+use Rattle.std.proofs.Common.{sym, subst, ◌∙◌}
+use Rattle.cedar_entities.specs.Plain.{IsPlainStore}
+use Rattle.cedar_stores_apart.proofs.Stored.{as_partial}
+use Rattle.cedar_stores_apart.proofs.store.entities_apart.Goals as goal
+
+pub known_plain_with-requires : goal.known_plain_with-requires
+known_plain_with-requires g c = λ W p. (
+  W,
+  subst (IsPlainStore W) (sym (as_partial c.args.store.now c.in_ok-held.held c.partial_as-copy.result
+      c.in_ok-held.ensures c.partial_as-copy.ensures)) p,
+)
+
+pub returns : goal.returns
+returns g c =
+    c.known_plain_with.ensures
+    ∙ as_partial c.args.store.now c.in_ok-held.held c.partial_as-copy.result c.in_ok-held.ensures
+    c.partial_as-copy.ensures

@@ -1,0 +1,108 @@
+//! Copies of entities.
+ghost use Rattle.std.specs.Prelude.{◌≡◌, IfOk, OnOk, false};
+ghost use Rattle.std.specs.FinSet as set;
+ghost use Rattle.cedar_entities.specs.Plain.{IsApart};
+
+use crate::parts::{fields_apart, uids_apart};
+use crate::unshared::entity_of_own_sets;
+use cedar_apart::OwnUids;
+use cedar_entity::{Entity, SharedUid, UidSet};
+use cedar_graph::TCNode;
+use cedar_ids::entity::EntityUID;
+use std::alloc::{AllocError, Global};
+use std::collections::HashSet;
+use std::hash::BuildHasher;
+
+// Whether a parent is an indirect ancestor too.
+fn has_overlap(entity: &Entity) -> bool
+    ensures { result ≡ false → IsApart entity.now }
+{
+    for parent in entity.parents() {
+        if entity.is_indirect_descendant_of(parent) {
+            return true;
+        }
+    }
+    false
+}
+
+// An entity with a uid and copies of the attributes and tags of an entity, and without ancestors.
+fn with_fields_of(alloc: Global, uid: EntityUID, entity: &Entity) -> Result<Entity, AllocError>
+    ensures uid { IfOk result (λ e. e.uid ≡ uid) }
+    ensures attrs { IfOk result (λ e. e.attrs ≡ entity.now.attrs) }
+    ensures tags { IfOk result (λ e. e.tags ≡ entity.now.tags) }
+    ensures parents { IfOk result (λ e. e.parents ≡ set.empty) }
+    ensures indirect { IfOk result (λ e. e.indirect ≡ set.empty) }
+{
+    let attrs = fields_apart(alloc, entity.attrs())?;
+    let tags = fields_apart(alloc, entity.tags())?;
+    let above = HashSet::new(alloc);
+    let parents = HashSet::new(alloc);
+    let made = Entity::new_with_attr_partial_value(alloc, uid, attrs, above, parents, tags)?;
+    Ok(made)
+}
+
+// An entity without ancestors gets parents, which stay shared. They are put in ascending, each behind the one before.
+fn add_parents(entity: &mut Entity, parents: Vec<SharedUid>) -> Result<(), AllocError>
+    requires parents { entity.old.parents ≡ set.empty }
+    requires indirect { entity.old.indirect ≡ set.empty }
+    ensures { OnOk result (entity.new ≡ record entity.old { parents = set.from_list parents.items }) }
+{
+    let ascending = UidSet::from_pointers(parents)?.into_pointers();
+    for parent in ascending {
+        entity.add_shared_parent(parent)?;
+    }
+    Ok(())
+}
+
+// An entity without indirect ancestors gets these, which stay shared, but for its parents.
+fn add_above(
+    alloc: Global,
+    entity: &mut Entity,
+    mut above: Vec<SharedUid>,
+) -> Result<(), AllocError>
+    requires { entity.old.indirect ≡ set.empty }
+    ensures { OnOk result (entity.new ≡ record entity.old {
+      indirect = set.difference (set.from_list above.items) entity.old.parents;
+    }) }
+{
+    entity.add_edges_to(alloc, &mut above)?;
+    Ok(())
+}
+
+// A copy of an entity none of whose parents is an indirect ancestor too. Its uids are shared within the copy.
+fn entity_of_shared<S: BuildHasher + Clone>(
+    alloc: Global,
+    own: &mut OwnUids<S>,
+    entity: &Entity,
+) -> Result<Entity, AllocError>
+    requires { IsApart entity.now }
+    ensures { IfOk result (λ e. e ≡ entity.now) }
+{
+    let uid = own.shared(alloc, entity.uid())?.into_uid()?;
+    let parents = uids_apart(alloc, own, entity.parents())?;
+    let above = uids_apart(alloc, own, entity.indirect_ancestors())?;
+    let mut copy = with_fields_of(alloc, uid, entity)?;
+    add_parents(&mut copy, parents)?;
+    add_above(alloc, &mut copy, above)?;
+    Ok(copy)
+}
+
+/// A copy of an entity, which shares nothing with it, and has no locations. Its uids are those of the copy that it is to
+/// be a part of.
+///
+/// It takes memory, and is refused where that is, and where the copy of an attribute or a tag is, as
+/// [`cedar_apart::partial_apart`] says. Where a parent is an indirect ancestor too, which validation refuses, the uids
+/// of its ancestors are its own; else they are shared within the copy.
+pub fn entity_apart<S: BuildHasher + Clone>(
+    alloc: Global,
+    own: &mut OwnUids<S>,
+    entity: &Entity,
+) -> Result<Entity, AllocError>
+    ensures { IfOk result (λ e. e ≡ entity.now) }
+{
+    if has_overlap(entity) {
+        entity_of_own_sets(alloc, own, entity)
+    } else {
+        entity_of_shared(alloc, own, entity)
+    }
+}

@@ -1,0 +1,40 @@
+//! Copies of what entities have: attributes or tags, and uids.
+ghost use Rattle.std.specs.Prelude.{◌≡◌, IfOk};
+ghost use Rattle.cedar_entity.specs.Fields.{fields_of};
+
+use cedar_apart::{OwnUids, partial_apart};
+use cedar_entity::{Pairs, SharedUid, Uids};
+use cedar_terms::PartialValue;
+use std::alloc::{AllocError, Global};
+use std::hash::BuildHasher;
+
+// Copies of attributes or tags.
+pub(crate) fn fields_apart(
+    alloc: Global,
+    fields: Pairs<'_>,
+) -> Result<Vec<(String, PartialValue)>, AllocError>
+    ensures { IfOk result (λ v. fields_of v.items ≡ fields.entry) }
+{
+    let mut copies = Vec::new(alloc);
+    for (key, value) in fields {
+        let key = String::from_str(alloc, key)?;
+        let value = partial_apart(alloc, value)?;
+        copies.push((key, value))?;
+    }
+    Ok(copies)
+}
+
+// The uids of a copy that are equal to some uids, shared.
+pub(crate) fn uids_apart<S: BuildHasher + Clone>(
+    alloc: Global,
+    own: &mut OwnUids<S>,
+    uids: Uids<'_>,
+) -> Result<Vec<SharedUid>, AllocError>
+    ensures { IfOk result (λ v. v.items ≡ uids.entry) }
+{
+    let mut copies = Vec::new(alloc);
+    for uid in uids {
+        copies.push(own.shared(alloc, uid)?)?;
+    }
+    Ok(copies)
+}

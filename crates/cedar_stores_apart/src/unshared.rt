@@ -1,0 +1,47 @@
+//! Copies of entities a parent of which is an indirect ancestor too.
+ghost use Rattle.std.specs.Prelude.{◌≡◌, IfOk};
+ghost use Rattle.std.specs.HashSet.{contains};
+ghost use Rattle.std.specs.Set.{is_member};
+ghost use Rattle.cedar_ids.specs.UidOf.{same_uid};
+ghost use Rattle.cedar_ids.specs.declared.entity.EntityUID.{EntityUID};
+
+use crate::parts::{fields_apart, uids_apart};
+use cedar_apart::OwnUids;
+use cedar_entity::{Entity, Uids};
+use cedar_ids::entity::EntityUID;
+use std::alloc::{AllocError, Global};
+use std::collections::HashSet;
+use std::hash::BuildHasher;
+
+// Copies of some uids, as a hash set.
+fn set_apart<S: BuildHasher + Clone>(
+    alloc: Global,
+    own: &mut OwnUids<S>,
+    uids: Uids<'_>,
+) -> Result<HashSet<EntityUID, S>, AllocError>
+    ensures { IfOk result (λ s. (q : EntityUID) → contains same_uid s q ≡ is_member same_uid uids.entry q) }
+{
+    let copies = uids_apart(alloc, own, uids)?;
+    let mut set = HashSet::with_hasher(alloc, own.hasher().clone()?);
+    for copy in copies {
+        set.insert(copy.into_uid()?)?;
+    }
+    Ok(set)
+}
+
+// A copy of an entity, whatever its ancestors, with sets of uids of its own.
+pub(crate) fn entity_of_own_sets<S: BuildHasher + Clone>(
+    alloc: Global,
+    own: &mut OwnUids<S>,
+    entity: &Entity,
+) -> Result<Entity, AllocError>
+    ensures { IfOk result (λ e. e ≡ entity.now) }
+{
+    let uid = own.shared(alloc, entity.uid())?.into_uid()?;
+    let attrs = fields_apart(alloc, entity.attrs())?;
+    let tags = fields_apart(alloc, entity.tags())?;
+    let above = set_apart(alloc, own, entity.indirect_ancestors())?;
+    let parents = set_apart(alloc, own, entity.parents())?;
+    let made = Entity::new_with_attr_partial_value(alloc, uid, attrs, above, parents, tags)?;
+    Ok(made)
+}
