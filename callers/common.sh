@@ -2,6 +2,8 @@
 # archives stand. A run ends with `N passed, M failed`, or `N passed, M failed, K skipped`.
 both="$out/libcedar_c.a $out/liblibc_c.a"
 warn="-std=c11 -Wall -Wextra -Wpedantic -Werror"
+# What c/apart.c is built with: threads, and its own look at each request for memory.
+noted="-pthread -Wl,--wrap=malloc -Wl,--wrap=realloc -Wl,--wrap=calloc -Wl,--wrap=posix_memalign -Wl,--wrap=free"
 passed=0
 failed=0
 skipped=0
@@ -76,12 +78,35 @@ in_c_sanitized() {
         without "sanitizer for gcc" "the calls from C under those of addresses and of undefined behaviour"
     elif gcc -O1 -g $warn $sanitizers -o "$out/calls_watched" c/calls.c $both &&
         gcc -O1 -g $warn $sanitizers -o "$out/values_watched" c/values.c $both &&
-        gcc -O1 -g $warn $sanitizers -o "$out/bodies_watched" c/bodies.c $both; then
+        gcc -O1 -g $warn $sanitizers -o "$out/bodies_watched" c/bodies.c $both &&
+        gcc -O1 -g $warn $sanitizers $noted -o "$out/apart_watched" c/apart.c $both &&
+        gcc -O1 -g $warn $sanitizers -o "$out/numbers_watched" c/numbers.c $both; then
         counted "calls from C, under the sanitizers of addresses and of undefined behaviour" "$out/calls_watched"
         counted "values from C, under the sanitizers of addresses and of undefined behaviour" "$out/values_watched"
         counted "bodies of policies from C, under those sanitizers" "$out/bodies_watched"
+        counted "copies apart from C, under those sanitizers" "$out/apart_watched"
+        counted "numbers of uids from C, under those sanitizers" "$out/numbers_watched"
     else
         fault "the calls from C were not built under the sanitizers"
+    fi
+}
+
+# Threads that use copies apart: under the sanitizer of threads, which looks at the caller and at requests for memory, and
+# under helgrind, which looks at the library too.
+in_c_on_threads() {
+    has gcc --version || return
+    echo 'int main(void) { return 0; }' > "$out/empty.c"
+    if ! gcc -fsanitize=thread -o "$out/empty" "$out/empty.c" 2> /dev/null || ! "$out/empty"; then
+        without "sanitizer of threads for gcc" "copies apart from C under it"
+    elif gcc -O1 -g $warn -fsanitize=thread $noted -o "$out/apart_raced" c/apart.c $both; then
+        counted "copies apart from C, under the sanitizer of threads" "$out/apart_raced"
+    else
+        fault "the copies apart from C were not built under the sanitizer of threads"
+    fi
+    if has valgrind --version; then
+        counted "copies apart from C, watched for races" valgrind -q --tool=helgrind --error-exitcode=9 "$out/apart"
+    else
+        without valgrind "copies apart from C watched for races"
     fi
 }
 

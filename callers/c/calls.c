@@ -35,6 +35,58 @@ static void uid_texts(void) {
     CHECK(cedar_uid_check(TEXT("A::\"\xff\"")) == CEDAR_NOT_A_UID);
 }
 
+/* The place of the first part of a list that is no uid's, and the status behind it. */
+static const char *unread(const char *text, const cedar_span *uids, size_t uids_len) {
+    static char out[32];
+    size_t place = 99;
+    uint32_t status = cedar_uids_check(TEXT(text), uids, uids_len, &place);
+    snprintf(out, sizeof out, "%u at %u", (unsigned)status, (unsigned)place);
+    return out;
+}
+
+static void uid_lists(void) {
+    const char *text = U("a") U("b") "A::c" U("\"");
+    cedar_span uids[5] = {{0, 6}, {6, 12}, {12, 16}, {16, 22}, {23, 22}};
+    CHECK(IS(unread(text, uids, 0), "0 at 99") && IS(unread(text, uids, 2), "0 at 99"));
+    CHECK(IS(unread(text, uids, 3), "4 at 2") && IS(unread(text, uids, 5), "4 at 2"));
+    CHECK(IS(unread(text, uids + 3, 1), "4 at 0") && IS(unread(text, uids + 4, 1), "3 at 0"));
+    uids[2].end = 1000;
+    CHECK(IS(unread(text, uids, 3), "3 at 2"));
+    uids[1].start = 7;
+    CHECK(IS(unread(text, uids, 3), "4 at 1"));
+}
+
+/* What a refusal's text names, each in brackets. */
+static const char *named(uint32_t status, const char *text) {
+    static char out[160];
+    cedar_span part;
+    size_t at = 0, place = 0;
+    for (; cedar_refusal_part(status, TEXT(text), place, &part); place++)
+        at += (size_t)snprintf(out + at, sizeof out - at, "[%.*s]", (int)(part.end - part.start), text + part.start);
+    part = (cedar_span){7, 9};
+    CHECK(!cedar_refusal_part(status, TEXT(text), SIZE_MAX, &part) && part.start == 7 && part.end == 9);
+    out[at] = 0;
+    return out;
+}
+
+static void names_in_texts(void) {
+    const char *lacking = "arity: the following slots were not provided as arguments: ?principal,?resource";
+    const char *both = "arity: the following slots were not provided as arguments: ?principal. The following slots were "
+                       "provided as arguments, but did not exist in the template: ?action,?resource";
+    CHECK(IS(named(CEDAR_DUPLICATE, "duplicate entity " U("a")), "[" U("a") "]"));
+    CHECK(IS(named(CEDAR_NOT_CLOSED, "ancestors not closed at " U("a") " A::B::\"x \\\" y\\\\\" " U("")),
+             "[" U("a") "][A::B::\"x \\\" y\\\\\"][" U("") "]"));
+    CHECK(IS(named(CEDAR_CYCLE, "cycle at A::\"\\u{7f} \xc3\xa9\""), "[A::\"\\u{7f} \xc3\xa9\"]"));
+    CHECK(IS(named(CEDAR_NOT_AN_ACTION, "not an action " U("a")), "[" U("a") "]"));
+    CHECK(IS(named(CEDAR_RESERVED_KEY, "reserved key __entity"), "[__entity]"));
+    CHECK(IS(named(CEDAR_OCCUPIED, "occupied a b"), "[a b]") && IS(named(CEDAR_NO_LINK, "no link "), "[]"));
+    CHECK(IS(named(CEDAR_ARITY, lacking), "[?principal][?resource]"));
+    CHECK(IS(named(CEDAR_ARITY, both), "[?principal][?action][?resource]"));
+    CHECK(IS(named(CEDAR_OK, "ok"), "") && IS(named(CEDAR_NO_MEMORY, "out of memory x"), "") && IS(named(99, "x y"), ""));
+    CHECK(IS(named(CEDAR_NOT_A_UID, "not a uid"), "") && IS(named(CEDAR_DUPLICATE, ""), ""));
+    CHECK(IS(named(CEDAR_OCCUPIED, "occ"), "") && IS(named(CEDAR_ARITY, ""), "") && IS(named(CEDAR_CYCLE, "cycle at"), ""));
+}
+
 /* What a call wrote, and how much there is in all: the length behind the text, or 100 and the status. */
 static const char *made(const char *type, const char *id, size_t room) {
     static char out[96];
@@ -281,11 +333,12 @@ static void duplicates(void) {
     CHECK(new_store(&s) == CEDAR_OK);
     CHECK(cedar_store_refusal(&s, (uint8_t *)"", 0) == 0);
     CHECK(build(&s, "q r", CEDAR_COMPUTE) == CEDAR_OK);
-    CHECK(build(&s, "a b;a c", CEDAR_COMPUTE) == CEDAR_DUPLICATE && cedar_store_len(&s) == 0);
+    CHECK(build(&s, "a b;a c", CEDAR_COMPUTE) == CEDAR_DUPLICATE && cedar_store_len(&s) == 1);
     CHECK(IS(store_refusal(&s), "duplicate entity " U("a")));
     CHECK(cedar_store_refusal(&s, out, 3) == strlen("duplicate entity " U("a")) && !memcmp(out, "dup.", 4));
     CHECK(build(&s, "q r", CEDAR_COMPUTE) == CEDAR_OK);
-    CHECK(add(&s, "q z", CEDAR_COMPUTE) == CEDAR_DUPLICATE && cedar_store_len(&s) == 0 && s.is_open);
+    CHECK(add(&s, "x r;q z", CEDAR_COMPUTE) == CEDAR_DUPLICATE && cedar_store_len(&s) == 1 && has(&s, U("q")) == 1);
+    CHECK(ancestors(&s, U("q")) == CEDAR_OK && IS(store_answer(&s), "," U("r")));
     CHECK(IS(store_refusal(&s), "duplicate entity " U("q")));
     cedar_store_free(&s);
 }
@@ -296,9 +349,8 @@ static void cycles(void) {
     CHECK(build(&s, "a b;b a", CEDAR_COMPUTE) == CEDAR_CYCLE && cedar_store_len(&s) == 0);
     CHECK(IS(store_refusal(&s), "cycle at " U("a")) || IS(store_refusal(&s), "cycle at " U("b")));
     CHECK(build(&s, "a b", CEDAR_COMPUTE) == CEDAR_OK);
-    CHECK(add(&s, "b a", CEDAR_COMPUTE) == CEDAR_CYCLE && cedar_store_len(&s) == 0);
-    CHECK(build(&s, "a b", CEDAR_COMPUTE) == CEDAR_OK);
-    CHECK(upsert(&s, "a a", CEDAR_COMPUTE) == CEDAR_CYCLE && cedar_store_len(&s) == 0);
+    CHECK(add(&s, "b a", CEDAR_COMPUTE) == CEDAR_CYCLE && cedar_store_len(&s) == 1);
+    CHECK(upsert(&s, "a a", CEDAR_COMPUTE) == CEDAR_CYCLE && descends(&s, U("a"), U("b")) == 1);
     CHECK(IS(store_refusal(&s), "cycle at " U("a")));
     CHECK(build(&s, "a a", CEDAR_ENFORCE) == CEDAR_CYCLE && IS(store_refusal(&s), "cycle at " U("a")));
     CHECK(build(&s, "a a", CEDAR_ASSUME) == CEDAR_OK && cedar_store_validate(&s) == CEDAR_CYCLE);
@@ -320,11 +372,13 @@ static void modes(void) {
     CHECK(IS(store_refusal(&s), want));
     /* a removal from such a store: what it touches is repaired, and then the whole is checked */
     CHECK(build(&s, "a b;b c;c d;x y", CEDAR_ASSUME) == CEDAR_OK);
-    CHECK(removed(&s, "x", CEDAR_ENFORCE) == CEDAR_NOT_CLOSED && cedar_store_len(&s) == 0);
+    CHECK(removed(&s, "x", CEDAR_ENFORCE) == CEDAR_NOT_CLOSED && cedar_store_len(&s) == 4);
+    CHECK(descends(&s, U("a"), U("b")) == 1 && descends(&s, U("a"), U("c")) == 0 && has(&s, U("x")) == 1);
     /* an upsert over a closed store that computes nothing */
     CHECK(build(&s, "a b;b c;c", CEDAR_COMPUTE) == CEDAR_OK && upsert(&s, "b c", CEDAR_ASSUME) == CEDAR_OK);
     CHECK(ancestors(&s, U("a")) == CEDAR_OK && IS(store_answer(&s), "," U("b")));
-    CHECK(upsert(&s, "b c", CEDAR_ENFORCE) == CEDAR_NOT_CLOSED && cedar_store_len(&s) == 0);
+    CHECK(upsert(&s, "b d", CEDAR_ENFORCE) == CEDAR_NOT_CLOSED && cedar_store_len(&s) == 3);
+    CHECK(descends(&s, U("b"), U("c")) == 1 && descends(&s, U("b"), U("d")) == 0);
     cedar_store_free(&s);
 }
 
@@ -346,7 +400,9 @@ static void edits(void) {
     CHECK(new_store(&s) == CEDAR_OK);
     CHECK(add(&s, "a b;b c", CEDAR_COMPUTE) == CEDAR_OK && cedar_store_len(&s) == 2);
     CHECK(add(&s, "c d;a bcd", CEDAR_COMPUTE) == CEDAR_DUPLICATE); /* a has b and c as ancestors, not d */
-    CHECK(add(&s, "a b;b c", CEDAR_COMPUTE) == CEDAR_OK && add(&s, "a bc;x a", CEDAR_COMPUTE) == CEDAR_OK);
+    CHECK(cedar_store_len(&s) == 2 && has(&s, U("c")) == 0 && descends(&s, U("a"), U("c")) == 1);
+    CHECK(add(&s, "c x;x a", CEDAR_COMPUTE) == CEDAR_CYCLE && cedar_store_len(&s) == 2); /* c is above a already */
+    CHECK(add(&s, "b c;a bc;x a", CEDAR_COMPUTE) == CEDAR_OK);
     CHECK(cedar_store_len(&s) == 3 && descends(&s, U("x"), U("c")) == 1);
     CHECK(parents(&s, U("a")) == CEDAR_OK && IS(store_answer(&s), "," U("b"))); /* the one that stood stays */
     CHECK(upsert(&s, "b e;b f", CEDAR_COMPUTE) == CEDAR_OK && cedar_store_len(&s) == 3);
@@ -739,6 +795,8 @@ static void texts_of_sets_stay(void) {
 int main(void) {
     program();
     uid_texts();
+    uid_lists();
+    names_in_texts();
     uids_made();
     uids_apart();
     what_it_is();

@@ -9,7 +9,11 @@
  *
  * - A handle is zeroed before its first use (`cedar_store s = {0};`), and none of its bytes are written. While it is
  *   open it may be moved, if the old place is not used again, but is not copied. Two handles of one call are two.
- * - A handle stays on the thread that opened it. Handles of one thread share nothing with those of another.
+ * - A handle stays on the thread that opened it, but one that is apart may go to another thread between two calls,
+ *   where what the one thread did comes before what the other does, as by a lock or a queue. Apart is one that
+ *   `cedar_store_new` or `cedar_policies_new` opened, or that a call whose name ends in `_apart` filled, as long as no
+ *   call that copies, slices or merges from one handle to another is made on it but such as end so. Handles of one
+ *   thread share nothing with those of another.
  * - A pointer and a length are those of one array that is readable, or writable, whole, and initialised; the length is
  *   below 2^63. The pointer is not null, also where the length is 0. What a call writes overlaps nothing else that it
  *   is given.
@@ -235,10 +239,22 @@ uint32_t cedar_uid_make(const uint8_t *type, size_t type_len, const uint8_t *id,
 uint32_t cedar_uid_parts(const uint8_t *uid, size_t uid_len, uint8_t *out, size_t room, size_t *type_len,
                          size_t *told);
 
+/* Whether each of some parts of a text is a uid's: CEDAR_OK; or in `place` the place of the first that is not, from 0 on,
+ * and CEDAR_NOT_A_UID, or CEDAR_BAD_ARGUMENT where it is not within the text; or CEDAR_NO_MEMORY, with the place that was
+ * being read. So it tells which of a list a call is refused for. Any thread may call it. */
+uint32_t cedar_uids_check(const uint8_t *text, size_t text_len, const cedar_span *uids, size_t uids_len, size_t *place);
+
 /* Copies out the words for a status, as `not a uid` and of CEDAR_OK `ok`, as much as there is room for, and tells how
  * long they are: 0 for a number that is no status. A refusal that has a text begins with them. Takes no memory. Any
  * thread may call it. */
 size_t cedar_status_text(uint32_t status, uint8_t *out, size_t room);
+
+/* Where in the text of a refusal what it names at a place stands, from 0 on, in the order of the text: a uid, the id or
+ * the key, or, of CEDAR_ARITY, a slot: first those that are not bound, then those that are bound and are none. `status`
+ * is that of the refusal, and the text what `cedar_store_refusal` or `cedar_policies_refusal` copied out, whole. True,
+ * and the part in `part`; false where it names no more, and nothing is written. Of a uid with an eid past ASCII this is
+ * tested, not proved. Takes no memory. Any thread may call it. */
+bool cedar_refusal_part(uint32_t status, const uint8_t *text, size_t text_len, size_t place, cedar_span *part);
 
 /* The version of the library, in one number: 65536 for each of its first number, 256 for each of its second, and its
  * third. Takes no memory. Any thread may call it. */
@@ -262,20 +278,23 @@ void cedar_store_free(cedar_store *s);
  * CEDAR_BAD_ARGUMENT: a part is not within the text, `count` is more than there are parts, an edge comes from no entity
  *   or leads to no uid, or the mode is none. CEDAR_NOT_A_UID: a part is no uid's text. Both leave the store as it was.
  * CEDAR_DUPLICATE: an entity comes twice with other parents. CEDAR_CYCLE, and in mode CEDAR_ENFORCE CEDAR_NOT_CLOSED:
- *   as they say. THE STORE IS WITHOUT ENTITIES THEN: who wants the one before copies it first.
- * CEDAR_NO_MEMORY: the store is as it was, or is without entities; `cedar_store_len` says which. */
+ *   as they say. CEDAR_NO_MEMORY. Each leaves the store as it was: it is freed once the new one is made. */
 uint32_t cedar_store_build(cedar_store *s, const uint8_t *text, size_t text_len, const cedar_span *uids,
                            size_t uids_len, size_t count, const cedar_edge *edges, size_t edges_len, uint32_t mode);
 
 /* Adds entities, given as to `cedar_store_build`. One that the store has already has to have the same ancestors. The
- * statuses, and what they leave, are those of `cedar_store_build`: a CEDAR_DUPLICATE, CEDAR_CYCLE or CEDAR_NOT_CLOSED
- * leaves the store without entities. */
+ * statuses are those of `cedar_store_build`, and each but CEDAR_OK leaves the store as it was, but that CEDAR_NO_MEMORY
+ * may leave it without entities; `cedar_store_len` says whether it did.
+ *
+ * In mode CEDAR_COMPUTE a store that only this mode and removals have made costs a trial of the edit more, over what is
+ * listed and stands above that; any other mode, and any other store, a copy of the store. An entity that is given
+ * indirect ancestors (`cedar_store_add_with`) costs that copy too, then and from then on. */
 uint32_t cedar_store_add(cedar_store *s, const uint8_t *text, size_t text_len, const cedar_span *uids, size_t uids_len,
                          size_t count, const cedar_edge *edges, size_t edges_len, uint32_t mode);
 
 /* Puts entities, given as to `cedar_store_build`, into the store, each in the place of any with its uid; of several
- * with one uid the last counts. The statuses are those of `cedar_store_build` but for CEDAR_DUPLICATE, and leave what
- * they leave there. */
+ * with one uid the last counts. The statuses are those of `cedar_store_build` but for CEDAR_DUPLICATE, and leave, and
+ * the call costs, what it does at `cedar_store_add`. */
 uint32_t cedar_store_upsert(cedar_store *s, const uint8_t *text, size_t text_len, const cedar_span *uids,
                             size_t uids_len, size_t count, const cedar_edge *edges, size_t edges_len, uint32_t mode);
 
@@ -304,9 +323,9 @@ uint32_t cedar_store_upsert_with(cedar_store *s, const uint8_t *text, size_t tex
                                  const cedar_node *nodes, size_t nodes_len, uint32_t mode);
 
 /* Takes the entities with these uids out; they are no parents either then. Uids that the store lacks change nothing.
- * CEDAR_OK, CEDAR_CLOSED; CEDAR_BAD_ARGUMENT and CEDAR_NOT_A_UID leave the store as it was; CEDAR_CYCLE and
- * CEDAR_NOT_CLOSED, which come only over a store that was not computed, leave it without entities; CEDAR_NO_MEMORY
- * leaves it as it was, or without entities. */
+ * CEDAR_OK, CEDAR_CLOSED, CEDAR_BAD_ARGUMENT, CEDAR_NOT_A_UID; CEDAR_CYCLE and CEDAR_NOT_CLOSED, which come only over a
+ * store that was not computed; CEDAR_NO_MEMORY. Each but the first leaves the store as it was, but that CEDAR_NO_MEMORY
+ * may leave it without entities. A store that was not computed is copied first. */
 uint32_t cedar_store_remove(cedar_store *s, const uint8_t *text, size_t text_len, const cedar_span *uids,
                             size_t uids_len, uint32_t mode);
 
@@ -327,6 +346,24 @@ uint32_t cedar_store_has(cedar_store *s, const uint8_t *uid, size_t uid_len, boo
  * CEDAR_NO_ENTITY where the store has no entity with the first uid, CEDAR_NO_MEMORY. */
 uint32_t cedar_store_is_descendant_of(cedar_store *s, const uint8_t *child, size_t child_len, const uint8_t *ancestor,
                                       size_t ancestor_len, bool *answer);
+
+/* Numbers of uids, for who asks about some uids again and again: a uid's text is read once, and a call that takes its
+ * number reads none. `number` is that of the uid, and is written at CEDAR_OK alone: the same each time, 0 for the first
+ * uid of a handle that is given one, 1 for the next, and so on. It says nothing about whether the store has an entity
+ * with the uid, and stays good whatever becomes of the store, until the handle is freed, or filled by `cedar_store_new`,
+ * a copy or a slice, which begin with none. The handle keeps each uid with a number for as long.
+ * CEDAR_OK, CEDAR_CLOSED, CEDAR_NOT_A_UID, CEDAR_NO_MEMORY. */
+uint32_t cedar_store_uid_number(cedar_store *s, const uint8_t *uid, size_t uid_len, size_t *number);
+
+/* The text of the uid of a number becomes the answer. CEDAR_OK, CEDAR_CLOSED, CEDAR_BAD_ARGUMENT where no uid has this
+ * number in this handle, CEDAR_NO_MEMORY. */
+uint32_t cedar_store_number_uid(cedar_store *s, size_t number);
+
+/* As `cedar_store_has` and `cedar_store_is_descendant_of`, by the numbers of uids. CEDAR_BAD_ARGUMENT where a number is
+ * no uid's in this handle, CEDAR_NO_ENTITY where the store has no entity with the uid of `child`; else CEDAR_OK or
+ * CEDAR_CLOSED. They take no memory. */
+uint32_t cedar_store_has_number(cedar_store *s, size_t number, bool *answer);
+uint32_t cedar_store_is_descendant_of_numbers(cedar_store *s, size_t child, size_t ancestor, bool *answer);
 
 /* The ancestors, or the parents, of the entity with a uid become the answer of the handle: their texts, in the order of
  * uids, each once. CEDAR_OK, CEDAR_CLOSED, CEDAR_NOT_A_UID, CEDAR_NO_ENTITY, CEDAR_NO_MEMORY; any but the first leaves
@@ -409,6 +446,13 @@ uint32_t cedar_store_slice(cedar_store *from, cedar_store *to, const uint8_t *te
  * freed. CEDAR_OK, CEDAR_CLOSED where `from` is closed, CEDAR_NO_MEMORY; any but the first leaves `to` as it was. */
 uint32_t cedar_store_copy(cedar_store *from, cedar_store *to);
 
+/* As `cedar_store_slice` and `cedar_store_copy`, but what goes into `to` shares nothing with another handle, so that
+ * `to` may go to another thread; `from` stays apart where it was. All that goes there is copied, so they take memory
+ * and time as building that does, but nothing is computed. That nothing is shared is tested, and not proved. */
+uint32_t cedar_store_slice_apart(cedar_store *from, cedar_store *to, const uint8_t *text, size_t text_len,
+                                 const cedar_span *uids, size_t uids_len);
+uint32_t cedar_store_copy_apart(cedar_store *from, cedar_store *to);
+
 /* Whether two stores are both partial or neither is, and have the same uids, under each of them entities with the same
  * attributes, tags, parents and ancestors, in `answer`, which is written at CEDAR_OK alone. CEDAR_OK, CEDAR_CLOSED.
  * Takes no memory. */
@@ -418,7 +462,7 @@ uint32_t cedar_store_equal(cedar_store *one, cedar_store *other, bool *answer);
  * room for; and where each text starts and ends in them, from text `from` on. Both tell how many there are in all; a
  * closed handle has none. The last answer is that of the last call at CEDAR_OK of those that say so, as
  * `cedar_store_ancestors`: other calls leave it, `cedar_store_build` too, but behind `cedar_store_new`, and a
- * `cedar_store_slice` or `cedar_store_copy` into this handle, there is none. They take no memory. */
+ * `cedar_store_slice` or `cedar_store_copy`, apart or not, into this handle, there is none. They take no memory. */
 size_t cedar_store_answer(cedar_store *s, size_t from, uint8_t *out, size_t room);
 size_t cedar_store_answer_spans(cedar_store *s, size_t from, cedar_span *out, size_t room);
 
@@ -508,6 +552,10 @@ uint32_t cedar_policies_remove_template(cedar_policies *p, const uint8_t *id, si
  * CEDAR_CLOSED where one of the two is closed, CEDAR_OCCUPIED, CEDAR_NO_MEMORY; any but the first leaves the answer. */
 uint32_t cedar_policies_merge(cedar_policies *p, cedar_policies *other, bool rename);
 
+/* As `cedar_policies_merge`, but what joins is copied and shares nothing with the other: both stay apart where they
+ * were. */
+uint32_t cedar_policies_merge_apart(cedar_policies *p, cedar_policies *other, bool rename);
+
 /* The ids of the bodies (static policies and templates), for 0, or of the policies (static policies and links), for 1,
  * become the answer of the handle, in the order in which they joined. CEDAR_OK, CEDAR_CLOSED, CEDAR_BAD_ARGUMENT,
  * CEDAR_NO_MEMORY; any but the first leaves the answer. */
@@ -586,13 +634,18 @@ uint32_t cedar_policies_template_text(cedar_policies *p, const uint8_t *id, size
  * where `from` is closed, CEDAR_NO_MEMORY; any but the first leaves `to` as it was. */
 uint32_t cedar_policies_copy(cedar_policies *from, cedar_policies *to);
 
+/* As `cedar_policies_copy`, but what goes into `to` shares nothing with another handle, so that `to` may go to another
+ * thread. All that the set holds is copied. That nothing is shared is tested, and not proved. */
+uint32_t cedar_policies_copy_apart(cedar_policies *from, cedar_policies *to);
+
 /* Whether two sets bind equal things in equal orders, in `answer`, which is written at CEDAR_OK alone. CEDAR_OK,
  * CEDAR_CLOSED. Takes no memory. */
 uint32_t cedar_policies_equal(cedar_policies *one, cedar_policies *other, bool *answer);
 
 /* Copy out the last answer, the bytes of its texts and where each starts and ends in them, as the two of a store do.
  * The last answer is that of the last call at CEDAR_OK of those that say so, as `cedar_policies_ids`; behind
- * `cedar_policies_new`, and a `cedar_policies_copy` into this handle, there is none. They take no memory. */
+ * `cedar_policies_new`, and a `cedar_policies_copy`, apart or not, into this handle, there is none. They take no
+ * memory. */
 size_t cedar_policies_answer(cedar_policies *p, size_t from, uint8_t *out, size_t room);
 size_t cedar_policies_answer_spans(cedar_policies *p, size_t from, cedar_span *out, size_t room);
 

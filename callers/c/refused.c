@@ -57,6 +57,8 @@ static void set_up(held *h) {
     CHECK(new_store(&h->t) == CEDAR_OK && build(&h->t, "n n", CEDAR_COMPUTE) == CEDAR_CYCLE);
     CHECK(build(&h->t, "y z", CEDAR_COMPUTE) == CEDAR_OK && cedar_store_partial(&h->t) == CEDAR_OK);
     CHECK(ancestors(&h->s, U("a")) == CEDAR_OK && parents(&h->t, U("y")) == CEDAR_OK);
+    size_t number = 9;
+    CHECK(cedar_store_uid_number(&h->s, TEXT(U("a")), &number) == CEDAR_OK && number == 0);
     given g = given_whole();
     CHECK(new_set(&h->p) == CEDAR_OK && add_static(&h->p, "a", 0) == CEDAR_OK);
     CHECK(join_static(&h->p, "w", &g) == CEDAR_OK && IS(clause_of(&h->p, "w"), "$0 @b ="));
@@ -153,6 +155,24 @@ static uint32_t asks_entity_equal(held *h) {
 /* 99 where a number that was not due was written, or another than the due one. */
 static uint32_t number(uint32_t status, size_t answer, size_t want) {
     return answer == (status ? 9 : want) ? status : 99;
+}
+
+static uint32_t gives_number(held *h) {
+    size_t answer = 9;
+    uint32_t status = cedar_store_uid_number(&h->s, TEXT(U("c")), &answer);
+    return number(status, answer, 1);
+}
+
+static uint32_t gives_number_of_new_type(held *h) {
+    size_t answer = 9;
+    uint32_t status = cedar_store_uid_number(&h->s, TEXT("B::C::\"c\""), &answer);
+    return number(status, answer, 1);
+}
+
+static uint32_t tells_number(held *h) {
+    size_t answer = 9;
+    uint32_t status = cedar_store_uid_number(&h->s, TEXT(U("a")), &answer);
+    return number(status, answer, 0);
 }
 
 static uint32_t finds(held *h) {
@@ -336,6 +356,14 @@ static uint32_t tells_no_clause(held *h) {
 CALL(tells_condition, cedar_policies_condition(&h->p, TEXT("w")))
 CALL(checks_uid, cedar_uid_check(TEXT("A::B::\"a\"")))
 CALL(checks_no_uid, cedar_uid_check(TEXT("A::B::\"\\n\\q\"")))
+static uint32_t checks_uids(held *h) {
+    static const cedar_span two[2] = {{0, 6}, {6, 12}};
+    size_t place = 5;
+    (void)h;
+    uint32_t status = cedar_uids_check(TEXT(U("a") U("b")), two, 2, &place);
+    return status == CEDAR_OK && place != 5 ? 99 : status;
+}
+
 CALL(news, new_store(&h->s))
 CALL(builds, build(&h->s, "a b;b c;c de;f", CEDAR_COMPUTE))
 CALL(builds_enforced, build(&h->s, "a bc;b c", CEDAR_ENFORCE))
@@ -358,11 +386,14 @@ CALL(lists_uids, cedar_store_uids(&h->s))
 CALL(lists_indirect, cedar_store_indirect_ancestors(&h->s, TEXT(U("a"))))
 CALL(lists_keys, cedar_store_keys(&h->s, TEXT(U("a"))))
 CALL(lists_tag_keys, cedar_store_tag_keys(&h->s, TEXT(U("a"))))
+CALL(names_number, cedar_store_number_uid(&h->s, 0))
 CALL(writes_store, cedar_store_text(&h->s))
 CALL(writes_entity, cedar_store_entity_text(&h->s, TEXT(U("a"))))
 CALL(validates, cedar_store_validate(&h->s))
 CALL(slices, sliced(&h->s, &h->t, "ax"))
 CALL(copies, cedar_store_copy(&h->s, &h->t))
+CALL(slices_apart, sliced_apart(&h->s, &h->t, "ax"))
+CALL(copies_apart, cedar_store_copy_apart(&h->s, &h->t))
 CALL(news_set, new_set(&h->p))
 CALL(adds_static, add_static(&h->p, "new", 1))
 CALL(adds_static_twice, add_static(&h->p, "a", 1))
@@ -392,6 +423,9 @@ CALL(writes_set, cedar_policies_text(&h->p))
 CALL(writes_policy, cedar_policies_policy_text(&h->p, TEXT("l")))
 CALL(writes_template, cedar_policies_template_text(&h->p, TEXT("t")))
 CALL(copies_set, cedar_policies_copy(&h->p, &h->q))
+CALL(copies_set_apart, cedar_policies_copy_apart(&h->p, &h->q))
+CALL(merges_apart, cedar_policies_merge_apart(&h->p, &h->q, true))
+CALL(merges_apart_keeping, cedar_policies_merge_apart(&h->p, &h->q, false))
 
 typedef uint32_t (*call)(held *);
 
@@ -399,6 +433,7 @@ static const call CALLS[] = {
     runs,
     checks_uid,
     checks_no_uid,
+    checks_uids,
     makes_uid,
     takes_apart,
     news,
@@ -424,6 +459,10 @@ static const call CALLS[] = {
     asks_child,
     asks_far_above,
     asks_entity_equal,
+    gives_number,
+    gives_number_of_new_type,
+    tells_number,
+    names_number,
     finds,
     finds_unknown,
     counts_attributes,
@@ -446,6 +485,8 @@ static const call CALLS[] = {
     validates,
     slices,
     copies,
+    slices_apart,
+    copies_apart,
     news_set,
     adds_static,
     adds_static_twice,
@@ -491,6 +532,9 @@ static const call CALLS[] = {
     writes_policy,
     writes_template,
     copies_set,
+    copies_set_apart,
+    merges_apart,
+    merges_apart_keeping,
 };
 
 /* ---- each with its requests refused in turn */
@@ -612,6 +656,7 @@ static void no_request(void) {
     uint8_t out[64];
     cedar_span spans[8];
     cedar_node nodes[8];
+    bool answer = false;
     set_up(&h);
     CHECK(add_static(&h.p, "a", 1) == CEDAR_OCCUPIED && build(&h.t, "y y", CEDAR_COMPUTE) == CEDAR_CYCLE);
     due_in = 1;
@@ -619,6 +664,9 @@ static void no_request(void) {
     CHECK(cedar_store_partial(&h.s) == CEDAR_OK && is_partial(&h.s) == 1);
     CHECK(cedar_version() == CEDAR_VERSION && cedar_status_text(CEDAR_OCCUPIED, out, sizeof out) == 8);
     CHECK(cedar_store_len(&h.s) == 3 && equal(&h.s, &h.t) == 0);
+    CHECK(cedar_store_has_number(&h.s, 0, &answer) == CEDAR_OK && answer);
+    CHECK(cedar_store_is_descendant_of_numbers(&h.s, 0, 0, &answer) == CEDAR_OK && !answer);
+    CHECK(cedar_store_has_number(&h.s, 1, &answer) == CEDAR_BAD_ARGUMENT && !answer);
     CHECK(cedar_store_answer(&h.s, 0, out, sizeof out) == 12 && cedar_store_answer_spans(&h.s, 0, spans, 8) == 2);
     CHECK(cedar_store_answer_nodes(&h.s, 0, nodes, 8) == 8 && nodes[7].kind == CEDAR_RESIDUAL);
     CHECK(cedar_store_refusal(&h.t, out, sizeof out) == strlen("cycle at " U("y")));

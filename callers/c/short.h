@@ -115,6 +115,11 @@ static inline uint32_t sliced(cedar_store *from, cedar_store *to, const char *na
     return cedar_store_slice(from, to, LISTED(l));
 }
 
+static inline uint32_t sliced_apart(cedar_store *from, cedar_store *to, const char *names) {
+    list l = uids(names);
+    return cedar_store_slice_apart(from, to, LISTED(l));
+}
+
 static inline uint32_t ancestors(cedar_store *s, const char *uid) { return cedar_store_ancestors(s, TEXT(uid)); }
 
 static inline uint32_t parents(cedar_store *s, const char *uid) { return cedar_store_parents(s, TEXT(uid)); }

@@ -133,7 +133,7 @@ static void indirect_ancestors(void) {
     CHECK(cedar_store_indirect_ancestors(&s, TEXT(U("a"))) == CEDAR_OK && IS(store_answer(&s), "," U("c")));
     CHECK(parents(&s, U("a")) == CEDAR_OK && IS(store_answer(&s), "," U("b")));
     c.above_len = 0;
-    CHECK(BUILD(&s, c, CEDAR_ENFORCE) == CEDAR_NOT_CLOSED && cedar_store_len(&s) == 0);
+    CHECK(BUILD(&s, c, CEDAR_ENFORCE) == CEDAR_NOT_CLOSED && cedar_store_len(&s) == 2);
     cedar_store_free(&s);
 }
 
@@ -149,7 +149,7 @@ static void no_content(void) {
     CHECK(cedar_store_copy(&t, &s) == CEDAR_OK && UPSERT(&s, c, CEDAR_COMPUTE) == CEDAR_OK);
     CHECK(upsert(&t, "x a;y x", CEDAR_COMPUTE) == CEDAR_OK && equal(&s, &t) == 1);
     c = with_entities("a b;b a");
-    CHECK(BUILD(&s, c, CEDAR_COMPUTE) == CEDAR_CYCLE && cedar_store_len(&s) == 0);
+    CHECK(BUILD(&s, c, CEDAR_COMPUTE) == CEDAR_CYCLE && equal(&s, &t) == 1);
     cedar_store_free(&s);
     cedar_store_free(&t);
 }

@@ -12,7 +12,9 @@ CHOICES = {
     ('cedar_policy_lines', 'making', 'link'): 'result',
     ('cedar_c_stores', 'listing', 'add'): 'memory',
     ('cedar_c_stores', 'reads', 'entity'): 'memory',
+    ('cedar_c_stores', 'watched', 'entity'): 'memory',
     ('cedar_c_sets', 'kept_set', 'link'): 'result',
+    ('cedar_policies_apart', 'set', 'link'): 'result',
     ('cedar_c_sets', 'clauses', 'condition'): 'memory',
 }
 
@@ -91,4 +93,5 @@ cedar_entity_tests cedar_entities_tests cedar_slice_tests cedar_scope_tests ceda
 cedar_replay_tests cedar_store_tests cedar_talk_tests'''.split()
 
 # The crates of the library for C, lowest first.
-CALLERS = 'cedar_c_lists cedar_c_trees cedar_c_bodies cedar_c_stores cedar_c_sets cedar_c'.split()
+CALLERS = '''cedar_trial_edits cedar_c_lists cedar_c_trees cedar_c_bodies cedar_c_refusals cedar_apart cedar_stores_apart cedar_policies_apart
+cedar_c_stores cedar_c_sets cedar_c'''.split()

@@ -2,10 +2,12 @@
 use Rattle.std.specs.Prelude.{◌≡◌, ◌⊎◌, ℕ, Bool, Option, Some, None, Result, Ok, Err}
 use Rattle.std.proofs.Common.{ap, sym, refl, subst, ◌∙◌, inl, inr, arith}
 use Rattle.cedar_c_lists.specs.Reasons.{Tells, number_of, status_of}
+use Rattle.cedar_c_lists.specs.StatusTexts.{TellsValue}
 use Rattle.cedar_c_lists.specs.declared.reason.Reason.{Reason}
 use Rattle.cedar_c_lists.specs.declared.reason.Reason.TheVariants.{NoMemory}
 use Rattle.cedar_c.specs.Statuses.{ok}
 use Rattle.cedar_c.specs.StoreCalls.{Changes, FillsBy, IsFilled, Kept}
+use Rattle.cedar_c.specs.StoreNumbers.{GivesFrom}
 use Rattle.cedar_c.specs.StoreReads.{BecomesPartial}
 use Rattle.cedar_c.specs.StoreValues.{GetsFrom}
 use Rattle.cedar_c_stores.specs.Reads.{MakesPartial}
@@ -36,6 +38,14 @@ pub changed_telling : (P : Result Bool Reason → Kept → Kept → Type 0) (old
     → Tells r n was has → P r k.kept j → GetsFrom P old n new was has
 changed_telling P old new i k j r n was has held is put tells p =
     subst (λ o. GetsFrom P o n new was has) held
+    (r, tells, (record { kept = j }, put, subst (λ (x : Inner). P r x.kept j) is p))
+
+-- what an open handle holds was changed, and put back, and a number was told of it
+pub changed_giving : (P : Result ℕ Reason → Kept → Kept → Type 0) (old new : Option Inner) (i k : Inner) (j : Kept)
+    (r : Result ℕ Reason) (n was told : ℕ) → Some i ≡ old → k ≡ i → new ≡ Some (record { kept = j })
+    → TellsValue r n was told → P r k.kept j → GivesFrom P old n new was told
+changed_giving P old new i k j r n was told held is put tells p =
+    subst (λ o. GivesFrom P o n new was told) held
     (r, tells, (record { kept = j }, put, subst (λ (x : Inner). P r x.kept j) is p))
 
 -- what is so of a store that a handle is filled with is so of what it holds

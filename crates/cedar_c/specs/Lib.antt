@@ -3,11 +3,13 @@ pub mod Copying
 pub mod PoliciesHeld
 pub mod PolicyCalls
 pub mod PolicyReads
+pub mod RefusalCalls
 pub mod Runs
 pub mod StatusCalls
 pub mod Statuses
 pub mod StoreCalls
 pub mod StoreHeld
+pub mod StoreNumbers
 pub mod StoreReads
 pub mod StoreValues
 pub mod UidCalls

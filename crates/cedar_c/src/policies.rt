@@ -75,7 +75,11 @@ fn boxed(
 }
 
 // A handle holds what was made, and what it held before is freed; or it stays as it is.
-fn fill(alloc: Global, handle: &mut Policies, made: Result<KeptSet<KeyedState>, Reason>) -> u32
+pub(crate) fn fill(
+    alloc: Global,
+    handle: &mut Policies,
+    made: Result<KeptSet<KeyedState>, Reason>,
+) -> u32
     ensures { FillsBy made handle.old.held.value result handle.new.held.value }
 {
     match boxed(alloc, made) {

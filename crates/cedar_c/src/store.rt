@@ -76,7 +76,11 @@ fn boxed(
 }
 
 // A handle holds what was made, and what it held before is freed; or it stays as it is.
-fn fill(alloc: Global, handle: &mut Store, made: Result<KeptStore<KeyedState>, Reason>) -> u32
+pub(crate) fn fill(
+    alloc: Global,
+    handle: &mut Store,
+    made: Result<KeptStore<KeyedState>, Reason>,
+) -> u32
     ensures { FillsBy made handle.old.held.value result handle.new.held.value }
 {
     match boxed(alloc, made) {
@@ -241,7 +245,7 @@ pub extern "C" fn cedar_store_has(
     ensures same { handle.new.held.value ≡ handle.old.held.value }
     ensures asks { AsksHandle (λ S r. AsksFor S uid.now r) handle.old.held.value result answer.old answer.new }
 {
-    let Some(inner) = take(alloc, handle) else {
+    let Some(mut inner) = take(alloc, handle) else {
         return CLOSED;
     };
     let told = inner.kept.has(alloc, uid);
@@ -262,7 +266,7 @@ pub extern "C" fn cedar_store_is_descendant_of(
     ensures asks { AsksHandle
         (λ S r. Asks S child.now ancestor.now r) handle.old.held.value result answer.old answer.new }
 {
-    let Some(inner) = take(alloc, handle) else {
+    let Some(mut inner) = take(alloc, handle) else {
         return CLOSED;
     };
     let told = inner.kept.is_descendant_of(alloc, child, ancestor);

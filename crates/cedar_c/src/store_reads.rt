@@ -35,7 +35,7 @@ pub extern "C" fn cedar_store_entity(
     ensures same { handle.new.held.value ≡ handle.old.held.value }
     ensures tells { CountsHandle (λ S r. FindsAt S uid.now r) handle.old.held.value result found.old found.new }
 {
-    let Some(inner) = take(alloc, handle) else {
+    let Some(mut inner) = take(alloc, handle) else {
         return CLOSED;
     };
     let told = inner.kept.entity(alloc, uid);
@@ -104,7 +104,7 @@ pub extern "C" fn cedar_store_is_child_of(
     ensures asks { AsksHandle (λ S r. AsksAbove has_parent S child.now parent.now r)
         handle.old.held.value result answer.old answer.new }
 {
-    let Some(inner) = take(alloc, handle) else {
+    let Some(mut inner) = take(alloc, handle) else {
         return CLOSED;
     };
     let told = inner.kept.is_child_of(alloc, child, parent);
@@ -125,7 +125,7 @@ pub extern "C" fn cedar_store_is_indirect_descendant_of(
     ensures asks { AsksHandle (λ S r. AsksAbove has_indirect S child.now ancestor.now r)
         handle.old.held.value result answer.old answer.new }
 {
-    let Some(inner) = take(alloc, handle) else {
+    let Some(mut inner) = take(alloc, handle) else {
         return CLOSED;
     };
     let told = inner.kept.is_indirect_descendant_of(alloc, child, ancestor);
@@ -171,7 +171,7 @@ pub extern "C" fn cedar_store_attrs_len(
     ensures tells { CountsHandle
         (λ S r. AsksOne attrs_count S uid.now r) handle.old.held.value result count.old count.new }
 {
-    let Some(inner) = take(alloc, handle) else {
+    let Some(mut inner) = take(alloc, handle) else {
         return CLOSED;
     };
     let told = inner.kept.attrs_len(alloc, uid);
@@ -191,7 +191,7 @@ pub extern "C" fn cedar_store_tags_len(
     ensures tells { CountsHandle
         (λ S r. AsksOne tags_count S uid.now r) handle.old.held.value result count.old count.new }
 {
-    let Some(inner) = take(alloc, handle) else {
+    let Some(mut inner) = take(alloc, handle) else {
         return CLOSED;
     };
     let told = inner.kept.tags_len(alloc, uid);
@@ -213,7 +213,7 @@ pub extern "C" fn cedar_store_entity_equal(
     ensures asks { AsksBoth (λ S T r. ComparesAt S T uid.now r)
         handle.old.held.value other.old.held.value result answer.old answer.new }
 {
-    let Some(inner) = take(alloc, handle) else {
+    let Some(mut inner) = take(alloc, handle) else {
         return CLOSED;
     };
     let Some(beside) = take(alloc, other) else {

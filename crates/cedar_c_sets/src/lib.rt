@@ -2,6 +2,7 @@
 //! templates and bindings as a caller describes them; bodies come as `cedar_c_bodies` reads them. No handle is known here.
 #![tactic(auto)]
 
+mod apart;
 mod body_calls;
 mod clauses;
 pub mod kept_set;

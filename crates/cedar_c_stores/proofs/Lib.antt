@@ -1,6 +1,8 @@
 pub mod Asking
+pub mod Editing
 pub mod Gathering
 pub mod Naming
+pub mod ReadUids
 pub mod RowLaws
 pub mod Sets
 pub mod Showing

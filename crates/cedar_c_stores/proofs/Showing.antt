@@ -33,6 +33,7 @@ gets fields text key i j e (Some p) (Some s) b held utf8 at is kept =
     subst (λ (t : Bool). GetsAt fields text key (Ok t) i j) (sym kept.0) (record {
       store = kept.1;
       refusal = kept.2;
+      numbers = kept.5;
       utf8 = utf8;
       entity = e;
       held = held;

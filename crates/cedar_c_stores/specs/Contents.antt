@@ -19,7 +19,7 @@ use Rattle.cedar_c_trees.specs.Reads.{IsTextAt}
 use Rattle.cedar_c_trees.specs.Refusals.{IsNotUtf8At}
 use Rattle.cedar_c_trees.specs.declared.node.Node.{Node}
 use Rattle.cedar_c_stores.specs.Lists.{AreEdgesOf, AreInRange, IsMode, IsNoMode, parents_at}
-use Rattle.cedar_c_stores.specs.Stores.{Adds, KeepsTexts, Upserts, empty_store}
+use Rattle.cedar_c_stores.specs.Stores.{Adds, Builds, KeepsTexts, Upserts}
 use Rattle.cedar_c_stores.specs.declared.content.Content.{Content}
 use Rattle.cedar_c_stores.specs.declared.content.Term.{Term}
 use Rattle.cedar_c_stores.specs.declared.kept_store.KeptStore.{KeptStore}
@@ -154,7 +154,7 @@ IsUnlaid L w =
 abbrev pub BuildsLaid : {A B H : Type 0} → Laid → ℕ → Result A Reason → KeptStore B H → KeptStore B H → Type 0
 BuildsLaid L mode r i j =
     IsStopped (λ w. IsNoMode mode w ⊎ IsUnlaid L w) r i j
-    ⊎ ((m : TCComputation) × (list : List EntityView) × IsMode mode m × AreLaid L list × Adds m list empty_store r j
+    ⊎ ((m : TCComputation) × (list : List EntityView) × IsMode mode m × AreLaid L list × Builds m list i.store r j
     × KeepsTexts r i j)
 
 -- they are added to the store

@@ -1,6 +1,9 @@
 pub mod Contents
+pub mod Edits
 pub mod Lists
+pub mod Numbers
 pub mod Reads
+pub mod SomePlain
 pub mod Stores
 pub mod Values
 pub mod laws

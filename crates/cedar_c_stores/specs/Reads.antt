@@ -81,14 +81,14 @@ FindsAt S text (Err w) = IsUnread text w
 -- the store with the same entities, now partial; all else is as it was
 abbrev pub MakesPartial : {B H : Type 0} → KeptStore B H → KeptStore B H → Type 0
 MakesPartial i j = (j.store ≡ record i.store { partial = true }) × (j.answer ≡ i.answer)
-    × (j.nodes.items ≡ i.nodes.items) × (j.refusal.items ≡ i.refusal.items)
+    × (j.nodes.items ≡ i.nodes.items) × (j.refusal.items ≡ i.refusal.items) × (j.numbers ≡ i.numbers)
 
 -- ---- answers
 
--- texts become the answer, and the store, the nodes and the last refusal are as they were
+-- texts become the answer, and the store, the nodes, the numbers and the last refusal are as they were
 abbrev pub IsAnswered : {B H : Type 0} → (StoreView → List (List ℕ) → Type 0) → KeptStore B H → KeptStore B H → Type 0
 IsAnswered Are i j = (j.store ≡ i.store) × (j.refusal.items ≡ i.refusal.items) × (j.nodes.items ≡ i.nodes.items)
-    × Are i.store j.answer
+    × (j.numbers ≡ i.numbers) × Are i.store j.answer
 
 -- the uid of an entity
 abbrev pub uid_held : EntityView → EntityUID

@@ -22,7 +22,7 @@ use Rattle.cedar_entities.specs.Changes.{AddsEntities, AddsPlain, RemovesEntitie
 use Rattle.cedar_entities.specs.Changes.{UpsertsEntities, UpsertsPlain}
 use Rattle.cedar_entities.specs.Plain.{StoreView, no_entities, given_of, AreBare, IsPlainStore}
 use Rattle.cedar_entities.specs.StoreFaults.{IsStoreFault, IsValidStore}
-use Rattle.cedar_entities.specs.World.{World, graph, added}
+use Rattle.cedar_entities.specs.World.{World, graph}
 use Rattle.cedar_entities.specs.declared.entities.TCComputation.{TCComputation}
 use Rattle.cedar_slice.specs.Slices.{sliced, IsPlainSlice}
 use Rattle.cedar_c_stores.specs.Lists.{AreListed, IsMode, IsNoMode, IsUnlisted}
@@ -89,16 +89,30 @@ IsToldBy e w text = (w ≡ reasons.NoMemory) ⊎ ((w ≡ reason_of e) × IsRefus
 abbrev pub empty_store : StoreView
 empty_store = record { held = no_entities; partial = false }
 
--- a call that lists nothing keeps the texts of the last answer, the nodes of the last value, and the text of the last
--- refusal where it is made or memory is refused
+-- a call that lists nothing keeps the texts of the last answer, the nodes of the last value, the numbers of uids, and the
+-- text of the last refusal where it is made or memory is refused
 abbrev pub KeepsTexts : {A B H : Type 0} → Result A Reason → KeptStore B H → KeptStore B H → Type 0
-KeepsTexts r i j = (j.answer ≡ i.answer) × (j.nodes.items ≡ i.nodes.items) × KeepsRefusal r i.refusal.items j.refusal.items
+KeepsTexts r i j = (j.answer ≡ i.answer) × (j.nodes.items ≡ i.nodes.items) × (j.numbers ≡ i.numbers)
+    × KeepsRefusal r i.refusal.items j.refusal.items
 
--- what a call gave is kept: the store; or the error is told, and what is kept is the store without entities
-abbrev pub KeepsGiven : {A B H : Type 0} → Result StoreView EntitiesError → Result A Reason → KeptStore B H → Type 0
-KeepsGiven (Ok S) (Ok a) k = k.store ≡ S
-KeepsGiven (Err e) (Err w) k = (k.store ≡ empty_store) × IsToldBy e w k.refusal.items
-KeepsGiven given answer k = ⊥
+-- a store is as it was; or memory was wanted, and no entity is left
+abbrev pub StaysOrEmpties : StoreView → Reason → StoreView → Type 0
+StaysOrEmpties O w N = (N ≡ O) ⊎ ((w ≡ reasons.NoMemory) × (N ≡ empty_store))
+
+-- what an edit of O gave is kept: the store; or the error is told, and O is as it was, but that want of memory may leave
+-- it without entities
+abbrev pub KeepsGiven : {A B H : Type 0} → Result StoreView EntitiesError → StoreView → Result A Reason → KeptStore B H
+    → Type 0
+KeepsGiven (Ok S) O (Ok a) k = k.store ≡ S
+KeepsGiven (Err e) O (Err w) k = StaysOrEmpties O w k.store × IsToldBy e w k.refusal.items
+KeepsGiven given O answer k = ⊥
+
+-- what building gave takes the place of O; or the error is told, and O is as it was
+abbrev pub KeepsBuilt : {A B H : Type 0} → Result StoreView EntitiesError → StoreView → Result A Reason → KeptStore B H
+    → Type 0
+KeepsBuilt (Ok S) O (Ok a) k = k.store ≡ S
+KeepsBuilt (Err e) O (Err w) k = (k.store ≡ O) × IsToldBy e w k.refusal.items
+KeepsBuilt given O answer k = ⊥
 
 -- what adding a list to a store gives
 pub record AddGives (m : TCComputation) (L : List EntityView) (S : StoreView)
@@ -121,20 +135,25 @@ pub record RemoveGives (m : TCComputation) (U : List EntityUID) (S : StoreView)
   pub removes : RemovesEntities m S.held U given
   pub plain : (W : World) → IsPlainStore W S → RemovesPlain W U given
 
--- a list is added to a store, put over it, or uids are taken out of it, and what that gives is kept
+-- a list is added to a store, and what that gives is kept
 abbrev pub Adds : {A B H : Type 0} → TCComputation → List EntityView → StoreView → Result A Reason → KeptStore B H
     → Type 0
-Adds m L S r k = (given : Result StoreView EntitiesError) × AddGives m L S given × KeepsGiven given r k
+Adds m L S r k = (given : Result StoreView EntitiesError) × AddGives m L S given × KeepsGiven given S r k
+
+-- a list is added to the store without entities, and what that gives takes the place of O
+abbrev pub Builds : {A B H : Type 0} → TCComputation → List EntityView → StoreView → Result A Reason → KeptStore B H
+    → Type 0
+Builds m L O r k = (given : Result StoreView EntitiesError) × AddGives m L empty_store given × KeepsBuilt given O r k
 
 -- a list is put over a store, and what that gives is kept
 abbrev pub Upserts : {A B H : Type 0} → TCComputation → List EntityView → StoreView → Result A Reason → KeptStore B H
     → Type 0
-Upserts m L S r k = (given : Result StoreView EntitiesError) × UpsertGives m L S given × KeepsGiven given r k
+Upserts m L S r k = (given : Result StoreView EntitiesError) × UpsertGives m L S given × KeepsGiven given S r k
 
 -- uids are taken out of a store, and what that gives is kept
 abbrev pub Removes : {A B H : Type 0} → TCComputation → List EntityUID → StoreView → Result A Reason → KeptStore B H
     → Type 0
-Removes m U S r k = (given : Result StoreView EntitiesError) × RemoveGives m U S given × KeepsGiven given r k
+Removes m U S r k = (given : Result StoreView EntitiesError) × RemoveGives m U S given × KeepsGiven given S r k
 
 -- entities that lists say become the store, are added to it or put over it, in the mode of a number; or that is not
 -- read
@@ -143,7 +162,7 @@ abbrev pub BuildsListed : {A B H : Type 0} → List ℕ → List Span → ℕ �
 BuildsListed text spans n es mode r i j =
     IsStopped (λ w. IsNoMode mode w ⊎ IsUnlisted text spans n es w) r i j
     ⊎ ((m : TCComputation) × (L : List EntityView) × IsMode mode m × AreListed text spans n es L
-    × Adds m L empty_store r j × KeepsTexts r i j)
+    × Builds m L i.store r j × KeepsTexts r i j)
 
 -- entities that lists say are added, or that is not read
 abbrev pub AddsListed : {A B H : Type 0} → List ℕ → List Span → ℕ → List Edge → ℕ → Result A Reason → KeptStore B H
@@ -209,7 +228,7 @@ abbrev pub Listing : {A B H : Type 0} → (EntityView → EntityUID → Bool) �
     → List ℕ → Result A Reason → KeptStore B H → KeptStore B H → Type 0
 Listing test Related text (Ok a) i j =
     (j.store ≡ i.store) × (j.refusal.items ≡ i.refusal.items) × (j.nodes.items ≡ i.nodes.items)
-    × ((u : EntityUID) × IsReadOf u text × ListsThose test Related i.store u j.answer)
+    × (j.numbers ≡ i.numbers) × ((u : EntityUID) × IsReadOf u text × ListsThose test Related i.store u j.answer)
 Listing test Related text (Err w) i j =
     (j ≡ i) × ((w ≡ reasons.NoMemory) ⊎ (IsUnread text w
     ⊎ ((w ≡ reasons.NoEntity) × ((u : EntityUID) × IsReadOf u text × (finmap.get i.store.held u ≡ None)))))
@@ -226,18 +245,18 @@ IsAbove W u q = Reach (graph W) u q
 abbrev pub IsParent : World → EntityUID → EntityUID → Type 0
 IsParent W u q = graph W u q ≡ true
 
--- the store is valid, and all is as it was; or its first fault is told, and the store, the answer and the nodes are as
--- they were, as the text of the last refusal is where memory was refused
+-- the store is valid, and all is as it was; or its first fault is told, and the store, the answer, the nodes and the
+-- numbers are as they were, as the text of the last refusal is where memory was refused
 abbrev pub Validates : {A B H : Type 0} → Result A Reason → KeptStore B H → KeptStore B H → Type 0
 Validates (Ok a) i j = IsValidStore i.store.held × (j ≡ i)
 Validates (Err w) i j =
-    (j.store ≡ i.store) × (j.answer ≡ i.answer) × (j.nodes.items ≡ i.nodes.items)
+    (j.store ≡ i.store) × (j.answer ≡ i.answer) × (j.nodes.items ≡ i.nodes.items) × (j.numbers ≡ i.numbers)
     × (w ≡ reasons.NoMemory → j.refusal.items ≡ i.refusal.items)
     × ((w ≡ reasons.NoMemory) ⊎ ((e : EntitiesError) × IsStoreFault i.store.held e × IsToldBy e w j.refusal.items))
 
--- no call has answered anything of what is kept, and none was refused
+-- no call has answered anything of what is kept, none was refused, and no uid has a number
 abbrev pub IsUntold : {B H : Type 0} → KeptStore B H → Type 0
-IsUntold k = (k.answer ≡ []) × (k.refusal.items ≡ []) × (k.nodes.items ≡ [])
+IsUntold k = (k.answer ≡ []) × (k.refusal.items ≡ []) × (k.nodes.items ≡ []) × (k.numbers ≡ [])
 
 -- the slice of a store at uids
 pub record IsSlice (U : List EntityUID) (S N : StoreView) : Type 0 where

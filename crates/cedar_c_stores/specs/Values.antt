@@ -17,12 +17,13 @@ pub record IsShown (value : PartialValue) (answer : List (List ℕ)) (nodes : Li
   pub one : answer ≡ bytes ∷ []
   pub written : IsPartialWritten value (record { bytes = bytes; nodes = nodes })
 
--- the entity with the uid of a text has a value at a key of some fields, which is shown; the store and the last refusal
--- are as they were
+-- the entity with the uid of a text has a value at a key of some fields, which is shown; the store, the numbers and the
+-- last refusal are as they were
 pub record Shows {B H : Type 0} (fields : EntityView → Fields) (text key : List ℕ) (i j : KeptStore B H)
     : Type 0 where
   pub store : j.store ≡ i.store
   pub refusal : j.refusal.items ≡ i.refusal.items
+  pub numbers : j.numbers ≡ i.numbers
   pub utf8 : IsUtf8 key
   pub entity : EntityView
   pub held : IsHeldAt i.store text entity

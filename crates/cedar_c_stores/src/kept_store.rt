@@ -1,45 +1,50 @@
 //! A store of entities with what its caller was answered last, and the calls on it.
 ghost use Rattle.std.specs.Prelude.{◌≡◌, [], ◌∷◌, ◌++◌, ◌↔◌, IfOk, MatchResult, IsTrue, List, ℕ, true};
 ghost use Rattle.cedar_entities.specs.Answers.{AreDeepEqual};
-ghost use Rattle.cedar_entities.specs.Plain.{IsPlainStore, entities_in};
+ghost use Rattle.cedar_entities.specs.Plain.{IsPlainStore};
 ghost use Rattle.cedar_entities.specs.World.{World, empty_world};
 ghost use Rattle.cedar_entity.specs.View.{has_ancestor};
-ghost use Rattle.cedar_c_stores.specs.Stores.{Adds, Asks, AsksFor, Copies, IsAbove, IsParent, IsSlice, IsToldBy};
-ghost use Rattle.cedar_c_stores.specs.Stores.{IsUntold, KeepsGiven, KeepsTexts, Listing, Removes, SlicesAt, Upserts};
-ghost use Rattle.cedar_c_stores.specs.Stores.{Validates, empty_store, has_parent};
+ghost use Rattle.cedar_c_stores.specs.Stores.{Asks, AsksFor, Copies, IsAbove, IsParent, IsSlice, IsToldBy};
+ghost use Rattle.cedar_c_stores.specs.Stores.{IsUntold, Listing, SlicesAt, Validates, empty_store, has_parent};
 ghost use Rattle.cedar_c_stores.specs.Reads.{MakesPartial};
 ghost use Rattle.cedar_c_lists.specs.Texts.{AreTextsOf, IsTextOf};
 ghost use Rattle.cedar_c_lists.specs.declared.reason.Reason.TheVariants as reasons;
 
+use crate::known::Known;
+use crate::numbers::Numbers;
 use crate::refusal::told_by;
-use cedar_c_lists::{Answer, Reason, Span, uid_of, uids_of, with_uid};
+use crate::watched::Watched;
+use cedar_c_lists::{Answer, Reason, Span, uids_of, with_uid};
 use cedar_c_trees::Node;
-use cedar_entities::{Entities, EntitiesError, Entity, TCComputation, Uids};
+use cedar_entities::{EntitiesError, Uids};
 use cedar_ids::entity::EntityUID;
-use cedar_slice::slice;
 use cedar_uid_sets::Union;
 use std::alloc::{AllocError, Global};
 use std::hash::BuildHasher;
 use std::mem;
-use std::rc::Rc;
 
-/// A store of entities, the texts of the last answer, the nodes of the last value, and the text of the last refusal.
+/// A store of entities, the texts of the last answer, the nodes of the last value, the text of the last refusal, and the
+/// uids that have numbers.
 ///
 /// The store hashes uids by what `S` builds, and so do the stores that its calls make. No contract sees which builder a
 /// store has; but code that is generic in it makes none of its own, so each store here has the one that the caller
 /// gave.
 #[derive(Drop)]
 pub struct KeptStore<S: BuildHasher> {
-    /// The store.
-    pub store: Entities<S>,
+    /// The store, and whether it is known to be plain.
+    pub store: Watched<S>,
     /// The texts that the last call that lists gave.
     pub answer: Answer,
     /// The nodes of the last attribute or tag that was read, over the text that was the answer then.
     pub nodes: Vec<Node>,
     /// The text of the last refusal of a call on the store.
     pub refusal: Vec<u8>,
+    /// The uids that the caller gave once, in the order of their numbers.
+    pub numbers: Numbers<S>,
+    // The types that texts before have named.
+    pub(crate) known: Known,
     // What builds the hashers of the next store.
-    hasher: S,
+    pub(crate) hasher: S,
 }
 
 // The texts of ancestors.
@@ -65,19 +70,21 @@ pub(crate) fn texts_of_set(alloc: Global, uids: Uids<'_>) -> Result<Answer, Allo
 }
 
 impl<S: BuildHasher + Copy> KeptStore<S> {
-    /// A store of which nothing was answered and nothing refused, and what builds the hashers of stores that take its
-    /// place. Takes no memory.
-    pub fn of(alloc: Global, hasher: S, store: Entities<S>) -> KeptStore<S>
+    // A store of which nothing was answered and nothing refused, and whether it is known to be plain.
+    pub(crate) fn watched(alloc: Global, hasher: S, store: Watched<S>) -> KeptStore<S>
         ensures store { result.store ≡ store }
         ensures answer { result.answer ≡ [] }
         ensures nodes { result.nodes.items ≡ [] }
         ensures refusal { result.refusal.items ≡ [] }
+        ensures numbers { result.numbers ≡ [] }
     {
         KeptStore {
             store,
             answer: Answer::new(alloc),
             nodes: Vec::new(alloc),
             refusal: Vec::new(alloc),
+            numbers: Numbers::new(alloc, hasher),
+            known: Known::new(alloc),
             hasher,
         }
     }
@@ -89,15 +96,17 @@ impl<S: BuildHasher + Copy> KeptStore<S> {
         ensures answer { result.answer ≡ [] }
         ensures nodes { result.nodes.items ≡ [] }
         ensures refusal { result.refusal.items ≡ [] }
+        ensures numbers { result.numbers ≡ [] }
     {
-        KeptStore::of(alloc, hasher, Entities::with_hasher(alloc, hasher))
+        KeptStore::watched(alloc, hasher, Watched::with_hasher(alloc, hasher))
     }
 
     // The text of an error is kept, and its reason told. Want of memory, for the text too, leaves the one before.
-    fn refuse(&mut self, alloc: Global, error: EntitiesError) -> Reason
+    pub(crate) fn refuse(&mut self, alloc: Global, error: EntitiesError) -> Reason
         ensures store { self.new.store ≡ self.old.store }
         ensures answer { self.new.answer ≡ self.old.answer }
         ensures nodes { self.new.nodes.items ≡ self.old.nodes.items }
+        ensures numbers { self.new.numbers ≡ self.old.numbers }
         ensures told { IsToldBy error result self.new.refusal.items }
         ensures kept { result ≡ reasons.NoMemory → self.new.refusal.items ≡ self.old.refusal.items }
     {
@@ -112,109 +121,31 @@ impl<S: BuildHasher + Copy> KeptStore<S> {
         }
     }
 
-    // What a call gave is kept.
-    fn keep_given(
-        &mut self,
-        alloc: Global,
-        given: Result<Entities<S>, EntitiesError>,
-    ) -> Result<(), Reason>
-        ensures keeps { KeepsGiven given result self.new }
-        ensures texts { KeepsTexts result self.old self.new }
-    {
-        match given {
-            Ok(store) => {
-                self.store = store;
-                Ok(())
-            }
-            Err(error) => {
-                self.store = Entities::with_hasher(alloc, self.hasher);
-                Err(self.refuse(alloc, error))
-            }
-        }
-    }
-
-    // Adds entities, as `Entities::add_entities` does. A refusal leaves the store without entities. Takes memory.
-    pub(crate) fn add_list(
-        &mut self,
-        alloc: Global,
-        list: Vec<Rc<Entity>>,
-        mode: TCComputation,
-    ) -> Result<(), Reason>
-        ensures adds { Adds mode (entities_in list.items) self.old.store result self.new }
-        ensures texts { KeepsTexts result self.old self.new }
-    {
-        let store = mem::replace(&mut self.store, Entities::with_hasher(alloc, self.hasher));
-        let given = store.add_entities(alloc, list, mode);
-        self.keep_given(alloc, given)
-    }
-
-    // Entities become the store: it is what adding them to the store without entities gives. A refusal leaves the store
-    // without entities. Takes memory.
-    pub(crate) fn build_list(
-        &mut self,
-        alloc: Global,
-        list: Vec<Rc<Entity>>,
-        mode: TCComputation,
-    ) -> Result<(), Reason>
-        ensures adds { Adds mode (entities_in list.items) empty_store result self.new }
-        ensures texts { KeepsTexts result self.old self.new }
-    {
-        self.store = Entities::with_hasher(alloc, self.hasher);
-        self.add_list(alloc, list, mode)
-    }
-
-    // Puts entities over what the store holds, as `Entities::upsert_entities` does. A refusal leaves the store without
-    // entities. Takes memory.
-    pub(crate) fn upsert_list(
-        &mut self,
-        alloc: Global,
-        list: Vec<Rc<Entity>>,
-        mode: TCComputation,
-    ) -> Result<(), Reason>
-        ensures upserts { Upserts mode (entities_in list.items) self.old.store result self.new }
-        ensures texts { KeepsTexts result self.old self.new }
-    {
-        let store = mem::replace(&mut self.store, Entities::with_hasher(alloc, self.hasher));
-        let given = store.upsert_entities(alloc, list, mode);
-        self.keep_given(alloc, given)
-    }
-
-    // Takes entities out, as `Entities::remove_entities` does. A refusal leaves the store without entities. Takes
-    // memory.
-    pub(crate) fn remove_uids(
-        &mut self,
-        alloc: Global,
-        uids: Vec<EntityUID>,
-        mode: TCComputation,
-    ) -> Result<(), Reason>
-        ensures removes { Removes mode uids.items self.old.store result self.new }
-        ensures texts { KeepsTexts result self.old self.new }
-    {
-        let store = mem::replace(&mut self.store, Entities::with_hasher(alloc, self.hasher));
-        let given = store.remove_entities(alloc, uids, mode);
-        self.keep_given(alloc, given)
-    }
-
     /// Whether the store has an entity with the uid that a text is. Takes memory for the uid.
-    pub fn has(&self, alloc: Global, text: &[u8]) -> Result<bool, Reason>
-        ensures { AsksFor self.now.store text.now result }
+    pub fn has(&mut self, alloc: Global, text: &[u8]) -> Result<bool, Reason>
+        ensures same { self.new ≡ self.old }
+        ensures asks { AsksFor self.old.store text.now result }
     {
-        let uid = uid_of(alloc, text)?;
+        let uid = self.known.uid_of(alloc, text)?;
         Ok(self.store.stored(&uid).is_some())
     }
 
     /// Whether the entity with the uid that one text is is a descendant of the uid that another is. `NoEntity` comes
     /// where the store has no such entity. Takes memory for the two uids.
     pub fn is_descendant_of(
-        &self,
+        &mut self,
         alloc: Global,
         child: &[u8],
         ancestor: &[u8],
     ) -> Result<bool, Reason>
-        ensures { Asks self.now.store child.now ancestor.now result }
+        ensures same { self.new ≡ self.old }
+        ensures asks { Asks self.old.store child.now ancestor.now result }
     {
-        let child = uid_of(alloc, child)?;
-        let ancestor = uid_of(alloc, ancestor)?;
+        let child = self.known.uid_of(alloc, child)?;
+        let ancestor = match self.known.uid_of(alloc, ancestor) {
+            Ok(uid) => uid,
+            Err(reason) => return Err(reason),
+        };
         match self.store.stored(&child) {
             None => Err(Reason::NoEntity),
             Some(entity) => Ok(entity.is_descendant_of(&ancestor)),
@@ -226,7 +157,7 @@ impl<S: BuildHasher + Copy> KeptStore<S> {
     pub fn ancestors(&mut self, alloc: Global, text: &[u8]) -> Result<(), Reason>
         ensures { Listing has_ancestor IsAbove text.now result self.old self.new }
     {
-        let uid = uid_of(alloc, text)?;
+        let uid = self.known.uid_of(alloc, text)?;
         let answer = match self.store.stored(&uid) {
             None => return Err(Reason::NoEntity),
             Some(entity) => texts_of_union(alloc, entity.ancestors_in_order())?,
@@ -239,7 +170,7 @@ impl<S: BuildHasher + Copy> KeptStore<S> {
     pub fn parents(&mut self, alloc: Global, text: &[u8]) -> Result<(), Reason>
         ensures { Listing has_parent IsParent text.now result self.old self.new }
     {
-        let uid = uid_of(alloc, text)?;
+        let uid = self.known.uid_of(alloc, text)?;
         let answer = match self.store.stored(&uid) {
             None => return Err(Reason::NoEntity),
             Some(entity) => texts_of_set(alloc, entity.parents())?,
@@ -265,7 +196,7 @@ impl<S: BuildHasher + Copy> KeptStore<S> {
         ensures plain { (W : World) → IsPlainStore W self.old.store →
             IsPlainStore (record W { partial = true }) self.new.store }
     {
-        let store = mem::replace(&mut self.store, Entities::with_hasher(alloc, self.hasher));
+        let store = mem::replace(&mut self.store, Watched::with_hasher(alloc, self.hasher));
         self.store = store.partial();
     }
 
@@ -281,8 +212,8 @@ impl<S: BuildHasher + Copy> KeptStore<S> {
         ensures { MatchResult result (λ k. IsSlice uids.items self.now.store k.store
             × IsUntold k) (λ w. w ≡ reasons.NoMemory) }
     {
-        match slice(alloc, &self.store, &uids) {
-            Ok(store) => Ok(KeptStore::of(alloc, self.hasher, store)),
+        match self.store.slice(alloc, &uids) {
+            Ok(store) => Ok(KeptStore::watched(alloc, self.hasher, store)),
             Err(_want) => Err(Reason::NoMemory),
         }
     }
@@ -301,7 +232,7 @@ impl<S: BuildHasher + Copy> KeptStore<S> {
         ensures { Copies self.now.store result }
     {
         let store = self.store.clone()?;
-        Ok(KeptStore::of(alloc, self.hasher, store))
+        Ok(KeptStore::watched(alloc, self.hasher, store))
     }
 
     /// Whether both stores have deeply equal entities. Takes no memory.

@@ -7,7 +7,7 @@ ghost use Rattle.cedar_c_stores.specs.Reads.{has_indirect, tags_count, tags_of, 
 ghost use Rattle.cedar_c_lists.specs.Texts.{AreTextsOf};
 
 use crate::kept_store::{KeptStore, texts_of_set};
-use cedar_c_lists::{Answer, Reason, uid_of, with_uid};
+use cedar_c_lists::{Answer, Reason, with_uid};
 use cedar_entities::{Dereference, Iter, Keys};
 use std::alloc::{AllocError, Global};
 use std::hash::BuildHasher;
@@ -44,10 +44,11 @@ fn one_text(alloc: Global, text: &str) -> Result<Answer, AllocError>
 impl<S: BuildHasher + Copy> KeptStore<S> {
     /// What the store has with the uid that a text is: 2 where it has an entity; else 1 in a partial store, where it is
     /// not known, and 0 in another. Takes memory.
-    pub fn entity(&self, alloc: Global, text: &[u8]) -> Result<u32, Reason>
-        ensures { FindsAt self.now.store text.now result }
+    pub fn entity(&mut self, alloc: Global, text: &[u8]) -> Result<u32, Reason>
+        ensures same { self.new ≡ self.old }
+        ensures tells { FindsAt self.old.store text.now result }
     {
-        let uid = uid_of(alloc, text)?;
+        let uid = self.known.uid_of(alloc, text)?;
         match self.store.entity(alloc, &uid)? {
             Dereference::NoSuchEntity => Ok(0),
             Dereference::Residual(_) => Ok(1),
@@ -57,10 +58,11 @@ impl<S: BuildHasher + Copy> KeptStore<S> {
 
     /// How many attributes the entity with the uid that a text is has. `NoEntity` comes where the store has no such
     /// entity. Takes memory for the uid.
-    pub fn attrs_len(&self, alloc: Global, text: &[u8]) -> Result<usize, Reason>
-        ensures { AsksOne attrs_count self.now.store text.now result }
+    pub fn attrs_len(&mut self, alloc: Global, text: &[u8]) -> Result<usize, Reason>
+        ensures same { self.new ≡ self.old }
+        ensures tells { AsksOne attrs_count self.old.store text.now result }
     {
-        let uid = uid_of(alloc, text)?;
+        let uid = self.known.uid_of(alloc, text)?;
         match self.store.stored(&uid) {
             None => Err(Reason::NoEntity),
             Some(entity) => Ok(entity.attrs_len()),
@@ -68,10 +70,11 @@ impl<S: BuildHasher + Copy> KeptStore<S> {
     }
 
     /// How many tags it has, told as its attributes are.
-    pub fn tags_len(&self, alloc: Global, text: &[u8]) -> Result<usize, Reason>
-        ensures { AsksOne tags_count self.now.store text.now result }
+    pub fn tags_len(&mut self, alloc: Global, text: &[u8]) -> Result<usize, Reason>
+        ensures same { self.new ≡ self.old }
+        ensures tells { AsksOne tags_count self.old.store text.now result }
     {
-        let uid = uid_of(alloc, text)?;
+        let uid = self.known.uid_of(alloc, text)?;
         match self.store.stored(&uid) {
             None => Err(Reason::NoEntity),
             Some(entity) => Ok(entity.tags_len()),
@@ -80,11 +83,20 @@ impl<S: BuildHasher + Copy> KeptStore<S> {
 
     /// Whether the uid that the second text is is a parent of the entity with that of the first. `NoEntity` comes where
     /// the store has no such entity. Takes memory for the two uids.
-    pub fn is_child_of(&self, alloc: Global, child: &[u8], parent: &[u8]) -> Result<bool, Reason>
-        ensures { AsksAbove has_parent self.now.store child.now parent.now result }
+    pub fn is_child_of(
+        &mut self,
+        alloc: Global,
+        child: &[u8],
+        parent: &[u8],
+    ) -> Result<bool, Reason>
+        ensures same { self.new ≡ self.old }
+        ensures asks { AsksAbove has_parent self.old.store child.now parent.now result }
     {
-        let child = uid_of(alloc, child)?;
-        let parent = uid_of(alloc, parent)?;
+        let child = self.known.uid_of(alloc, child)?;
+        let parent = match self.known.uid_of(alloc, parent) {
+            Ok(uid) => uid,
+            Err(reason) => return Err(reason),
+        };
         match self.store.stored(&child) {
             None => Err(Reason::NoEntity),
             Some(entity) => Ok(entity.is_child_of(&parent)),
@@ -93,15 +105,19 @@ impl<S: BuildHasher + Copy> KeptStore<S> {
 
     /// Whether it is an indirect ancestor of it, told as a parent is.
     pub fn is_indirect_descendant_of(
-        &self,
+        &mut self,
         alloc: Global,
         child: &[u8],
         ancestor: &[u8],
     ) -> Result<bool, Reason>
-        ensures { AsksAbove has_indirect self.now.store child.now ancestor.now result }
+        ensures same { self.new ≡ self.old }
+        ensures asks { AsksAbove has_indirect self.old.store child.now ancestor.now result }
     {
-        let child = uid_of(alloc, child)?;
-        let ancestor = uid_of(alloc, ancestor)?;
+        let child = self.known.uid_of(alloc, child)?;
+        let ancestor = match self.known.uid_of(alloc, ancestor) {
+            Ok(uid) => uid,
+            Err(reason) => return Err(reason),
+        };
         match self.store.stored(&child) {
             None => Err(Reason::NoEntity),
             Some(entity) => Ok(entity.is_indirect_descendant_of(&ancestor)),
@@ -111,14 +127,15 @@ impl<S: BuildHasher + Copy> KeptStore<S> {
     /// Whether this store and another have deeply equal entities with the uid that a text is. `NoEntity` comes where
     /// one of the two has no such entity. Takes memory for the uid.
     pub fn entity_is_equal(
-        &self,
+        &mut self,
         alloc: Global,
         text: &[u8],
         other: &KeptStore<S>,
     ) -> Result<bool, Reason>
-        ensures { ComparesAt self.now.store other.now.store text.now result }
+        ensures same { self.new ≡ self.old }
+        ensures compares { ComparesAt self.old.store other.now.store text.now result }
     {
-        let uid = uid_of(alloc, text)?;
+        let uid = self.known.uid_of(alloc, text)?;
         let Some(one) = self.store.stored(&uid) else {
             return Err(Reason::NoEntity);
         };
@@ -142,7 +159,7 @@ impl<S: BuildHasher + Copy> KeptStore<S> {
     pub fn indirect_ancestors(&mut self, alloc: Global, text: &[u8]) -> Result<(), Reason>
         ensures { Listing has_indirect IsFarAbove text.now result self.old self.new }
     {
-        let uid = uid_of(alloc, text)?;
+        let uid = self.known.uid_of(alloc, text)?;
         let answer = match self.store.stored(&uid) {
             None => return Err(Reason::NoEntity),
             Some(entity) => texts_of_set(alloc, entity.indirect_ancestors())?,
@@ -155,7 +172,7 @@ impl<S: BuildHasher + Copy> KeptStore<S> {
     pub fn keys(&mut self, alloc: Global, text: &[u8]) -> Result<(), Reason>
         ensures { AnswersAt (AreKeysOf attrs_of) text.now result self.old self.new }
     {
-        let uid = uid_of(alloc, text)?;
+        let uid = self.known.uid_of(alloc, text)?;
         let answer = match self.store.stored(&uid) {
             None => return Err(Reason::NoEntity),
             Some(entity) => texts_of_keys(alloc, entity.keys())?,
@@ -168,7 +185,7 @@ impl<S: BuildHasher + Copy> KeptStore<S> {
     pub fn tag_keys(&mut self, alloc: Global, text: &[u8]) -> Result<(), Reason>
         ensures { AnswersAt (AreKeysOf tags_of) text.now result self.old self.new }
     {
-        let uid = uid_of(alloc, text)?;
+        let uid = self.known.uid_of(alloc, text)?;
         let answer = match self.store.stored(&uid) {
             None => return Err(Reason::NoEntity),
             Some(entity) => texts_of_keys(alloc, entity.tag_keys())?,
@@ -182,7 +199,7 @@ impl<S: BuildHasher + Copy> KeptStore<S> {
     pub fn text(&mut self, alloc: Global) -> Result<(), Reason>
         ensures { AnswersOf (λ _ texts. IsOneText texts) result self.old self.new }
     {
-        let text = self.store.to_string(alloc)?;
+        let text = self.store.entities().to_string(alloc)?;
         self.answer = one_text(alloc, &text)?;
         Ok(())
     }
@@ -192,7 +209,7 @@ impl<S: BuildHasher + Copy> KeptStore<S> {
     pub fn entity_text(&mut self, alloc: Global, text: &[u8]) -> Result<(), Reason>
         ensures { AnswersAt (λ _ texts. IsOneText texts) text.now result self.old self.new }
     {
-        let uid = uid_of(alloc, text)?;
+        let uid = self.known.uid_of(alloc, text)?;
         let written = match self.store.stored(&uid) {
             None => return Err(Reason::NoEntity),
             Some(entity) => entity.to_string(alloc)?,

@@ -7,7 +7,7 @@ ghost use Rattle.cedar_c_stores.specs.laws.Shown.{IsShownIf, KeepsShown};
 
 use crate::kept_store::KeptStore;
 use crate::keys::key_of;
-use cedar_c_lists::{Answer, Reason, uid_of};
+use cedar_c_lists::{Answer, Reason};
 use cedar_c_trees::{Node, write_partial};
 use cedar_terms::PartialValue;
 use std::alloc::{AllocError, Global};
@@ -67,7 +67,7 @@ impl<S: BuildHasher + Copy> KeptStore<S> {
     pub fn get(&mut self, alloc: Global, text: &[u8], key: &[u8]) -> Result<bool, Reason>
         ensures { GetsAt attrs_of text.now key.now result self.old self.new }
     {
-        let uid = uid_of(alloc, text)?;
+        let uid = self.known.uid_of(alloc, text)?;
         let key = key_of(key)?;
         let found = match self.store.stored(&uid) {
             None => return Err(Reason::NoEntity),
@@ -80,7 +80,7 @@ impl<S: BuildHasher + Copy> KeptStore<S> {
     pub fn get_tag(&mut self, alloc: Global, text: &[u8], key: &[u8]) -> Result<bool, Reason>
         ensures { GetsAt tags_of text.now key.now result self.old self.new }
     {
-        let uid = uid_of(alloc, text)?;
+        let uid = self.known.uid_of(alloc, text)?;
         let key = key_of(key)?;
         let found = match self.store.stored(&uid) {
             None => return Err(Reason::NoEntity),

@@ -16,4 +16,4 @@ abbrev pub KeepsShown : {B H : Type 0} → Option Shown → Bool → KeptStore B
 KeepsShown None b i j = (b ≡ false) × (j ≡ i)
 KeepsShown (Some s) b i j =
     (b ≡ true) × (j.store ≡ i.store) × (j.refusal.items ≡ i.refusal.items) × (j.answer ≡ s.answer)
-    × (j.nodes.items ≡ s.nodes.items)
+    × (j.nodes.items ≡ s.nodes.items) × (j.numbers ≡ i.numbers)

@@ -13,4 +13,4 @@ returns-clause-new c zero =
 pub returns-clause-untold : goal.returns-clause-untold
 returns-clause-untold c zero =
     holds (λ (k : Kept). IsUntold k) c.new.result c.args.handle.now.held.value c.fill.new.handle.held.value
-    c.fill.result (c.new.ensures.answer, c.new.ensures.refusal, c.new.ensures.nodes) c.fill.ensures zero
+    c.fill.result (c.new.ensures.answer, c.new.ensures.refusal, c.new.ensures.nodes, c.new.ensures.numbers) c.fill.ensures zero

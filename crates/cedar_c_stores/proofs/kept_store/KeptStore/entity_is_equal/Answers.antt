@@ -1,8 +1,8 @@
 use Rattle.std.proofs.Common.{sym}
 use Rattle.cedar_c_stores.proofs.kept_store.KeptStore.entity_is_equal.Goals as goal
 
-pub returns : goal.returns
-returns g c =
+pub returns-clause-compares : goal.returns-clause-compares
+returns-clause-compares g c =
     let u = c.in_ok-uid.uid in (
       c.in-Some.one.now,
       c.in-Some-stored.entity.now,

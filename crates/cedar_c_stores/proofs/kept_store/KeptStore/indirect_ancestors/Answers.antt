@@ -12,6 +12,7 @@ returns g c =
       refl,
       refl,
       refl,
+      refl,
       (
         u,
         c.in_ok-uid.ensures,

@@ -5,15 +5,15 @@ use Rattle.cedar_graph.specs.Graph.{Reach}
 use Rattle.cedar_c_stores.proofs.Asking.{above_held}
 use Rattle.cedar_c_stores.proofs.kept_store.KeptStore.is_descendant_of.Goals as goal
 
-pub returns : goal.returns
-returns g c =
+pub returns-clause-asks : goal.returns-clause-asks
+returns-clause-asks g c =
     let u = c.in_ok-child.child in
-    let v = c.in_ok-ancestor.ancestor in
+    let v = c.in-Ok.uid in
     let x = c.in-Some.entity.now in (
       u,
       v,
       c.in_ok-child.ensures,
-      c.in_ok-ancestor.ensures,
+      c.in-Ok.ensures,
       record {
         entity = x;
         held = sym c.in-Some.ensures.value;

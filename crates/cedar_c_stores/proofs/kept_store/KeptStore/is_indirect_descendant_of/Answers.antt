@@ -1,11 +1,11 @@
 use Rattle.std.proofs.Common.{sym}
 use Rattle.cedar_c_stores.proofs.kept_store.KeptStore.is_indirect_descendant_of.Goals as goal
 
-pub returns : goal.returns
-returns g c = (
+pub returns-clause-asks : goal.returns-clause-asks
+returns-clause-asks g c = (
   c.in-Some.entity.now,
-  c.in_ok-ancestor.ancestor,
+  c.in-Ok.uid,
   (c.in_ok-child.child, c.in_ok-child.ensures, sym c.in-Some.ensures.value),
-  c.in_ok-ancestor.ensures,
+  c.in-Ok.ensures,
   c.is_indirect_descendant_of.ensures,
 )

@@ -10,6 +10,7 @@ returns g c =
       refl,
       refl,
       refl,
+      refl,
       (
         u,
         c.in_ok-uid.ensures,

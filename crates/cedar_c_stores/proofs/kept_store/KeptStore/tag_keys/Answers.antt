@@ -6,6 +6,7 @@ returns g c = (
   refl,
   refl,
   refl,
+  refl,
   (
     c.in-Some.entity.now,
     (c.in_ok-uid.uid, c.in_ok-uid.ensures, sym c.in-Some.ensures.value),

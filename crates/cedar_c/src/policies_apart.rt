@@ -1,0 +1,52 @@
+//! Copies of policy sets that may go to another thread, and merging by such a copy.
+ghost use Rattle.std.specs.Prelude.{◌≡◌};
+ghost use Rattle.cedar_c_sets.specs.Sets.{CopiesSet, MergesSet};
+ghost use Rattle.cedar_c.specs.PolicyCalls.{ChangesBy, Fills};
+
+use crate::policies::{CLOSED, Policies, fill, opened, take};
+use cedar_c_lists::status_of;
+use std::alloc::Global;
+
+/// A copy of a policy set, which shares nothing with it, goes into another handle.
+#[unsafe(no_mangle)]
+pub extern "C" fn cedar_policies_copy_apart(
+    alloc: Global,
+    from: &mut Policies,
+    to: &mut Policies,
+) -> u32
+    ensures same { from.new.held.value ≡ from.old.held.value }
+    ensures fills { Fills CopiesSet from.old.held.value result to.old.held.value to.new.held.value }
+{
+    let Some(inner) = take(alloc, from) else {
+        return CLOSED;
+    };
+    let made = inner.kept.copy_apart(alloc);
+    *from = opened(inner);
+    fill(alloc, to, made)
+}
+
+/// What another set binds joins the set, by a copy that shares nothing with that one, and each id that was renamed becomes
+/// the answer, its new one behind it.
+#[unsafe(no_mangle)]
+pub extern "C" fn cedar_policies_merge_apart(
+    alloc: Global,
+    handle: &mut Policies,
+    other: &mut Policies,
+    rename: bool,
+) -> u32
+    ensures same { other.new.held.value ≡ other.old.held.value }
+    ensures merges { ChangesBy
+        (λ b r i j. MergesSet b rename r i j) other.old.held.value handle.old.held.value result handle.new.held.value }
+{
+    let Some(mut inner) = take(alloc, handle) else {
+        return CLOSED;
+    };
+    let Some(beside) = take(alloc, other) else {
+        *handle = opened(inner);
+        return CLOSED;
+    };
+    let answer = inner.kept.merge_apart(alloc, &beside.kept, rename);
+    *handle = opened(inner);
+    *other = opened(beside);
+    status_of(answer)
+}

@@ -1,0 +1,82 @@
+//! Calls on handles of stores by the numbers of uids that their callers gave once.
+ghost use Rattle.std.specs.Prelude.{◌≡◌};
+ghost use Rattle.cedar_c_stores.specs.Numbers.{AsksForNumber, AsksNumbers, GivesNumber, NamesNumber};
+ghost use Rattle.cedar_c.specs.StoreCalls.{Changes};
+ghost use Rattle.cedar_c.specs.StoreNumbers.{AsksKept, GivesFrom};
+
+use crate::store::{CLOSED, Store, opened, take};
+use cedar_c_lists::{status_of, tell, tell_value};
+use std::alloc::Global;
+
+/// The number of a uid, in `number`: the same each time.
+#[unsafe(no_mangle)]
+pub extern "C" fn cedar_store_uid_number(
+    alloc: Global,
+    handle: &mut Store,
+    uid: &[u8],
+    number: &mut usize,
+) -> u32
+    ensures { GivesFrom (GivesNumber uid.now)
+        handle.old.held.value result handle.new.held.value number.old number.new }
+{
+    let Some(mut inner) = take(alloc, handle) else {
+        return CLOSED;
+    };
+    let told = inner.kept.uid_number(alloc, uid);
+    *handle = opened(inner);
+    tell_value(told, number)
+}
+
+/// The text of the uid of a number becomes the answer.
+#[unsafe(no_mangle)]
+pub extern "C" fn cedar_store_number_uid(alloc: Global, handle: &mut Store, number: usize) -> u32
+    ensures { Changes (NamesNumber number) handle.old.held.value result handle.new.held.value }
+{
+    let Some(mut inner) = take(alloc, handle) else {
+        return CLOSED;
+    };
+    let answer = inner.kept.number_uid(alloc, number);
+    *handle = opened(inner);
+    status_of(answer)
+}
+
+/// Whether there is an entity with the uid of a number, in `answer`.
+#[unsafe(no_mangle)]
+pub extern "C" fn cedar_store_has_number(
+    alloc: Global,
+    handle: &mut Store,
+    number: usize,
+    answer: &mut bool,
+) -> u32
+    ensures same { handle.new.held.value ≡ handle.old.held.value }
+    ensures asks { AsksKept (λ k r. AsksForNumber k.store k.numbers number r)
+        handle.old.held.value result answer.old answer.new }
+{
+    let Some(inner) = take(alloc, handle) else {
+        return CLOSED;
+    };
+    let told = inner.kept.has_number(number);
+    *handle = opened(inner);
+    tell(told, answer)
+}
+
+/// Whether the entity with the uid of the first number is a descendant of the uid of the second, in `answer`.
+#[unsafe(no_mangle)]
+pub extern "C" fn cedar_store_is_descendant_of_numbers(
+    alloc: Global,
+    handle: &mut Store,
+    child: usize,
+    ancestor: usize,
+    answer: &mut bool,
+) -> u32
+    ensures same { handle.new.held.value ≡ handle.old.held.value }
+    ensures asks { AsksKept (λ k r. AsksNumbers k.store k.numbers child ancestor r)
+        handle.old.held.value result answer.old answer.new }
+{
+    let Some(inner) = take(alloc, handle) else {
+        return CLOSED;
+    };
+    let told = inner.kept.is_descendant_of_numbers(child, ancestor);
+    *handle = opened(inner);
+    tell(told, answer)
+}

@@ -1,0 +1,7 @@
+use Rattle.std.proofs.Common.{subst, sym}
+use Rattle.cedar_entities.specs.Plain.{IsPlainStore}
+use Rattle.cedar_c_stores.proofs.watched.Watched.store_apart.Goals as goal
+
+pub invariant_of-result : goal.invariant_of-result
+invariant_of-result g c = λ h.
+    let p = c.self.invariant h in (p.0, subst (IsPlainStore p.0) (sym c.in_ok-entities.ensures) p.1)

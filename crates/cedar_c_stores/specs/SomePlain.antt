@@ -1,0 +1,7 @@
+-- What is known of a store that is kept.
+use Rattle.cedar_entities.specs.Plain.{StoreView, IsPlainStore}
+use Rattle.cedar_entities.specs.World.{World}
+
+-- it is the plain store of some world
+abbrev pub IsSomePlain : StoreView → Type 0
+IsSomePlain S = (W : World) × IsPlainStore W S

@@ -1,0 +1,59 @@
+//! Uids that a caller gave once, by their numbers.
+ghost use Rattle.std.specs.Prelude.{◌≡◌, [], IfOk, OnErr, OnOk, slice_get};
+ghost use Rattle.std.specs.Option.{option_copied};
+ghost use Rattle.cedar_c_stores.specs.Numbers.{IsNumberOf, uids_with};
+
+use cedar_ids::entity::EntityUID;
+use cedar_uid_sets::SharedUid;
+use indexmap::IndexSet;
+use std::alloc::{AllocError, Global};
+use std::hash::BuildHasher;
+use std::marker::Model;
+
+/// Uids, each once, in the order in which they came: the place of a uid is its number. Contracts see the list of them.
+#[derive(Drop)]
+pub struct Numbers<S: BuildHasher> {
+    uids: IndexSet<SharedUid, S>,
+}
+
+impl<S: BuildHasher> Model for Numbers<S> {
+    ghost use Rattle.std.specs.Prelude.{List};
+    ghost use Rattle.cedar_ids.specs.declared.entity.EntityUID.{EntityUID};
+
+    ghost Value = { List EntityUID };
+
+    ghost view = { λ n. n.uids.keys };
+}
+
+impl<S: BuildHasher + Copy> Numbers<S> {
+    // No uid has a number. Takes no memory.
+    pub(crate) fn new(alloc: Global, hasher: S) -> Numbers<S>
+        ensures { result ≡ [] }
+    {
+        Numbers {
+            uids: IndexSet::with_hasher(alloc, hasher),
+        }
+    }
+
+    // The number of a uid: the one that it has, or the next. Takes memory for the uid, and is refused only where that
+    // is; then all is as it was.
+    pub(crate) fn number_of(&mut self, alloc: Global, uid: EntityUID) -> Result<usize, AllocError>
+        ensures uids { OnOk result (self.new ≡ uids_with self.old uid) }
+        ensures number { IfOk result (IsNumberOf self.new uid) }
+        ensures err { OnErr result (self.new ≡ self.old) }
+    {
+        let shared = SharedUid::new(alloc, uid)?;
+        let (number, _) = self.uids.insert_full(shared)?;
+        Ok(number)
+    }
+
+    // The uid with a number, if it is one's. Takes no memory.
+    pub(crate) fn uid_at(&self, number: usize) -> Option<&EntityUID>
+        ensures { option_copied result ≡ slice_get self.now number }
+    {
+        match self.uids.as_slice().get(number) {
+            None => None,
+            Some(shared) => Some(shared.uid()),
+        }
+    }
+}

@@ -1,0 +1,222 @@
+//! A store that is kept, with what is known of it: whether it is plain, so that an edit may be tried before it is made.
+ghost use Rattle.std.specs.Prelude.{◌≡◌, ◌↔◌, IfErr, IfOk, IsTrue, None, OnErr, false, true};
+ghost use Rattle.std.specs.FinMap as finmap;
+ghost use Rattle.std.specs.Option.{option_map};
+ghost use Rattle.cedar_entity.specs.declared.err.EntitiesError.TheVariants.{Memory};
+ghost use Rattle.cedar_entities.specs.Answers.{AreDeepEqual, Finds, ListsHeld};
+ghost use Rattle.cedar_entities.specs.Plain.{IsKeyed, IsPlainStore, entities_in};
+ghost use Rattle.cedar_entities.specs.StoreFaults.{IsStoreFault, IsValidStore};
+ghost use Rattle.cedar_entities.specs.World.{World, empty_world};
+ghost use Rattle.cedar_slice.specs.Slices.{IsPlainSlice, sliced};
+ghost use Rattle.cedar_c_stores.specs.Edits.{Edits};
+ghost use Rattle.cedar_c_stores.specs.Stores.{AddGives, empty_store};
+
+use crate::edits::{Edit, edit_store, keeps_plain, made};
+use cedar_entities::{Dereference, Entities, EntitiesError, Entity, Iter, TCComputation};
+use cedar_ids::entity::EntityUID;
+use cedar_slice::slice;
+use cedar_stores_apart::entities_apart;
+use std::alloc::{AllocError, Global};
+use std::hash::BuildHasher;
+use std::marker::Model;
+use std::rc::Rc;
+
+/// A store, and whether it is known to be the plain store of a world. Contracts see the store. Each call that stands
+/// here under the name of one of `Entities` is that one.
+#[derive(Drop)]
+pub struct Watched<S: BuildHasher> {
+    entities: Entities<S>,
+    plain: bool,
+}
+
+impl<S: BuildHasher> Model for Watched<S> {
+    ghost use Rattle.std.specs.Prelude.{IsTrue};
+    ghost use Rattle.cedar_entities.specs.Codes.{store_code};
+    ghost use Rattle.cedar_entities.specs.Plain.{StoreView};
+    ghost use Rattle.cedar_c_stores.specs.SomePlain.{IsSomePlain};
+
+    ghost Value = { StoreView };
+
+    ghost coded = { store_code };
+
+    ghost view = { λ w. w.entities };
+
+    ghost invariant = { λ w. IsTrue w.plain → IsSomePlain w.entities };
+}
+
+impl<S: BuildHasher + Copy> Watched<S> {
+    // The store without entities, which is plain.
+    pub(crate) fn with_hasher(alloc: Global, hasher: S) -> Watched<S>
+        ensures value { result ≡ empty_store }
+        ensures plain { IsPlainStore empty_world result }
+    {
+        Watched {
+            entities: Entities::with_hasher(alloc, hasher),
+            plain: true,
+        }
+    }
+
+    // The store with the same entities, now partial: a plain one stays plain.
+    pub(crate) fn partial(self) -> Watched<S>
+        ensures value { result ≡ record { held = self.held; partial = true } }
+        ensures plain { (W : World) → IsPlainStore W self →
+            IsPlainStore (record W { partial = true }) result }
+    {
+        let Watched { entities, plain } = self;
+        Watched {
+            entities: entities.partial(),
+            plain,
+        }
+    }
+
+    // The store of these entities: what adding them to the store without entities gives.
+    pub(crate) fn built(
+        alloc: Global,
+        hasher: S,
+        list: Vec<Rc<Entity>>,
+        mode: TCComputation,
+    ) -> Result<Watched<S>, EntitiesError>
+        ensures { AddGives mode (entities_in list.items) empty_store result }
+    {
+        let edit = Edit::Add(list);
+        let plain = keeps_plain(true, &edit, mode);
+        match made(alloc, Entities::with_hasher(alloc, hasher), edit, mode) {
+            Ok(entities) => Ok(Watched { entities, plain }),
+            Err(error) => Err(error),
+        }
+    }
+
+    // Makes an edit. A refusal leaves the store as it was, but that want of memory may leave it without entities.
+    pub(crate) fn edit(
+        &mut self,
+        alloc: Global,
+        hasher: S,
+        edit: Edit,
+        mode: TCComputation,
+    ) -> Result<(), EntitiesError>
+        ensures { Edits mode edit self.old result self.new }
+    {
+        let plain = keeps_plain(self.plain, &edit, mode);
+        match edit_store(alloc, &mut self.entities, hasher, edit, mode, plain) {
+            Ok(()) => {
+                self.plain = plain;
+                Ok(())
+            }
+            Err(error) => Err(error),
+        }
+    }
+
+    // A copy that shares nothing with the store: that of a plain one is plain.
+    pub(crate) fn store_apart(&self, alloc: Global) -> Result<Watched<S>, AllocError>
+        ensures { IfOk result (λ w. w ≡ self.now) }
+    {
+        let entities = entities_apart(alloc, &self.entities)?;
+        Ok(Watched {
+            entities,
+            plain: self.plain,
+        })
+    }
+
+    // The slice at some uids: that of a plain store is plain.
+    pub(crate) fn slice(
+        &self,
+        alloc: Global,
+        uids: &[EntityUID],
+    ) -> Result<Watched<S>, EntitiesError>
+        ensures held { IfOk result (λ s. s ≡ record {
+          held = sliced self.now.held uids.now;
+          partial = false;
+        }) }
+        ensures plain { IfOk result (λ s. (W : World) → IsPlainStore W self.now →
+            IsPlainSlice W uids.now s) }
+        ensures err { IfErr result (λ e. e ≡ Memory) }
+    {
+        match slice(alloc, &self.entities, uids) {
+            Ok(entities) => Ok(Watched {
+                entities,
+                plain: self.plain,
+            }),
+            Err(error) => Err(error),
+        }
+    }
+
+    /// The store alone. Takes no memory.
+    pub fn entities(&self) -> &Entities<S>
+        ensures { result.now ≡ self.now }
+    {
+        &self.entities
+    }
+
+    /// Whether the store is partial. Takes no memory.
+    pub fn is_partial(&self) -> bool
+        ensures { result ≡ self.now.partial }
+    {
+        self.entities.is_partial()
+    }
+
+    /// How many entities there are. Takes no memory.
+    pub fn len(&self) -> usize
+        ensures value { result ≡ finmap.len self.now.held }
+        ensures plain { (W : World) → IsPlainStore W self.now → result ≡ finmap.len W.entities }
+    {
+        self.entities.len()
+    }
+
+    /// The entity that the store has with a uid, if there is one. Takes no memory.
+    pub fn stored(&self, uid: &EntityUID) -> Option<&Entity>
+        ensures value { option_map (λ e. e.now) result ≡ finmap.get self.now.held uid.now }
+        ensures keyed { IsKeyed self.now.held }
+    {
+        self.entities.stored(uid)
+    }
+
+    /// What the store has with a uid. Takes memory for an unknown alone.
+    pub fn entity(
+        &self,
+        alloc: Global,
+        uid: &EntityUID,
+    ) -> Result<Dereference<'_, Entity>, AllocError>
+        ensures ok { IfOk result (Finds
+            (finmap.get self.now.held uid.now) self.now.partial uid.now) }
+        ensures err { OnErr result ((finmap.get self.now.held uid.now ≡ None)
+            × (self.now.partial ≡ true)) }
+    {
+        self.entities.entity(alloc, uid)
+    }
+
+    /// The entities, each once, in an order of their own. Takes no memory.
+    pub fn iter(&self) -> Iter<'_>
+        ensures lists { ListsHeld self.now.held result }
+        ensures keyed { IsKeyed self.now.held }
+    {
+        self.entities.iter()
+    }
+
+    /// Whether both stores have deeply equal entities. Takes no memory.
+    pub fn deep_eq(&self, other: &Watched<S>) -> bool
+        ensures { IsTrue result ↔ AreDeepEqual self.now other.now }
+    {
+        self.entities.deep_eq(&other.entities)
+    }
+
+    // The store, where nothing is wrong with it.
+    pub(crate) fn try_validate(self, alloc: Global) -> Result<Entities<S>, EntitiesError>
+        ensures ok { IfOk result (λ s. (s ≡ self) × IsValidStore self.held) }
+        ensures err { IfErr result (IsStoreFault self.held) }
+    {
+        let Watched { entities, .. } = self;
+        entities.try_validate(alloc)
+    }
+}
+
+impl<S: BuildHasher + Clone> Clone for Watched<S> {
+    ghost is_clone = { λ x y. y ≡ x };
+
+    /// A copy of the store, which shares its entities, and of which the same is known.
+    fn clone(&self) -> Result<Watched<S>, AllocError> {
+        Ok(Watched {
+            entities: self.entities.clone()?,
+            plain: self.plain,
+        })
+    }
+}
