@@ -3,7 +3,7 @@
 //! tells them, and else by the clock: `cargo run --release --example figures`.
 use cedar_store_proved::ast::{Entity, EntityUID, Value};
 use cedar_store_proved::entities::{Entities, TCComputation::ComputeNow};
-use cedar_store_proved::{is_uid, run};
+use cedar_store_proved::{is_uid, run, UidNumber};
 use std::collections::{HashMap, HashSet};
 use std::hint::black_box;
 use std::time::Instant;
@@ -86,6 +86,19 @@ fn through_the_crate(pairs: &[(String, String)]) -> usize {
     };
     let (seconds, count) = least(asks);
     print("is_descendant_of through this crate", seconds);
+    let numbers: Vec<_> = asked
+        .iter()
+        .map(|(child, other)| (store.number(child).unwrap(), store.number(other).unwrap()))
+        .collect();
+    let asks = || {
+        let is_below = |&&(child, other): &&(UidNumber, UidNumber)| {
+            store.is_descendant_of_numbers(child, other).unwrap()
+        };
+        numbers.iter().filter(is_below).count()
+    };
+    let (seconds, same) = least(asks);
+    assert_eq!(same, count);
+    print("the same by numbers of both uids", seconds);
     let found = || {
         let is_below = |(child, other): &&(EntityUID, EntityUID)| {
             store.entity(child).unwrap().is_descendant_of(other)

@@ -1,15 +1,18 @@
 //! The functions of `cedar.h`, as they stand there, and handles over them whose calls are safe. What is unsafe in this
-//! crate stands here alone, and keeps the rules of that header so:
+//! crate stands here and in `ffi/apart.rs` alone, and keeps the rules of that header so:
 //!
 //! - A handle starts as zeroes, its bytes are written by the library alone, and it is neither copied nor, for the
-//!   pointer in it, sent to another thread or shared with one. The library keeps no address of a handle, so a handle
-//!   may be moved.
+//!   pointer in it, sent to another thread or shared with one, but in an [`Apart`]. The library keeps no address of a
+//!   handle, so a handle may be moved.
 //! - Pointers and lengths are those of slices, whose pointers are never null and whose lengths are below 2^63. What is
 //!   written overlaps nothing that is read: the one is borrowed alone, and the other is shared.
 //! - A call runs nothing of its caller's, so no two calls on one handle are made at a time, and a shared borrow may
 //!   make one.
 //! - Two handles of one call are two: one is new, or is borrowed where the other is borrowed alone, or they are
 //!   compared first.
+mod apart;
+mod numbers;
+
 use crate::body_lists::{Annotated, BodyLists, Head};
 use crate::key::Key;
 use crate::lists::{Content, Edge, Lists, Span};
@@ -17,6 +20,8 @@ use crate::nodes::{Node, Term};
 use std::cell::UnsafeCell;
 use std::marker::PhantomData;
 use std::os::raw::c_void;
+
+pub(crate) use apart::Apart;
 
 /// What the library has of a store or a set. Zeroes are a closed one.
 #[repr(C)]
@@ -38,7 +43,8 @@ macro_rules! declared {
 
 declared!(Opens(s: *mut Handle, seed: u64, key: u64) -> u32: cedar_store_new cedar_policies_new);
 declared!(Frees(s: *mut Handle) -> (): cedar_store_free cedar_policies_free);
-declared!(Copies(from: *mut Handle, to: *mut Handle) -> u32: cedar_store_copy cedar_policies_copy);
+declared!(Copies(from: *mut Handle, to: *mut Handle) -> u32: cedar_store_copy cedar_policies_copy
+    cedar_store_copy_apart cedar_policies_copy_apart);
 declared!(Compares(one: *mut Handle, other: *mut Handle, answer: *mut bool) -> u32:
     cedar_store_equal cedar_policies_equal);
 declared!(Tells(s: *mut Handle, from: usize, out: *mut u8, room: usize) -> usize:
@@ -62,7 +68,7 @@ declared!(Numbers(s: *mut Handle, text: *const u8, len: usize, number: *mut u32)
 declared!(Asks(s: *mut Handle, text: *const u8, len: usize, answer: *mut bool) -> u32:
     cedar_store_has cedar_policies_clause);
 declared!(Counts(s: *mut Handle, uid: *const u8, len: usize, count: *mut usize) -> u32:
-    cedar_store_attrs_len cedar_store_tags_len);
+    cedar_store_attrs_len cedar_store_tags_len cedar_store_uid_number);
 declared!(Judges(
     s: *mut Handle, one: *const u8, one_len: usize, other: *const u8, other_len: usize, answer: *mut bool
 ) -> u32:
@@ -86,12 +92,16 @@ declared!(Adds(
 
 declared!((s: *mut Handle) -> usize: cedar_store_len);
 declared!((s: *mut Handle, answer: *mut bool) -> u32: cedar_store_is_partial);
+declared!((s: *mut Handle, number: usize) -> u32: cedar_store_number_uid);
+declared!((s: *mut Handle, number: usize, answer: *mut bool) -> u32: cedar_store_has_number);
+declared!((s: *mut Handle, child: usize, ancestor: usize, answer: *mut bool) -> u32:
+    cedar_store_is_descendant_of_numbers);
 declared!((
     s: *mut Handle, text: *const u8, text_len: usize, uids: *const Span, uids_len: usize, mode: u32
 ) -> u32: cedar_store_remove);
 declared!((
     from: *mut Handle, to: *mut Handle, text: *const u8, text_len: usize, uids: *const Span, uids_len: usize
-) -> u32: cedar_store_slice);
+) -> u32: cedar_store_slice cedar_store_slice_apart);
 declared!((s: *mut Handle, uid: *const u8, len: usize, other: *mut Handle, answer: *mut bool) -> u32:
     cedar_store_entity_equal);
 declared!((p: *mut Handle, id: *const u8, len: usize, effect: u32) -> u32: cedar_policies_add_static);
@@ -100,7 +110,8 @@ declared!((
     p: *mut Handle, template: *const u8, template_len: usize, id: *const u8, id_len: usize,
     text: *const u8, text_len: usize, values: *const Span, values_len: usize
 ) -> u32: cedar_policies_link);
-declared!((p: *mut Handle, other: *mut Handle, rename: bool) -> u32: cedar_policies_merge);
+declared!((p: *mut Handle, other: *mut Handle, rename: bool) -> u32:
+    cedar_policies_merge cedar_policies_merge_apart);
 declared!((p: *mut Handle, kind: u32) -> u32: cedar_policies_ids);
 declared!((p: *mut Handle, id: *const u8, len: usize, which: u32, kind: *mut u32) -> u32: cedar_policies_scope);
 
@@ -220,6 +231,7 @@ pub(crate) struct Calls {
     new: Opens,
     free: Frees,
     copy: Copies,
+    copy_apart: Copies,
     equal: Compares,
     answer: Tells,
     spans: Places,
@@ -240,6 +252,7 @@ impl Kind for Stores {
         new: cedar_store_new,
         free: cedar_store_free,
         copy: cedar_store_copy,
+        copy_apart: cedar_store_copy_apart,
         equal: cedar_store_equal,
         answer: cedar_store_answer,
         spans: cedar_store_answer_spans,
@@ -256,6 +269,7 @@ impl Kind for Sets {
         new: cedar_policies_new,
         free: cedar_policies_free,
         copy: cedar_policies_copy,
+        copy_apart: cedar_policies_copy_apart,
         equal: cedar_policies_equal,
         answer: cedar_policies_answer,
         spans: cedar_policies_answer_spans,

@@ -26,6 +26,7 @@
 
 mod action;
 mod annotation;
+mod apart;
 mod body;
 mod body_lists;
 mod entity;
@@ -38,6 +39,7 @@ mod key;
 mod lists;
 mod name;
 mod nodes;
+mod numbers;
 mod policies_iters;
 mod policies_read;
 mod policies_told;
@@ -53,9 +55,11 @@ mod uid;
 mod value;
 mod value_walk;
 
+pub use apart::{ApartEntities, ApartPolicySet};
 pub use ast::{Effect, Entity, EntityUID, PolicyID, PolicySet, SlotEnv, SlotId, Value};
 pub use entities::{Dereference, Entities, TCComputation};
 pub use key::Key;
+pub use numbers::UidNumber;
 pub use policies_read::Renaming;
 pub use policies_told::Bound;
 pub use policy::Slots;
@@ -107,6 +111,7 @@ pub mod ast {
 /// Stores of entities.
 pub mod entities {
     pub use crate::errors::EntitiesError;
+    pub use crate::numbers::UidNumber;
     pub use crate::stored::{Entities, TCComputation};
     pub use crate::stored_entity::{Dereference, IntoIter, Iter, StoredEntity};
 

@@ -1,4 +1,5 @@
 //! Policy sets.
+use crate::apart::ApartPolicySet;
 use crate::body::TemplateBody;
 use crate::body_lists::BodyLists;
 use crate::errors::{
@@ -61,7 +62,7 @@ const MEMORY: &str = "memory for what a set has";
 /// assert_eq!(set.unlink(&l).unwrap().template().id(), &t);
 /// ```
 ///
-/// It is of the thread that made it: neither `Send` nor `Sync`.
+/// It is of the thread that made it: neither `Send` nor `Sync`. What [`PolicySet::copy_apart`] makes is `Send`.
 ///
 /// ```compile_fail
 /// fn sends<T: Send>(_: T) {}
@@ -84,11 +85,15 @@ fn answered<T>(given: Result<T, Refusal>) -> T {
 impl PolicySet {
     fn of(held: Result<Held<Sets>, u32>) -> Result<PolicySet, Refusal> {
         match held {
-            Ok(held) => Ok(PolicySet {
-                held,
-                read: OnceCell::new(),
-            }),
+            Ok(held) => Ok(PolicySet::of_held(held)),
             Err(status) => Err(Refusal::new(status, Vec::new)),
+        }
+    }
+
+    pub(crate) fn of_held(held: Held<Sets>) -> PolicySet {
+        PolicySet {
+            held,
+            read: OnceCell::new(),
         }
     }
 
@@ -515,6 +520,15 @@ impl PolicySet {
             })?;
         }
         Ok(self)
+    }
+
+    /// A copy, which shares nothing with the set: it may go to another thread. All that the set holds is copied. Refused
+    /// by `Memory`.
+    pub fn copy_apart(&self) -> Result<ApartPolicySet, Refusal> {
+        match self.held.copy_apart() {
+            Ok(held) => Ok(ApartPolicySet::of(held)),
+            Err(status) => Err(Refusal::new(status, Vec::new)),
+        }
     }
 
     /// A copy. Refused by `Memory`.

@@ -131,6 +131,12 @@ impl Refusal {
         }
     }
 
+    /// A refusal that names nothing.
+    pub(crate) fn plain(reason: Reason) -> Refusal {
+        let text = reason.words();
+        Refusal { reason, text }
+    }
+
     /// The refusal of a status that is not 0.
     pub(crate) fn new(status: u32, text: impl FnOnce() -> Vec<u8>) -> Refusal {
         let reason = Reason::of(status);

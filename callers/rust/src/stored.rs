@@ -1,11 +1,13 @@
 //! Stores of entities.
+use crate::apart::ApartEntities;
 use crate::entity::Entity;
 use crate::errors::EntitiesError;
 use crate::expr::Expr;
-use crate::ffi::{Change, Held, Stores};
+use crate::ffi::{Apart, Change, Held, Stores};
 use crate::key::Key;
 use crate::lists::{Content, Lists};
 use crate::nodes;
+use crate::numbers::StoreId;
 use crate::refusal::Refusal;
 use crate::slots::{StaticallyTyped, Unknown};
 use crate::stored_entity::{Dereference, IntoIter, Iter, StoredEntity, MEMORY};
@@ -60,7 +62,7 @@ pub enum TCComputation {
 /// assert!(!store.is_descendant_of(&alice, &all).unwrap());
 /// ```
 ///
-/// It is of the thread that made it: neither `Send` nor `Sync`.
+/// It is of the thread that made it: neither `Send` nor `Sync`. What [`Entities::copy_apart`] makes is `Send`.
 ///
 /// ```compile_fail
 /// fn sends<T: Send>(_: T) {}
@@ -72,18 +74,25 @@ pub enum TCComputation {
 /// shares(cedar_store_proved::entities::Entities::new());
 /// ```
 pub struct Entities {
-    held: Held<Stores>,
+    pub(crate) held: Held<Stores>,
+    pub(crate) id: StoreId,
 }
 
 impl Entities {
     fn of(held: Result<Held<Stores>, u32>) -> Result<Entities, Refusal> {
         match held {
-            Ok(held) => Ok(Entities { held }),
+            Ok(held) => Ok(Entities::of_held(held)),
             Err(status) => Err(Refusal::new(status, Vec::new)),
         }
     }
 
-    fn judged(&self, status: u32) -> Result<(), Refusal> {
+    // The store of a handle, whose numbers of uids are of no other.
+    pub(crate) fn of_held(held: Held<Stores>) -> Entities {
+        let id = StoreId::fresh();
+        Entities { held, id }
+    }
+
+    pub(crate) fn judged(&self, status: u32) -> Result<(), Refusal> {
         Refusal::judged(status, || self.held.words())
     }
 
@@ -200,8 +209,7 @@ impl Entities {
 
     /// Adds entities where the store stands, as [`Entities::add_entities`] does.
     ///
-    /// A refusal by `Memory` leaves the store as it was or without entities, one by `TooDeep` as it was, and any other
-    /// without entities.
+    /// A refusal leaves the store as it was, but that one by `Memory` may leave it without entities.
     ///
     /// ```
     /// use cedar_store_proved::ast::{Entity, EntityUID, Value};
@@ -211,7 +219,7 @@ impl Entities {
     /// store.add([Entity::with_uid(a.clone())], TCComputation::ComputeNow).unwrap();
     /// let other = Entity::with_uid(a).with_attr("k", Value::from(1));
     /// assert_eq!(store.add([other], TCComputation::ComputeNow).unwrap_err().reason(), Reason::Duplicate);
-    /// assert!(store.is_empty());
+    /// assert_eq!(store.len(), 1);
     /// ```
     pub fn add(
         &mut self,
@@ -231,8 +239,8 @@ impl Entities {
         self.changed(Change::Upsert, entities, mode)
     }
 
-    /// Takes entities out where the store stands, as [`Entities::remove_entities`] does. `NotAUid` leaves the store as
-    /// it was; any other refusal leaves what that of [`Entities::add`] leaves.
+    /// Takes entities out where the store stands, as [`Entities::remove_entities`] does. A refusal leaves what that of
+    /// [`Entities::add`] leaves.
     pub fn remove<U: AsRef<str>>(
         &mut self,
         uids: impl IntoIterator<Item = U>,
@@ -335,7 +343,7 @@ impl Entities {
     }
 
     // What a call wrote at a status.
-    fn answered<T>(&self, (status, answer): (u32, T)) -> Result<T, Refusal> {
+    pub(crate) fn answered<T>(&self, (status, answer): (u32, T)) -> Result<T, Refusal> {
         self.judged(status)?;
         Ok(answer)
     }
@@ -505,6 +513,28 @@ impl Entities {
         uids: impl IntoIterator<Item = U>,
     ) -> Result<Entities, Refusal> {
         Entities::of(self.held.slice(&Lists::of_texts(uids)))
+    }
+
+    /// The slice at some uids, as [`Entities::slice`] makes it, which shares nothing with the store: it may go to another
+    /// thread. Refused as that is.
+    pub fn slice_apart<U: AsRef<str>>(
+        &self,
+        uids: impl IntoIterator<Item = U>,
+    ) -> Result<ApartEntities, Refusal> {
+        Entities::apart(self.held.slice_apart(&Lists::of_texts(uids)))
+    }
+
+    /// A copy, which shares nothing with the store: it may go to another thread. All that the store holds is copied.
+    /// Refused by `Memory`.
+    pub fn copy_apart(&self) -> Result<ApartEntities, Refusal> {
+        Entities::apart(self.held.copy_apart())
+    }
+
+    fn apart(held: Result<Apart<Stores>, u32>) -> Result<ApartEntities, Refusal> {
+        match held {
+            Ok(held) => Ok(ApartEntities::of(held)),
+            Err(status) => Err(Refusal::new(status, Vec::new)),
+        }
     }
 
     /// A copy, which shares the entities. Refused by `Memory`.

@@ -2,7 +2,7 @@
 mod short;
 use cedar_store_proved::ast::{Entity, EntityUID};
 use cedar_store_proved::entities::Entities;
-use cedar_store_proved::{is_uid, Reason};
+use cedar_store_proved::{is_uid, Reason, TCComputation};
 use short::*;
 
 #[test]
@@ -132,14 +132,19 @@ fn cycles_are_refused() {
 }
 
 #[test]
-fn a_refused_store_is_empty_and_goes_on() {
+fn a_refused_edit_leaves_the_store_as_it_was() {
     let mut held = store("a b");
     let copy = held.try_clone().unwrap();
-    refused_for_cycle(held.add(listed("b a"), NOW), "ab");
-    assert!(held.is_empty());
-    assert_eq!((copy.len(), above(&copy, "a")), (1, "b".into()));
-    held.add(listed("b a"), NOW).unwrap();
-    assert_eq!(above(&held, "b"), "a");
+    refused_for_cycle(held.add(listed("x y;b a"), NOW), "ab");
+    assert!(held.deep_eq(&copy));
+    refused_for_cycle(held.upsert(listed("b a;x y"), NOW), "ab");
+    assert!(held.deep_eq(&copy));
+    for mode in [NOW, TCComputation::EnforceAlreadyComputed, TCComputation::AssumeAlreadyComputed] {
+        assert_eq!(held.add(listed("x y;a c"), mode).unwrap_err().reason(), Reason::Duplicate);
+        assert!(held.deep_eq(&copy));
+    }
+    held.add(listed("b c"), NOW).unwrap();
+    assert_eq!((held.len(), above(&held, "a")), (2, "bc".into()));
 }
 
 #[test]

@@ -1,9 +1,10 @@
 //! Lines of the program, drawn; and the same lines taken one by one through the crate.
 use cedar_store_proved::ast::{
-    ActionConstraint, Annotations, Effect, Entity, EntityUID, PolicyID, PolicySet, PolicySetError,
-    PrincipalConstraint, ResourceConstraint, SlotEnv, SlotId, StaticPolicy, Template,
+    ActionConstraint, Annotations, Effect, Entity, EntityUID, Expr, PolicyID, PolicySet,
+    PolicySetError, PrincipalConstraint, ResourceConstraint, SlotEnv, SlotId, StaticPolicy,
+    Template, Value, Var,
 };
-use cedar_store_proved::entities::{Dereference, Entities, TCComputation};
+use cedar_store_proved::entities::{Dereference, Entities, StoredEntity, TCComputation};
 use cedar_store_proved::{Reason, Refusal, Slots};
 use std::fmt;
 
@@ -218,6 +219,47 @@ fn uid(text: Uid) -> EntityUID {
     EntityUID::from_normalized_str(text).unwrap()
 }
 
+// An entity with attributes and tags, which are always the same of one uid: what a session writes does not tell of
+// them. Every other uid has none.
+fn with_content(entity: Entity) -> Entity {
+    let own = entity.uid().clone();
+    let text = own.to_string();
+    if text.len() % 2 == 0 {
+        return entity;
+    }
+    let number = text.len() as i64;
+    let some = [
+        Value::from(number),
+        Value::from(text.as_str()),
+        Value::from(own.clone()),
+    ];
+    let record = [
+        ("own", Value::from(own)),
+        ("", Value::set(some.clone(), None)),
+    ];
+    let left_over = Expr::is_eq(Expr::var(Var::Context), Expr::val(number));
+    entity
+        .with_attr("it's", Value::from(true))
+        .with_attr("record", Value::record(record, None))
+        .with_tag("set", Value::set(some, None))
+        .with_tag("left over", left_over)
+}
+
+// The attributes and tags that the store has are those that its entity was given.
+fn check_content(stored: &StoredEntity<'_>) {
+    let due = with_content(Entity::with_uid(stored.uid().clone()));
+    assert_eq!(
+        (stored.attrs_len(), stored.tags_len()),
+        (due.attrs_len(), due.tags_len())
+    );
+    for (key, value) in due.attrs() {
+        assert_eq!(stored.get(key), Some(value));
+    }
+    for (key, value) in due.tags() {
+        assert_eq!(stored.get_tag(key), Some(value));
+    }
+}
+
 // A refusal as the program writes it.
 fn told(refusal: impl Into<Refusal>) -> String {
     let refusal = refusal.into();
@@ -281,7 +323,8 @@ impl Session {
                 format!("ok {}\n", self.store.len())
             }
             Err(refusal) => {
-                assert!(self.store.is_empty());
+                // The program goes on without entities, the wrapper with what was there.
+                self.store = Entities::new();
                 told(refusal)
             }
         }
@@ -293,7 +336,7 @@ impl Session {
             .iter()
             .map(|entity| {
                 let parents = entity.ancestors().cloned();
-                Entity::with_uid(entity.uid().clone()).with_parents(parents)
+                with_content(Entity::with_uid(entity.uid().clone()).with_parents(parents))
             })
             .collect();
         assert_eq!(rows.len(), self.store.len());
@@ -327,6 +370,7 @@ impl Session {
             assert_eq!(refusal.reason(), Reason::NoEntity);
             return String::from("no entity\n");
         };
+        check_content(&entity);
         let ancestors: Vec<&EntityUID> = entity.ancestors_in_order().collect();
         assert!(self
             .store
@@ -354,8 +398,8 @@ impl Session {
         let given = match line {
             Line::Ent(own, parents) => {
                 let parents = parents.iter().map(|text| uid(text));
-                self.waiting
-                    .push(Entity::with_uid(uid(own)).with_parents(parents));
+                let entity = Entity::with_uid(uid(own)).with_parents(parents);
+                self.waiting.push(with_content(entity));
                 return Some(String::new());
             }
             Line::Anc(uid) => return Some(self.asked(uid)),

@@ -1,0 +1,209 @@
+//! Stores and policy sets that go to other threads.
+mod short;
+use cedar_store_proved::ast::{Eid, Entity, EntityType, EntityUID, PolicySet, Value};
+use cedar_store_proved::{ApartEntities, ApartPolicySet, Entities, Reason, TCComputation};
+use std::sync::mpsc;
+use std::thread;
+
+fn uid(id: &str) -> EntityUID {
+    let ty = EntityType::from_normalized_str("N::A").unwrap();
+    EntityUID::from_components(ty, Eid::new(id), None)
+}
+
+// A chain: each number is below the next, with an attribute and a tag. Its eids have each character but surrogates.
+fn chain(length: usize) -> Entities {
+    let entities = (0..length).map(|n| {
+        let value = Value::set([Value::from(n as i64), Value::from(uid("v"))], None);
+        let entity = Entity::with_uid(uid(&n.to_string())).with_attr("n", value);
+        let entity = entity.with_tag("t", Value::from(format!("{n}")));
+        entity.with_parent(uid(&(n + 1).to_string()))
+    });
+    Entities::from_entities(entities, TCComputation::ComputeNow).unwrap()
+}
+
+fn sends<T: Send>(_: &T) {}
+
+#[test]
+fn a_copy_goes_to_another_thread() {
+    let store = chain(20);
+    let apart = store.copy_apart().unwrap();
+    sends(&apart);
+    let (give, take) = mpsc::channel::<ApartEntities>();
+    let other = thread::spawn(move || {
+        let mut store = take.recv().unwrap().into_inner();
+        assert!(store.is_descendant_of(uid("0"), uid("20")).unwrap());
+        assert_eq!(
+            store.get(uid("3"), "n").unwrap().unwrap().to_string(),
+            r#"[3, N::A::"v"]"#
+        );
+        store.remove([uid("5")], TCComputation::ComputeNow).unwrap();
+        assert!(!store.is_descendant_of(uid("0"), uid("20")).unwrap());
+        store.copy_apart().unwrap()
+    });
+    give.send(apart).unwrap();
+    let back = other.join().unwrap().into_inner();
+    assert_eq!((store.len(), back.len()), (20, 19));
+    assert!(store.is_descendant_of(uid("0"), uid("20")).unwrap());
+    let without = store
+        .try_clone()
+        .unwrap()
+        .remove_entities([uid("5")], TCComputation::ComputeNow);
+    assert!(without.unwrap().deep_eq(&back));
+}
+
+#[test]
+fn each_of_many_threads_has_one() {
+    let store = chain(60).partial();
+    thread::scope(|scope| {
+        for from in 0..8usize {
+            let copy = store.copy_apart().unwrap();
+            let part = store.slice_apart([uid(&(from * 7).to_string())]).unwrap();
+            scope.spawn(move || {
+                let (copy, part) = (copy.into_inner(), part.into_inner());
+                assert!(copy.is_partial() && !part.is_partial());
+                assert_eq!((copy.len(), part.len()), (60, 60 - from * 7));
+                for _ in 0..10 {
+                    let again = copy.try_clone().unwrap();
+                    assert!(
+                        again.deep_eq(&copy)
+                            && again.deep_eq(&copy.copy_apart().unwrap().into_inner())
+                    );
+                    let parents: Vec<_> = part.uids().unwrap();
+                    assert!(parents.iter().all(|uid| copy.contains(uid).unwrap()));
+                }
+            });
+        }
+        for _ in 0..10 {
+            assert!(store.try_clone().unwrap().deep_eq(&store));
+        }
+    });
+}
+
+#[test]
+fn each_character_of_an_eid_is_copied() {
+    let all: Vec<char> = (0..=0x10ffff).filter_map(char::from_u32).collect();
+    let entities = all.chunks(4096).map(|some| {
+        let text: String = some.iter().collect();
+        let value = Value::set([Value::from(uid(&text)), Value::from(text.as_str())], None);
+        Entity::with_uid(uid(&text))
+            .with_attr(text.as_str(), value)
+            .with_parent(uid(&text[..some[0].len_utf8()]))
+    });
+    let store = Entities::from_entities(entities, TCComputation::ComputeNow).unwrap();
+    let copy = store.copy_apart().unwrap().into_inner();
+    assert!(copy.deep_eq(&store));
+    for uid in store.uids().unwrap() {
+        assert_eq!(copy.parents(&uid).unwrap(), store.parents(&uid).unwrap());
+    }
+}
+
+#[test]
+fn one_that_no_thread_takes_is_freed() {
+    let store = chain(3);
+    drop(store.copy_apart().unwrap());
+    let apart = store.copy_apart().unwrap();
+    thread::spawn(move || drop(apart)).join().unwrap();
+    let refused = store.slice_apart(["no uid"]).map(|_| ()).unwrap_err();
+    assert_eq!(refused.reason(), Reason::NotAUid);
+}
+
+fn some_policies() -> PolicySet {
+    short::set(&[
+        "permit s",
+        "template t pr",
+        "link t l pr",
+        "forbid w",
+        "template u a",
+        "link u m a",
+        "link t n pr",
+        "permit z",
+    ])
+}
+
+#[test]
+fn a_policy_set_goes_to_another_thread() {
+    let set = some_policies();
+    let mut apart: ApartPolicySet = set.copy_apart().unwrap();
+    sends(&apart);
+    let more = short::set(&["forbid s", "template o p", "link o k p"]);
+    assert_eq!(apart.merge_policyset(&more, true).unwrap().len(), 1);
+    let text = set.to_string();
+    let other = thread::spawn(move || {
+        let mut set = apart.into_inner();
+        let renamed = set.get(&short::id("policy0")).unwrap().effect();
+        set.unlink(&short::id("k")).unwrap();
+        set.remove_template(&short::id("o")).unwrap();
+        set.remove_static(&short::id("policy0")).unwrap();
+        (renamed, set.to_string(), set.copy_apart().unwrap())
+    });
+    let (renamed, told, back) = other.join().unwrap();
+    assert_eq!(renamed, cedar_store_proved::ast::Effect::Forbid);
+    assert_eq!(told, text);
+    assert!(back.into_inner() == set);
+}
+
+#[test]
+fn orders_are_copied() {
+    let mut set = some_policies();
+    assert!(set.copy_apart().unwrap().into_inner() == set);
+    set.remove_static(&short::id("w")).unwrap();
+    short::join(&mut set, "permit w").unwrap();
+    set.unlink(&short::id("l")).unwrap();
+    short::join(&mut set, "link t l pr").unwrap();
+    assert!(set.copy_apart().unwrap().into_inner() == set);
+    // What stands in both keeps its place, and what joins goes last.
+    let mut other = short::set(&["template t pr", "forbid v", "link t i pr"]);
+    let merged = other.merge_policyset(&set, true).unwrap();
+    assert!(merged.is_empty());
+    let copy = other.copy_apart().unwrap().into_inner();
+    assert!(copy == other && copy != set);
+    assert_eq!(copy.policy_ids().unwrap(), other.policy_ids().unwrap());
+    assert_eq!(copy.body_ids().unwrap(), other.body_ids().unwrap());
+    assert!(PolicySet::new().copy_apart().unwrap().into_inner() == PolicySet::new());
+}
+
+// Numbers that are drawn from a seed.
+struct Drawn(u64);
+
+impl Drawn {
+    fn below(&mut self, most: u64) -> u64 {
+        self.0 ^= self.0 << 13;
+        self.0 ^= self.0 >> 7;
+        self.0 ^= self.0 << 17;
+        self.0 % most
+    }
+
+    // One call on a set, by ids of which there are few. It may be refused.
+    fn step(&mut self, set: &mut PolicySet, other: &PolicySet) {
+        let (one, two) = (self.below(12), self.below(12));
+        let word = match self.below(10) {
+            0 => format!("permit i{one}"),
+            1 => format!("forbid i{one}"),
+            2 => format!("template i{one} pr"),
+            3..=5 => format!("link i{one} i{two} pr"),
+            6 => return drop(set.unlink(&short::id(&format!("i{one}")))),
+            7 => return drop(set.remove_static(&short::id(&format!("i{one}")))),
+            8 => return drop(set.remove_template(&short::id(&format!("i{one}")))),
+            _ => return drop(set.merge_policyset(other, two > 3)),
+        };
+        drop(short::join(set, &word));
+    }
+}
+
+#[test]
+fn drawn_sets_are_copied() {
+    let mut drawn = Drawn(0x5eed);
+    for _ in 0..300 {
+        let (mut one, mut other) = (PolicySet::new(), PolicySet::new());
+        for _ in 0..40 {
+            drawn.step(&mut one, &other);
+            drawn.step(&mut other, &one);
+            if one.policy_ids().unwrap().len() > 200 {
+                break;
+            }
+        }
+        for set in [&one, &other] {
+            assert!(set.copy_apart().unwrap().into_inner() == *set);
+        }
+    }
+}
