@@ -57,8 +57,23 @@ def main():
         for _ in range(ASKED):
             below(child, other)
 
+    def ask_by_numbers():
+        below = store.is_descendant_of_numbers
+        for _ in range(ASKED // len(numbers)):
+            for child, other in numbers:
+                below(child, other)
+
+    def ask_by_numbers_of_one():
+        below, child, other = store.is_descendant_of_numbers, *numbers[0]
+        for _ in range(ASKED):
+            below(child, other)
+
     told("a million is_descendant_of, of entities all over it", least(ask)[0], ASKED)
     told("a million is_descendant_of, of one entity", least(ask_of_one)[0], ASKED)
+    seconds, numbers = least(lambda: [(store.number(child), store.number(other)) for child, other in pairs])
+    told("200,000 numbers of uids", seconds, 2 * len(pairs))
+    told("a million is_descendant_of by numbers, all over it", least(ask_by_numbers)[0], ASKED)
+    told("a million is_descendant_of by numbers, of one entity", least(ask_by_numbers_of_one)[0], ASKED)
     told("100,000 uids asked by `in`", least(lambda: [child in store for child, _ in pairs])[0], len(pairs))
     told("100,000 lists of ancestors", least(lambda: [store.ancestors(child) for child, _ in pairs])[0], len(pairs))
     told("a list of all uids", least(store.uids)[0])

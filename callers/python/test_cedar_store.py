@@ -79,16 +79,41 @@ class Stores(unittest.TestCase):
             with self.assertRaises(Refused) as caught:
                 store.add(entities)
             self.assertEqual(caught.exception.reason, reason)
-            self.assertEqual(len(store), 0)
+            self.assertEqual((len(store), store.ancestors(uid("a"))), (1, [uid("b")]))
         with self.assertRaises(Refused) as caught:
             Store(made(("a", "b"), ("b", "c")), Mode.ENFORCE)
         self.assertEqual(str(caught.exception), 'ancestors not closed at A::"a" A::"b" A::"c"')
         with self.assertRaises(Refused) as caught:
-            store.ancestors(uid("a"))
+            store.ancestors(uid("z"))
         self.assertEqual(caught.exception.reason, "no entity")
         with self.assertRaises(Refused) as caught:
             store.ancestors("a")
         self.assertEqual(caught.exception.reason, "not a uid")
+
+    def test_what_a_refusal_names(self):
+        for calls, place, text in (
+            (lambda: Store({uid("a"): [uid("b"), "b"]}), 2, "b"),
+            (lambda: Store([(uid("a"), []), ('A::"é"x', [])]), 1, 'A::"é"x'),
+            (lambda: Store().remove([""]), 0, ""),
+            (lambda: Store().slice([uid("a"), uid("b"), "A"]), 2, "A"),
+            (lambda: Entity(uid("a"), ["x"]), None, "x"),
+        ):
+            with self.assertRaises(Refused) as caught:
+                calls()
+            refused = caught.exception
+            self.assertEqual((refused.reason, refused.place, str(refused)), ("not a uid", place, "not a uid " + text))
+            self.assertEqual((refused.names, refused.uids), ((), ()))
+            again = pickle.loads(pickle.dumps(refused))
+            self.assertEqual((again.reason, again.place, str(again)), (refused.reason, place, str(refused)))
+        own = EntityUid.make("A", 'x " \\ é')
+        with self.assertRaises(Refused) as caught:
+            Store([(own, [uid("b")]), (own, [uid("c")])])
+        self.assertEqual((caught.exception.names, caught.exception.uids, caught.exception.place), ((own,), (own,), None))
+        policies = Policies()
+        policies.add_static("a b", Effect.PERMIT)
+        with self.assertRaises(Refused) as caught:
+            policies.add_static("a b", Effect.PERMIT)
+        self.assertEqual((caught.exception.names, caught.exception.uids), (("a b",), ()))
 
     def test_modes(self):
         store = Store(made(("a", "b"), ("b", "c")), Mode.ASSUME)
@@ -714,7 +739,7 @@ class Others(unittest.TestCase):
 
 if __name__ == "__main__":
     tests = unittest.defaultTestLoader.loadTestsFromModule(sys.modules["__main__"])
-    for further in ("test_policies", "test_values"):
+    for further in ("test_apart", "test_numbers", "test_policies", "test_values"):
         tests.addTests(unittest.defaultTestLoader.loadTestsFromName(further))
     told = io.StringIO()
     result = unittest.TextTestRunner(stream=told, verbosity=0).run(tests)

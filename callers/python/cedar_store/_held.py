@@ -6,8 +6,8 @@ import threading
 import warnings
 from typing import Any, Callable, Dict, List, NoReturn, Optional, Tuple, Type, TypeVar
 
-from ._library import SIZES, Handle, halves
-from ._refusals import WITH_TEXT, WrongThread, refuse
+from ._library import SIZES, Handle, Laid, halves
+from ._refusals import NOT_A_UID, WITH_TEXT, WrongThread, refuse
 
 _ROOM = 4096
 _NOTHING = SIZES[0]
@@ -65,7 +65,7 @@ class _Local(threading.local):
 
 LOCAL = _Local()
 
-# Whose a handle is that no thread has opened yet. It frees nothing.
+# Whose a handle is that no thread has opened yet, or that is apart until a thread calls it. It frees nothing.
 NOBODY = Thread()
 NOBODY.has_ended = True
 
@@ -75,11 +75,12 @@ _Kind = TypeVar("_Kind", bound="Held")
 class Held:
     """A store or a set: a handle that its own thread alone uses and frees."""
 
-    __slots__ = ("_handle", "_at", "_thread", "__weakref__")
+    __slots__ = ("_handle", "_at", "_thread", "_untaken", "__weakref__")
     _kind = ""
     _new: Any
     _free: Any
     _copy: Any
+    _copy_apart: Any
     _equal: Any
     _answer: Any
     _answer_spans: Any
@@ -87,6 +88,8 @@ class Held:
     _handle: Handle
     _at: Any
     _thread: Thread
+    # Of one that is apart: one thing, which the first thread to call it takes out.
+    _untaken: List[bool]
 
     def __new__(cls, *_: Any, **__: Any) -> Any:
         made = cls._of_nobody()
@@ -110,7 +113,20 @@ class Held:
         thread.opened[ctypes.addressof(self._handle)] = self._handle, self._free
 
     def _first(self) -> None:
-        """Makes what is of no thread yet this thread's."""
+        """Makes what is of no thread yet this thread's. Of threads that call it at one time one gets it."""
+        try:
+            self._untaken.pop()
+        except (AttributeError, IndexError):
+            raise WrongThread(f"{self._kind} of another thread") from None
+        self._open()
+
+    def _apart(self: _Kind, function: Any, *arguments: Any) -> _Kind:
+        """What a call makes that shares nothing with this one: it is of no thread yet."""
+        self._mine()
+        fresh = type(self)._of_nobody()
+        self._call(function, fresh._at, *arguments)
+        fresh._untaken = [True]
+        return fresh
 
     def __init__(self, *, key: Optional[bytes] = None) -> None:
         drawn = halves(key)
@@ -133,6 +149,16 @@ class Held:
         """A call that answers a status."""
         self._mine()
         status = function(self._at, *arguments)
+        if status:
+            self._refuse(status)
+
+    def _call_listed(self, function: Any, uids: Laid, *arguments: Any) -> None:
+        """A call over a list of uids. A refusal of one that is none has its place and its text."""
+        self._mine()
+        status = function(self._at, *arguments)
+        place = uids.first_unread() if status == NOT_A_UID else None
+        if place is not None:
+            refuse(status, "not a uid " + uids.at(place), place)
         if status:
             self._refuse(status)
 
@@ -176,6 +202,13 @@ class Held:
         self._call(self._copy, fresh._at)
         return fresh
 
+    def copy_apart(self: _Kind) -> _Kind:
+        """A copy, with the same key, which shares nothing with this one, and is of the thread that calls it first.
+
+        All that this one holds is copied. Until then nothing is asked of it, and any thread may let go of it.
+        """
+        return self._apart(self._copy_apart)
+
     __copy__ = copy
 
     def __deepcopy__(self: _Kind, _: Dict[int, Any]) -> _Kind:
@@ -213,6 +246,9 @@ class Held:
     def __del__(self) -> None:
         thread = self._thread
         if thread.has_ended:
+            # One that is apart and that no thread has called is freed by the thread that lets go of it.
+            if thread is NOBODY and self._handle.is_open:
+                self._free(self._at)
             return
         at = ctypes.addressof(self._handle)
         if thread is LOCAL.thread:

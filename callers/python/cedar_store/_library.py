@@ -12,7 +12,7 @@ from array import array
 from itertools import accumulate
 from typing import Any, Dict, Iterable, List, NoReturn, Optional, Tuple
 
-from ._refusals import refuse
+from ._refusals import NOT_A_UID, refuse
 
 
 class Handle(ctypes.Structure):
@@ -29,6 +29,8 @@ _LISTS = _TEXT + [_P, _N, _N, _P, _N, _U]
 _DECLARED: Dict[str, Tuple[Any, List[Any]]] = {
     "run": (_U, _TEXT + _KEY + [_P, _N, _P, _P]),
     "uid_check": (_U, _TEXT),
+    "uids_check": (_U, _TEXT + [_P, _N, _P]),
+    "refusal_part": (ctypes.c_bool, [_U] + _TEXT + [_N, _P]),
     "uid_make": (_U, _TEXT + _TEXT + [_P, _N, _P]),
     "uid_parts": (_U, _TEXT + [_P, _N, _P, _P]),
     "status_text": (_N, [_U, _P, _N]),
@@ -44,6 +46,7 @@ _DECLARED: Dict[str, Tuple[Any, List[Any]]] = {
     "store_uids": (_U, [_P]),
     "store_text": (_U, [_P]),
     "store_slice": (_U, [_P, _P] + _TEXT + [_P, _N]),
+    "store_slice_apart": (_U, [_P, _P] + _TEXT + [_P, _N]),
     "policies_add_static": (_U, [_P] + _TEXT + [_U]),
     "policies_add_template": (_U, [_P] + _TEXT + [_U, _U]),
     "policies_link": (_U, [_P] + _TEXT + _TEXT + _TEXT + [_P, _N]),
@@ -71,6 +74,7 @@ for _kind in ("store_", "policies_"):
     _DECLARED[_kind + "new"] = (_U, [_P] + _KEY)
     _DECLARED[_kind + "free"] = (None, [_P])
     _DECLARED[_kind + "copy"] = (_U, [_P, _P])
+    _DECLARED[_kind + "copy_apart"] = (_U, [_P, _P])
     _DECLARED[_kind + "equal"] = (_U, [_P, _P, _P])
     _DECLARED[_kind + "refusal"] = (_N, [_P, _P, _N])
 
@@ -133,6 +137,8 @@ class _Sizes(Dict[int, Any]):
         return _N.from_param(size)
 
 
+# A number as a call takes a `size_t`. What is out of range loses bits.
+as_size = _N.from_param
 SIZES = _Sizes({size: _N.from_param(size) for size in range(513)})
 
 
@@ -172,6 +178,16 @@ class Laid:
         return self.text, len(self.text), self.spans.buffer_info()[0], self.count
 
 
+    def at(self, place: int) -> str:
+        """The text at a place."""
+        return self.text[self.spans[2 * place] : self.spans[2 * place + 1]].decode("utf-8", "replace")
+
+    def first_unread(self) -> Optional[int]:
+        """The place of the first that is no uid's text, where there is one."""
+        place = ctypes.c_size_t(0)
+        return place.value if _uids_check(*self.arguments(), ctypes.byref(place)) == NOT_A_UID else None
+
+
 def laid_edges(edges: List[int]) -> "array[int]":
     """Edges, each as two numbers, as they cross: an array that has an address, also where there are none."""
     return array("Q", edges or (0, 0))
@@ -194,6 +210,15 @@ def halves(key: Optional[bytes]) -> Tuple[int, int]:
 
 
 _run, _status_text, _version = function("run"), function("status_text"), function("version")
+_uids_check, _refusal_part = newer("uids_check"), newer("refusal_part")
+
+
+def parts_named(status: int, text: str) -> List[str]:
+    """What the text of a refusal with a status names, in its order."""
+    laid, part, names = encoded(text), (ctypes.c_size_t * 2)(), []
+    while _refusal_part(status, laid, len(laid), len(names), part):
+        names.append(laid[part[0] : part[1]].decode("utf-8", "replace"))
+    return names
 
 
 def status_text(status: int) -> str:

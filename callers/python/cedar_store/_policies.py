@@ -59,6 +59,7 @@ class Policies(Held):
     __slots__ = ()
     _kind = "a policy set"
     _new, _free, _copy = function("policies_new"), function("policies_free"), function("policies_copy")
+    _copy_apart = newer("policies_copy_apart")
     _equal, _refusal = function("policies_equal"), function("policies_refusal")
     _answer = quick("policies_answer", ctypes.c_size_t)
     _answer_spans = quick("policies_answer_spans", ctypes.c_size_t)
@@ -121,7 +122,7 @@ class Policies(Held):
         if "" in values:
             refuse(NOT_A_UID)
         laid = Laid(["" if value is None else value for value in values])
-        self._call(_link, *text_of(template), *text_of(id), *laid.arguments())
+        self._call_listed(_link, laid, *text_of(template), *text_of(id), *laid.arguments())
 
     def unlink(self, id: str) -> None:
         """The link goes."""

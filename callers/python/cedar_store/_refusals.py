@@ -2,8 +2,7 @@
 from __future__ import annotations
 
 import enum
-import re
-from typing import TYPE_CHECKING, Any, NoReturn, Tuple, Type
+from typing import TYPE_CHECKING, Any, NoReturn, Optional, Tuple, Type
 
 if TYPE_CHECKING:
     from ._uids import EntityUid
@@ -25,9 +24,9 @@ REASONS = dict(
 _NAME_UIDS = frozenset(
     ("duplicate", "cycle", "not closed", "self ancestor", "duplicate ancestor", "action parent", "not an action")
 )
-_UID = re.compile(r'[^\s"]+::"(?:[^"\\]|\\.)*"', re.DOTALL)
+_STATUSES = {reason: status for status, reason in REASONS.items()}
 
-NO_MEMORY, CLOSED, NOT_A_UID, NO_ENTITY = 1, 2, 4, 6
+NO_MEMORY, CLOSED, BAD_ARGUMENT, NOT_A_UID, NO_ENTITY = 1, 2, 3, 4, 6
 # Those that have a text.
 WITH_TEXT = range(7, 26)
 
@@ -41,33 +40,45 @@ class WrongThread(Exception):
 
 
 class Refused(Exception):
-    """A refused call. `reason` is a word for the status of `cedar.h`; the text names what it is about."""
+    """A refused call. `reason` is a word for the status of `cedar.h`; the text names what it is about.
+
+    Where a list of uids was given of which one is none, `place` is its place in the list, from 0 on, else None.
+    """
 
     reason: str
+    place: Optional[int]
 
-    def __init__(self, reason: str, text: str) -> None:
+    def __init__(self, reason: str, text: str, place: Optional[int] = None) -> None:
         super().__init__(text)
         self.reason = reason
+        self.place = place
+
+    @property
+    def names(self) -> Tuple[str, ...]:
+        """What the text names, in its order: uids, an id or a key, or, of `arity`, slots: first those not bound."""
+        from ._library import parts_named
+
+        return tuple(parts_named(_STATUSES.get(self.reason, 0), str(self)))
 
     @property
     def uids(self) -> Tuple[EntityUid, ...]:
         """The uids that the text names, in its order: of `not closed` the entity, its ancestor and the missing one."""
         from ._uids import named
 
-        return tuple(named(_UID.findall(str(self)) if self.reason in _NAME_UIDS else ()))
+        return tuple(named(self.names if self.reason in _NAME_UIDS else ()))
 
     def __reduce__(self) -> Tuple[Any, ...]:
-        return type(self), (self.reason, str(self)), self.__dict__.copy()
+        return type(self), (self.reason, str(self), self.place), self.__dict__.copy()
 
 
-def refuse(status: int, text: str = "") -> NoReturn:
+def refuse(status: int, text: str = "", place: Optional[int] = None) -> NoReturn:
     """Raises what a status that is not 0 says; the text is the library's, where it has one."""
     if status == NO_MEMORY:
         raise MemoryError("out of memory")
     if status == CLOSED:
         raise Closed("it was let go of before")
     reason = REASONS.get(status, f"status {status}")
-    raise Refused(reason, text or reason)
+    raise Refused(reason, text or reason, place)
 
 
 def number_of(value: object, kind: Type[enum.IntEnum]) -> int:

@@ -8,8 +8,8 @@ from typing import Any, Dict, Iterable, Iterator, List, Mapping, Optional, Tuple
 from ._content import Content
 from ._entity import Entity, Unknown
 from ._held import LOCAL, NOBODY, Held
-from ._library import SIZES, Laid, encoded, function, has, laid_edges, listed, newer, quick, text_of
-from ._refusals import NOT_A_UID, Refused, WrongThread, number_of
+from ._library import SIZES, Laid, as_size, encoded, function, has, laid_edges, listed, newer, quick, text_of
+from ._refusals import BAD_ARGUMENT, NOT_A_UID, Refused, WrongThread, number_of
 from ._uids import EntityUid, named
 from .values import NODE_SIZE, Term, from_nodes, unpacked
 
@@ -26,12 +26,14 @@ _build, _add, _upsert = [
 ]
 _remove = function("store_remove")
 _get, _get_tag, _answer_nodes = newer("store_get"), newer("store_get_tag"), newer("store_answer_nodes")
-_validate, _slice = function("store_validate"), function("store_slice")
+_validate, _slice, _slice_apart = function("store_validate"), function("store_slice"), newer("store_slice_apart")
 _uids, _text = function("store_uids"), function("store_text")
 _len, _has, _entity = quick("store_len", ctypes.c_size_t), quick("store_has"), quick("store_entity")
 _partial, _is_partial = quick("store_partial"), quick("store_is_partial")
 _is_below, _is_child = quick("store_is_descendant_of"), quick("store_is_child_of")
 _is_far_below = quick("store_is_indirect_descendant_of")
+_uid_number, _number_uid = quick("store_uid_number"), quick("store_number_uid")
+_has_number, _is_below_number = quick("store_has_number"), quick("store_is_descendant_of_numbers")
 _ancestors, _parents, _indirect = [
     quick("store_" + name) for name in ("ancestors", "parents", "indirect_ancestors")
 ]
@@ -39,6 +41,9 @@ _keys, _tag_keys, _entity_text = quick("store_keys"), quick("store_tag_keys"), q
 _attrs_len, _tags_len = quick("store_attrs_len"), quick("store_tags_len")
 _entity_equal = quick("store_entity_equal")
 
+
+# Numbers of more bits, and those below 0, are no uid's.
+_BITS = 8 * ctypes.sizeof(ctypes.c_size_t) - 1
 
 # As many entities are written by one call of the library.
 _FEW = 100
@@ -88,8 +93,8 @@ def _laid(entities: Entities) -> Tuple[Laid, int, List[int]]:
 class Store(Held):
     """A store of entities: uids with their parents, handed in as a mapping from uids to parents, or as pairs.
 
-    A refused `add`, `upsert` or `remove` leaves the store without entities, as its text says; `not a uid` and an
-    argument that is none leave it as it was, and `MemoryError` the one or the other. `copy` before keeps the old one.
+    A refused `add`, `upsert` or `remove` leaves the store as it was, but that `MemoryError` may leave it without
+    entities.
     """
 
     __slots__ = ("_made_of",)
@@ -97,6 +102,7 @@ class Store(Held):
     # While it is of no thread: the entities, the mode and whether it is partial.
     _made_of: List[Tuple[Entities, int, bool]]
     _new, _free, _copy = function("store_new"), function("store_free"), function("store_copy")
+    _copy_apart = newer("store_copy_apart")
     _equal, _refusal = function("store_equal"), function("store_refusal")
     _answer = quick("store_answer", ctypes.c_size_t)
     _answer_spans = quick("store_answer_spans", ctypes.c_size_t)
@@ -120,13 +126,13 @@ class Store(Held):
                 rows = [one if isinstance(one, Entity) else Entity(*one) for one in entities]
                 if any(row.has_content for row in rows):
                     content = Content(rows)
-                    self._call(call_with, *content.arguments(), number)
+                    self._call_listed(call_with, content.uids, *content.arguments(), number)
                     return
                 entities = [(row.uid, row.parents) for row in rows]
         laid, count, edges = _laid(entities)
         crossing = laid_edges(edges)
         address, length = crossing.buffer_info()
-        self._call(call, *laid.arguments(), count, address, len(edges) // 2, number)
+        self._call_listed(call, laid, *laid.arguments(), count, address, len(edges) // 2, number)
 
     def add(self, entities: Entities, mode: int = Mode.COMPUTE) -> None:
         """Adds entities. One that is there already has to have the same ancestors, and changes nothing."""
@@ -139,7 +145,7 @@ class Store(Held):
     def remove(self, uids: Iterable[str], mode: int = Mode.COMPUTE) -> None:
         """Takes entities out; they are no parents either then. Uids that the store lacks change nothing."""
         number, laid = number_of(mode, Mode), Laid(listed(uids))
-        self._call(_remove, *laid.arguments(), number)
+        self._call_listed(_remove, laid, *laid.arguments(), number)
 
     def __len__(self) -> int:
         self._mine()
@@ -176,6 +182,47 @@ class Store(Held):
         except (AttributeError, UnicodeEncodeError):
             one, other = encoded(child), encoded(ancestor)
         status = _is_below(self._at, one, SIZES[len(one)], other, SIZES[len(other)], thread.truth_at)
+        if status:
+            self._refuse(status)
+        return thread.truth.value
+
+    def number(self, uid: str) -> int:
+        """The number of a uid in this store, the same each time, for who asks about some uids again and again.
+
+        It says nothing about whether the store has an entity with the uid, and stays good however the store changes; a
+        copy, a slice, and what another thread or process has of it, give numbers of their own. The store keeps each uid
+        that has a number.
+        """
+        self._asked(_uid_number, uid, self._thread.number_at)
+        return self._thread.number.value
+
+    def uid_of_number(self, number: int) -> EntityUid:
+        """The uid of a number. Refused as `bad argument` where it is no uid's in this store, as the two below are."""
+        self._mine()
+        status = BAD_ARGUMENT if number >> _BITS else _number_uid(self._at, as_size(number))
+        if status:
+            self._refuse(status)
+        return named(self._answered())[0]
+
+    def has_number(self, number: int) -> bool:
+        """Whether there is an entity with the uid of a number."""
+        self._mine()
+        status = BAD_ARGUMENT
+        if not number >> _BITS:
+            status = _has_number(self._at, as_size(number), self._thread.truth_at)
+        if status:
+            self._refuse(status)
+        return self._thread.truth.value
+
+    def is_descendant_of_numbers(self, child: int, ancestor: int) -> bool:
+        """What `is_descendant_of` says, by the numbers of both uids: no text crosses, and none is read."""
+        thread = self._thread
+        if thread is not LOCAL.thread or thread.left:
+            self._mine()
+            thread = self._thread
+        status = BAD_ARGUMENT
+        if not (child | ancestor) >> _BITS:
+            status = _is_below_number(self._at, as_size(child), as_size(ancestor), thread.truth_at)
         if status:
             self._refuse(status)
         return thread.truth.value
@@ -346,6 +393,8 @@ class Store(Held):
     def __reduce__(self) -> Tuple[Any, ...]:
         """What `portable` answers is pickled: the uids with their parents, a mode, and whether it is partial."""
         source = self
+        if self._thread is NOBODY and self._handle.is_open:
+            self._mine()
         if self._thread is not NOBODY:
             if self._thread is not LOCAL.thread:
                 raise WrongThread("a store of another thread, as a pool pickles it: hand over its `portable()`")
@@ -355,6 +404,9 @@ class Store(Held):
         raise WrongThread("a store of another thread")
 
     def _first(self) -> None:
+        if self._handle.is_open:
+            super()._first()
+            return
         try:
             made_of = self._made_of.pop()
         except IndexError:
@@ -405,8 +457,13 @@ class Store(Held):
         laid = Laid(listed(uids))
         self._mine()
         fresh: Store = Store.__new__(type(self))
-        self._call(_slice, fresh._at, *laid.arguments())
+        self._call_listed(_slice, laid, fresh._at, *laid.arguments())
         return fresh
+
+    def slice_apart(self, uids: Iterable[str]) -> Store:
+        """What `slice` gives, sharing nothing with this store: it is of the thread that calls it first."""
+        laid = Laid(listed(uids))
+        return self._apart(_slice_apart, *laid.arguments())
 
 
 def _not_made(kind: Type[_Kind], entities: Entities, mode: int, is_partial: bool) -> _Kind:

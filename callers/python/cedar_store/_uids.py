@@ -28,7 +28,7 @@ class EntityUid(str):
 
     def __new__(cls, text: str) -> EntityUid:
         if not is_uid(text):
-            refuse(NOT_A_UID)
+            refuse(NOT_A_UID, "not a uid " + text)
         return str.__new__(cls, text)
 
     @classmethod
