@@ -215,7 +215,8 @@ _uids_check, _refusal_part = newer("uids_check"), newer("refusal_part")
 
 def parts_named(status: int, text: str) -> List[str]:
     """What the text of a refusal with a status names, in its order."""
-    laid, part, names = encoded(text), (ctypes.c_size_t * 2)(), []
+    names: List[str] = []
+    laid, part = encoded(text), (ctypes.c_size_t * 2)()
     while _refusal_part(status, laid, len(laid), len(names), part):
         names.append(laid[part[0] : part[1]].decode("utf-8", "replace"))
     return names
