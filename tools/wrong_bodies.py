@@ -40,6 +40,8 @@ class WrongBody:
         with open(path, encoding='utf-8') as lines:
             for line in lines.read().split('\n'):
                 if line.startswith('file: '):
+                    if self.file not in ('', line[len('file: '):]):
+                        sys.exit(f'{path}: a wrong body is one of one file')
                     self.file = line[len('file: '):]
                 elif line.startswith('old: '):
                     old = line[len('old: '):]
