@@ -4,3 +4,4 @@ pub mod StatusTexts
 pub mod Stops
 pub mod Texts
 pub mod Uids
+pub mod laws

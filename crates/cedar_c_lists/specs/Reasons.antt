@@ -33,6 +33,10 @@ number_of reasons.NotStatic = 25
 number_of reasons.NoBody = 26
 number_of reasons.NotAName = 27
 number_of reasons.TooDeep = 28
+number_of reasons.SlotInClause = 29
+number_of reasons.NotActions = 30
+number_of reasons.UnknownFunction = 31
+number_of reasons.SlotlessLink = 32
 
 -- the words of a reason, behind which its names stand
 abbrev pub words_of : Reason → List ℕ
@@ -64,6 +68,10 @@ words_of reasons.NotStatic = codes "not a static policy"
 words_of reasons.NoBody = codes "no body"
 words_of reasons.NotAName = codes "not a name"
 words_of reasons.TooDeep = codes "too deep"
+words_of reasons.SlotInClause = codes "slot in the clause of"
+words_of reasons.NotActions = codes "uid of no action in"
+words_of reasons.UnknownFunction = codes "unknown function in"
+words_of reasons.SlotlessLink = codes "link without slots"
 
 -- the status of an answer: 0 where the call was made
 abbrev pub status_of : {A : Type 0} → Result A Reason → ℕ

@@ -64,6 +64,14 @@ pub enum Reason {
     NotAName,
     /// A value or an expression has too many levels.
     TooDeep,
+    /// A slot stands in the clause of a body.
+    SlotInClause,
+    /// The action's constraint of a body holds a uid that is no action.
+    NotActions,
+    /// The clause of a body calls a function that is not known.
+    UnknownFunction,
+    /// A link is one of a template without slots.
+    SlotlessLink,
 }
 
 impl Reason {
@@ -100,6 +108,10 @@ impl Reason {
             Reason::NoBody => 26,
             Reason::NotAName => 27,
             Reason::TooDeep => 28,
+            Reason::SlotInClause => 29,
+            Reason::NotActions => 30,
+            Reason::UnknownFunction => 31,
+            Reason::SlotlessLink => 32,
         }
     }
 
@@ -136,6 +148,10 @@ impl Reason {
             Reason::NoBody => "no body",
             Reason::NotAName => "not a name",
             Reason::TooDeep => "too deep",
+            Reason::SlotInClause => "slot in the clause of",
+            Reason::NotActions => "uid of no action in",
+            Reason::UnknownFunction => "unknown function in",
+            Reason::SlotlessLink => "link without slots",
         }
     }
 }

@@ -52,6 +52,10 @@ pub fn reason_with(number: u32) -> Option<Reason>
         26 => Some(Reason::NoBody),
         27 => Some(Reason::NotAName),
         28 => Some(Reason::TooDeep),
+        29 => Some(Reason::SlotInClause),
+        30 => Some(Reason::NotActions),
+        31 => Some(Reason::UnknownFunction),
+        32 => Some(Reason::SlotlessLink),
         _ => None,
     }
 }

@@ -41,6 +41,10 @@ names_one reasons.WithLinks = true
 names_one reasons.NotATemplate = true
 names_one reasons.NoStatic = true
 names_one reasons.NotStatic = true
+names_one reasons.SlotInClause = true
+names_one reasons.NotActions = true
+names_one reasons.UnknownFunction = true
+names_one reasons.SlotlessLink = true
 names_one w = false
 
 -- the type of a uid is a name, and no byte of its eid is past ASCII

@@ -114,6 +114,10 @@ fn names_one(reason: Reason) -> bool
             | Reason::NotATemplate
             | Reason::NoStatic
             | Reason::NotStatic
+            | Reason::SlotInClause
+            | Reason::NotActions
+            | Reason::UnknownFunction
+            | Reason::SlotlessLink
     )
 }
 

@@ -1,5 +1,5 @@
 use Rattle.std.proofs.Common.{arith}
-use Rattle.cedar_c_lists.proofs.Zipping.{read_more_uids}
+use Rattle.cedar_c_lists.specs.laws.Zipping.{read_more_uids}
 use Rattle.cedar_c_lists.proofs.reading.uids_of.Goals as goal
 
 pub loop-span-preserved : goal.loop-span-preserved
