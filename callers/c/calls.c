@@ -133,10 +133,11 @@ static void what_it_is(void) {
     CHECK(cedar_status_text(CEDAR_OK, out, 16) == 2 && !memcmp(out, "ok.", 3));
     CHECK(cedar_status_text(CEDAR_NOT_A_UID, out, 16) == 9 && !memcmp(out, "not a uid.", 10));
     CHECK(cedar_status_text(CEDAR_NOT_A_NAME, out, 5) == 10 && !memcmp(out, "not a uid.", 10));
-    CHECK(cedar_status_text(CEDAR_TOO_DEEP, out, 0) == 8 && cedar_status_text(CEDAR_TOO_DEEP + 1, out, 16) == 0);
+    CHECK(cedar_status_text(CEDAR_TOO_DEEP, out, 0) == 8 && cedar_status_text(CEDAR_SLOTLESS_LINK, out, 0) == 18);
+    CHECK(cedar_status_text(CEDAR_SLOTLESS_LINK + 1, out, 16) == 0);
     CHECK(cedar_status_text(1000, out, 16) == 0 && cedar_status_text(UINT32_MAX, out, 16) == 0);
     CHECK(!memcmp(out, "not a uid.", 10));
-    for (uint32_t status = 0; status <= CEDAR_TOO_DEEP; status++) CHECK(cedar_status_text(status, out, 0) > 0);
+    for (uint32_t status = 0; status <= CEDAR_SLOTLESS_LINK; status++) CHECK(cedar_status_text(status, out, 0) > 0);
 }
 
 /* ---- stores */

@@ -69,8 +69,8 @@ typedef struct cedar_edge {
     size_t to;
 } cedar_edge;
 
-/* What a call answers. Each function names those that it gives. A refusal from 7 to 25 has a text, which a handle keeps
- * until the next one that has: all other statuses, CEDAR_NO_MEMORY too, leave it as it was. */
+/* What a call answers. Each function names those that it gives. A refusal from 7 to 25, or from 29 on, has a text,
+ * which a handle keeps until the next one that has: all other statuses, CEDAR_NO_MEMORY too, leave it as it was. */
 typedef enum cedar_status {
     CEDAR_OK = 0,
     CEDAR_NO_MEMORY = 1,    /* a request for memory was refused; from each call but those that take no memory */
@@ -103,7 +103,12 @@ typedef enum cedar_status {
     /* What is asked for is not there, or what is given is none. */
     CEDAR_NO_BODY = 26,    /* nothing of the kind that a call asks for is bound to this id */
     CEDAR_NOT_A_NAME = 27, /* a text is no name; or, as the key of an annotation, no identifier */
-    CEDAR_TOO_DEEP = 28    /* a value or an expression has more than CEDAR_LEVELS levels */
+    CEDAR_TOO_DEEP = 28,   /* a value or an expression has more than CEDAR_LEVELS levels */
+    /* What `cedar_policies_validate` finds: the text of each is given by `cedar_policies_refusal`, with an id. */
+    CEDAR_SLOT_IN_CLAUSE = 29,   /* a slot stands in the clause of this template */
+    CEDAR_NOT_ACTIONS = 30,      /* this policy or template asks the action to be, or to be in, what is none */
+    CEDAR_UNKNOWN_FUNCTION = 31, /* the clause of this policy or template calls a function that is not known */
+    CEDAR_SLOTLESS_LINK = 32     /* this link is one of a template without slots */
 } cedar_status;
 
 /* How a call on a store sees to it that ancestors are closed. What a call touches is what it puts in or takes out, and
@@ -630,6 +635,20 @@ uint32_t cedar_policies_text(cedar_policies *p);
 uint32_t cedar_policies_policy_text(cedar_policies *p, const uint8_t *id, size_t id_len);
 uint32_t cedar_policies_template_text(cedar_policies *p, const uint8_t *id, size_t id_len);
 
+/* The uids that unknowns of the condition of the link or the static policy with an id name become the answer of the
+ * handle: their texts, in the order of uids, each once. They are the names of those CEDAR_UNKNOWN that have a type and
+ * the text of a uid for a name. CEDAR_OK, CEDAR_CLOSED, CEDAR_NOT_UTF8, CEDAR_NO_BODY where the id is no link's and no
+ * static policy's, CEDAR_NO_MEMORY; any but the first leaves the answer. */
+uint32_t cedar_policies_unknown_entities(cedar_policies *p, const uint8_t *id, size_t id_len);
+
+/* Looks for what is wrong with the set, which a parser would not have made. CEDAR_OK where nothing is; else the status
+ * of the first fault: CEDAR_SLOTLESS_LINK of the first link, in the order of policies, of a template without slots;
+ * else that of the first body, in the order of bodies, that has one of the three, in this order: CEDAR_SLOT_IN_CLAUSE,
+ * which no static policy has, for none joins so; CEDAR_NOT_ACTIONS; CEDAR_UNKNOWN_FUNCTION. CEDAR_CLOSED,
+ * CEDAR_NO_MEMORY. The set and the answer stay as they were. It costs a copy of the set, which shares its bodies, and
+ * of one body after another a copy, which shares the clause, and a walk over the clause. */
+uint32_t cedar_policies_validate(cedar_policies *p);
+
 /* A copy of a set goes into another handle of this thread, and what that held before is freed. CEDAR_OK, CEDAR_CLOSED
  * where `from` is closed, CEDAR_NO_MEMORY; any but the first leaves `to` as it was. */
 uint32_t cedar_policies_copy(cedar_policies *from, cedar_policies *to);
@@ -656,10 +675,10 @@ size_t cedar_policies_answer_spans(cedar_policies *p, size_t from, cedar_span *o
  * Takes no memory. */
 size_t cedar_policies_answer_nodes(cedar_policies *p, size_t from, cedar_node *out, size_t room);
 
-/* Copies out the text of the last refusal of the set, from CEDAR_OCCUPIED to CEDAR_NOT_STATIC, as much as there is room
- * for, and tells how long it is: words, a blank, and the id, the slots or the uid that the refusal names. A call at any
- * other status leaves it as it was, at CEDAR_NO_MEMORY too; but behind the calls that leave no last answer there is
- * none. Takes no memory. */
+/* Copies out the text of the last refusal of the set, from CEDAR_OCCUPIED to CEDAR_NOT_STATIC, or from
+ * CEDAR_SLOT_IN_CLAUSE on, as much as there is room for, and tells how long it is: words, a blank, and the id, the
+ * slots or the uid that the refusal names. A call at any other status leaves it as it was, at CEDAR_NO_MEMORY too; but
+ * behind the calls that leave no last answer there is none. Takes no memory. */
 size_t cedar_policies_refusal(cedar_policies *p, uint8_t *out, size_t room);
 
 #ifdef __cplusplus

@@ -44,7 +44,7 @@ static inline void put_node(content *c, uint32_t kind, size_t len, cedar_span at
 /* The node of one word. */
 static inline void put_word(content *c, const char *word, size_t len) {
     const cedar_span none = {0, 0};
-    const char *open = memchr(word, '(', len), *colon = memchr(word, ':', len);
+    const char *open = memchr(word, '(', len), *colon = word + len;
     const char *two = strchr("&=<", *word);
     char uid[16];
     if (*word == '\'') {
@@ -57,6 +57,7 @@ static inline void put_word(content *c, const char *word, size_t len) {
     } else if (*word == '$' || *word == '?') {
         put_node(c, *word == '$' ? CEDAR_VAR : CEDAR_SLOT, 0, none, strtol(word + 1, NULL, 10));
     } else if (*word == '~') {
+        while (*colon != ':') colon--;
         put_node(c, CEDAR_UNKNOWN, strtoul(colon + 1, NULL, 10), put_bytes(c, word + 1, colon - word - 1), 0);
     } else if (*word == '^') {
         put_node(c, CEDAR_IS, 0, put_bytes(c, word + 1, len - 1), 0);

@@ -31,9 +31,12 @@ void *__wrap_realloc(void *at, size_t size) { return refuses() ? NULL : __real_r
 
 /* ---- what the calls are made on */
 
+#define FAULTS 4
+
 typedef struct held {
     cedar_store s, t;
     cedar_policies p, q;
+    cedar_policies faulty[FAULTS]; /* of each fault one, from CEDAR_SLOT_IN_CLAUSE on */
 } held;
 
 /* Of a, b and x the first has an attribute and a tag. */
@@ -47,6 +50,19 @@ static content some_content(void) {
 static uint32_t build_some(cedar_store *s) {
     content c = some_content();
     return cedar_store_build_with(s, CONTENT(c), CEDAR_COMPUTE);
+}
+
+/* A template with a slot in its clause, one for what is no action, a call of no known function, and a link without
+ * slots. */
+static void set_up_faults(cedar_policies *faulty) {
+    for (size_t k = 0; k < FAULTS; k++) {
+        given g = given_nothing();
+        if (k == 1) g.body.action = put_scope(&g, 1, U("a"), "");
+        if (k != 1 && k != 3) put_nodes(&g.c, k ? "'x f(1" : "?0 $0 <");
+        CHECK(new_set(&faulty[k]) == CEDAR_OK && join_template(&faulty[k], "t", &g) == CEDAR_OK);
+        CHECK(k != 3 || link_id(&faulty[k], "t", "l", "", "", "") == CEDAR_OK);
+        CHECK(unlink_id(&faulty[k], "f") == CEDAR_NO_LINK);
+    }
 }
 
 /* Each handle is open, and has an answer and the text of a refusal; the first has nodes. */
@@ -64,6 +80,10 @@ static void set_up(held *h) {
     CHECK(join_static(&h->p, "w", &g) == CEDAR_OK && IS(clause_of(&h->p, "w"), "$0 @b ="));
     CHECK(add_template(&h->p, "t", 5) == CEDAR_OK && add_template(&h->p, "u", 2) == CEDAR_OK);
     CHECK(link_id(&h->p, "t", "l", U("a"), "", "B::\"b\"") == CEDAR_OK && cedar_policies_ids(&h->p, 0) == CEDAR_OK);
+    given unknown = given_nothing();
+    put_nodes(&unknown.c, "'A ~" U("b") ":1 'A ~" U("a") ":1 = 'A ~" U("b") ":1 &");
+    CHECK(join_static(&h->p, "x", &unknown) == CEDAR_OK);
+    set_up_faults(h->faulty);
     CHECK(new_set(&h->q) == CEDAR_OK && add_static(&h->q, "a", 1) == CEDAR_OK &&
           add_template(&h->q, "t2", 5) == CEDAR_OK);
     CHECK(link_id(&h->q, "t2", "m", U("a"), "", "B::\"b\"") == CEDAR_OK && cedar_policies_ids(&h->q, 1) == CEDAR_OK);
@@ -77,6 +97,7 @@ static void let_go(held *h) {
     cedar_store_free(&h->t);
     cedar_policies_free(&h->p);
     cedar_policies_free(&h->q);
+    for (size_t k = 0; k < FAULTS; k++) cedar_policies_free(&h->faulty[k]);
 }
 
 /* ---- the calls that take memory */
@@ -419,6 +440,14 @@ CALL(lists_bindings, cedar_policies_env(&h->p, TEXT("l")))
 CALL(tells_template, cedar_policies_template_id(&h->p, TEXT("l")))
 CALL(lists_linked, cedar_policies_linked(&h->p, TEXT("t")))
 CALL(lists_none_linked, cedar_policies_linked(&h->p, TEXT("none")))
+CALL(lists_unknown, cedar_policies_unknown_entities(&h->p, TEXT("x")))
+CALL(lists_none_unknown, cedar_policies_unknown_entities(&h->p, TEXT("l")))
+CALL(lists_unknown_of_none, cedar_policies_unknown_entities(&h->p, TEXT("t")))
+CALL(validates_set, cedar_policies_validate(&h->p))
+CALL(finds_slot, cedar_policies_validate(&h->faulty[0]))
+CALL(finds_no_action, cedar_policies_validate(&h->faulty[1]))
+CALL(finds_no_function, cedar_policies_validate(&h->faulty[2]))
+CALL(finds_slotless_link, cedar_policies_validate(&h->faulty[3]))
 CALL(writes_set, cedar_policies_text(&h->p))
 CALL(writes_policy, cedar_policies_policy_text(&h->p, TEXT("l")))
 CALL(writes_template, cedar_policies_template_text(&h->p, TEXT("t")))
@@ -528,6 +557,14 @@ static const call CALLS[] = {
     tells_template,
     lists_linked,
     lists_none_linked,
+    lists_unknown,
+    lists_none_unknown,
+    lists_unknown_of_none,
+    validates_set,
+    finds_slot,
+    finds_no_action,
+    finds_no_function,
+    finds_slotless_link,
     writes_set,
     writes_policy,
     writes_template,
@@ -584,12 +621,18 @@ static bool set_refuses_alike(cedar_policies *p, cedar_policies *like) {
 }
 
 static bool refuse_alike(held *h, held *like) {
+    for (size_t k = 0; k < FAULTS; k++) {
+        if (!set_refuses_alike(&h->faulty[k], &like->faulty[k])) return false;
+    }
     return store_refuses_alike(&h->s, &like->s) && store_refuses_alike(&h->t, &like->t) &&
            set_refuses_alike(&h->p, &like->p) && set_refuses_alike(&h->q, &like->q);
 }
 
 /* Whether the handles beside the store that is called are alike. */
 static bool alike_beside(held *h, held *like) {
+    for (size_t k = 0; k < FAULTS; k++) {
+        if (sets_equal(&h->faulty[k], &like->faulty[k]) != 1) return false;
+    }
     return equal(&h->t, &like->t) == 1 && sets_equal(&h->p, &like->p) == 1 && sets_equal(&h->q, &like->q) == 1;
 }
 

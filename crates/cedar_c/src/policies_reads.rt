@@ -1,8 +1,11 @@
-//! Calls that read the policy set of a handle: what an id is bound to, and the texts of that and of the set.
+//! Calls that read the policy set of a handle: what an id is bound to, the texts of that and of the set, and what is
+//! wrong with the set.
 ghost use Rattle.std.specs.Prelude.{◌≡◌};
 ghost use Rattle.cedar_c_sets.specs.Reads.{AnswersAnnotation, AnswersAt, AnswersLinked, AnswersText, AreAnnotations};
 ghost use Rattle.cedar_c_sets.specs.Reads.{AreBoundIn, AsksAt, IsBodyText, IsEffectOf, IsPolicyText, IsSlotsOf};
 ghost use Rattle.cedar_c_sets.specs.Reads.{IsTemplateId, KindAt, body_at, bound_body, policy_at};
+ghost use Rattle.cedar_c_sets.specs.Unknowns.{AreUnknownIn};
+ghost use Rattle.cedar_c_sets.specs.Validity.{Validates};
 ghost use Rattle.cedar_c.specs.PolicyCalls.{Changes};
 ghost use Rattle.cedar_c.specs.PolicyReads.{ChangesAndTells, CountsHandle};
 
@@ -137,6 +140,36 @@ pub extern "C" fn cedar_policies_linked(alloc: Global, handle: &mut Policies, id
         return CLOSED;
     };
     let answer = inner.kept.linked(alloc, id);
+    *handle = opened(inner);
+    status_of(answer)
+}
+
+/// The uids that unknowns of the condition of the policy with an id name become the answer, ascending, each once.
+#[unsafe(no_mangle)]
+pub extern "C" fn cedar_policies_unknown_entities(
+    alloc: Global,
+    handle: &mut Policies,
+    id: &[u8],
+) -> u32
+    ensures { Changes (AnswersAt policy_at AreUnknownIn id.now) handle.old.held.value result handle.new.held.value }
+{
+    let Some(mut inner) = take(alloc, handle) else {
+        return CLOSED;
+    };
+    let answer = inner.kept.unknown_entities(alloc, id);
+    *handle = opened(inner);
+    status_of(answer)
+}
+
+/// Looks for what is wrong with the set.
+#[unsafe(no_mangle)]
+pub extern "C" fn cedar_policies_validate(alloc: Global, handle: &mut Policies) -> u32
+    ensures { Changes Validates handle.old.held.value result handle.new.held.value }
+{
+    let Some(mut inner) = take(alloc, handle) else {
+        return CLOSED;
+    };
+    let answer = inner.kept.validate(alloc);
     *handle = opened(inner);
     status_of(answer)
 }

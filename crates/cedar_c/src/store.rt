@@ -325,7 +325,7 @@ pub extern "C" fn cedar_store_slice(
     ensures same { from.new.held.value ≡ from.old.held.value }
     ensures fills { Fills (SlicesAt text.now uids.now) from.old.held.value result to.old.held.value to.new.held.value }
 {
-    let Some(inner) = take(alloc, from) else {
+    let Some(mut inner) = take(alloc, from) else {
         return CLOSED;
     };
     let made = inner.kept.slice(alloc, text, uids);

@@ -10,5 +10,7 @@ mod making;
 mod reads;
 mod scopes;
 mod telling;
+mod unknowns;
+mod validity;
 
 pub use kept_set::KeptSet;

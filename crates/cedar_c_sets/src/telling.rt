@@ -28,7 +28,7 @@ pub(crate) struct Told {
 }
 
 // A reason and what it names.
-fn named(alloc: Global, reason: Reason, name: &str) -> Result<Told, AllocError>
+pub(crate) fn named(alloc: Global, reason: Reason, name: &str) -> Result<Told, AllocError>
     ensures { IfOk result (λ t. (t.reason ≡ reason) × (t.text.items ≡ words_of reason ++ (32 ∷ name.now))) }
 {
     let mut text = Vec::new(alloc);

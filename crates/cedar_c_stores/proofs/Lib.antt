@@ -1,7 +1,6 @@
 pub mod Asking
 pub mod Editing
 pub mod Gathering
-pub mod Naming
 pub mod ReadUids
 pub mod RowLaws
 pub mod Sets

@@ -1,4 +1,5 @@
 //! Copies and slices of a store that share nothing with it, for another thread.
+ghost use Rattle.std.specs.Prelude.{◌≡◌};
 ghost use Rattle.cedar_c_stores.specs.Stores.{Copies, SlicesAt};
 
 use crate::kept_store::KeptStore;
@@ -19,12 +20,13 @@ impl<S: BuildHasher + Copy> KeptStore<S> {
     /// The slice of the store at the uids that parts of a text are, which shares nothing with the store: made as
     /// `slice` makes it, and then copied as `copy_apart` copies. Takes memory.
     pub fn slice_apart(
-        &self,
+        &mut self,
         alloc: Global,
         text: &[u8],
         spans: &[Span],
     ) -> Result<KeptStore<S>, Reason>
-        ensures { SlicesAt text.now spans.now self.now.store result }
+        ensures same { self.new ≡ self.old }
+        ensures slices { SlicesAt text.now spans.now self.old.store result }
     {
         let part = self.slice(alloc, text, spans)?;
         part.copy_apart(alloc)

@@ -27,7 +27,7 @@ impl<S: BuildHasher + Copy> KeptStore<S> {
         ensures { BuildsLaid (laid_by lists.entry content.entry) mode result self.old self.new }
     {
         let mode = mode_of(mode)?;
-        let list = match entities_laid(alloc, lists, content) {
+        let list = match entities_laid(alloc, &mut self.known, lists, content) {
             Ok(list) => list,
             Err(reason) => return Err(reason),
         };
@@ -46,7 +46,7 @@ impl<S: BuildHasher + Copy> KeptStore<S> {
         ensures { AddsLaid (laid_by lists.entry content.entry) mode result self.old self.new }
     {
         let mode = mode_of(mode)?;
-        let list = match entities_laid(alloc, lists, content) {
+        let list = match entities_laid(alloc, &mut self.known, lists, content) {
             Ok(list) => list,
             Err(reason) => return Err(reason),
         };
@@ -65,7 +65,7 @@ impl<S: BuildHasher + Copy> KeptStore<S> {
         ensures { UpsertsLaid (laid_by lists.entry content.entry) mode result self.old self.new }
     {
         let mode = mode_of(mode)?;
-        let list = match entities_laid(alloc, lists, content) {
+        let list = match entities_laid(alloc, &mut self.known, lists, content) {
             Ok(list) => list,
             Err(reason) => return Err(reason),
         };

@@ -14,7 +14,7 @@ use crate::known::Known;
 use crate::numbers::Numbers;
 use crate::refusal::told_by;
 use crate::watched::Watched;
-use cedar_c_lists::{Answer, Reason, Span, uids_of, with_uid};
+use cedar_c_lists::{Answer, Reason, Span, with_uid};
 use cedar_c_trees::Node;
 use cedar_entities::{EntitiesError, Uids};
 use cedar_ids::entity::EntityUID;
@@ -220,10 +220,16 @@ impl<S: BuildHasher + Copy> KeptStore<S> {
 
     /// The slice of the store at the uids that parts of a text are, of which nothing was answered and nothing refused.
     /// Takes memory.
-    pub fn slice(&self, alloc: Global, text: &[u8], spans: &[Span]) -> Result<KeptStore<S>, Reason>
-        ensures { SlicesAt text.now spans.now self.now.store result }
+    pub fn slice(
+        &mut self,
+        alloc: Global,
+        text: &[u8],
+        spans: &[Span],
+    ) -> Result<KeptStore<S>, Reason>
+        ensures same { self.new ≡ self.old }
+        ensures slices { SlicesAt text.now spans.now self.old.store result }
     {
-        let uids = uids_of(alloc, text, spans)?;
+        let uids = self.known.uids_of(alloc, text, spans)?;
         self.slice_of(alloc, uids)
     }
 

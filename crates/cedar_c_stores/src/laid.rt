@@ -5,10 +5,11 @@ ghost use Rattle.cedar_c_stores.specs.Contents.{AreLaid, IsUnlaid, laid_by};
 ghost use Rattle.cedar_c_stores.specs.laws.Rows.{AreSaid, IsUnsaid};
 
 use crate::content::Content;
+use crate::known::Known;
 use crate::listing::shared_all;
 use crate::rows::{Row, entities_said, first_rows, put_above, put_terms};
 use crate::store_calls::EntityLists;
-use cedar_c_lists::{Reason, uids_of};
+use cedar_c_lists::Reason;
 use cedar_entities::Entity;
 use cedar_uid_sets::SharedUid;
 use std::alloc::Global;
@@ -38,13 +39,14 @@ fn rows_laid(
 // edge, each term and each node once, and sorts the parents, the ancestors and the keys of each entity.
 pub(crate) fn entities_laid(
     alloc: Global,
+    known: &mut Known,
     lists: EntityLists<'_>,
     content: Content<'_>,
 ) -> Result<Vec<Rc<Entity>>, Reason>
     ensures { MatchResult result (λ v. AreLaid (laid_by lists.entry content.entry) (entities_in v.items))
         (IsUnlaid (laid_by lists.entry content.entry)) }
 {
-    let uids = shared_all(alloc, uids_of(alloc, lists.text, lists.uids)?)?;
+    let uids = shared_all(alloc, known.uids_of(alloc, lists.text, lists.uids)?)?;
     match rows_laid(alloc, &uids, lists, content) {
         Ok(rows) => Ok(entities_said(alloc, rows)?),
         Err(reason) => Err(reason),

@@ -7,7 +7,8 @@ ghost use Rattle.cedar_c_stores.specs.Lists.{AreEdgesOf, AreListed, IsMode, IsNo
 ghost use Rattle.cedar_c_stores.specs.laws.Listed.{IsGathered, IsSomeEdgeOut, IsUngathered, listed_from, with_edge};
 ghost use Rattle.cedar_c_lists.specs.declared.reason.Reason.TheVariants.{BadArgument, NoMemory};
 
-use cedar_c_lists::{Edge, Reason, Span, uids_of};
+use crate::known::Known;
+use cedar_c_lists::{Edge, Reason, Span};
 use cedar_entities::{Entity, TCComputation};
 use cedar_ids::entity::EntityUID;
 use cedar_uid_sets::SharedUid;
@@ -194,9 +195,11 @@ fn gathered(
 //
 // `BadArgument` comes where a part does not lie within the text, where there are fewer parts than entities, or where an
 // edge leads from no entity or to no uid; `NotAUid` where a part is no uid's text. Takes memory. It reads each part
-// once, passes over the edges once, and sorts the parents of each entity.
+// once, and the name of a type that is known not again; it passes over the edges once, and sorts the parents of each
+// entity.
 pub(crate) fn entities_of(
     alloc: Global,
+    known: &mut Known,
     text: &[u8],
     spans: &[Span],
     count: usize,
@@ -206,7 +209,7 @@ pub(crate) fn entities_of(
         (λ v. AreListed text.now spans.now count edges.now (entities_in v.items))
         (IsUnlisted text.now spans.now count edges.now) }
 {
-    let uids = shared_all(alloc, uids_of(alloc, text, spans)?)?;
+    let uids = shared_all(alloc, known.uids_of(alloc, text, spans)?)?;
     match gathered(alloc, &uids, count, edges) {
         Ok(list) => Ok(list),
         Err(reason) => Err(reason),

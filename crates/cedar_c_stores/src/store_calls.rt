@@ -5,8 +5,9 @@ ghost use Rattle.cedar_c_stores.specs.Lists.{AreListed, IsUnlisted};
 ghost use Rattle.cedar_c_stores.specs.Stores.{AddsListed, BuildsListed, RemovesListed, UpsertsListed};
 
 use crate::kept_store::KeptStore;
+use crate::known::Known;
 use crate::listing::{entities_of, mode_of};
-use cedar_c_lists::{Edge, Reason, Span, uids_of};
+use cedar_c_lists::{Edge, Reason, Span};
 use cedar_entities::Entity;
 use std::alloc::Global;
 use std::hash::BuildHasher;
@@ -28,13 +29,13 @@ pub struct EntityLists<'a> {
 
 impl EntityLists<'_> {
     // The entities that the lists say.
-    fn entities(&self, alloc: Global) -> Result<Vec<Rc<Entity>>, Reason>
+    fn entities(&self, alloc: Global, known: &mut Known) -> Result<Vec<Rc<Entity>>, Reason>
         ensures { MatchResult result
             (λ v. AreListed self.now.text.now self.now.uids.now self.now.count self.now.edges.now
             (entities_in v.items))
             (IsUnlisted self.now.text.now self.now.uids.now self.now.count self.now.edges.now) }
     {
-        entities_of(alloc, self.text, self.uids, self.count, self.edges)
+        entities_of(alloc, known, self.text, self.uids, self.count, self.edges)
     }
 }
 
@@ -50,7 +51,7 @@ impl<S: BuildHasher + Copy> KeptStore<S> {
             lists.entry.edges.now mode result self.old self.new }
     {
         let mode = mode_of(mode)?;
-        let list = match lists.entities(alloc) {
+        let list = match lists.entities(alloc, &mut self.known) {
             Ok(list) => list,
             Err(reason) => return Err(reason),
         };
@@ -64,7 +65,7 @@ impl<S: BuildHasher + Copy> KeptStore<S> {
             lists.entry.edges.now mode result self.old self.new }
     {
         let mode = mode_of(mode)?;
-        let list = match lists.entities(alloc) {
+        let list = match lists.entities(alloc, &mut self.known) {
             Ok(list) => list,
             Err(reason) => return Err(reason),
         };
@@ -78,7 +79,7 @@ impl<S: BuildHasher + Copy> KeptStore<S> {
             lists.entry.edges.now mode result self.old self.new }
     {
         let mode = mode_of(mode)?;
-        let list = match lists.entities(alloc) {
+        let list = match lists.entities(alloc, &mut self.known) {
             Ok(list) => list,
             Err(reason) => return Err(reason),
         };
@@ -97,7 +98,7 @@ impl<S: BuildHasher + Copy> KeptStore<S> {
         ensures { RemovesListed text.now uids.now mode result self.old self.new }
     {
         let mode = mode_of(mode)?;
-        let uids = match uids_of(alloc, text, uids) {
+        let uids = match self.known.uids_of(alloc, text, uids) {
             Ok(uids) => uids,
             Err(reason) => return Err(reason),
         };

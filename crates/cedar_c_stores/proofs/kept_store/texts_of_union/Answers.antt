@@ -1,4 +1,4 @@
-use Rattle.cedar_c_stores.proofs.Naming.{texts_next}
+use Rattle.cedar_c_lists.specs.laws.Zipping.{texts_next}
 use Rattle.cedar_c_stores.proofs.kept_store.texts_of_union.Goals as goal
 
 pub loop-uid-preserved : goal.loop-uid-preserved

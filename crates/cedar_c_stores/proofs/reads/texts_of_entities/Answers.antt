@@ -1,7 +1,7 @@
 use Rattle.std.proofs.Common.{◌∙◌, ◌∷◌, ap, sym}
 use Rattle.std.specs.Prelude.{map}
 use Rattle.cedar_c_stores.specs.Reads.{uid_held}
-use Rattle.cedar_c_stores.proofs.Naming.{texts_next}
+use Rattle.cedar_c_lists.specs.laws.Zipping.{texts_next}
 use Rattle.cedar_c_stores.proofs.reads.texts_of_entities.Goals as goal
 
 pub loop-entity-preserved : goal.loop-entity-preserved

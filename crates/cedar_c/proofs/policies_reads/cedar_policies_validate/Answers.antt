@@ -1,0 +1,9 @@
+use Rattle.cedar_c_sets.specs.Validity.{Validates}
+use Rattle.cedar_c.proofs.PolicyChanges.{changed}
+use Rattle.cedar_c.proofs.policies_reads.cedar_policies_validate.Goals as goal
+
+pub returns : goal.returns
+returns c =
+    changed (Validates) c.args.handle.now.held.value c.opened.result.held.value c.in-Some.inner.value
+    c.deref_mut.result.now c.validate-answer.new.self c.validate-answer.result c.status_of.result
+    c.in-Some.ensures.value c.deref_mut.ensures.value c.opened.ensures c.status_of.ensures c.validate-answer.ensures

@@ -1,0 +1,41 @@
+-- What validating a policy set tells, and what is kept of it.
+use Rattle.std.specs.Prelude.{◌≡◌, ◌⊎◌, ℕ, List, ◌∷◌, ◌++◌, Option, Some, None, Result, Ok, Err, All}
+use Rattle.cedar_policy.specs.declared.err.TemplateValidationError.{TemplateValidationError}
+use Rattle.cedar_policy.specs.declared.err.TemplateValidationError.TheVariants as templates
+use Rattle.cedar_policy_set_errors.specs.declared.err.PolicySetValidationError.{PolicySetValidationError}
+use Rattle.cedar_policy_set_errors.specs.declared.err.PolicySetValidationError.TheVariants.{InvalidTemplate, Memory}
+use Rattle.cedar_policy_set_errors.specs.declared.err.PolicySetValidationError.TheVariants.{LinkToSlotlessTemplate}
+use Rattle.cedar_policy_set.specs.Validity.{HasSlottedLinks, IsSetFault, IsValidBody}
+use Rattle.cedar_c_lists.specs.Reasons.{words_of}
+use Rattle.cedar_c_lists.specs.declared.reason.Reason.{Reason}
+use Rattle.cedar_c_lists.specs.declared.reason.Reason.TheVariants as reasons
+use Rattle.cedar_c_sets.specs.declared.kept_set.KeptSet.{KeptSet}
+
+-- the reason that a fault of a body is; want of memory is none. A body's slots are never other than those of its condition
+abbrev pub fault_reason : TemplateValidationError → Option Reason
+fault_reason (templates.SlotsInConditionClause s) = Some reasons.SlotInClause
+fault_reason (templates.InvalidActionType us) = Some reasons.NotActions
+fault_reason (templates.InvalidExpression f) = Some reasons.UnknownFunction
+fault_reason templates.SlotCacheMismatch = Some reasons.SlotInClause
+fault_reason templates.Memory = None
+
+-- a reason and a text tell a fault, if there is one: the words of the reason, a blank, and an id
+abbrev pub NamesFault : Option Reason → List ℕ → Reason → List ℕ → Type 0
+NamesFault None id w text = ⊥
+NamesFault (Some x) id w text = (w ≡ x) × (text ≡ words_of w ++ (32 ∷ id))
+
+-- they tell the fault of a set: the link of a template without slots, or the body that is not valid
+abbrev pub IsFaultTold : PolicySetValidationError → Reason → List ℕ → Type 0
+IsFaultTold (LinkToSlotlessTemplate l t) w text = NamesFault (Some reasons.SlotlessLink) l w text
+IsFaultTold (InvalidTemplate i e) w text = NamesFault (fault_reason e) i w text
+IsFaultTold Memory w text = ⊥
+
+-- links and bodies are valid, and all is as it was; or the first fault is told, and the set, the answer and the nodes
+-- are as they were, as the text of the last refusal is where memory was refused
+abbrev pub Validates : {A B H : Type 0} → Result A Reason → KeptSet B H → KeptSet B H → Type 0
+Validates (Ok a) i j = HasSlottedLinks i.set × All IsValidBody i.set.bodies × (j ≡ i)
+Validates (Err w) i j =
+    (j.set ≡ i.set) × (j.answer ≡ i.answer) × (j.nodes.items ≡ i.nodes.items)
+    × (w ≡ reasons.NoMemory → j.refusal.items ≡ i.refusal.items)
+    × ((w ≡ reasons.NoMemory)
+    ⊎ ((e : PolicySetValidationError) × IsSetFault e i.set × IsFaultTold e w j.refusal.items))

@@ -1,0 +1,56 @@
+//! The call that tells which entities a policy leaves unknown.
+ghost use Rattle.std.specs.Prelude.{IfOk};
+ghost use Rattle.cedar_c_lists.specs.Texts.{AreTextsOf};
+ghost use Rattle.cedar_c_sets.specs.Reads.{AnswersAt, policy_at};
+ghost use Rattle.cedar_c_sets.specs.Unknowns.{AreUnknownIn};
+
+use crate::kept_set::KeptSet;
+use cedar_c_lists::{Answer, Reason, id_of, with_uid};
+use cedar_policy::Policy;
+use cedar_uid_sets::{UidSet, Uids};
+use std::alloc::{AllocError, Global};
+use std::hash::BuildHasher;
+
+// The texts of uids.
+fn texts_of_uids(alloc: Global, uids: Uids<'_>) -> Result<Answer, AllocError>
+    ensures { IfOk result (AreTextsOf uids.entry) }
+{
+    let mut answer = Answer::new(alloc);
+    for uid in uids {
+        answer = with_uid(alloc, answer, uid)?;
+    }
+    Ok(answer)
+}
+
+// The texts of the uids that unknowns of a policy's condition name. The set that they are gathered in hashes by what
+// `hasher` builds.
+fn unknowns_of<S: BuildHasher + Copy>(
+    alloc: Global,
+    policy: &Policy,
+    hasher: S,
+) -> Result<Answer, AllocError>
+    ensures { IfOk result (AreUnknownIn policy.now) }
+{
+    let found = policy.unknown_entities_with_hasher(alloc, hasher)?;
+    let uids = UidSet::from_set(alloc, found)?;
+    let answer = texts_of_uids(alloc, uids.iter())?;
+    Ok(answer)
+}
+
+impl<S: BuildHasher + Copy> KeptSet<S> {
+    /// The uids that unknowns of the condition of the policy with an id name become the answer, as
+    /// `Policy::unknown_entities_with_hasher` finds them by the hasher of the set: ascending, each once. `NoBody` comes
+    /// where no policy has the id. Takes memory for the condition, its walk, the uids and their texts; a refusal leaves
+    /// all as it was.
+    pub fn unknown_entities(&mut self, alloc: Global, id: &[u8]) -> Result<(), Reason>
+        ensures { AnswersAt policy_at AreUnknownIn id.now result self.old self.new }
+    {
+        let id = id_of(alloc, id)?;
+        let answer = match self.set.get(&id) {
+            None => return Err(Reason::NoBody),
+            Some(policy) => unknowns_of(alloc, policy, *self.set.hasher())?,
+        };
+        self.answer = answer;
+        Ok(())
+    }
+}
