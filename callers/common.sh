@@ -80,12 +80,14 @@ in_c_sanitized() {
         gcc -O1 -g $warn $sanitizers -o "$out/values_watched" c/values.c $both &&
         gcc -O1 -g $warn $sanitizers -o "$out/bodies_watched" c/bodies.c $both &&
         gcc -O1 -g $warn $sanitizers $noted -o "$out/apart_watched" c/apart.c $both &&
-        gcc -O1 -g $warn $sanitizers -o "$out/numbers_watched" c/numbers.c $both; then
+        gcc -O1 -g $warn $sanitizers -o "$out/numbers_watched" c/numbers.c $both &&
+        gcc -O1 -g $warn $sanitizers -o "$out/validity_watched" c/validity.c $both; then
         counted "calls from C, under the sanitizers of addresses and of undefined behaviour" "$out/calls_watched"
         counted "values from C, under the sanitizers of addresses and of undefined behaviour" "$out/values_watched"
         counted "bodies of policies from C, under those sanitizers" "$out/bodies_watched"
         counted "copies apart from C, under those sanitizers" "$out/apart_watched"
         counted "numbers of uids from C, under those sanitizers" "$out/numbers_watched"
+        counted "validity of policy sets from C, under those sanitizers" "$out/validity_watched"
     else
         fault "the calls from C were not built under the sanitizers"
     fi
@@ -133,4 +135,5 @@ rust_tests() {
         tail -n 20 "$out/rust"
         fault "the crate in Rust was not tested"
     fi
+    counted "the examples in the comments of cedar-store, over the crate in Rust" rust/doc_examples.py "$out/doc_examples"
 }

@@ -405,7 +405,8 @@ class Refusals(unittest.TestCase):
     def test_words(self):
         reasons = cedar_store._refusals.REASONS
         self.assertEqual((reasons[26], reasons[27], reasons[28]), ("no body", "not a name", "too deep"))
-        self.assertEqual(set(reasons), set(range(3, 29)))
+        self.assertEqual((reasons[29], reasons[32]), ("slot in clause", "slotless link"))
+        self.assertEqual(set(reasons), set(range(3, 33)))
         store = Store(made(("a", "b")))
         with self.assertRaises(Refused):
             store.add(made(("b", "a")))

@@ -3,7 +3,7 @@ import unittest
 
 from cedar_store import Bound, Closed, Constraint, Effect, Policies, Refused
 from cedar_store._library import has
-from cedar_store.values import ACTION, CONTEXT, PRINCIPAL, RESOURCE, Lit, Slot
+from cedar_store.values import ACTION, CONTEXT, PRINCIPAL, RESOURCE, Call, Lit, SetOf, Slot, UnknownExpr
 
 ZEROS = bytes(16)
 
@@ -201,6 +201,60 @@ class Bodies(unittest.TestCase):
         for call in (self.policies.principal_constraint, self.policies.non_scope_constraints, self.policies.condition):
             with self.assertRaises(Refused) as caught:
                 call("x")
+            self.assertEqual(caught.exception.reason, "no body")
+
+
+@unittest.skipUnless(has("policies_validate"), "the library does not look for what is wrong with a set")
+class Validity(unittest.TestCase):
+    def setUp(self):
+        self.policies = Policies(key=ZEROS)
+        self.policies.add_static("s", Effect.FORBID, action=Constraint.is_in('Action::"get"'), when=Call("ip", "::1"))
+        self.policies.add_template("t", principal=True)
+        self.policies.link("t", "l", principal=uid("a"))
+
+    def fault(self):
+        before = self.policies.copy()
+        with self.assertRaises(Refused) as caught:
+            self.policies.validate()
+        self.assertTrue(self.policies == before)
+        return caught.exception.reason, str(caught.exception), caught.exception.names, caught.exception.uids
+
+    def test_finds_nothing(self):
+        self.assertIsNone(self.policies.validate())
+        self.policies.close()
+        with self.assertRaises(Closed):
+            self.policies.validate()
+
+    def test_tells_the_first_fault(self):
+        policies = self.policies
+        policies.add_template("no name", when=Call("f", 1))
+        self.assertEqual(self.fault(), ("unknown function", "unknown function in no name", ("no name",), ()))
+        policies.remove_template("no name")
+        policies.add_static("it's", action=Constraint.is_in('Action::"get"', uid("a")), when=Call("f"))
+        self.assertEqual(self.fault(), ("not actions", "uid of no action in it's", ("it's",), ()))
+        policies.remove_static("it's")
+        policies.add_template("u", action=Constraint.is_eq(uid("a")), when=PRINCIPAL.eq(Slot("?principal")))
+        self.assertEqual(self.fault(), ("slot in clause", "slot in the clause of u", ("u",), ()))
+        policies.add_template("none")
+        policies.link("none", "m")
+        self.assertEqual(self.fault(), ("slotless link", "link without slots m", ("m",), ()))
+        policies.unlink("m")
+        self.assertEqual(self.fault()[0], "slot in clause")
+
+    def test_tells_unknown_entities(self):
+        policies, unknown = self.policies, UnknownExpr
+        clause = SetOf(
+            unknown(uid("b"), "A"), unknown(uid("a"), "B"), unknown(uid("c")), unknown("x", "A"), unknown(uid("b"), "A")
+        )
+        policies.add_static("v", when=clause)
+        policies.add_template("w", resource=True, when=~unknown(uid("é"), "A"))
+        policies.link("w", "m", resource=uid("r"))
+        self.assertEqual(policies.unknown_entities("v"), [uid("a"), uid("b")])
+        self.assertEqual(policies.unknown_entities("v")[0].id, "a")
+        self.assertEqual((policies.unknown_entities("m"), policies.unknown_entities("s")), ([uid("é")], []))
+        for id in ("w", "x"):
+            with self.assertRaises(Refused) as caught:
+                policies.unknown_entities(id)
             self.assertEqual(caught.exception.reason, "no body")
 
 

@@ -57,6 +57,7 @@ _DECLARED: Dict[str, Tuple[Any, List[Any]]] = {
     "policies_ids": (_U, [_P, _U]),
     "policies_annotation": (_U, [_P] + _TEXT + _TEXT + [_P]),
     "policies_text": (_U, [_P]),
+    "policies_validate": (_U, [_P]),
     "policies_scope": (_U, [_P] + _TEXT + [_U, _P]),
     "policies_clause": (_U, [_P] + _TEXT + [_P]),
     "policies_condition": (_U, [_P] + _TEXT),
@@ -66,7 +67,7 @@ for _join in ("static", "template"):
     _DECLARED[f"policies_add_{_join}_with"] = (_U, [_P] + _TEXT + _TEXT + [_P] + [_P, _N] * 3)
 for _read in ("get", "effect", "slots"):
     _DECLARED[f"policies_{_read}"] = (_U, [_P] + _TEXT + [_P])
-for _read in ("annotations", "env", "template_id", "linked", "policy_text", "template_text"):
+for _read in ("annotations", "env", "template_id", "linked", "policy_text", "template_text", "unknown_entities"):
     _DECLARED[f"policies_{_read}"] = (_U, [_P] + _TEXT)
 for _change in ("build", "add", "upsert"):
     _DECLARED[f"store_{_change}_with"] = (_U, [_P] + _TEXT + [_P, _N, _N] + [_P, _N] * 4 + [_U])

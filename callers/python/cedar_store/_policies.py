@@ -22,6 +22,7 @@ _annotation, _annotations = newer("policies_annotation"), newer("policies_annota
 _env, _template_id, _linked = newer("policies_env"), newer("policies_template_id"), newer("policies_linked")
 _text, _policy_text = newer("policies_text"), newer("policies_policy_text")
 _template_text = newer("policies_template_text")
+_unknown_entities, _validate = newer("policies_unknown_entities"), newer("policies_validate")
 _add_static_with, _add_template_with = newer("policies_add_static_with"), newer("policies_add_template_with")
 _scope, _clause, _condition = newer("policies_scope"), newer("policies_clause"), newer("policies_condition")
 _answer_nodes = newer("policies_answer_nodes")
@@ -237,6 +238,21 @@ class Policies(Held):
     def linked(self, id: str) -> List[str]:
         """The ids of a template's links, in the order in which they joined; of a static policy it is its own."""
         return self._texts(_linked, *text_of(id))
+
+    def unknown_entities(self, id: str) -> List[EntityUid]:
+        """The uids that unknowns of a policy's condition name, in their order, each once.
+
+        They are the names of the unknowns with a type that are texts of uids.
+        """
+        return [EntityUid(uid) for uid in self._texts(_unknown_entities, *text_of(id))]
+
+    def validate(self) -> None:
+        """Raises the first fault of the set, if there is one; it names the id of a link or of a body.
+
+        First `slotless link`, of a link whose template has no slots; then, of the first body that has one, `slot in
+        clause`, `not actions`, where its action is asked to be, or to be in, no action, or `unknown function`.
+        """
+        self._call(_validate)
 
     def policy_text(self, id: str) -> str:
         """The text of a static policy or a link, for people to read."""

@@ -14,7 +14,7 @@ REASONS = dict(
             "bad argument, not a uid, not UTF-8, no entity, duplicate, cycle, not closed, self ancestor, "
             "duplicate ancestor, action parent, reserved key, occupied, no such template, arity, not an action, "
             "id conflict, no link, not a link, no template, with links, not a template, no static, not static, "
-            "no body, not a name, too deep"
+            "no body, not a name, too deep, slot in clause, not actions, unknown function, slotless link"
         ).split(", "),
         3,
     )
@@ -28,7 +28,7 @@ _STATUSES = {reason: status for status, reason in REASONS.items()}
 
 NO_MEMORY, CLOSED, BAD_ARGUMENT, NOT_A_UID, NO_ENTITY = 1, 2, 3, 4, 6
 # Those that have a text.
-WITH_TEXT = range(7, 26)
+WITH_TEXT = frozenset((*range(7, 26), *range(29, 33)))
 
 
 class Closed(Exception):

@@ -56,13 +56,15 @@ declared!(Words(s: *mut Handle, out: *mut u8, room: usize) -> usize:
 declared!(Nodes(s: *mut Handle, from: usize, out: *mut Node, room: usize) -> usize:
     cedar_store_answer_nodes cedar_policies_answer_nodes);
 declared!(Plain(s: *mut Handle) -> u32:
-    cedar_store_uids cedar_store_text cedar_store_partial cedar_store_validate cedar_policies_text);
+    cedar_store_uids cedar_store_text cedar_store_partial cedar_store_validate
+    cedar_policies_text cedar_policies_validate);
 declared!(ByText(s: *mut Handle, text: *const u8, len: usize) -> u32:
     cedar_store_ancestors cedar_store_parents cedar_store_indirect_ancestors
     cedar_store_keys cedar_store_tag_keys cedar_store_entity_text
     cedar_policies_unlink cedar_policies_remove_static cedar_policies_remove_template
     cedar_policies_annotations cedar_policies_env cedar_policies_template_id cedar_policies_linked
-    cedar_policies_policy_text cedar_policies_template_text cedar_policies_condition);
+    cedar_policies_policy_text cedar_policies_template_text cedar_policies_condition
+    cedar_policies_unknown_entities);
 declared!(Numbers(s: *mut Handle, text: *const u8, len: usize, number: *mut u32) -> u32:
     cedar_store_entity cedar_policies_get cedar_policies_effect cedar_policies_slots);
 declared!(Asks(s: *mut Handle, text: *const u8, len: usize, answer: *mut bool) -> u32:
@@ -489,6 +491,8 @@ calls!(Sets:
     template_id(id) -> u32: by_text cedar_policies_template_id;
     /// The ids of the policies on a body become the answer.
     linked(id) -> u32: by_text cedar_policies_linked;
+    /// The uids that unknowns of a policy's condition name become the answer.
+    unknown_entities(id) -> u32: by_text cedar_policies_unknown_entities;
     /// The text of a policy becomes the answer.
     policy_text(id) -> u32: by_text cedar_policies_policy_text;
     /// The text of a body becomes the answer.
@@ -779,5 +783,10 @@ impl Held<Sets> {
     /// The text of the set becomes the answer.
     pub(crate) fn text(&self) -> u32 {
         self.plain(cedar_policies_text)
+    }
+
+    /// The status of the first fault.
+    pub(crate) fn validate(&self) -> u32 {
+        self.plain(cedar_policies_validate)
     }
 }

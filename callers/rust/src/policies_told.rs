@@ -207,6 +207,20 @@ impl PolicySet {
         Ok(self.expr())
     }
 
+    /// The uids that unknowns of the condition of the link or the static policy with an id name, ascending, each once:
+    /// of the unknowns with an entity type whose name is the text of a uid. Refused as [`PolicySet::env`] is.
+    ///
+    /// ```
+    /// use cedar_store_proved::{Effect, PolicySet};
+    /// let mut set = PolicySet::new();
+    /// set.bind_static("p", Effect::Permit).unwrap();
+    /// assert!(set.unknown_entities("p").unwrap().is_empty());
+    /// ```
+    pub fn unknown_entities(&self, id: impl AsRef<str>) -> Result<Vec<EntityUID>, Refusal> {
+        self.judged(self.held.unknown_entities(id.as_ref()))?;
+        Ok(self.held.answer(EntityUID::written))
+    }
+
     /// A body that the set has, read as a whole.
     pub(crate) fn told_body(&self, id: &PolicyID) -> Result<Template, Refusal> {
         let annotation =

@@ -502,6 +502,23 @@ impl PolicySet {
         Ok(LinkedIds(links.get_or_init(told).iter()))
     }
 
+    /// Looks for what is wrong with the set: one call of the library. Refused by the first fault: by `SlotlessLink`,
+    /// which names the first link of a template without slots; else by `SlotInClause`, `NotActions` or `UnknownFunction`,
+    /// which names the first body that [`Template::try_validate`] refuses; and by `Memory`. The set stays.
+    ///
+    /// ```
+    /// use cedar_store_proved::{ast::SlotEnv, Effect, PolicySet, Reason, Slots};
+    /// let mut set = PolicySet::new();
+    /// set.bind_template("t", Effect::Permit, Slots::none()).unwrap();
+    /// assert!(set.validate().is_ok());
+    /// set.link("t", "l", SlotEnv::new()).unwrap();
+    /// let refusal = set.validate().unwrap_err();
+    /// assert_eq!((refusal.reason(), refusal.to_string().as_str()), (Reason::SlotlessLink, "link without slots l"));
+    /// ```
+    pub fn validate(&self) -> Result<(), Refusal> {
+        self.judged(self.held.validate())
+    }
+
     /// The set itself, if its links and its bodies are valid. Refused by `LinkToSlotlessTemplate`, which names the
     /// first link of a template without slots; else by `InvalidTemplate`, which has the first body that
     /// [`Template::try_validate`] refuses. It reads all that the set has.

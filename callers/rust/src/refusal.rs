@@ -60,10 +60,18 @@ pub enum Reason {
     NotAName,
     /// Something has too many levels.
     TooDeep,
+    /// A slot stands in the clause of a template.
+    SlotInClause,
+    /// The action of a policy or a template is asked to be, or to be in, no action.
+    NotActions,
+    /// The clause of a policy or a template calls a function that is not known.
+    UnknownFunction,
+    /// A link is one of a template without slots.
+    SlotlessLink,
 }
 
 // The reasons, each with its status.
-const STATUSES: [(u32, Reason); 26] = [
+const STATUSES: [(u32, Reason); 30] = [
     (1, Reason::Memory),
     (3, Reason::BadArgument),
     (4, Reason::NotAUid),
@@ -90,6 +98,10 @@ const STATUSES: [(u32, Reason); 26] = [
     (26, Reason::NoBody),
     (27, Reason::NotAName),
     (28, Reason::TooDeep),
+    (29, Reason::SlotInClause),
+    (30, Reason::NotActions),
+    (31, Reason::UnknownFunction),
+    (32, Reason::SlotlessLink),
 ];
 
 impl Reason {

@@ -403,6 +403,12 @@ fn what_a_policy_tells_without_a_set() {
     ]);
     let policy = Policy::from_when_clause(Effect::Permit, clause, id("p"), None);
     assert_eq!(policy.unknown_entities(), HashSet::from([a.clone()]));
+    let mut set = PolicySet::singleton(policy.clone());
+    assert_eq!(set.unknown_entities("p").unwrap(), [a.clone()]);
+    set.bind_template("t", Effect::Permit, Slots::none())
+        .unwrap();
+    let refusal = set.unknown_entities("t").unwrap_err();
+    assert_eq!(refusal.reason(), Reason::NoBody);
     let again = policy.new_id(id("q"));
     assert_eq!((again.id(), again.template().id()), (&id("q"), &id("q")));
     assert!(again.clone().new_template_id(id("t")).is_none());
@@ -507,6 +513,13 @@ fn what_is_not_valid_is_told() {
     let refusal = mixed.clone().contains_only_action_types().unwrap_err();
     assert_eq!(refusal.to_string(), words);
     let mut set = set_of(&asking("t", Asked::any(), mixed, Asked::any(), None));
+    let told = |set: &PolicySet| {
+        let refusal = set.validate().unwrap_err();
+        assert!(refusal.uids().is_empty());
+        (refusal.reason(), refusal.to_string())
+    };
+    let due = |reason, text: &str| (reason, text.to_string());
+    assert_eq!(told(&set), due(Reason::NotActions, "uid of no action in t"));
     let refusal = set.clone().try_validate().unwrap_err();
     assert_eq!(
         refusal.to_string(),
@@ -515,9 +528,20 @@ fn what_is_not_valid_is_told() {
     set.bind_template("u", Effect::Permit, Slots::none())
         .unwrap();
     set.link("u", "l", SlotEnv::new()).unwrap();
+    let text = "link without slots l";
+    assert_eq!(told(&set), due(Reason::SlotlessLink, text));
     let refusal = set.try_validate().unwrap_err();
     assert_eq!(
         refusal.to_string(),
         "link `l` references template `u` which has no slots"
     );
+    let set = set_of(&with_clause("s", Some(Expr::slot(SlotId::resource()))));
+    let text = "slot in the clause of s";
+    assert_eq!(told(&set), due(Reason::SlotInClause, text));
+    let set = set_of(&with_clause("f", Some(call("f"))));
+    let text = "unknown function in f";
+    assert_eq!(told(&set), due(Reason::UnknownFunction, text));
+    assert!(set_of(&with_clause("g", Some(call("ip"))))
+        .validate()
+        .is_ok());
 }
