@@ -21,7 +21,7 @@ def crates():
     for line in open('crates.txt', encoding='utf-8'):
         name = line.split('#')[0].split(':')[0].strip()
         # the calls of the library for C, and the copies apart that it makes, are refused memory from C, by callers/run
-        if name and not name.endswith('_tests') and name not in ('cedar_uses', 'cedar_test_helpers', 'cedar_store_texts', 'cedar_refusals'):
+        if name and not name.endswith('_tests') and name not in ('cedar_uses', 'cedar_test_helpers', 'cedar_refusals'):
             if not re.match(r'cedar_c(_|\b)|cedar_(\w+_)?apart\b', name):
                 yield name.split()[0]
 

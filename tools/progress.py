@@ -36,22 +36,18 @@ def first_number(cell):
 
 
 def seconds():
-    """What each crate of the table in docs/GATE.md takes of a processor; a crate of tests has its own entry."""
+    """What each crate of the tables in docs/GATE.md takes of a processor."""
     found = {}
     with open(os.path.join(TOP, 'docs', 'GATE.md'), encoding='utf-8') as lines:
         for line in lines:
             cells = [cell.strip() for cell in line.strip().strip('|').split('|')]
             names = re.findall(r'`(cedar_\w+)`', cells[0])
-            if not line.startswith('| `') or len(cells) < 7 or not names:
+            if not line.startswith('| `') or len(cells) < 4 or not names:
                 continue
-            own, edits, tests = first_number(cells[2]), first_number(cells[3]), first_number(cells[6])
+            own = first_number(cells[2] if len(cells) > 4 else cells[3])
+            edits = first_number(cells[3]) if len(cells) > 4 else 0
             for name in names:
-                if name.endswith('_tests'):
-                    found[name] = tests or UNKNOWN
-                else:
-                    found[name] = (own or UNKNOWN) + (edits and own + edits * WRONG_BODY)
-                    if tests:
-                        found[f'{name}_tests'] = tests
+                found[name] = (own or UNKNOWN) + (edits and own + edits * WRONG_BODY)
     return found
 
 

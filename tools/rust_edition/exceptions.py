@@ -88,9 +88,8 @@ remove_parents_of'''.split()}
 INLINED = {('cedar_keyed_hash', 'lib'), ('cedar_uid_sets', 'fronts')}
 
 # The crates of tests, and what they stand on.
-TESTS = '''cedar_test_helpers cedar_store_texts cedar_ids_tests cedar_graph_tests cedar_uid_sets_tests cedar_terms_tests
-cedar_entity_tests cedar_entities_tests cedar_slice_tests cedar_scope_tests cedar_policy_tests cedar_policy_set_tests
-cedar_replay_tests cedar_store_tests cedar_talk_tests'''.split()
+TESTS = '''cedar_test_helpers cedar_ids_tests cedar_graph_tests cedar_terms_tests
+cedar_store_tests cedar_talk_tests'''.split()
 
 # The crates of the library for C, lowest first.
 CALLERS = '''cedar_trial_edits cedar_c_lists cedar_c_trees cedar_c_bodies cedar_c_refusals cedar_apart cedar_stores_apart cedar_policies_apart

@@ -1,5 +1,4 @@
-//! The tests of `cedar_graph`: its calls on small, random and large graphs, over nodes of several
-//! kinds, beside a plain closure.
+//! The tests of `cedar_graph`: how much its counted calls do.
 #![tactic(auto)]
 
 #[cfg(test)]

@@ -1,24 +1,19 @@
-// Tests of the closure calls over four node types, and of what cedar_components writes.
-mod calls;
-mod coarse;
+// Tests of the closure calls over nodes with number keys.
 mod counted;
-mod counting;
 mod nodes;
-mod reached;
 mod told;
 
 use cedar_keyed_hash::KeyedState;
 use std::hash::{BuildHasherDefault, FoldHasher};
 
 // The builder of hashers of a map that is given none.
-fn fixed() -> BuildHasherDefault<FoldHasher> {
+type Fixed = BuildHasherDefault<FoldHasher>;
+
+fn fixed() -> Fixed {
     BuildHasherDefault::new()
 }
 
-// Two builders of hashers with keys.
-fn keyed() -> (KeyedState, KeyedState) {
-    (
-        KeyedState::with_keys(1, 2),
-        KeyedState::with_keys(u64::MAX, 3),
-    )
+// A builder of hashers with a key.
+fn keyed() -> KeyedState {
+    KeyedState::with_keys(1, 2)
 }

@@ -48,12 +48,13 @@ pub fn memory_if(stands: bool) -> Answer {
     }
 }
 
-/// Whether two texts have the same words.
+/// Whether a text has the words that are wanted, of which `_` stands for any one.
 pub fn has_words(text: &str, want: &str) -> bool {
     let mut due = want.split_whitespace();
     for word in text.split_whitespace() {
-        if due.next() != Some(word) {
-            return false;
+        match due.next() {
+            Some(want) if want == word || want == "_" => {}
+            _ => return false,
         }
     }
     due.next().is_none()

@@ -7,7 +7,8 @@
 //!
 //! What is tried stands in rows, one line each: the call, what it is given, and what comes of it with ample memory,
 //! with ` | ` between them. A refusal stands behind `! `. A row that begins with `- ` is one of a call that then asks
-//! for no memory, and one that begins with `~ ` is one of a call that then leaves what it made where it is.
+//! for no memory, and one that begins with `~ ` is one of a call that then leaves what it made where it is. Rows that are
+//! made with ample memory alone, once each, are worked ones: they show what a call answers.
 #![tactic(auto)]
 
 mod answers;
@@ -20,5 +21,5 @@ pub use answers::{
     memory_if, on, same_copied, shown_copied, unmade, with,
 };
 pub use refuser::{count, is_as_counted, is_there, refuse, relent};
-pub use rows::{Calls, InTurn, Row, in_turn, row_of, tried_rows};
+pub use rows::{Calls, InTurn, Row, in_turn, row_of, tried_rows, worked_rows};
 pub use things::{both, counted, joined, owned, with_last, with_word};

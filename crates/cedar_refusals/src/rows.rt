@@ -90,6 +90,28 @@ pub fn in_turn<C: Calls>(alloc: Global, calls: &C, row: Row<'_>) -> InTurn {
     InTurn::Wrong(100_000)
 }
 
+// The number of a request that no call reaches.
+const NEVER: usize = 1 << 32;
+
+/// Whether the calls of all rows of a text answer what they must with ample memory, each made once. A line that begins
+/// with `#` is a heading. A wrong row is told.
+pub fn worked_rows<C: Calls>(rt: HostRuntime, calls: &C, rows: &str) -> bool {
+    let alloc = rt.alloc();
+    let mut well = true;
+    for line in rows.lines() {
+        if let Some(row) = row_of(line)
+            && !line.starts_with('#')
+            && calls.tried(alloc, NEVER, row).answer != Answer::Ample
+        {
+            let call = row.call;
+            let given = row.given;
+            let _ = println!(rt; "wrong: {call} | {given}");
+            well = false;
+        }
+    }
+    well
+}
+
 /// Whether the calls of all rows of a text answer what they must, each request refused in turn. Where there is a
 /// refuser each row is told with what came of it, and has to ask for memory where it says so; where there is none, a
 /// wrong row is told.

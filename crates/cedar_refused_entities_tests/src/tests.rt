@@ -8,11 +8,13 @@ mod listed;
 mod looking;
 mod nodes;
 mod parts;
+mod reads;
 mod stores;
 mod terms;
 mod uid_sets;
 mod uids;
 mod values;
+mod worked;
 
 use cedar_ids::entity::{Eid, EntityType, EntityUID};
 use cedar_ids::loc::Loc;
@@ -53,7 +55,14 @@ fn place(alloc: Global) -> Option<Loc> {
 // The uid of type `A` with this eid, or another type's, which stands before a dot.
 fn uid_of(alloc: Global, name: &str) -> Option<EntityUID> {
     let (ty, eid) = name.split_once('.').unwrap_or(("A", name));
-    EntityUID::with_eid_and_type(alloc, ty, eid).ok()
+    match format!(in alloc; "{ty}::\"{eid}\"") {
+        Ok(text) => {
+            let made = EntityUID::from_normalized_str(alloc, text.as_str()).ok();
+            drop(text);
+            made
+        }
+        Err(_) => None,
+    }
 }
 
 // That uid, to be shared.

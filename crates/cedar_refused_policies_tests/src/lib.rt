@@ -1,4 +1,5 @@
-//! The calls of the layers from annotations to policy sets, each request for memory refused in turn.
+//! The calls of the layers from annotations to policy sets: worked rows of what they answer, and each request for memory
+//! refused in turn.
 #![tactic(auto)]
 
 #[cfg(test)]

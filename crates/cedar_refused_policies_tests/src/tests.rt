@@ -9,11 +9,16 @@ mod looking;
 mod maps;
 mod parts;
 mod policies;
+mod raw;
+mod reads;
 mod replays;
 mod sets;
 mod statics;
 mod templates;
+mod three_hundred;
 mod whole_sets;
+mod worked;
+mod worked_policies;
 
 use cedar_ids::entity::{EntityType, EntityUID};
 use cedar_ids::policy_id::PolicyID;
@@ -28,7 +33,14 @@ fn id(alloc: Global, text: &str) -> Option<PolicyID> {
 // The uid of type `A` with this eid, or another type's, which stands before a dot.
 fn uid(alloc: Global, name: &str) -> Option<EntityUID> {
     let (ty, eid) = name.split_once('.').unwrap_or(("A", name));
-    EntityUID::with_eid_and_type(alloc, ty, eid).ok()
+    match format!(in alloc; "{ty}::\"{eid}\"") {
+        Ok(text) => {
+            let made = EntityUID::from_normalized_str(alloc, text.as_str()).ok();
+            drop(text);
+            made
+        }
+        Err(_) => None,
+    }
 }
 
 fn shared(alloc: Global, name: &str) -> Option<Rc<EntityUID>> {

@@ -2,8 +2,6 @@
 // made, `None` where it could not be; the helpers that ask it let it go, and answer `false` of `None`. So no
 // test holds a value over what may fail.
 mod exprs;
-mod places;
-mod small;
 mod values;
 
 use cedar_ids::entity::EntityUID;
@@ -13,8 +11,8 @@ use cedar_terms::literal::Literal;
 use cedar_terms::slot::{Slot, SlotId};
 use cedar_terms::value::{ExtensionValue, Value, ValueKind};
 use cedar_test_helpers::made::{
-    agree, both, copies, copy_of, counted, differ, hash_of, is_written, named, owned, shows,
-    start_of, typed, uid, with_last,
+    both, copies, copy_of, counted, differ, hash_of, is_written, named, owned, shows, start_of,
+    typed, uid, with_last,
 };
 use std::alloc::Global;
 use std::rc::RcStr;

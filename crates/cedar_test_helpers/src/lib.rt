@@ -2,7 +2,6 @@
 //! wrote is dear to prove; so each helper here lets go by a written `drop` what it holds, on each path.
 #![tactic(auto)]
 
-pub mod drawn;
 pub mod made;
 pub mod rows;
 pub mod tried;

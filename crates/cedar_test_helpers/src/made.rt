@@ -7,7 +7,7 @@ use cedar_ids::name::Name;
 use std::alloc::{AllocError, Global};
 use std::fmt::Display;
 use std::hash::{DefaultHasher, Hash, Hasher};
-use std::rc::{Rc, RcStr};
+use std::rc::Rc;
 
 /// Two things, where both could be made; else they are let go.
 pub fn both<A: Drop, B: Drop>(first: Option<A>, second: Option<B>) -> Option<(A, B)> {
@@ -41,20 +41,6 @@ pub fn with_last<T: Drop>(all: Option<Vec<T>>, x: Option<T>) -> Option<Vec<T>> {
     }
 }
 
-/// A text and a further one behind it, where there is memory.
-pub fn joined(text: Option<String>, more: &str) -> Option<String> {
-    match text {
-        Some(mut text) => match text.push_str(more) {
-            Ok(()) => Some(text),
-            Err(_) => {
-                drop(text);
-                None
-            }
-        },
-        None => None,
-    }
-}
-
 /// A thing behind a count, where it could be made and there is memory.
 pub fn counted<T: Drop>(alloc: Global, made: Option<T>) -> Option<Rc<T>> {
     match made {
@@ -81,24 +67,11 @@ pub fn typed(alloc: Global, text: &str) -> Option<EntityType> {
     }
 }
 
-/// That behind a count.
-pub fn shared_type(alloc: Global, text: &str) -> Option<Rc<EntityType>> {
-    counted(alloc, typed(alloc, text))
-}
-
 /// The uid with this type and this eid, at no place.
 pub fn uid(alloc: Global, ty: &str, eid: &str) -> Option<EntityUID> {
     match both(owned(alloc, eid), typed(alloc, ty)) {
         Some((eid, ty)) => Some(EntityUID::from_components(ty, Eid::new(eid), None)),
         None => None,
-    }
-}
-
-/// A place of one character.
-pub fn place(alloc: Global, start: usize) -> Option<Loc> {
-    match RcStr::from_str(alloc, "permit(principal, action, resource);") {
-        Ok(src) => Some(Loc::new(start, start.saturating_add(1), src)),
-        Err(_) => None,
     }
 }
 
@@ -165,32 +138,6 @@ pub fn copies<T: Clone + Hash + Drop>(made: Option<T>) -> bool {
         Some(x) => {
             let told = is_copied(&x);
             drop(x);
-            told
-        }
-        None => false,
-    }
-}
-
-/// Whether two things that could be made are equal, and hash alike.
-pub fn agree<T: Hash + Drop>(x: Option<T>, y: Option<T>) -> bool {
-    match both(x, y) {
-        Some((x, y)) => {
-            let told = x == y && hash_of(&x) == hash_of(&y);
-            drop(x);
-            drop(y);
-            told
-        }
-        None => false,
-    }
-}
-
-/// Whether two things that could be made are equal.
-pub fn same<T: PartialEq + Drop>(x: Option<T>, y: Option<T>) -> bool {
-    match both(x, y) {
-        Some((x, y)) => {
-            let told = x == y;
-            drop(x);
-            drop(y);
             told
         }
         None => false,

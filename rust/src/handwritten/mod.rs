@@ -4,3 +4,5 @@ pub(crate) mod ordered_map;
 #[cfg(test)]
 mod ordered_map_tests;
 pub(crate) mod renaming;
+#[cfg(test)]
+mod uid_sets_tests;

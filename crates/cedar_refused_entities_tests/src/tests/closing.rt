@@ -289,7 +289,7 @@ fn checked(alloc: Global, number: usize, row: Row<'_>) -> Tried {
     }
 }
 
-struct OnGraphs;
+pub(super) struct OnGraphs;
 
 const GRAPHS: &str = "
     close_dag | a b, b c, c d, d | a b c d, b c d, c d, d

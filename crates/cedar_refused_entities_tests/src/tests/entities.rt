@@ -16,7 +16,7 @@ use cedar_uid_sets::SharedUid;
 use std::alloc::{AllocError, Global};
 use std::rc::Rc;
 
-struct OnMaking;
+pub(super) struct OnMaking;
 
 const MAKING: &str = "
     Entity::new_with_attr_partial_value | a c b / d / k=2 k=1 / t=1 | a b c / d / k=1 / t=1
@@ -183,7 +183,7 @@ fn each_call_that_changes_an_entity(rt: HostRuntime) {
     assert!(rt; tried_rows(rt, &OnChanging, CHANGING));
 }
 
-struct OnChecking;
+pub(super) struct OnChecking;
 
 const CHECKING: &str = "
     - Entity::validate | a b / c / k=1 / t=1 | ok

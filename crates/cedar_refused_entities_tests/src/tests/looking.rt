@@ -1,14 +1,14 @@
 // The calls that take no memory succeed while every request is refused.
 use super::parts::entity;
 use super::stores::store_of;
-use super::uid_of;
+use super::{set_of, shared, uid_of};
 use cedar_entities::dereference::Dereference;
 use cedar_entities::entities::Entities;
 use cedar_entity::entity::Entity;
 use cedar_graph::TCNode;
 use cedar_ids::entity::EntityUID;
 use cedar_refusals::{both, refuse, relent};
-use cedar_uid_sets::UidSet;
+use cedar_uid_sets::{SharedUid, UidSet};
 use std::alloc::Global;
 
 // Whether the entity with a uid is found in a store.
@@ -102,6 +102,78 @@ fn takes_apart(mut entity: Entity, parent: &EntityUID) -> bool {
     let told = !entity.is_descendant_of(parent);
     drop(entity.into_inner());
     told
+}
+
+// Whether an entity of a parent and an indirect ancestor leads to either, told by uids that are shared, and no more once
+// these are taken out.
+fn is_taken_out(entity: &mut Entity, parent: &SharedUid, indirect: &UidSet) -> bool {
+    let leads = entity.is_descendant_of_shared(parent) && entity.shared_ancestors().count() == 2;
+    entity.remove_ancestors_of(indirect);
+    entity.remove_shared_ancestor(parent);
+    let left = entity.shared_parents().count() == 1 && entity.ancestors().count() == 1;
+    entity.remove_parents_of(indirect);
+    entity.remove_shared_parent(parent);
+    leads && left && entity.ancestors().next().is_none()
+}
+
+fn takes_out(alloc: Global) -> bool {
+    let uids = both(shared(alloc, "b"), set_of(alloc, "c"));
+    match both(entity(alloc, "a b / c"), uids) {
+        Some((mut entity, (parent, indirect))) => {
+            refuse(alloc, 0);
+            let told = is_taken_out(&mut entity, &parent, &indirect);
+            let refused = relent(alloc);
+            drop(entity);
+            drop(parent);
+            drop(indirect);
+            told && !refused
+        }
+        None => false,
+    }
+}
+
+// Whether a set of two uids is read, beside another that has one of them and a further one.
+fn is_set_read(set: &UidSet, other: &UidSet, one: &SharedUid) -> bool {
+    let found = set.contains(one.uid()) && set.contains_shared(one) && !other.contains_shared(one);
+    let either = UidSet::either_contains(set, other, one);
+    let first = set.union(other).next() == Some(one.uid());
+    let counts = first && set.len() == 2 && !set.is_empty();
+    found && either && counts && UidSet::is_ascending(set.pointers())
+}
+
+// Takes out what a set of two uids shares with another, then one, then the rest.
+fn empties_set(mut set: UidSet, other: &UidSet, one: &SharedUid) -> bool {
+    set.difference(other);
+    let left = set.len() == 1;
+    set.remove_shared(one);
+    set.remove(one.uid());
+    let mut back = UidSet::from_ascending(set.into_pointers());
+    let told = left && back.is_empty();
+    back.clear();
+    drop(back);
+    told
+}
+
+fn reads_a_set_of_uids(alloc: Global) -> bool {
+    let sets = both(set_of(alloc, "a b"), set_of(alloc, "b c"));
+    match both(sets, shared(alloc, "a")) {
+        Some(((set, other), one)) => {
+            refuse(alloc, 0);
+            let read = is_set_read(&set, &other, &one);
+            let told = empties_set(set, &other, &one) && read;
+            let refused = relent(alloc);
+            drop(other);
+            drop(one);
+            told && !refused
+        }
+        None => false,
+    }
+}
+
+#[test]
+fn to_read_a_set_of_uids_takes_no_memory(rt: HostRuntime) {
+    let alloc = rt.alloc();
+    assert!(rt; reads_a_set_of_uids(alloc) && takes_out(alloc));
 }
 
 fn reads_an_entity(alloc: Global) -> bool {

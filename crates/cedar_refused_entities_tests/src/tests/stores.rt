@@ -213,7 +213,7 @@ fn is_store(alloc: Global, store: &Entities, want: &str) -> bool {
     }
 }
 
-struct OnStores;
+pub(super) struct OnStores;
 
 const STORES: &str = "
     Entities::from_entities | ; from: a b, b c | a b / c / / , b c / / / ,
@@ -290,7 +290,7 @@ fn each_call_that_takes_a_store(rt: HostRuntime) {
     assert!(rt; tried_rows(rt, &OnStores, STORES));
 }
 
-struct OnReading;
+pub(super) struct OnReading;
 
 const READING: &str = "
     - Entities::entity | from: a b / / k=1; a | data

@@ -68,7 +68,7 @@ fn types_named(alloc: Global, number: usize, row: Row<'_>) -> Tried {
     })
 }
 
-struct OnActions;
+pub(super) struct OnActions;
 
 const ACTIONS: &str = "
     ActionConstraint::is_in | Action.a Action.b | action in [Action::\"a\",Action::\"b\"]

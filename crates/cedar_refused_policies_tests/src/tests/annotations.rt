@@ -57,7 +57,7 @@ fn is_told(alloc: Global, all: &Annotations, want: &str) -> bool {
     }
 }
 
-struct OnAnnotations;
+pub(super) struct OnAnnotations;
 
 const ANNOTATIONS: &str = "
     Annotations::try_from_iter | k=v j=u k=w | j u k w

@@ -23,7 +23,7 @@ fn given(alloc: Global, text: &str) -> Option<(Vec<Slot>, SlotEnv)> {
     both(slots(alloc, words), values(alloc, bound))
 }
 
-struct OnBindings;
+pub(super) struct OnBindings;
 
 const BINDINGS: &str = "
     - check_bindings | principal resource, principal=x resource=y | ok

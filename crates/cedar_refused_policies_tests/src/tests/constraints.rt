@@ -64,7 +64,7 @@ pub(super) fn of_resource(alloc: Global, text: &str) -> Option<ResourceConstrain
     }
 }
 
-struct OnConstraints;
+pub(super) struct OnConstraints;
 
 const CONSTRAINTS: &str = "
     EntityReference::from_uid | a | A::\"a\"

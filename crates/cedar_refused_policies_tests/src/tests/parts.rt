@@ -1,7 +1,9 @@
 // What policies are made of, by short texts: an id and words behind it. `principal` says that the principal's slot is
-// in the scope, `resource` that the resource's is, `acting` that the action's is, `action` that the action is
+// in the scope, `resource` that the resource's is, `acting` that the action's is, `acts` that it is and is equal to
+// it, `action` that the action is
 // `Action::"x"` and `user` that it is `User::"x"`, `forbid` that it forbids, `noted` that it has the annotation
-// `@k("v")`. Of the words for the clause one may stand there: `clause` for `true`, `slot` for `?principal`, `foo` for
+// `@k("v")`. Of the words for the clause one may stand there: `clause` for `true`, `slot` for `?principal`,
+// `resource_slot` and `action_slot` for the others, `foo` for
 // `foo()`, `unknown` for an unknown named as a uid.
 use super::actions::action;
 use super::annotations::annotations;
@@ -57,6 +59,9 @@ fn action_of(alloc: Global, text: &str) -> Option<ActionConstraint> {
     if has(text, "acting") {
         return action(alloc, "in ?");
     }
+    if has(text, "acts") {
+        return action(alloc, "== ?");
+    }
     Some(ActionConstraint::any())
 }
 
@@ -95,6 +100,8 @@ pub(super) fn clause_of(alloc: Global, word: &str) -> Option<Expr> {
     match word {
         "clause" => Expr::val(alloc, Literal::Bool(true)).ok(),
         "slot" => Expr::slot(alloc, SlotId::Principal).ok(),
+        "resource_slot" => Expr::slot(alloc, SlotId::Resource).ok(),
+        "action_slot" => Expr::slot(alloc, SlotId::Action).ok(),
         "foo" => call_of_foo(alloc),
         "unknown" => unknown_of_uid(alloc),
         _ => None,
@@ -110,7 +117,14 @@ fn some<T>(made: Option<T>) -> Option<Option<T>> {
 }
 
 fn clause(alloc: Global, text: &str) -> Option<Option<Expr>> {
-    for word in &["clause", "slot", "foo", "unknown"] {
+    for word in &[
+        "clause",
+        "slot",
+        "resource_slot",
+        "action_slot",
+        "foo",
+        "unknown",
+    ] {
         if has(text, word) {
             return some(clause_of(alloc, word));
         }

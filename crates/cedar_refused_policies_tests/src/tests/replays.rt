@@ -9,7 +9,7 @@ use cedar_policy::Policy;
 use cedar_policy_set::PolicySet;
 use cedar_refusals::{
     Answer, Calls, Row, Tried, ample_if, both, has_words, memory_if, owned, refuse, relent,
-    tried_rows, unmade, with_last, with_word,
+    tried_rows, unmade, with_last, with_word, worked_rows,
 };
 use cedar_replay::{Answer as Told, PolicyCall, replay_policies};
 use std::alloc::{AllocError, Global};
@@ -262,4 +262,22 @@ impl Calls for OnLists {
 #[test]
 fn each_list_of_calls(rt: HostRuntime) {
     assert!(rt; tried_rows(rt, &OnLists, LISTS));
+}
+
+const WORKED: &str = "
+# each call answers in its turn
+    replay_policies | ; // static a; static a; add b; add a; template a; template t principal; link a l principal=x; link t l principal=x; link t l principal=x; remove_static a; remove_static a | ok ; duplicate template or policy id `a` ; ok ; duplicate template or policy id `a` ; duplicate template or policy id `a` ; ok ; failed to find a template with id `a` ; ok ; template-linked policy id `l` conflicts with an existing policy id ; a ; unable to remove static policy id `a` from link list because it does not exist ;
+# a template with links stays
+    replay_policies | ; // template t principal; link t l principal=x; link t m principal=y; remove_static l; remove_template t; unlink l; remove_template t; unlink m; remove_template t | ok ; ok ; ok ; unable to remove static policy id `l` from template list because it does not exist ; unable to remove template id `t` from template list because it still has active links ; l ; unable to remove template id `t` from template list because it still has active links ; m ; t ;
+# ids that conflict are refused, or renamed: how many
+    replay_policies | static policy0 // static a; keep; unlink x | ok ; duplicate template or policy id `a` ; unable to unlink policy id `x` because it does not exist ;
+    replay_policies | static policy0 // static a; rename; remove_static policy1; unlink policy0 | ok ; 1 ; policy1 ; unable to remove link with policy id `policy0` because it is a static policy ;
+    replay_policies | ; // static a forbid; keep; keep | ok ; 0 ; 0 ;
+# the action's slot is bound to an action
+    replay_policies | ; // template t acts; static l; link t l action=x; link t l action=Action.v; link t m principal=x; link t m action=Action::B.v; link t m action=N::Action.v; link u n action=x; link t t action=x | ok ; ok ; the action slot is bound to `A::\"x\"`, which is not an action ; template-linked policy id `l` conflicts with an existing policy id ; the following slots were not provided as arguments: ?action. The following slots were provided as arguments, but did not exist in the template: ?principal ; the action slot is bound to `Action::B::\"v\"`, which is not an action ; ok ; failed to find a template with id `u` ; the action slot is bound to `A::\"x\"`, which is not an action ;
+";
+
+#[test]
+fn what_lists_of_calls_answer(rt: HostRuntime) {
+    assert!(rt; worked_rows(rt, &OnLists, WORKED));
 }

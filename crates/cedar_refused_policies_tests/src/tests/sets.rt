@@ -6,6 +6,7 @@
 use super::id;
 use super::parts::values;
 use super::policies::link;
+use super::reads::has_orders;
 use super::statics::unlinked;
 use super::templates::template;
 use cedar_ids::policy_id::PolicyID;
@@ -349,9 +350,14 @@ fn compared(
 ) -> Tried {
     let (mut set, (mut ample, before)) = sets;
     let (call, want) = row;
+    let (want, orders) = want.split_once('@').unwrap_or((want, ""));
     let due = step(alloc, NEVER, &mut ample, other, call);
     let told = step(alloc, number, &mut set, other, call);
-    let left = (is_same(alloc, &set, &before), is_same(alloc, &set, &ample));
+    let ordered = orders.is_empty() || has_orders(alloc, &ample, orders);
+    let left = (
+        is_same(alloc, &set, &before),
+        ordered && is_same(alloc, &set, &ample),
+    );
     drop(set);
     drop(ample);
     drop(before);
@@ -361,7 +367,7 @@ fn compared(
     }
 }
 
-struct OnSets;
+pub(super) struct OnSets;
 
 const SETS: &str = "
     PolicySet::add_static | static b; static a noted | ok
@@ -438,7 +444,7 @@ fn each_call_that_changes_a_set(rt: HostRuntime) {
     assert!(rt; tried_rows(rt, &OnSets, SETS));
 }
 
-struct OnMerging;
+pub(super) struct OnMerging;
 
 const MERGING: &str = "
     PolicySet::merge_policyset | static a; static c; template t principal; link t l principal=x // static b; static a forbid; template t resource; link t l resource=y // rename | merged a policy0 t policy1 l policy2

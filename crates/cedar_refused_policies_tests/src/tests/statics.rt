@@ -31,7 +31,7 @@ pub(super) fn unlinked(alloc: Global, text: &str) -> Option<StaticPolicy> {
     }
 }
 
-struct OnStatics;
+pub(super) struct OnStatics;
 
 const STATICS: &str = "
     StaticPolicy::new | a noted action | @k(\"v\") permit( principal, action == Action::\"x\", resource );

@@ -49,7 +49,7 @@ pub(super) fn two<'a>(given: &'a str) -> (&'a str, &'a str) {
     given.split_once(", ").unwrap_or((given, ""))
 }
 
-struct OnTemplates;
+pub(super) struct OnTemplates;
 
 const TEMPLATES: &str = "
     Template::new | t noted principal | @k(\"v\") permit( principal == ?principal, action, resource );
@@ -155,7 +155,7 @@ fn each_call_on_templates(rt: HostRuntime) {
     assert!(rt; tried_rows(rt, &OnTemplates, TEMPLATES));
 }
 
-struct OnLinking;
+pub(super) struct OnLinking;
 
 const LINKING: &str = "
     - Template::check_binding | t principal, principal=x | ok

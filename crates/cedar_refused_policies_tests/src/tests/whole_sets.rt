@@ -1,5 +1,6 @@
 // Sets that are made of policies, checked or copied.
 use super::id;
+use super::reads::has_orders;
 use super::sets::{ids_of, policy, set_of};
 use cedar_policy::{Policy, TemplateValidationError};
 use cedar_policy_set::{PolicySet, PolicySetValidationError};
@@ -21,7 +22,11 @@ fn policies(alloc: Global, texts: &str) -> Option<Vec<Policy>> {
     all
 }
 
+// Whether a set has these ids, or both orders that `reads` writes.
 fn has_ids(alloc: Global, set: &PolicySet, want: &str) -> bool {
+    if want.contains(['?', '=']) {
+        return has_orders(alloc, set, want);
+    }
     match ids_of(alloc, set) {
         Some(text) => {
             let told = has_words(text.as_str(), want);
@@ -32,7 +37,7 @@ fn has_ids(alloc: Global, set: &PolicySet, want: &str) -> bool {
     }
 }
 
-struct OnWholeSets;
+pub(super) struct OnWholeSets;
 
 const WHOLE: &str = "
     PolicySet::singleton | a noted | a / a

@@ -9,7 +9,7 @@ use cedar_entities::{Entities, EntitiesError, Entity};
 use cedar_ids::entity::EntityUID;
 use cedar_refusals::{
     Answer, Calls, Row, Tried, ample_if, both, has_words, is_worded, joined, refuse, relent,
-    tried_rows, unmade, with_last, with_word,
+    tried_rows, unmade, with_last, with_word, worked_rows,
 };
 use cedar_replay::{EntityCall, replay_entities, replay_entities_with_hasher};
 use std::alloc::Global;
@@ -243,4 +243,36 @@ impl Calls for OnLists {
 #[test]
 fn each_list_of_calls(rt: HostRuntime) {
     assert!(rt; tried_rows(rt, &OnLists, LISTS));
+}
+
+const WORKED: &str = "
+# calls are made in turn
+    replay_entities | from: a b, b c, c; remove: b | a 0, c 0,
+    replay_entities | from: a b d, b c, d c, c; remove: b | a 2, c 0, d 1,
+    replay_entities | from: a b | a 1,
+    replay_entities | from: a b; remove: b | a 1,
+    replay_entities | from: a b; remove: b; add: b c | a 2, b 1,
+    replay_entities | from: a b d, b c, d c, c e; remove: b d | a 0, c 1,
+    replay_entities | from: a b d, b c, d c, c e; remove: b | a 3, c 1, d 2,
+    replay_entities | from: a b, b c, c; upsert: c b, b | a 1, b 0, c 1,
+    replay_entities | from: a b; upsert: a c, a d | a 1,
+    replay_entities | from: a b, b c, c; add: a b c | a 2, b 1, c 0,
+# the first refusal ends the calls
+    replay_entities | from: a b; add: b a; from: c | ! 1 input graph has a cycle containing vertex _
+    replay_entities | from: a a | ! 0 input graph has a cycle containing vertex `A::\"a\"`
+    replay_entities | from: a b, b c, c; add: a b | ! 1 duplicate entity `A::\"a\"`
+    replay_entities | from: c; add: a b; upsert: b a; remove: a | ! 2 input graph has a cycle containing vertex _
+    replay_entities | add: a b, a c | ! 0 duplicate entity `A::\"a\"`
+    replay_entities | partial; remove: z; add: b; from: b c, b | ! 3 duplicate entity `A::\"b\"`
+# a store starts anew and becomes partial
+    replay_entities | from: a b; from: c | c 0,
+    replay_entities | partial
+    replay_entities | partial; add: a | a 0,
+    replay_entities | from: a; partial; upsert: b a; remove: a | b 0,
+    replay_entities | partial; from: a | a 0,
+";
+
+#[test]
+fn what_lists_of_calls_leave(rt: HostRuntime) {
+    assert!(rt; worked_rows(rt, &OnLists, WORKED));
 }

@@ -1,6 +1,0 @@
-use Rattle.cedar_graph.specs.Graph.{KeysMatch}
-use Rattle.cedar_ids.specs.UidOf.{same_uid}
-use Rattle.cedar_entity_tests.proofs.tests.nodes.store.Given as goal
-
-abbrev pub invariant-loop-row : goal.invariant-loop-row
-invariant-loop-row l = KeysMatch same_uid (λ n. n.0.value.uid) l.nodes

@@ -1,6 +1,0 @@
-use Rattle.std.proofs.Common.{nat_eq}
-use Rattle.cedar_graph.specs.Graph.{KeysMatch}
-use Rattle.cedar_graph_tests.proofs.tests.nodes.graph_apart.Given as goal
-
-abbrev pub invariant-loop-key : goal.invariant-loop-key
-invariant-loop-key g l = KeysMatch nat_eq (λ n. n.number) l.nodes

@@ -1,2 +1,0 @@
-mod Crossed
-mod Single

@@ -1,5 +1,0 @@
-use Rattle.cedar_entities.specs.Plain.{AreBare}
-use Rattle.cedar_replay_tests.proofs.tests.entities.bare_of.Given as goal
-
-abbrev pub invariant-loop-text : goal.invariant-loop-text
-invariant-loop-text l = AreBare l.list.items

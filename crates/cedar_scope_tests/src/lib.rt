@@ -1,5 +1,0 @@
-//! The tests of `cedar_scope`: what no clause says, over its public names.
-#![tactic(auto)]
-
-#[cfg(test)]
-mod tests;

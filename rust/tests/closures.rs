@@ -1,0 +1,205 @@
+//! Closures of graphs with nodes of a user's own: keys of which several are equal, all that lead to all, long chains, and
+//! what the refusals say.
+use cedar_store::transitive_closure::{
+    HasCycle, MissingTcEdge, TCNode, TcError, compute_tc, compute_tc_counted, enforce_tc_and_dag, repair_tc_counted,
+};
+use std::collections::{BTreeSet, HashMap, HashSet};
+use std::fmt::{self, Display, Formatter};
+use std::hash::{Hash, Hasher};
+
+/// A key that is compared by its number alone; its place says where it was written.
+#[derive(Clone, Debug)]
+struct Label {
+    number: u64,
+    place: u64,
+}
+
+impl PartialEq for Label {
+    fn eq(&self, other: &Label) -> bool {
+        self.number == other.number
+    }
+}
+
+impl Eq for Label {}
+
+impl Hash for Label {
+    fn hash<H: Hasher>(&self, state: &mut H) {
+        self.number.hash(state);
+    }
+}
+
+impl Display for Label {
+    fn fmt(&self, f: &mut Formatter<'_>) -> fmt::Result {
+        write!(f, "{}", self.number)
+    }
+}
+
+struct Labelled {
+    label: Label,
+    targets: HashSet<Label>,
+}
+
+impl TCNode<Label> for Labelled {
+    fn get_key(&self) -> Label {
+        self.label.clone()
+    }
+
+    fn add_edge_to(&mut self, key: Label) {
+        self.targets.insert(key);
+    }
+
+    fn out_edges(&self) -> Box<dyn Iterator<Item = &Label> + '_> {
+        Box::new(self.targets.iter())
+    }
+
+    fn has_edge_to(&self, key: &Label) -> bool {
+        self.targets.contains(key)
+    }
+
+    fn reset_edges(&mut self) {}
+}
+
+fn label(number: u64, place: u64) -> Label {
+    Label { number, place }
+}
+
+/// The nodes with one edge each; each place differs.
+fn labelled(rows: &[(u64, u64)]) -> HashMap<Label, Labelled> {
+    let node = |(place, (from, to)): (u64, &(u64, u64))| {
+        let targets = HashSet::from([label(*to, 100)]);
+        let label_within = label(*from, place);
+        (
+            label(*from, 50),
+            Labelled {
+                label: label_within,
+                targets,
+            },
+        )
+    };
+    (0..).zip(rows).map(node).collect()
+}
+
+#[test]
+fn equal_keys_are_one_key() {
+    let mut nodes = labelled(&[(1, 2), (2, 3)]);
+    assert!(compute_tc(&mut nodes, true).is_ok());
+    let leads = |from: u64, to: u64| {
+        nodes
+            .get(&label(from, 8))
+            .is_some_and(|node| node.has_edge_to(&label(to, 9)))
+    };
+    assert!(leads(1, 2) && leads(1, 3) && leads(2, 3) && !leads(3, 1) && !leads(2, 1));
+    // each node keeps the key that it came with
+    assert!(
+        [1, 2]
+            .iter()
+            .all(|number| nodes[&label(*number, 8)].label.place + 1 == *number)
+    );
+}
+
+#[test]
+fn a_cycle_over_equal_keys_is_named() {
+    match compute_tc(&mut labelled(&[(1, 2), (2, 1), (3, 1)]), true) {
+        Err(TcError::HasCycle(cycle)) => assert!([1, 2].contains(&cycle.vertex_with_loop().number)),
+        _ => panic!("a cycle was to be named"),
+    }
+}
+
+/// A node with number keys.
+struct Numbered(u32, BTreeSet<u32>);
+
+impl TCNode<u32> for Numbered {
+    fn get_key(&self) -> u32 {
+        self.0
+    }
+
+    fn add_edge_to(&mut self, key: u32) {
+        self.1.insert(key);
+    }
+
+    fn out_edges(&self) -> Box<dyn Iterator<Item = &u32> + '_> {
+        Box::new(self.1.iter())
+    }
+
+    fn has_edge_to(&self, key: &u32) -> bool {
+        self.1.contains(key)
+    }
+
+    fn reset_edges(&mut self) {}
+}
+
+fn numbered(edges: impl IntoIterator<Item = (u32, Vec<u32>)>) -> HashMap<u32, Numbered> {
+    edges
+        .into_iter()
+        .map(|(key, edges)| (key, Numbered(key, edges.into_iter().collect())))
+        .collect()
+}
+
+#[test]
+fn each_of_fifty_leads_to_the_others() {
+    let all = || numbered((0..50).map(|key| (key, (0..50).filter(|to| *to != key).collect())));
+    let mut nodes = all();
+    let work = compute_tc_counted(&mut nodes, false).expect("nothing is refused");
+    assert_eq!(work.reads, 50);
+    assert!(nodes.values().all(|node| node.1.len() == 50));
+    assert!(matches!(compute_tc(&mut all(), true), Err(TcError::HasCycle(_))));
+}
+
+#[test]
+fn a_chain_a_star_and_a_ring() {
+    let mut chain = numbered((1..=2_000).map(|key| (key, vec![key + 1])));
+    let work = compute_tc_counted(&mut chain, true).expect("no cycle");
+    assert_eq!((work.reads, work.closings), (2_000, 2_000));
+    assert_eq!(chain.values().map(|node| node.1.len()).sum::<usize>(), 2_001_000);
+    let mut star = numbered((1..=100_000).map(|key| (key, vec![0])).chain([(0, vec![100_001])]));
+    let work = compute_tc_counted(&mut star, true).expect("no cycle");
+    assert_eq!((work.reads, work.closings), (100_001, 100_001));
+    assert_eq!(star.values().map(|node| node.1.len()).sum::<usize>(), 200_001);
+    let mut ring = numbered((0..2_000).map(|key| (key, vec![(key + 1) % 2_000])));
+    compute_tc(&mut ring, false).expect("nothing is refused");
+    assert!(ring.values().all(|node| node.1.len() == 2_000));
+}
+
+/// The part of a chain of 100,000 keys whose last 50 have nodes.
+#[test]
+fn the_end_of_a_long_chain() {
+    let mut nodes = numbered((99_951..=100_000).map(|key| (key, if key < 100_000 { vec![key + 1] } else { vec![] })));
+    compute_tc(&mut nodes, false).expect("nothing is refused");
+    assert_eq!(nodes.values().map(|node| node.1.len()).sum::<usize>(), 1_225);
+    assert!(nodes[&99_951].has_edge_to(&100_000));
+}
+
+#[test]
+fn changed_nodes_are_closed_anew_and_absent_ones_are_not_visited() {
+    let mut nodes = numbered((0..9).map(|key| (key, vec![key + 1])));
+    compute_tc(&mut nodes, true).expect("no cycle");
+    for (key, edges) in [(3, vec![4]), (1, vec![2, 3]), (7, vec![8])] {
+        nodes.insert(key, Numbered(key, edges.into_iter().collect()));
+    }
+    assert!(enforce_tc_and_dag(&nodes).is_err());
+    let work = repair_tc_counted(&HashSet::from([1, 3, 7]), &mut nodes, true).expect("no cycle");
+    assert!((3..=6).contains(&work.closings));
+    assert_eq!(nodes.values().map(|node| node.1.len()).sum::<usize>(), 45);
+    assert!(enforce_tc_and_dag(&nodes).is_ok());
+    let work = repair_tc_counted(&HashSet::from([20, 21]), &mut nodes, true).expect("no cycle");
+    assert_eq!((work.reads, work.closings), (0, 0));
+}
+
+#[test]
+fn refusals_are_told_and_compared() {
+    let missing = || {
+        TcError::MissingTcEdge(MissingTcEdge {
+            child: 1,
+            parent: 2,
+            grandparent: 3,
+        })
+    };
+    assert_eq!(
+        missing().to_string(),
+        "expected all transitive edges to exist, but `1` -> `2` and `2` -> `3` exists, while `1` -> `3` does not"
+    );
+    let looped = || enforce_tc_and_dag(&numbered([(7, vec![7])])).expect_err("a loop");
+    assert_eq!(looped().to_string(), "input graph has a cycle containing vertex `7`");
+    assert!(enforce_tc_and_dag(&numbered([(1, vec![2]), (2, vec![3])])).expect_err("it is not closed") == missing());
+    assert!(looped() != missing() && looped() == TcError::HasCycle(HasCycle::new(7)));
+}

@@ -1,0 +1,331 @@
+//! Where things of policies stand: their places are kept by copies, by other ids, by links and by merging, count in no
+//! comparison, and are those that refusals name.
+mod common;
+
+use cedar_store::ast::{
+    ActionConstraint, Annotation, Annotations, AnyId, Effect, EntityReference, EntityUID, Expr, LinkingError, Policy,
+    PolicySet, PrincipalConstraint, PrincipalOrResourceConstraint, ResourceConstraint, SlotEnv, SlotId, StaticPolicy,
+    Template, TemplateBody, TemplateValidationError, UnexpectedSlotError,
+};
+use cedar_store::parser::Loc;
+use common::{id, shared, uid};
+
+fn at(start: usize) -> Option<Loc> {
+    Some(Loc::new(
+        start,
+        start + 1,
+        "permit(principal, action, resource);".into(),
+    ))
+}
+
+fn start(loc: Option<&Loc>) -> Option<usize> {
+    loc.map(|loc| loc.start)
+}
+
+/// A uid at a place.
+fn placed(text: &str, start: usize) -> EntityUID {
+    let (ty, eid) = uid(text).components();
+    EntityUID::from_components(ty, eid, at(start))
+}
+
+fn notes() -> Annotations {
+    let key = AnyId::from_normalized_str("k").unwrap();
+    let note = Annotation {
+        val: "v".into(),
+        loc: at(4),
+    };
+    Annotations::try_from_iter([(key, note)])
+}
+
+fn slot(start: usize) -> PrincipalOrResourceConstraint {
+    PrincipalOrResourceConstraint::Eq(EntityReference::Slot(at(start)))
+}
+
+/// `t` at 1 with an annotation at 4, the principal's slot at 3, the action's at 6, the resource's at 5, and a clause.
+fn template(clause: Option<Expr>) -> Template {
+    Template::new(
+        id("t"),
+        at(1),
+        notes(),
+        Effect::Permit,
+        PrincipalConstraint::new(slot(3)),
+        ActionConstraint::EqSlot(at(6)),
+        ResourceConstraint::new(slot(5)),
+        clause,
+    )
+}
+
+fn principal_slot(start: usize) -> Expr {
+    Expr::slot(SlotId::principal()).with_maybe_source_loc(at(start))
+}
+
+/// Where the annotation, the slot of a constraint and the thing itself stand.
+fn starts_of(template: &Template) -> [Option<usize>; 3] {
+    let key = AnyId::from_normalized_str("k").unwrap();
+    let note = template.annotation(&key).and_then(|note| note.loc.as_ref());
+    let reference = match template.principal_constraint().as_inner() {
+        PrincipalOrResourceConstraint::Eq(EntityReference::Slot(loc)) => start(loc.as_ref()),
+        _ => None,
+    };
+    [start(template.loc()), start(note), reference]
+}
+
+#[test]
+fn templates_keep_places_whatever_is_made_of_them() {
+    let one = template(Some(principal_slot(7)));
+    let due = [Some(1), Some(4), Some(3)];
+    let body = TemplateBody::from(one.clone());
+    assert_eq!(start(body.loc()), Some(1));
+    for other in [
+        one.clone(),
+        one.new_id(id("u")),
+        Template::from_body(body.clone()),
+        Template::from_body(body.new_id(id("u"))),
+    ] {
+        assert_eq!(starts_of(&other), due);
+        let slots: Vec<_> = other.slots().map(|slot| (slot.id, start(slot.loc.as_ref()))).collect();
+        assert_eq!(
+            slots,
+            [
+                (SlotId::principal(), Some(7)),
+                (SlotId::resource(), Some(5)),
+                (SlotId::action(), Some(6)),
+                (SlotId::principal(), Some(3)),
+            ]
+        );
+    }
+    assert_eq!(one.new_id(id("u")).id(), &id("u"));
+}
+
+#[test]
+fn places_count_in_no_comparison_and_parts_do() {
+    let unplaced = || {
+        Template::new(
+            id("t"),
+            None,
+            notes(),
+            Effect::Permit,
+            PrincipalConstraint::is_eq_slot(),
+            ActionConstraint::is_eq_slot(),
+            ResourceConstraint::is_eq_slot(),
+            None,
+        )
+    };
+    assert_eq!(template(None), unplaced());
+    let other =
+        |effect: Effect, principal: PrincipalConstraint, action: ActionConstraint, resource: ResourceConstraint| {
+            Template::new(id("t"), None, notes(), effect, principal, action, resource, None)
+        };
+    let (principal, action, resource) = (
+        PrincipalConstraint::is_eq_slot,
+        ActionConstraint::is_eq_slot,
+        ResourceConstraint::is_eq_slot,
+    );
+    let all = [
+        unplaced(),
+        unplaced().new_id(id("u")),
+        template(Some(principal_slot(7))),
+        other(Effect::Forbid, principal(), action(), resource()),
+        other(Effect::Permit, PrincipalConstraint::is_in_slot(), action(), resource()),
+        other(Effect::Permit, principal(), ActionConstraint::is_in_slot(), resource()),
+        other(Effect::Permit, principal(), ActionConstraint::is_in([]), resource()),
+        other(Effect::Permit, principal(), action(), ResourceConstraint::is_in_slot()),
+    ];
+    for (n, one) in all.iter().enumerate() {
+        for (m, two) in all.iter().enumerate() {
+            assert_eq!(one == two, n == m, "{one} {two}");
+            assert_eq!(
+                TemplateBody::from(one.clone()) == TemplateBody::from(two.clone()),
+                n == m
+            );
+        }
+    }
+    assert!(Effect::Permit < Effect::Forbid);
+    assert_eq!(
+        (Effect::Permit.to_string(), Effect::Forbid.to_string()),
+        ("permit".into(), "forbid".into())
+    );
+}
+
+fn bindings() -> SlotEnv {
+    SlotEnv::from([
+        (SlotId::principal(), placed(r#"A::"p""#, 12)),
+        (SlotId::action(), placed(r#"N::Action::"é""#, 14)),
+        (SlotId::resource(), placed(r#"A::"r""#, 13)),
+    ])
+}
+
+fn filled(constraint: &PrincipalOrResourceConstraint) -> (String, Option<usize>) {
+    let euid = constraint.get_euid().expect("it is filled");
+    (euid.to_string(), start(euid.loc()))
+}
+
+#[test]
+fn links_have_the_places_of_what_their_slots_are_bound_to() {
+    let link = Template::link(shared(template(None)), id("l"), bindings()).expect("all slots are bound");
+    for link in [link.clone(), link.new_id(id("l"))] {
+        assert_eq!(start(link.loc()), Some(1));
+        assert_eq!(
+            filled(link.principal_constraint().as_inner()),
+            (r#"A::"p""#.into(), Some(12))
+        );
+        assert_eq!(
+            filled(link.resource_constraint().as_inner()),
+            (r#"A::"r""#.into(), Some(13))
+        );
+        match link.action_constraint() {
+            ActionConstraint::Eq(action) => {
+                assert_eq!(
+                    (action.to_string().as_str(), start(action.loc())),
+                    (r#"N::Action::"é""#, Some(14))
+                );
+            }
+            other => panic!("{other}"),
+        }
+        assert_eq!(
+            link.to_string(),
+            r#"Template Instance of t, slots: [?principal -> A::"p",?action -> N::Action::"é",?resource -> A::"r"]"#
+        );
+    }
+    let moved = link.clone().new_template_id(id("u")).expect("it is a link");
+    assert_eq!((moved.template().id(), moved.id()), (&id("u"), &id("l")));
+    let (own, name, values) = link.clone().into_components();
+    assert_eq!((own.id(), name, values.len()), (&id("t"), Some(id("l")), 3));
+    // equal where template, id and bindings are, wherever they stand
+    let elsewhere = SlotEnv::from([
+        (SlotId::resource(), uid(r#"A::"r""#)),
+        (SlotId::action(), uid(r#"N::Action::"é""#)),
+        (SlotId::principal(), uid(r#"A::"p""#)),
+    ]);
+    assert_eq!(
+        link,
+        Template::link(shared(template(None)), id("l"), elsewhere.clone()).unwrap()
+    );
+    for (slot, text) in [
+        (SlotId::principal(), r#"A::"x""#),
+        (SlotId::action(), r#"Action::"é""#),
+        (SlotId::resource(), r#"B::"r""#),
+    ] {
+        let mut values = elsewhere.clone();
+        values.insert(slot, uid(text));
+        assert_ne!(link, Template::link(shared(template(None)), id("l"), values).unwrap());
+    }
+    assert_ne!(
+        link,
+        Template::link(shared(template(None)), id("m"), elsewhere).unwrap()
+    );
+}
+
+fn unlinked(effect: Effect, clause: Option<Expr>) -> Result<StaticPolicy, UnexpectedSlotError> {
+    StaticPolicy::new(
+        id("p"),
+        at(9),
+        notes(),
+        effect,
+        PrincipalConstraint::any(),
+        ActionConstraint::any(),
+        ResourceConstraint::any(),
+        clause,
+    )
+}
+
+#[test]
+fn static_policies_keep_places() {
+    let one = unlinked(Effect::Forbid, Some(Expr::val(1).with_maybe_source_loc(at(8)))).expect("no slot");
+    for policy in [
+        one.clone(),
+        one.new_id(id("p")),
+        StaticPolicy::try_from(Template::from_body(TemplateBody::from(one.clone()))).unwrap(),
+    ] {
+        assert_eq!(start(policy.loc()), Some(9));
+        assert_eq!(
+            start(policy.non_scope_constraints().and_then(Expr::source_loc)),
+            Some(8)
+        );
+        assert_eq!(policy, one);
+    }
+    let policy = Policy::from(one.clone());
+    assert_eq!(start(policy.loc()), Some(9));
+    assert!(policy.clone().new_template_id(id("u")).is_none());
+    // the nodes that a condition makes stand where the policy does
+    assert_eq!(start(policy.condition().source_loc()), Some(9));
+    let renamed = policy.new_id(id("m"));
+    assert_eq!((renamed.id(), renamed.template().id()), (&id("m"), &id("m")));
+    let (own, name, values) = renamed.into_components();
+    assert_eq!((own.id(), name, values.len()), (&id("m"), None, 0));
+}
+
+#[test]
+fn refusals_name_the_slot_where_it_stands() {
+    let found = |made: Template| match StaticPolicy::try_from(made) {
+        Err(UnexpectedSlotError::FoundSlot(slot)) => (slot.id, start(slot.loc.as_ref())),
+        Ok(policy) => panic!("{policy}"),
+    };
+    assert_eq!(found(template(Some(principal_slot(7)))), (SlotId::principal(), Some(7)));
+    assert_eq!(found(template(None)), (SlotId::resource(), Some(5)));
+    let clause = Expr::is_eq(
+        Expr::slot(SlotId::principal()).with_maybe_source_loc(at(2)),
+        Expr::slot(SlotId::action()).with_maybe_source_loc(at(8)),
+    );
+    match template(Some(clause)).try_validate() {
+        Err(TemplateValidationError::SlotsInConditionClause(slot)) => {
+            assert_eq!((slot.id, start(slot.loc.as_ref())), (SlotId::action(), Some(8)));
+        }
+        other => panic!("{other:?}"),
+    }
+    let mut values = bindings();
+    values.insert(SlotId::action(), placed(r#"A::"x""#, 15));
+    match Template::link(shared(template(None)), id("l"), values) {
+        Err(LinkingError::NotAnAction { uid: told }) => {
+            assert_eq!((told.clone(), start(told.loc())), (uid(r#"A::"x""#), Some(15)));
+        }
+        other => panic!("{other:?}"),
+    }
+}
+
+/// What is bound alike takes the other's value: a static policy, a template, and a template with its link.
+#[test]
+fn merging_takes_the_others_places() {
+    fn thing(start: usize) -> Template {
+        Template::new(
+            id("t"),
+            at(start),
+            Annotations::new(),
+            Effect::Permit,
+            PrincipalConstraint::any(),
+            ActionConstraint::any(),
+            ResourceConstraint::any(),
+            None,
+        )
+    }
+    fn set_at(kind: &str, start: usize) -> PolicySet {
+        let mut set = PolicySet::new();
+        match kind {
+            "static" => set.add(Template::try_as_policy(shared(thing(start))).unwrap()).unwrap(),
+            "template" => set.add_template(thing(start)).unwrap(),
+            _ => set
+                .add(Template::link(shared(thing(start)), id("l"), SlotEnv::new()).unwrap())
+                .unwrap(),
+        }
+        set
+    }
+    let starts = |set: &PolicySet| {
+        [
+            set.get_template_arc(&id("t"))
+                .and_then(|template| start(template.loc())),
+            start(set.get(&id("t")).and_then(Policy::loc)),
+            start(set.get(&id("l")).and_then(Policy::loc)),
+        ]
+    };
+    for (kind, held) in [
+        ("static", [true, true, false]),
+        ("template", [true, false, false]),
+        ("link", [true, false, true]),
+    ] {
+        let (mut set, other) = (set_at(kind, 3), set_at(kind, 7));
+        assert_eq!(starts(&set), held.map(|is| is.then_some(3)));
+        assert!(set.merge_policyset(&other, false).expect("they are equal").is_empty());
+        assert_eq!(starts(&set), held.map(|is| is.then_some(7)));
+        assert_eq!(starts(&other), held.map(|is| is.then_some(7)));
+    }
+}

@@ -1,0 +1,253 @@
+//! Policy sets after merges, linked and unlinked by the thousand, taken apart, and lists of calls on them and on stores.
+#![allow(
+    unreachable_patterns,
+    reason = "the errors of the crate for the library have one variant more"
+)]
+mod common;
+#[path = "common/policies.rs"]
+mod policies;
+
+use cedar_store::ast::{Effect, LinkingError, Policy, PolicySet, PolicySetTemplateRemovalError, SlotEnv};
+use cedar_store::entities::{Entities, TCComputation};
+use cedar_store::replay::{Answer, EntityCall, PolicyCall, replay_entities, replay_policies};
+use common::{child, id, principal, resource, shared, uid, with_eid};
+use policies::{permit, principal_template, resource_template};
+
+fn links_of(set: &PolicySet, template: &str) -> Vec<String> {
+    let ids = set.get_linked_policies(&id(template)).expect("it is held");
+    ids.map(ToString::to_string).collect()
+}
+
+/// A set of the principal's template `t` and links of it.
+fn linked(links: &[(&str, &str)]) -> PolicySet {
+    let mut set = PolicySet::new();
+    set.add_template(principal_template("t")).unwrap();
+    for (name, eid) in links {
+        set.link(id("t"), id(name), principal(with_eid(eid))).unwrap();
+    }
+    set
+}
+
+/// The same of the resource's template.
+fn resource_linked(links: &[(&str, &str)]) -> PolicySet {
+    let mut set = PolicySet::new();
+    set.add_template(resource_template("t")).unwrap();
+    for (name, eid) in links {
+        set.link(id("t"), id(name), resource(with_eid(eid))).unwrap();
+    }
+    set
+}
+
+#[test]
+fn the_links_of_a_template_after_a_merge() {
+    let mut set = linked(&[("l", "x")]);
+    set.merge_policyset(&linked(&[("l", "x"), ("m", "y"), ("k", "x")]), true)
+        .unwrap();
+    assert_eq!(links_of(&set, "t"), ["l", "m", "k"]);
+    // a template that conflicts is renamed, and its links go with it
+    let mut set = linked(&[("l", "x")]);
+    let renaming = set
+        .merge_policyset(&resource_linked(&[("m", "x"), ("n", "y")]), true)
+        .unwrap();
+    assert_eq!(renaming.get(&id("t")), Some(&id("policy0")));
+    assert_eq!(
+        (links_of(&set, "t"), links_of(&set, "policy0")),
+        (vec!["l".into()], vec!["m".into(), "n".into()])
+    );
+    assert_eq!(set.get(&id("m")).unwrap().template().id(), &id("policy0"));
+    // a link that conflicts is renamed on the same template
+    let mut set = linked(&[("l", "x")]);
+    set.merge_policyset(&linked(&[("l", "y")]), true).unwrap();
+    assert_eq!(links_of(&set, "t"), ["l", "policy0"]);
+    // what was unlinked before does not come back, and what comes can go
+    let mut set = linked(&[("l", "x")]);
+    set.unlink(&id("l")).unwrap();
+    set.merge_policyset(&linked(&[("m", "y")]), true).unwrap();
+    assert_eq!(links_of(&set, "t"), ["m"]);
+    let mut set = linked(&[]);
+    set.merge_policyset(&linked(&[("l", "x")]), true).unwrap();
+    set.unlink(&id("l")).unwrap();
+    assert!(links_of(&set, "t").is_empty());
+    let mut set = linked(&[("l", "x")]);
+    set.merge_policyset(&linked(&[("l", "x"), ("m", "y")]), true).unwrap();
+    set.unlink(&id("l")).unwrap();
+    assert!(matches!(
+        set.remove_template(&id("t")),
+        Err(PolicySetTemplateRemovalError::RemoveTemplateWithLinksError(told)) if told == id("t")
+    ));
+    // a static policy is listed on its own body
+    let mut set = PolicySet::new();
+    set.add_static(permit("a", None)).unwrap();
+    let mut other = set.clone();
+    other.add_static(permit("b", None)).unwrap();
+    set.merge_policyset(&other, true).unwrap();
+    assert_eq!(links_of(&set, "b"), ["b"]);
+}
+
+fn forbid(name: &str) -> Policy {
+    let template = policies::template(
+        name,
+        Effect::Forbid,
+        cedar_store::ast::PrincipalConstraint::any(),
+        cedar_store::ast::ResourceConstraint::any(),
+    );
+    cedar_store::ast::Template::try_as_policy(shared(template)).expect("no slot")
+}
+
+#[test]
+fn a_merged_set_is_merged_again() {
+    let mut set = PolicySet::new();
+    set.add_static(permit("a", None)).unwrap();
+    let mut other = PolicySet::new();
+    other.add(forbid("a")).unwrap();
+    other.add_static(permit("b", None)).unwrap();
+    for due in ["policy0", "policy1"] {
+        let renaming = set.merge_policyset(&other, true).unwrap();
+        let told: Vec<_> = renaming.iter().map(|(old, new)| (old.clone(), new.clone())).collect();
+        assert_eq!(told, [(id("a"), id(due))]);
+    }
+    let names: Vec<_> = set.policies().map(|policy| policy.id().to_string()).collect();
+    assert_eq!(names, ["a", "policy0", "b", "policy1"]);
+}
+
+/// A hundred policies under the first ids that merging gives, and as many that conflict, or one or two more: bodies and
+/// policies stand in the order in which they came, those that conflict behind by the number of the others.
+#[test]
+fn orders_after_renaming() {
+    for there in [100, 101, 102, 500] {
+        let name = |number: usize| id(&format!("policy{number}"));
+        let (mut set, mut other) = (PolicySet::new(), PolicySet::new());
+        for number in 0..100 {
+            set.add_static(permit(name(number).as_ref(), None)).unwrap();
+        }
+        for number in 0..there {
+            other.add(forbid(name(number).as_ref())).unwrap();
+        }
+        let renaming = set.merge_policyset(&other, true).unwrap();
+        let told: Vec<_> = renaming.iter().map(|(old, new)| (old.clone(), new.clone())).collect();
+        let due: Vec<_> = (0..100).map(|number| (name(number), name(number + there))).collect();
+        assert_eq!(told, due);
+        let due: Vec<_> = (0..100)
+            .map(|number| (name(number), Effect::Permit))
+            .chain((0..100).map(|number| (name(number + there), Effect::Forbid)))
+            .chain((100..there).map(|number| (name(number), Effect::Forbid)))
+            .collect();
+        let bodies: Vec<_> = set
+            .all_templates()
+            .map(|body| (body.id().clone(), body.effect()))
+            .collect();
+        let policies: Vec<_> = set
+            .policies()
+            .map(|policy| (policy.id().clone(), policy.effect()))
+            .collect();
+        assert_eq!((&bodies, &policies), (&due, &due));
+    }
+}
+
+#[test]
+fn thousands_are_linked_and_taken_out() {
+    let mut set = linked(&[]);
+    let name = |number: usize| id(&number.to_string());
+    for number in 0..2_000 {
+        set.link(id("t"), name(number), principal(with_eid("x"))).unwrap();
+    }
+    assert_eq!(set.policies().count(), 2_000);
+    for number in 0..2_000 {
+        set.unlink(&name(number)).unwrap();
+    }
+    assert_eq!((set.policies().count(), set.all_templates().count()), (0, 1));
+}
+
+#[test]
+fn copies_stand_apart_and_sets_of_one_are_what_adding_leaves() {
+    let mut set = linked(&[("l", "x")]);
+    set.add_static(permit("a", None)).unwrap();
+    let copy = set.clone();
+    assert_eq!(copy, set);
+    set.unlink(&id("l")).unwrap();
+    set.remove_template(&id("t")).unwrap();
+    set.add(forbid("m")).unwrap();
+    assert!(copy != set && copy.get(&id("l")).is_some() && copy.get(&id("m")).is_none());
+    let alone = PolicySet::singleton(forbid("a"));
+    let mut added = PolicySet::new();
+    assert!(added.is_empty());
+    added.add(forbid("a")).unwrap();
+    assert_eq!(alone, added);
+    added.remove_static(&id("a")).unwrap();
+    assert!(added.is_empty());
+    // linking lends the policy
+    let mut set = linked(&[]);
+    let lent = set.link(id("t"), id("l"), principal(with_eid("x"))).unwrap();
+    assert_eq!(lent.id(), &id("l"));
+}
+
+#[test]
+fn lists_of_calls_on_a_set() {
+    let mut other = PolicySet::new();
+    other.add_static(permit("policy1", None)).unwrap();
+    other.add_static(permit("policy2", None)).unwrap();
+    for (rename, told) in [(false, None), (true, Some(id("policy3")))] {
+        let mut set = PolicySet::new();
+        let calls = vec![
+            PolicyCall::Add(Policy::from(permit("policy0", None))),
+            PolicyCall::Add(forbid("policy1")),
+            PolicyCall::Merge(other.clone(), rename),
+            PolicyCall::Unlink(id("x")),
+            PolicyCall::Link(id("t"), id("l"), SlotEnv::new()),
+        ];
+        let answers = replay_policies(&mut set, calls);
+        assert_eq!(answers.len(), 5);
+        assert!(matches!(answers[0], Answer::Add(Ok(()))) && matches!(answers[3], Answer::Unlink(Err(_))));
+        match &answers[2] {
+            Answer::Merge(Ok(renaming)) => assert_eq!(renaming.get(&id("policy1")), told.as_ref()),
+            Answer::Merge(Err(error)) => {
+                assert_eq!(error.to_string(), "duplicate template or policy id `policy1`");
+                assert!(!rename);
+            }
+            other => panic!("{other:?}"),
+        }
+        assert!(
+            matches!(&answers[4], Answer::Link(Err(LinkingError::NoSuchTemplate { id: told })) if *told == id("t"))
+        );
+        let names: Vec<_> = set.policies().map(|policy| policy.id().to_string()).collect();
+        let due = if rename {
+            vec!["policy0", "policy1", "policy3", "policy2"]
+        } else {
+            vec!["policy0", "policy1"]
+        };
+        assert_eq!(names, due);
+    }
+    let mut set = linked(&[("l", "x"), ("m", "y")]);
+    let calls = vec![
+        PolicyCall::Merge(set.clone(), false),
+        PolicyCall::RemoveTemplate(id("t")),
+    ];
+    let answers = replay_policies(&mut set, calls);
+    assert!(matches!(&answers[0], Answer::Merge(Ok(renaming)) if renaming.is_empty()));
+    assert!(matches!(answers[1], Answer::RemoveTemplate(Err(_))));
+    assert!(replay_policies(&mut set, vec![]).is_empty());
+}
+
+#[test]
+fn lists_of_calls_on_a_store() {
+    assert!(replay_entities([]).is_ok_and(|store| store.is_empty() && !store.is_partial()));
+    let store = replay_entities([
+        EntityCall::From(vec![child("a", &["b"]), child("b", &["c"])]),
+        EntityCall::Partial,
+        EntityCall::Upsert(vec![shared(child("b", &["d"]))]),
+        EntityCall::Remove(vec![uid(r#"A::"z""#)]),
+    ])
+    .expect("nothing is refused");
+    assert!(store.is_partial() && store.len() == 2);
+    let again = replay_entities([EntityCall::Partial, EntityCall::From(vec![child("a", &[])])]).unwrap();
+    assert!(!again.is_partial());
+    match replay_entities([
+        EntityCall::Add(vec![shared(child("a", &["b"]))]),
+        EntityCall::Add(vec![shared(child("b", &["a"]))]),
+    ]) {
+        Err((done, _)) => assert_eq!(done, 1),
+        Ok(store) => panic!("{store}"),
+    }
+    let plain = Entities::from_entities([child("a", &["b"]), child("b", &["d"])], TCComputation::ComputeNow).unwrap();
+    assert!(store.deep_eq(&plain.partial()));
+}

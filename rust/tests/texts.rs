@@ -1,0 +1,263 @@
+//! How bodies, templates, static policies and links are written, what their conditions are, in which order their slots
+//! stand, what their annotations are, and which entities their unknowns name.
+mod common;
+
+use cedar_store::ast::{
+    ActionConstraint, Annotation, Annotations, AnyId, Effect, EntityType, Expr, Policy, PrincipalConstraint,
+    ResourceConstraint, SlotEnv, SlotId, StaticPolicy, StaticType, Template, TemplateBody, Unknown,
+};
+use common::{id, shared, uid};
+use std::sync::Arc;
+
+fn notes(pairs: &[(&str, &str)]) -> Annotations {
+    Annotations::try_from_iter(pairs.iter().map(|(name, val)| {
+        let note = Annotation {
+            val: (*val).into(),
+            loc: None,
+        };
+        (AnyId::from_normalized_str(name).unwrap(), note)
+    }))
+}
+
+fn template(
+    pairs: &[(&str, &str)],
+    principal: PrincipalConstraint,
+    action: ActionConstraint,
+    resource: ResourceConstraint,
+    clause: Option<Expr>,
+) -> Template {
+    Template::new(
+        id("t"),
+        None,
+        notes(pairs),
+        Effect::Permit,
+        principal,
+        action,
+        resource,
+        clause,
+    )
+}
+
+fn free(pairs: &[(&str, &str)], clause: Option<Expr>) -> Template {
+    template(
+        pairs,
+        PrincipalConstraint::any(),
+        ActionConstraint::any(),
+        ResourceConstraint::any(),
+        clause,
+    )
+}
+
+fn is_eq(left: Expr, right: Expr) -> Option<Expr> {
+    Some(Expr::is_eq(left, right))
+}
+
+fn slot(slot: SlotId) -> Expr {
+    Expr::slot(slot)
+}
+
+fn ty(text: &str) -> Arc<EntityType> {
+    shared(EntityType::from_normalized_str(text).unwrap())
+}
+
+#[test]
+fn policies_are_written_line_by_line() {
+    let (v, w) = (uid(r#"Action::"v""#), uid(r#"Action::"w""#));
+    for (template, text) in [
+        (free(&[], None), "permit(\n  principal,\n  action,\n  resource\n);"),
+        (
+            template(
+                &[],
+                PrincipalConstraint::is_eq_slot(),
+                ActionConstraint::is_in([v.clone(), w]),
+                ResourceConstraint::is_in_slot(),
+                is_eq(Expr::val(1), Expr::val(2)),
+            ),
+            "permit(\n  principal == ?principal,\n  action in [Action::\"v\",Action::\"w\"],\n  resource in ?resource\n) when {\n  1 == 2\n};",
+        ),
+        (
+            template(
+                &[("k", "1"), ("if", "x\"y")],
+                PrincipalConstraint::is_in(shared(uid(r#"A::"g""#))),
+                ActionConstraint::is_eq(v),
+                ResourceConstraint::is_entity_type(ty("T")),
+                None,
+            ),
+            "@if(\"x\\\"y\")\n@k(\"1\")\npermit(\n  principal in A::\"g\",\n  action == Action::\"v\",\n  resource is T\n);",
+        ),
+        (
+            template(
+                &[],
+                PrincipalConstraint::any(),
+                ActionConstraint::is_in_slot(),
+                ResourceConstraint::any(),
+                None,
+            ),
+            "permit(\n  principal,\n  action in ?action,\n  resource\n);",
+        ),
+        (
+            free(&[("k", "é\t")], Some(Expr::val("é"))),
+            "@k(\"é\\t\")\npermit(\n  principal,\n  action,\n  resource\n) when {\n  \"é\"\n};",
+        ),
+    ] {
+        assert_eq!(template.to_string(), text);
+        assert_eq!(TemplateBody::from(template.clone()).to_string(), text);
+        if let Ok(policy) = StaticPolicy::try_from(template) {
+            assert_eq!(policy.to_string(), text);
+            assert_eq!(Policy::from(policy).to_string(), text);
+        }
+    }
+    let link = |name: &str, text: &str| {
+        let template = template(
+            &[],
+            PrincipalConstraint::is_eq_slot(),
+            ActionConstraint::any(),
+            ResourceConstraint::any(),
+            None,
+        );
+        let template = shared(template.new_id(id(name)));
+        let bound = SlotEnv::from([(SlotId::principal(), uid(text))]);
+        Template::link(template, id("l"), bound)
+            .expect("the slot is bound")
+            .to_string()
+    };
+    assert_eq!(
+        link("a\"b", r#"A::B::"it\'s""#),
+        r#"Template Instance of a\"b, slots: [?principal -> A::B::"it\'s"]"#
+    );
+    assert_eq!(
+        link("é", r#"A::"é""#),
+        r#"Template Instance of é, slots: [?principal -> A::"é"]"#
+    );
+}
+
+#[test]
+fn conditions_join_the_scope_and_the_clause() {
+    let (p, a, r) = (SlotId::principal(), SlotId::action(), SlotId::resource());
+    let typed = |clause: Option<Expr>| {
+        template(
+            &[],
+            PrincipalConstraint::is_entity_type(ty("A")),
+            ActionConstraint::any(),
+            ResourceConstraint::is_entity_type(ty("B")),
+            clause,
+        )
+    };
+    let slotted = |clause: Option<Expr>| {
+        template(
+            &[],
+            PrincipalConstraint::is_eq_slot(),
+            ActionConstraint::is_in_slot(),
+            ResourceConstraint::is_in_slot(),
+            clause,
+        )
+    };
+    for (template, text, slots) in [
+        (free(&[], None), "true && (true && (true && true))", vec![]),
+        (free(&[], Some(Expr::val(7))), "true && (true && (true && 7))", vec![]),
+        (
+            typed(is_eq(Expr::val(1), Expr::val(2))),
+            "(principal is A) && (true && ((resource is B) && (1 == 2)))",
+            vec![],
+        ),
+        (
+            slotted(None),
+            "(principal == ?principal) && ((action in ?action) && ((resource in ?resource) && true))",
+            vec![r, a, p],
+        ),
+        (
+            slotted(is_eq(slot(p), slot(r))),
+            "(principal == ?principal) && ((action in ?action) && ((resource in ?resource) && (?principal == ?resource)))",
+            vec![r, p, r, a, p],
+        ),
+        (
+            slotted(is_eq(slot(a), slot(p))),
+            "(principal == ?principal) && ((action in ?action) && ((resource in ?resource) && (?action == ?principal)))",
+            vec![p, a, r, a, p],
+        ),
+    ] {
+        assert_eq!(template.condition().to_string(), text);
+        assert_eq!(TemplateBody::from(template.clone()).condition(), template.condition());
+        assert_eq!(template.slots().map(|slot| slot.id).collect::<Vec<_>>(), slots);
+        assert_eq!(template.is_static(), slots.is_empty());
+        if let Ok(policy) = StaticPolicy::try_from(template.clone()) {
+            assert_eq!(Policy::from(policy).condition(), template.condition());
+        }
+    }
+}
+
+#[test]
+fn annotations_are_found_by_their_keys_and_shared() {
+    let key = |text: &str| AnyId::from_normalized_str(text).unwrap();
+    let one = free(&[("b", "2"), ("a", "1")], None);
+    let policy = StaticPolicy::try_from(one.clone()).unwrap();
+    let body = TemplateBody::from(one.clone());
+    for (name, want) in [("a", Some("1")), ("b", Some("2")), ("c", None)] {
+        assert_eq!(one.annotation(&key(name)).map(AsRef::as_ref), want);
+        assert_eq!(body.annotation(&key(name)).map(AsRef::as_ref), want);
+        assert_eq!(policy.annotation(&key(name)).map(AsRef::as_ref), want);
+        assert_eq!(
+            Policy::from(policy.clone()).annotation(&key(name)).map(AsRef::as_ref),
+            want
+        );
+    }
+    let told: Vec<_> = one
+        .annotations()
+        .map(|(name, note)| (name.as_ref(), note.as_ref()))
+        .collect();
+    assert_eq!(told, [("a", "1"), ("b", "2")]);
+    assert!(Arc::ptr_eq(one.annotations_arc(), one.clone().annotations_arc()));
+    let again = Template::new_shared(
+        id("t"),
+        None,
+        one.annotations_arc().clone(),
+        Effect::Permit,
+        PrincipalConstraint::any(),
+        ActionConstraint::any(),
+        ResourceConstraint::any(),
+        None,
+    );
+    assert_eq!(again, one);
+}
+
+/// An unknown with a type and a printed uid of that type names it, each uid once.
+#[test]
+fn unknowns_name_entities() {
+    let typed = |name: &str, text: &str| {
+        let ty = EntityType::from_normalized_str(text).unwrap();
+        Expr::unknown(Unknown::new_with_type(name, StaticType::Entity { ty }))
+    };
+    let named = |unknowns: Vec<Expr>| {
+        let policy = Policy::from(StaticPolicy::try_from(free(&[], Some(Expr::set(unknowns)))).unwrap());
+        let mut told: Vec<_> = policy.unknown_entities().iter().map(ToString::to_string).collect();
+        told.sort();
+        told
+    };
+    assert!(named(vec![]).is_empty());
+    let untyped = Expr::unknown(Unknown::new_untyped(r#"A::"c""#));
+    assert_eq!(
+        named(vec![typed(r#"A::"a""#, "A"), typed(r#"A :: "b""#, "A"), untyped]),
+        [r#"A::"a""#]
+    );
+    let twice = vec![
+        typed(r#"A::"a""#, "A"),
+        typed(r#"A::"b""#, "B"),
+        typed(r#"A::"a""#, "A"),
+        typed(r#"A::"""#, "A"),
+    ];
+    assert_eq!(named(twice), [r#"A::"""#, r#"A::"a""#, r#"A::"b""#]);
+    let past = vec![
+        typed(r#"A::"é""#, "A"),
+        typed(r#"A::"it\'s""#, "A"),
+        typed(r#"if::"a""#, "A"),
+    ];
+    assert_eq!(named(past), [r#"A::"it\'s""#, r#"A::"é""#]);
+    assert!(
+        named(vec![
+            typed(r#"A::"\u{e9}""#, "A"),
+            typed("alice", "A"),
+            typed(r#"A::"a" "#, "A")
+        ])
+        .is_empty()
+    );
+}
