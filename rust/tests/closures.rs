@@ -1,9 +1,13 @@
 //! Closures of graphs with nodes of a user's own: keys of which several are equal, all that lead to all, long chains, and
 //! what the refusals say.
+#[path = "common/numbered.rs"]
+mod numbered;
+
 use cedar_store::transitive_closure::{
     HasCycle, MissingTcEdge, TCNode, TcError, compute_tc, compute_tc_counted, enforce_tc_and_dag, repair_tc_counted,
 };
-use std::collections::{BTreeSet, HashMap, HashSet};
+use numbered::Numbered;
+use std::collections::{HashMap, HashSet};
 use std::fmt::{self, Display, Formatter};
 use std::hash::{Hash, Hasher};
 
@@ -105,30 +109,7 @@ fn a_cycle_over_equal_keys_is_named() {
     }
 }
 
-/// A node with number keys.
-struct Numbered(u32, BTreeSet<u32>);
-
-impl TCNode<u32> for Numbered {
-    fn get_key(&self) -> u32 {
-        self.0
-    }
-
-    fn add_edge_to(&mut self, key: u32) {
-        self.1.insert(key);
-    }
-
-    fn out_edges(&self) -> Box<dyn Iterator<Item = &u32> + '_> {
-        Box::new(self.1.iter())
-    }
-
-    fn has_edge_to(&self, key: &u32) -> bool {
-        self.1.contains(key)
-    }
-
-    fn reset_edges(&mut self) {}
-}
-
-fn numbered(edges: impl IntoIterator<Item = (u32, Vec<u32>)>) -> HashMap<u32, Numbered> {
+fn nodes_of(edges: impl IntoIterator<Item = (u32, Vec<u32>)>) -> HashMap<u32, Numbered> {
     edges
         .into_iter()
         .map(|(key, edges)| (key, Numbered(key, edges.into_iter().collect())))
@@ -137,7 +118,7 @@ fn numbered(edges: impl IntoIterator<Item = (u32, Vec<u32>)>) -> HashMap<u32, Nu
 
 #[test]
 fn each_of_fifty_leads_to_the_others() {
-    let all = || numbered((0..50).map(|key| (key, (0..50).filter(|to| *to != key).collect())));
+    let all = || nodes_of((0..50).map(|key| (key, (0..50).filter(|to| *to != key).collect())));
     let mut nodes = all();
     let work = compute_tc_counted(&mut nodes, false).expect("nothing is refused");
     assert_eq!(work.reads, 50);
@@ -147,15 +128,15 @@ fn each_of_fifty_leads_to_the_others() {
 
 #[test]
 fn a_chain_a_star_and_a_ring() {
-    let mut chain = numbered((1..=2_000).map(|key| (key, vec![key + 1])));
+    let mut chain = nodes_of((1..=2_000).map(|key| (key, vec![key + 1])));
     let work = compute_tc_counted(&mut chain, true).expect("no cycle");
     assert_eq!((work.reads, work.closings), (2_000, 2_000));
     assert_eq!(chain.values().map(|node| node.1.len()).sum::<usize>(), 2_001_000);
-    let mut star = numbered((1..=100_000).map(|key| (key, vec![0])).chain([(0, vec![100_001])]));
+    let mut star = nodes_of((1..=100_000).map(|key| (key, vec![0])).chain([(0, vec![100_001])]));
     let work = compute_tc_counted(&mut star, true).expect("no cycle");
     assert_eq!((work.reads, work.closings), (100_001, 100_001));
     assert_eq!(star.values().map(|node| node.1.len()).sum::<usize>(), 200_001);
-    let mut ring = numbered((0..2_000).map(|key| (key, vec![(key + 1) % 2_000])));
+    let mut ring = nodes_of((0..2_000).map(|key| (key, vec![(key + 1) % 2_000])));
     compute_tc(&mut ring, false).expect("nothing is refused");
     assert!(ring.values().all(|node| node.1.len() == 2_000));
 }
@@ -163,7 +144,7 @@ fn a_chain_a_star_and_a_ring() {
 /// The part of a chain of 100,000 keys whose last 50 have nodes.
 #[test]
 fn the_end_of_a_long_chain() {
-    let mut nodes = numbered((99_951..=100_000).map(|key| (key, if key < 100_000 { vec![key + 1] } else { vec![] })));
+    let mut nodes = nodes_of((99_951..=100_000).map(|key| (key, if key < 100_000 { vec![key + 1] } else { vec![] })));
     compute_tc(&mut nodes, false).expect("nothing is refused");
     assert_eq!(nodes.values().map(|node| node.1.len()).sum::<usize>(), 1_225);
     assert!(nodes[&99_951].has_edge_to(&100_000));
@@ -171,7 +152,7 @@ fn the_end_of_a_long_chain() {
 
 #[test]
 fn changed_nodes_are_closed_anew_and_absent_ones_are_not_visited() {
-    let mut nodes = numbered((0..9).map(|key| (key, vec![key + 1])));
+    let mut nodes = nodes_of((0..9).map(|key| (key, vec![key + 1])));
     compute_tc(&mut nodes, true).expect("no cycle");
     for (key, edges) in [(3, vec![4]), (1, vec![2, 3]), (7, vec![8])] {
         nodes.insert(key, Numbered(key, edges.into_iter().collect()));
@@ -198,8 +179,8 @@ fn refusals_are_told_and_compared() {
         missing().to_string(),
         "expected all transitive edges to exist, but `1` -> `2` and `2` -> `3` exists, while `1` -> `3` does not"
     );
-    let looped = || enforce_tc_and_dag(&numbered([(7, vec![7])])).expect_err("a loop");
+    let looped = || enforce_tc_and_dag(&nodes_of([(7, vec![7])])).expect_err("a loop");
     assert_eq!(looped().to_string(), "input graph has a cycle containing vertex `7`");
-    assert!(enforce_tc_and_dag(&numbered([(1, vec![2]), (2, vec![3])])).expect_err("it is not closed") == missing());
+    assert!(enforce_tc_and_dag(&nodes_of([(1, vec![2]), (2, vec![3])])).expect_err("it is not closed") == missing());
     assert!(looped() != missing() && looped() == TcError::HasCycle(HasCycle::new(7)));
 }

@@ -1,12 +1,15 @@
 //! Closures of drawn graphs of nodes of two kinds, some keys without a node, beside what is reached: closing, repairing,
 //! checking, and what the counted calls count.
 mod common;
+#[path = "common/numbered.rs"]
+mod numbered;
 
 use cedar_store::transitive_closure::{
     TCNode, TcError, close_dag, compute_tc, compute_tc_counted, enforce_tc_and_dag, repair_dag, repair_tc,
     repair_tc_counted,
 };
 use common::Drawn;
+use numbered::Numbered;
 use std::cell::Cell;
 use std::collections::{BTreeMap, BTreeSet, HashMap, HashSet};
 
@@ -336,26 +339,4 @@ fn large_graphs() {
     let last = HashSet::from([99_990]);
     repair_tc(&last, &mut chain, true).expect("no cycle");
     assert_eq!(chain[&99_990].1.len(), 2);
-}
-
-struct Numbered(u32, BTreeSet<u32>);
-
-impl TCNode<u32> for Numbered {
-    fn get_key(&self) -> u32 {
-        self.0
-    }
-
-    fn add_edge_to(&mut self, key: u32) {
-        self.1.insert(key);
-    }
-
-    fn out_edges(&self) -> Box<dyn Iterator<Item = &u32> + '_> {
-        Box::new(self.1.iter())
-    }
-
-    fn has_edge_to(&self, key: &u32) -> bool {
-        self.1.contains(key)
-    }
-
-    fn reset_edges(&mut self) {}
 }
