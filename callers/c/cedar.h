@@ -114,14 +114,15 @@ typedef enum cedar_status {
 /* How a call on a store sees to it that ancestors are closed. What a call touches is what it puts in or takes out, and
  * what has that among its ancestors. A removal gives what it touched what it still reaches, in each mode. */
 typedef enum cedar_mode {
-    /* What is touched gets all that it reaches as ancestors, and where one of it reaches itself the call is refused by
-     * CEDAR_CYCLE. Nothing else is checked. */
+    /* What is touched gets all that it reaches as ancestors, in a removal too, and where one of it reaches itself the
+     * call is refused by CEDAR_CYCLE. Nothing else is checked. */
     CEDAR_COMPUTE = 0,
-    /* What is put in is taken to have all its ancestors as parents: nothing is computed. Afterwards, behind a removal
-     * too, the whole store is checked: CEDAR_NOT_CLOSED where an ancestor of an ancestor is missing, CEDAR_CYCLE where
-     * an entity is among its own ancestors. */
+    /* What is put in is taken to have all its ancestors as parents: nothing is computed for it. A removal repairs. Then
+     * the whole store is checked: CEDAR_NOT_CLOSED where an ancestor of an ancestor is missing, CEDAR_CYCLE where an
+     * entity is among its own ancestors. */
     CEDAR_ENFORCE = 1,
-    /* As CEDAR_ENFORCE, but nothing is checked: no cycle is refused, and what was not closed is not told. */
+    /* What is put in is taken so too, and a removal repairs, but nothing is checked: no cycle is refused, and what was
+     * not closed is not told. */
     CEDAR_ASSUME = 2
 } cedar_mode;
 

@@ -26,14 +26,14 @@ const FEW: usize = 100;
 /// touched what it still reaches, in each mode.
 #[derive(Clone, Copy, Debug, Default, PartialEq, Eq, Hash)]
 pub enum TCComputation {
-    /// What is touched gets all that it reaches as ancestors, and the call is refused where one of it reaches itself.
-    /// Nothing else is checked.
+    /// What is touched gets all that it reaches as ancestors, in a removal too, and the call is refused where one of it
+    /// reaches itself. Nothing else is checked.
     #[default]
     ComputeNow,
-    /// What is put in is taken to have all its ancestors: nothing is computed. Afterwards, behind a removal too, the
-    /// whole store is checked, and refused where an ancestor is missing or an entity is its own.
+    /// What is put in is taken to have all its ancestors: nothing is computed for it. A removal repairs. Then the whole
+    /// store is checked, and refused where an ancestor of an ancestor is missing or an entity is its own.
     EnforceAlreadyComputed,
-    /// As `EnforceAlreadyComputed`, but nothing is checked, and no cycle is refused.
+    /// What is put in is taken so too, and a removal repairs, but nothing is checked, and no cycle is refused.
     AssumeAlreadyComputed,
 }
 

@@ -9,6 +9,7 @@ use Rattle.std.specs.List.{AllByRecursion, list_any}
 use Rattle.std.specs.Ordering.{eq_by_cmp}
 use Rattle.std.specs.Set.{is_member}
 use Rattle.std.specs.FinSet as set
+use Rattle.std.specs.Bool.{OnTrue}
 use Rattle.std.specs.FinMap as finmap
 use Rattle.cedar_graph.specs.Graph.{Reach, KeepsEdges, AddsOnlyReached}
 use Rattle.cedar_graph.specs.laws.Reaches.{reach_edge, reach_over_reach}
@@ -19,18 +20,18 @@ use Rattle.cedar_ids.specs.declared.entity.EntityUID.{EntityUID}
 use Rattle.cedar_uid_sets.specs.laws.Sets.{one_equal, same_tests}
 use Rattle.cedar_entity.specs.View.{EntityView, has_ancestor, IsDeepEqual}
 use Rattle.cedar_entity.specs.laws.Views.{deep_equality, parents_are_ancestors}
-use Rattle.cedar_entities.specs.ClosureFaults.{IsClosureFault}
+use Rattle.cedar_entities.specs.Refusals.{NamesCycle}
 use Rattle.cedar_entities.specs.Plain.{StoreView, Held, IsPlainStore, IsBare, AreBare, IsApart, parts_of, given_of}
-use Rattle.cedar_entities.specs.Modes.{ancestry, is_ancestor_in, IsClosureRefused, WhereComputed}
+use Rattle.cedar_entities.specs.Modes.{ancestry, computes, is_ancestor_in}
 use Rattle.cedar_entities.specs.laws.Closures.{IsClosureOf}
 use Rattle.cedar_entities.specs.Edits.{uids_of}
-use Rattle.cedar_entities.specs.Touching.{inserted_in, is_touched, IsSettled, StaysUntouched}
+use Rattle.cedar_entities.specs.Touching.{inserted_in, is_touched, IsEnded, IsEndRefused, StaysUntouched}
 use Rattle.cedar_entities.proofs.Reaching.{untouched}
 use Rattle.cedar_entities.proofs.AnyOf.{any_member, is_none}
 use Rattle.cedar_entities.specs.laws.PlainAncestors.{ancestry_plain}
+use Rattle.cedar_entities.proofs.Ending.{ended_computed, refused_computed}
 use Rattle.cedar_entities.proofs.Repaired.{repaired}
-use Rattle.cedar_entities.specs.declared.entities.TCComputation.{TCComputation}
-use Rattle.cedar_entities.specs.declared.entities.TCComputation.TheVariants as modes
+use Rattle.cedar_entities.specs.declared.settling.Row.{Row}
 use Rattle.cedar_entities.specs.Present.{first_entity, with_first, MatchesPresent, AllMatch, FirstMismatch}
 use Rattle.cedar_entities.specs.World.{World, Parts, Given, graph, is_parent_in, added, first, Agrees, AgreesWith}
 use Rattle.cedar_entities.specs.World.{AgreesWithFirst, AllAgree, FirstDiffers}
@@ -160,22 +161,21 @@ module _ (W : World) (S : StoreView) (L : List EntityView) (plain : IsPlainStore
       (λ m. both_ways (list_any (ancestry S.held a) (inserted_in S.held L)) p.1
       (any_member (ancestry S.held a) (inserted_in S.held L) u m ((ancestry_plain W S plain a u).1 r))))
 
-  pub settled_plain : (tc : TCComputation) (N : StoreView) → N.partial ≡ S.partial
-      → IsSettled tc (is_touched S.held (inserted_in S.held L)) (with_first S.held L) N.held
-      → WhereComputed tc (IsPlainStore (added W (map given_of L)) N)
-  settled_plain modes.AssumeAlreadyComputed N same h = tt
-  settled_plain modes.EnforceAlreadyComputed N same h = tt
-  settled_plain modes.ComputeNow N same h =
-      added_plain N same (repaired S.held (with_first S.held L) (graph W) (graph (added W (map given_of L)))
+  pub settled_plain : (row : Row) (N : StoreView) → N.partial ≡ S.partial
+      → IsEnded row (is_touched S.held (inserted_in S.held L)) (with_first S.held L) N.held
+      → OnTrue (computes row) (IsPlainStore (added W (map given_of L)) N)
+  settled_plain row N same = ended_computed row (is_touched S.held (inserted_in S.held L)) (with_first S.held L) N.held
+      (IsPlainStore (added W (map given_of L)) N)
+      (λ r a. added_plain N same (repaired S.held (with_first S.held L) (graph W) (graph (added W (map given_of L)))
       (is_touched S.held (inserted_in S.held L)) (ancestry_plain W S plain) plain.acyclic only_added add_back
-      (add_untouched S.held L) N.held h.0 h.1)
+      (add_untouched S.held L) N.held r a))
 
-  pub refused_plain : (tc : TCComputation) (t : TcError EntityUID) → IsClosureRefused tc (with_first S.held L) t
-      → WhereComputed tc (IsClosureFault t (λ _ _ _. ⊥) (λ v. Reach (graph (added W (map given_of L))) v v))
-  refused_plain modes.AssumeAlreadyComputed t h = tt
-  refused_plain modes.EnforceAlreadyComputed t h = tt
-  refused_plain modes.ComputeNow t h =
-      cycle_in (added W (map given_of L)) (with_first S.held L) holds_added only_added t h
+  pub refused_plain : (row : Row) (touched : EntityUID → Bool) (t : TcError EntityUID)
+      → IsEndRefused row touched (with_first S.held L) t
+      → OnTrue (computes row) (NamesCycle (added W (map given_of L)) t)
+  refused_plain row touched t = refused_computed row touched (with_first S.held L) t
+      (NamesCycle (added W (map given_of L)) t)
+      (cycle_in (added W (map given_of L)) (with_first S.held L) holds_added only_added t)
 
 pub same_bool : (x y : Bool) {R : Type 0} → (x ≡ true) ↔ R → (y ≡ true) ↔ R → x ≡ y
 same_bool true y f g = sym (g.1 (f.0 refl))

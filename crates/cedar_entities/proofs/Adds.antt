@@ -1,5 +1,5 @@
 -- What adding makes of the map of a store.
-use Rattle.std.specs.Prelude.{◌≡◌, ◌&&◌, not, true, List, map, Option, None}
+use Rattle.std.specs.Prelude.{◌≡◌, ◌&&◌, not, true, List, map, Option, None, ⊤}
 use Rattle.std.proofs.Common.{ap, refl, sym, subst, ◌∙◌}
 use Rattle.std.proofs.lemmas.Bool.{or_left}
 use Rattle.std.specs.List.{list_any}
@@ -12,17 +12,18 @@ use Rattle.cedar_ids.specs.UidOf.{same_uid}
 use Rattle.cedar_ids.specs.declared.entity.EntityUID.{EntityUID}
 use Rattle.cedar_entity.specs.declared.node.SharedEntity.{SharedEntity}
 use Rattle.cedar_entities.specs.declared.entities.TCComputation.{TCComputation}
-use Rattle.cedar_entities.specs.declared.entities.TCComputation.TheVariants as modes
 use Rattle.cedar_entity.specs.declared.err.EntitiesError.{EntitiesError}
+use Rattle.cedar_entity.specs.declared.err.EntitiesError.TheVariants as errors
 use Rattle.cedar_entities.specs.laws.Held.{held, held_map}
-use Rattle.cedar_entities.specs.Modes.{ancestry, IsClosureRefused, WhereComputed}
+use Rattle.cedar_entities.specs.Modes.{ancestry, computes, row_of, WhereComputed}
 use Rattle.cedar_entities.specs.Plain.{StoreView, Held, IsPlainStore, AreBare, given_of}
 use Rattle.cedar_entities.specs.Present.{first_entity, with_first, AllMatch, FirstMismatch}
-use Rattle.cedar_entities.specs.Refusals.{MatchRefusal, IsAddingRefused}
+use Rattle.cedar_entities.specs.Refusals.{MatchRefusal, NamesCycle, IsAddingRefused}
+use Rattle.cedar_entities.specs.laws.Modes.{where_map, where_so}
 use Rattle.cedar_entities.specs.laws.Refusals.{refusal_cases}
 use Rattle.cedar_entities.specs.Edits.{uids_of}
-use Rattle.cedar_entities.specs.Touching.{inserted_in, is_touched}
-use Rattle.cedar_entities.specs.World.{World}
+use Rattle.cedar_entities.specs.Touching.{inserted_in, is_touched, IsSettleRefused}
+use Rattle.cedar_entities.specs.World.{World, added, FirstDiffers}
 use Rattle.cedar_entity.specs.View.{EntityView}
 use Rattle.cedar_entities.proofs.Adding.{all_agree, and_on, first_differs, first_some, inserted_members, refused_plain}
 use Rattle.cedar_entities.proofs.StoreMaps.{get_seen, seen_as, get_with_first}
@@ -53,11 +54,6 @@ all_inserted l m L none put q there =
     ∙ sym (ap is_some (put q ∙ ap (λ o. option_or o (first_entity L q)) (none q)))
     ∙ there)
 
--- a refusal of the closure for one reason is one for another that follows
-pub refused_for : (C F : TcError EntityUID → Type 0) → ((t : TcError EntityUID) → C t → F t) → (e : EntitiesError)
-    → MatchRefusal e (λ _. ⊥) C → MatchRefusal e (λ _. ⊥) F
-refused_for C F f e h = refusal_cases (λ _. ⊥) C (λ r. MatchRefusal r (λ _. ⊥) F) (λ u n. absurd n) f tt e h
-
 -- a refusal for a mismatch, over the same versions
 pub mismatch_at : (f g : EntityUID → Option EntityView) (L : List EntityView) (C : TcError EntityUID → Type 0) → f ≡ g
     → (e : EntitiesError) → MatchRefusal e (FirstMismatch f L) (λ _. ⊥) → MatchRefusal e (FirstMismatch g L) C
@@ -66,23 +62,26 @@ mismatch_at f g L C is e h =
     (λ u m. subst (λ k. FirstMismatch k L u) is m) (λ t n. absurd n) tt e h
 
 -- a refusal of the closure, where all matched before it
-pub closure_at : (D E : Held) (tc : TCComputation) (P : EntityUID → Type 0) (A : Type 0) → D ≡ E → A
-    → (e : EntitiesError) → MatchRefusal e (λ _. ⊥) (IsClosureRefused tc D)
-    → MatchRefusal e P (λ t. A × IsClosureRefused tc E t)
-closure_at D E tc P A is a e h =
-    refusal_cases (λ _. ⊥) (IsClosureRefused tc D) (λ r. MatchRefusal r P (λ t. A × IsClosureRefused tc E t))
-    (λ u n. absurd n) (λ t k. (a, subst (λ F. IsClosureRefused tc F t) is k)) tt e h
+pub closure_at : (C F : TcError EntityUID → Type 0) (P : EntityUID → Type 0) (A : Type 0)
+    → ((t : TcError EntityUID) → C t → F t) → A → (e : EntitiesError) → MatchRefusal e (λ _. ⊥) C
+    → MatchRefusal e P (λ t. A × F t)
+closure_at C F P A so a e h =
+    refusal_cases (λ _. ⊥) C (λ r. MatchRefusal r P (λ t. A × F t)) (λ u n. absurd n) (λ t k. (a, so t k)) tt e h
 
 -- over the plain store of a world a refusal is that of the world
 pub refused_over_plain : (W : World) (S : StoreView) (L : List EntityView) → IsPlainStore W S → AreBare L
-    → (tc : TCComputation) (e : EntitiesError)
-    → MatchRefusal e (FirstMismatch (finmap.get S.held) L)
-    (λ t. AllMatch (finmap.get S.held) L × IsClosureRefused tc (with_first S.held L) t)
-    → WhereComputed tc (IsAddingRefused W (map given_of L) e)
-refused_over_plain W S L plain bare modes.AssumeAlreadyComputed e h = tt
-refused_over_plain W S L plain bare modes.EnforceAlreadyComputed e h = tt
-refused_over_plain W S L plain bare modes.ComputeNow e h =
-    refusal_cases (FirstMismatch (finmap.get S.held) L) (λ t. AllMatch (finmap.get S.held) L
-    × IsClosureRefused modes.ComputeNow (with_first S.held L) t) (IsAddingRefused W (map given_of L))
-    (λ u m. first_differs W S L plain bare u m)
-    (λ t k. (all_agree W S L plain bare k.0, refused_plain W S L plain bare modes.ComputeNow t k.1)) tt e h
+    → (mode : TCComputation) (e : EntitiesError)
+    → MatchRefusal e (FirstMismatch (finmap.get S.held) L) (λ t. AllMatch (finmap.get S.held) L
+    × IsSettleRefused mode (is_touched S.held (inserted_in S.held L)) (with_first S.held L) t)
+    → WhereComputed mode (IsAddingRefused W (map given_of L) e)
+refused_over_plain W S L plain bare mode e h =
+    let now = computes (row_of mode) in
+    let D = with_first S.held L in
+    let touched = is_touched S.held (inserted_in S.held L) in
+    refusal_cases (FirstMismatch (finmap.get S.held) L)
+    (λ t. AllMatch (finmap.get S.held) L × IsSettleRefused mode touched D t)
+    (λ r. WhereComputed mode (IsAddingRefused W (map given_of L) r))
+    (λ u m. where_so now (FirstDiffers W (map given_of L) u) (first_differs W S L plain bare u m))
+    (λ t k. where_map now (NamesCycle (added W (map given_of L)) t) (IsAddingRefused W (map given_of L)
+    (errors.TransitiveClosureError t)) (λ c. (all_agree W S L plain bare k.0, c))
+    (refused_plain W S L plain bare (row_of mode) touched t k.1)) (where_so now ⊤ tt) e h

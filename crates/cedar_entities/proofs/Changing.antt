@@ -1,5 +1,5 @@
 -- What a call that changes a store answered, from what it did; and want of memory, of which each call says nothing.
-use Rattle.std.specs.Prelude.{◌≡◌, List, map, Result, Ok, Err, OnOk, IfOk, IfErr}
+use Rattle.std.specs.Prelude.{◌≡◌, List, map, Result, Ok, Err, IfOk}
 use Rattle.std.specs.Result.{IsErrAnd}
 use Rattle.std.proofs.Common.{refl, subst, sym, take}
 use Rattle.std.specs.FinMap as finmap
@@ -13,20 +13,24 @@ use Rattle.cedar_entity.specs.declared.node.SharedEntity.{SharedEntity}
 use Rattle.cedar_entities.specs.Changes.{AddsEntities, AddsPlain, RemovesEntities, RemovesPlain}
 use Rattle.cedar_entities.specs.Changes.{StripsPlain, UpsertsEntities, UpsertsPlain}
 use Rattle.cedar_entities.specs.Edits.{put_over, taken_out, uids_of}
-use Rattle.cedar_entities.specs.Modes.{IsClosureRefused, WhereComputed}
+use Rattle.cedar_entities.specs.Modes.{computes, mending, row_of, WhereComputed}
 use Rattle.cedar_entities.specs.Plain.{StoreView, Held, IsPlainStore, AreBare, given_of}
 use Rattle.cedar_entities.specs.Present.{first_entity, with_first, AllMatch, FirstMismatch}
 use Rattle.cedar_entities.specs.Refusals.{MatchRefusal, NamesOneOf}
 use Rattle.cedar_entities.specs.Touching.{inserted_in, is_touched, removed_from, IsMended, IsMendRefused, IsSettled}
+use Rattle.cedar_entities.specs.Touching.{IsSettleRefused}
 use Rattle.cedar_entities.specs.World.{World}
 use Rattle.cedar_entities.specs.declared.entities.TCComputation.{TCComputation}
+use Rattle.cedar_entities.specs.laws.Ends.{Ends}
 use Rattle.cedar_entities.specs.laws.Held.{held, held_map}
+use Rattle.cedar_entities.specs.laws.Modes.{where_so}
 use Rattle.cedar_entities.proofs.Adding.{add_untouched, all_agree, settled_plain}
 use Rattle.cedar_entities.proofs.Adds.{closure_at, mismatch_at, put_in, refused_over_plain, stored}
-use Rattle.cedar_entities.proofs.Closures.{none_named, where_computed}
+use Rattle.cedar_entities.proofs.Closures.{none_named}
+use Rattle.cedar_entities.proofs.Ending.{ended_untouched}
 use Rattle.cedar_entities.proofs.Overwriting.{so_far, over_between, over_plain, over_refused}
-use Rattle.cedar_entities.proofs.Overwriting.{over_untouched, settled_untouched}
-use Rattle.cedar_entities.proofs.Removing.{left_refused, mended_plain, mended_untouched, taken_untouched}
+use Rattle.cedar_entities.proofs.Overwriting.{over_untouched}
+use Rattle.cedar_entities.proofs.Removing.{left_refused, mended_plain, taken_untouched}
 
 -- where something was refused, nothing is said of what came
 pub none_came : {A : Type 0} (answer : Result A EntitiesError) (P : A → Type 0) (e : EntitiesError)
@@ -38,7 +42,7 @@ module _ {A : Type 0} (mode : TCComputation) (D : Held) (L : List EntityView) (h
   -- a refusal, for what it says
   pub adds_refused : (answer : Result A EntitiesError) (e : EntitiesError) → IsErrAnd answer (λ x. x ≡ e)
       → MatchRefusal e (FirstMismatch (finmap.get D) L)
-      (λ t. AllMatch (finmap.get D) L × IsClosureRefused mode (with_first D L) t)
+      (λ t. AllMatch (finmap.get D) L × IsSettleRefused mode (is_touched D (inserted_in D L)) (with_first D L) t)
       → WhereComputed mode (NamesOneOf (is_touched D (inserted_in D L)) e)
       → AddsEntities mode D L answer held_of
   adds_refused (Ok a) e h err named = absurd h
@@ -48,7 +52,7 @@ module _ {A : Type 0} (mode : TCComputation) (D : Held) (L : List EntityView) (h
   -- want of memory
   pub adds_nothing : (answer : Result A EntitiesError) → IsErrAnd answer (λ x. x ≡ Memory)
       → AddsEntities mode D L answer held_of
-  adds_nothing answer h = adds_refused answer Memory h tt (where_computed mode _ tt)
+  adds_nothing answer h = adds_refused answer Memory h tt (where_so (computes (row_of mode)) _ tt)
 
 module _ {S A : Type 0} (m : HashMap EntityUID SharedEntity S) (mode : TCComputation) (L : List EntityView) where
   -- one of the list did not match
@@ -58,35 +62,39 @@ module _ {S A : Type 0} (m : HashMap EntityUID SharedEntity S) (mode : TCComputa
   adds_unmatched answer held_of e h err =
       let D = held_map m in
       adds_refused mode D L held_of answer e h (mismatch_at (held m) (finmap.get D) L _ (stored m D refl) e err)
-      (where_computed mode _ (none_named (FirstMismatch (held m) L) (is_touched D (inserted_in D L)) e err))
+      (where_so (computes (row_of mode)) _
+      (none_named (FirstMismatch (held m) L) (is_touched D (inserted_in D L)) e err))
 
   -- all was put in, and that was settled
   pub adds_settled : (n : HashMap EntityUID SharedEntity S) (N : Held) (answer : Result A EntitiesError)
       → AllMatch (held m) L → ((q : EntityUID) → held n q ≡ option_or (held m q) (first_entity L q))
-      → OnOk answer (IsSettled mode (is_touched (held_map m) (inserted_in (held_map m) L)) (held_map n) N)
-      → IfErr answer (λ e. MatchRefusal e (λ _. ⊥) (IsClosureRefused mode (held_map n)))
-      → IfErr answer (λ e. WhereComputed mode (NamesOneOf (is_touched (held_map m) (inserted_in (held_map m) L)) e))
+      → Ends (row_of mode) (is_touched (held_map m) (inserted_in (held_map m) L)) (held_map n) N
+      answer
       → AddsEntities mode (held_map m) L answer (λ _. N)
-  adds_settled n N (Ok a) agree put ok err named =
+  adds_settled n N (Ok a) agree put ends =
       let D = held_map m in
-      let settled = subst (λ E. IsSettled mode (is_touched D (inserted_in D L)) E N) (put_in m n D L refl put) ok in
+      let settled = subst (λ E. IsSettled mode (is_touched D (inserted_in D L)) E N) (put_in m n D L refl put)
+      ends.ok in
       record {
         agree = subst (λ f. AllMatch f L) (stored m D refl) agree;
         ok = settled;
-        untouched = settled_untouched mode (inserted_in D L) D (with_first D L) N (add_untouched D L) settled;
+        untouched = ended_untouched (row_of mode) (inserted_in D L) D (with_first D L) N
+            (add_untouched D L) settled;
         err = tt;
         named = tt;
       }
-  adds_settled n N (Err e) agree put ok err named =
+  adds_settled n N (Err e) agree put ends =
       let D = held_map m in
       record {
         agree = tt;
         ok = tt;
         untouched = tt;
-        err = closure_at (held_map n) (with_first D L) mode (FirstMismatch (finmap.get D) L)
-            (AllMatch (finmap.get D) L) (put_in m n D L refl put)
-            (subst (λ f. AllMatch f L) (stored m D refl) agree) e err;
-        named = named;
+        err = closure_at (IsSettleRefused mode (is_touched D (inserted_in D L)) (held_map n))
+            (IsSettleRefused mode (is_touched D (inserted_in D L)) (with_first D L)) (FirstMismatch (finmap.get D) L)
+            (AllMatch (finmap.get D) L)
+            (λ t. subst (λ E. IsSettleRefused mode (is_touched D (inserted_in D L)) E t) (put_in m n D L refl put))
+            (subst (λ f. AllMatch f L) (stored m D refl) agree) e ends.err;
+        named = ends.named;
       }
 
 -- what is said of one list over one map is said of what these are
@@ -116,7 +124,7 @@ module _ (mode : TCComputation) (S : StoreView) (L : List EntityView) where
       → (W : World) → IsPlainStore W S → AreBare L → AddsPlain mode W (map given_of L) answer
   adds_plain (Ok s) same adds W plain bare = record {
     agree = all_agree W S L plain bare adds.agree;
-    ok = settled_plain W S L plain bare mode s same adds.ok;
+    ok = settled_plain W S L plain bare (row_of mode) s same adds.ok;
     err = tt;
   }
   adds_plain (Err e) same adds W plain bare =
@@ -126,15 +134,18 @@ module _ (mode : TCComputation) (S : StoreView) (L : List EntityView) where
       → UpsertsEntities mode S.held L answer
       → (W : World) → IsPlainStore W S → AreBare L → UpsertsPlain mode W (map given_of L) answer
   upserts_plain (Ok s) same puts W plain bare =
-      record { ok = over_plain W S L plain bare mode s same puts.ok; err = tt }
+      record { ok = over_plain W S L plain bare (row_of mode) s same puts.ok; err = tt }
   upserts_plain (Err e) same puts W plain bare =
-      record { ok = tt; err = over_refused W S L plain bare mode e puts.err }
+      record {
+        ok = tt;
+        err = over_refused W S L plain bare (row_of mode) (is_touched S.held (uids_of L)) e puts.err;
+      }
 
   pub strips_plain : (answer : Result StoreView EntitiesError) → UpsertsEntities mode S.held L answer
       → (W : World) → IsPlainStore W S → StripsPlain mode W S.held (uids_of L) answer
   strips_plain (Ok s) puts W plain = record {
     so_far = λ k. so_far W S plain (take k (uids_of L));
-    between = over_between W S plain mode L (is_touched S.held (uids_of L)) s.held puts.ok;
+    between = over_between W S plain (row_of mode) L (is_touched S.held (uids_of L)) s.held puts.ok;
   }
   strips_plain (Err e) puts W plain = record { so_far = tt; between = tt }
 
@@ -143,13 +154,14 @@ module _ (mode : TCComputation) (D : Held) (L : List EntityView) where
       → UpsertsEntities mode D L (Ok s)
   upserts_settled s ok = record {
     ok = ok;
-    untouched = settled_untouched mode (uids_of L) D (put_over D L) s.held (over_untouched D L) ok;
+    untouched = ended_untouched (row_of mode) (uids_of L) D (put_over D L) s.held
+        (over_untouched D L) ok;
     err = tt;
     named = tt;
   }
 
   pub upserts_refused : (answer : Result StoreView EntitiesError) (e : EntitiesError) → IsErrAnd answer (λ x. x ≡ e)
-      → MatchRefusal e (λ _. ⊥) (IsClosureRefused mode (put_over D L))
+      → MatchRefusal e (λ _. ⊥) (IsSettleRefused mode (is_touched D (uids_of L)) (put_over D L))
       → WhereComputed mode (NamesOneOf (is_touched D (uids_of L)) e)
       → UpsertsEntities mode D L answer
   upserts_refused (Ok s) e h err named = absurd h
@@ -158,14 +170,15 @@ module _ (mode : TCComputation) (D : Held) (L : List EntityView) where
 
   pub upserts_nothing : (answer : Result StoreView EntitiesError) → IsErrAnd answer (λ x. x ≡ Memory)
       → UpsertsEntities mode D L answer
-  upserts_nothing answer h = upserts_refused answer Memory h tt (where_computed mode _ tt)
+  upserts_nothing answer h = upserts_refused answer Memory h tt (where_so (computes (row_of mode)) _ tt)
 
 module _ (mode : TCComputation) (D : Held) (uids : List EntityUID) where
   pub removes_mended : (s : StoreView) → IsMended mode (is_touched D (removed_from D uids)) (taken_out D uids) s.held
       → RemovesEntities mode D uids (Ok s)
   removes_mended s ok = record {
     ok = ok;
-    untouched = mended_untouched mode (removed_from D uids) D (taken_out D uids) s.held (taken_untouched D uids) ok;
+    untouched = ended_untouched (mending (row_of mode)) (removed_from D uids) D (taken_out D uids) s.held
+        (taken_untouched D uids) ok;
     err = tt;
     named = tt;
   }
@@ -180,13 +193,13 @@ module _ (mode : TCComputation) (D : Held) (uids : List EntityUID) where
 
   pub removes_nothing : (answer : Result StoreView EntitiesError) → IsErrAnd answer (λ x. x ≡ Memory)
       → RemovesEntities mode D uids answer
-  removes_nothing answer h = removes_refused answer Memory h tt (where_computed mode _ tt)
+  removes_nothing answer h = removes_refused answer Memory h tt (where_so (computes (row_of mode)) _ tt)
 
 pub removes_plain : (mode : TCComputation) (S : StoreView) (uids : List EntityUID)
     (answer : Result StoreView EntitiesError)
     → IfOk answer (λ s. s.partial ≡ S.partial) → RemovesEntities mode S.held uids answer
     → (W : World) → IsPlainStore W S → RemovesPlain W uids answer
 removes_plain mode S uids (Ok s) same out W plain =
-    record { ok = mended_plain W S uids plain mode s same out.ok; err = tt }
+    record { ok = mended_plain W S uids plain (row_of mode) s same out.ok; err = tt }
 removes_plain mode S uids (Err e) same out W plain =
-    record { ok = tt; err = left_refused W S uids plain mode e out.err }
+    record { ok = tt; err = left_refused W S uids plain (row_of mode) e out.err }

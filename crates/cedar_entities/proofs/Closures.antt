@@ -14,16 +14,13 @@ use Rattle.cedar_ids.specs.declared.entity.EntityUID.{EntityUID}
 use Rattle.cedar_entity.specs.declared.node.SharedEntity.{SharedEntity}
 use Rattle.std.specs.Result.{IsErrAnd}
 use Rattle.cedar_entity.specs.declared.err.EntitiesError.{EntitiesError}
-use Rattle.cedar_entity.specs.declared.err.EntitiesError.TheVariants as errors
 use Rattle.cedar_entity.specs.ClosureRefusals.{refusal_of, Tells}
 use Rattle.cedar_entities.specs.ClosureFaults.{IsClosureFault}
 use Rattle.cedar_entities.specs.Refusals.{MatchRefusal, NamesOneOf}
 use Rattle.cedar_entities.specs.laws.Held.{held, held_map, shared}
-use Rattle.cedar_entities.specs.Modes.{ancestry, is_ancestor_in, IsClosureRefused, IsSound, WhereComputed}
+use Rattle.cedar_entities.specs.Modes.{ancestry, is_ancestor_in, IsSound, TellsCycle, TellsUnsound}
 use Rattle.cedar_entities.specs.laws.Refusals.{refusal_cases}
 use Rattle.cedar_entities.specs.Touching.{IsRepairOf, IsAcyclicAt}
-use Rattle.cedar_entities.specs.declared.entities.TCComputation.{TCComputation}
-use Rattle.cedar_entities.specs.declared.entities.TCComputation.TheVariants as modes
 use Rattle.cedar_entity.specs.View.{has_ancestor, Kept, kept}
 use Rattle.cedar_entities.proofs.StoreMaps.{get_seen}
 
@@ -87,7 +84,7 @@ told P Q tc.Memory h = tt
 
 pub cycle_told : {S : Type 0} (m : HashMap EntityUID SharedEntity S) (asked : Bool) (fix : EntityUID → Bool)
     (t : TcError EntityUID) → NamesCycleAt asked fix (graph_of same_uid node_edges m) t
-    → MatchRefusal (refusal_of t) (λ _. ⊥) (λ u. IsTrue asked × IsClosureRefused modes.ComputeNow (held_map m) u)
+    → MatchRefusal (refusal_of t) (λ _. ⊥) (λ u. IsTrue asked × TellsCycle (held_map m) u)
 cycle_told m asked fix (tc.MissingTcEdge x) h = absurd h
 cycle_told m asked fix (tc.HasCycle x) h = (h.0, subst (λ F. Reach F x.vertex x.vertex) (same_ancestry m) h.2)
 cycle_told m asked fix tc.Memory h = tt
@@ -95,7 +92,7 @@ cycle_told m asked fix tc.Memory h = tt
 pub closed_told : {S : Type 0} (m : HashMap EntityUID SharedEntity S) (t : TcError EntityUID)
     → MatchFault t (BreaksClosed (graph_of same_uid node_edges m))
     (λ v. IsClosed (graph_of same_uid node_edges m) × (graph_of same_uid node_edges m v v ≡ true))
-    → MatchRefusal (refusal_of t) (λ _. ⊥) (IsClosureRefused modes.EnforceAlreadyComputed (held_map m))
+    → MatchRefusal (refusal_of t) (λ _. ⊥) (TellsUnsound (held_map m))
 closed_told m t h =
     told (BreaksClosed (ancestry (held_map m)))
     (λ v. IsClosed (ancestry (held_map m)) × (ancestry (held_map m) v v ≡ true)) t
@@ -134,13 +131,6 @@ pub acyclic_whole : {S : Type 0} (m : HashMap EntityUID SharedEntity S) (fix : E
     → HasNoCycle (graph_of same_uid node_edges m) → IsAcyclicAt fix (held_map m)
 acyclic_whole m fix h = acyclic_of m fix (λ t a p. h a)
 
-pub whole_told : {S : Type 0} (m : HashMap EntityUID SharedEntity S) (t : TcError EntityUID)
-    → NamesCycleAt true (λ v. is_some (get same_uid m v)) (graph_of same_uid node_edges m) t
-    → MatchRefusal (refusal_of t) (λ _. ⊥) (IsClosureRefused modes.ComputeNow (held_map m))
-whole_told m (tc.MissingTcEdge x) h = absurd h
-whole_told m (tc.HasCycle x) h = subst (λ F. Reach F x.vertex x.vertex) (same_ancestry m) h.2
-whole_told m tc.Memory h = tt
-
 -- the uid that a cycle is told by is one of those that were to be looked at
 pub cycle_named : {S : Type 0} (m : HashMap EntityUID SharedEntity S) (asked : Bool) (fix : EntityUID → Bool)
     (t : TcError EntityUID) → NamesCycleAt asked fix (graph_of same_uid node_edges m) t
@@ -153,13 +143,15 @@ held_there : (o : Option SharedEntity) → is_some o ≡ true → is_some (optio
 held_there None h = h
 held_there (Some n) h = refl
 
-pub whole_named : {S : Type 0} (m : HashMap EntityUID SharedEntity S) (touched : EntityUID → Bool)
-    → ((q : EntityUID) → is_some (held m q) ≡ true → touched q ≡ true) →
-    (t : TcError EntityUID) → NamesCycleAt true (λ v. is_some (get same_uid m v)) (graph_of same_uid node_edges m) t
-    → MatchRefusal (refusal_of t) (λ _. ⊥) (λ u. IsClosureFault u (λ _ _ _. ⊤) (λ v. touched v ≡ true))
-whole_named m touched all (tc.MissingTcEdge x) h = absurd h
-whole_named m touched all (tc.HasCycle x) h = all x.vertex (held_there (get same_uid m x.vertex) h.1)
-whole_named m touched all tc.Memory h = tt
+-- where all that is held is touched, a cycle of the whole is one at what is touched
+pub touched_named : {S : Type 0} (m : HashMap EntityUID SharedEntity S) (touched : EntityUID → Bool)
+    → ((q : EntityUID) → is_some (held m q) ≡ true → touched q ≡ true) → (asked : Bool) (t : TcError EntityUID)
+    → NamesCycleAt asked (λ v. is_some (get same_uid m v)) (graph_of same_uid node_edges m) t
+    → NamesCycleAt asked touched (graph_of same_uid node_edges m) t
+touched_named m touched all asked (tc.MissingTcEdge x) h = absurd h
+touched_named m touched all asked (tc.HasCycle x) h =
+    (h.0, all x.vertex (held_there (get same_uid m x.vertex) h.1), h.2)
+touched_named m touched all asked tc.Memory h = tt
 
 -- what is said of no duplicate is said of any
 pub named_for : (touched : EntityUID → Bool) (e : EntitiesError)
@@ -172,15 +164,3 @@ named_for touched e h =
 pub none_named : (D : EntityUID → Type 0) (touched : EntityUID → Bool) (e : EntitiesError) → MatchRefusal e D (λ _. ⊥)
     → NamesOneOf touched e
 none_named D touched e h = refusal_cases D (λ _. ⊥) (NamesOneOf touched) (λ u n. tt) (λ t k. absurd k) tt e h
-
-pub where_computed : (tc : TCComputation) (P : Type 0) → P → WhereComputed tc P
-where_computed modes.AssumeAlreadyComputed P p = tt
-where_computed modes.EnforceAlreadyComputed P p = tt
-where_computed modes.ComputeNow P p = p
-
--- what is said of the refusal for a fault, and of want of memory, is said of the error that the fault became
-pub refused_so : {X : Type 0} (P : EntitiesError → Type 0) (r : Result X EntitiesError) (t : TcError EntityUID)
-    → IsErrAnd r (Tells t) → P (refusal_of t) → P errors.Memory → IfErr r P
-refused_so P (Ok x) t h k m = tt
-refused_so P (Err e) t (inl h) k m = subst P (sym h) k
-refused_so P (Err e) t (inr h) k m = subst P (sym h) m

@@ -20,11 +20,10 @@ use Rattle.cedar_entity.specs.declared.node.SharedEntity.{SharedEntity}
 use Rattle.cedar_entities.specs.laws.Held.{held, held_map, shared, UidsMatch}
 use Rattle.cedar_entities.specs.StoreFaults.{AreAllValid, IsFirstFaulty, IsFirstFault, IsStoreFault}
 use Rattle.cedar_entities.specs.laws.StoreFaults.{TakesFaulty, lesser_of, other_fault}
-use Rattle.cedar_entities.specs.Modes.{IsClosureRefused, IsSound}
+use Rattle.cedar_entities.specs.Modes.{IsSound, TellsUnsound}
 use Rattle.cedar_entities.specs.Plain.{Held}
 use Rattle.cedar_entity.specs.Validity.{IsValid}
 use Rattle.cedar_entity.specs.declared.err.EntitiesError.{EntitiesError}
-use Rattle.cedar_entities.specs.declared.entities.TCComputation.TheVariants as modes
 use Rattle.cedar_entity.specs.View.{EntityView}
 use Rattle.cedar_entity.specs.laws.UidOrder.{irreflexive, less}
 use Rattle.cedar_entities.proofs.StoreMaps.{get_seen, seen_keyed}
@@ -131,5 +130,4 @@ module _ {S : Type 0} (m : HashMap EntityUID SharedEntity S) where
 -- what is wrong with an entity, where nothing is with the graph
 pub told_of_first : (D : Held) (r : EntitiesError) → IsSound D → IsFirstFault D r → IsStoreFault D r
 told_of_first D r h f =
-    other_fault (IsClosureRefused modes.EnforceAlreadyComputed D) (λ e. IsSound D × IsFirstFault D e)
-    (λ t g. absurd g.1.fault) r (h, f)
+    other_fault (TellsUnsound D) (λ e. IsSound D × IsFirstFault D e) (λ t g. absurd g.1.fault) r (h, f)

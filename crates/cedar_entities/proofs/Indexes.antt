@@ -22,17 +22,17 @@ use Rattle.cedar_entity.specs.declared.node.SharedEntity.{SharedEntity}
 use Rattle.cedar_children.specs.Children.{IsBelow}
 use Rattle.cedar_children.specs.declared.children.Children.{Children}
 use Rattle.cedar_entities.specs.Edits.{leaves, lessened, put_over, taken_out, uids_of}
-use Rattle.cedar_entities.specs.Modes.{ancestry, WhereComputed}
+use Rattle.cedar_entities.specs.Modes.{ancestry, computes, mending}
 use Rattle.cedar_entities.specs.Plain.{AreBare, Held, IsPlainStore, StoreView, given_of, parts_of}
 use Rattle.cedar_entities.specs.Present.{with_first}
-use Rattle.cedar_entities.specs.Touching.{inserted_in, is_touched, removed_from, IsMended, IsSettled}
-use Rattle.cedar_entities.specs.declared.entities.TCComputation.{TCComputation}
-use Rattle.cedar_entities.specs.declared.entities.TCComputation.TheVariants as modes
+use Rattle.cedar_entities.specs.Touching.{inserted_in, is_touched, removed_from, IsEnded}
+use Rattle.cedar_entities.specs.declared.settling.Row.{Row}
 use Rattle.cedar_entities.specs.World.{World, added, deleted, graph, is_parent_in, overwritten}
 use Rattle.cedar_entities.specs.laws.Edits.{last_entity}
 use Rattle.cedar_entities.specs.laws.Held.{held, held_map, shared}
 use Rattle.cedar_entities.specs.laws.Indexes.{HasChildren, IsPlainHeld, is_parent_at, parentage}
 use Rattle.cedar_entities.specs.laws.Losses.{AreTransitive}
+use Rattle.cedar_entities.specs.laws.Modes.{where_asked}
 use Rattle.cedar_entities.specs.laws.PlainAncestors.{ancestry_plain}
 use Rattle.cedar_entities.proofs.Adds.{stored}
 use Rattle.cedar_entities.proofs.Adding.{added_same, settled_plain}
@@ -119,19 +119,6 @@ kept_parent (Some e) p = refl
 same_parents : (n o : Option EntityView) → option_map kept n ≡ option_map kept o → (p : EntityUID)
     → is_parent_at n p ≡ is_parent_at o p
 same_parents n o same p = sym (kept_parent n p) ∙ ap (λ k. parent_kept k p) same ∙ kept_parent o p
-
--- how an edit ends changes no parents
-pub settled_kept : (t : TCComputation) (touched : EntityUID → Bool) (D N : Held) → IsSettled t touched D N
-    → (q : EntityUID) → option_map kept (finmap.get N q) ≡ option_map kept (finmap.get D q)
-settled_kept modes.AssumeAlreadyComputed touched D N s q = ap (λ M. option_map kept (finmap.get M q)) s
-settled_kept modes.EnforceAlreadyComputed touched D N s q = ap (λ M. option_map kept (finmap.get M q)) s.0
-settled_kept modes.ComputeNow touched D N s q = s.0.parts q
-
-pub mended_kept : (t : TCComputation) (touched : EntityUID → Bool) (D N : Held) → IsMended t touched D N
-    → (q : EntityUID) → option_map kept (finmap.get N q) ≡ option_map kept (finmap.get D q)
-mended_kept modes.AssumeAlreadyComputed touched D N s q = s.parts q
-mended_kept modes.EnforceAlreadyComputed touched D N s q = s.0.parts q
-mended_kept modes.ComputeNow touched D N s q = s.0.parts q
 
 or_off : (b : Bool) → (b || false) ≡ b
 or_off true = refl
@@ -244,38 +231,34 @@ some_shared (Some n) = refl
 
 -- where entities are put over those of a plain store and what that touches is closed, they are those of a plain store
 -- again
-pub plain_over : (D : Held) → IsPlainHeld D → (L : List EntityView) → AreBare L → (t : TCComputation)
-    → t ≡ modes.ComputeNow → (N : Held) → IsSettled t (is_touched D (uids_of L)) (put_over D L) N → IsPlainHeld N
-plain_over D held L bare t is N s =
-    let W = held.0 in (
+pub plain_over : (D : Held) → IsPlainHeld D → (L : List EntityView) → AreBare L → (row : Row) → computes row ≡ true
+    → (N : Held) → IsEnded row (is_touched D (uids_of L)) (put_over D L) N → IsPlainHeld N
+plain_over D held L bare row now N s =
+    let W = held.0 in
+    let S : StoreView = record { held = N; partial = W.partial } in (
       overwritten W (map given_of L),
-      subst (λ m.
-          WhereComputed m
-          (IsPlainStore (overwritten W (map given_of L)) (record { held = N; partial = W.partial }))) is
-          (over_plain W (record { held = D; partial = W.partial }) L held.1 bare t
-          (record { held = N; partial = W.partial }) refl s),
+      where_asked (computes row) (IsPlainStore (overwritten W (map given_of L)) S) now
+          (over_plain W (record { held = D; partial = W.partial }) L held.1 bare row S refl s),
     )
 
 -- the same where they are added
-pub plain_in : (D : Held) → IsPlainHeld D → (L : List EntityView) → AreBare L → (t : TCComputation)
-    → t ≡ modes.ComputeNow → (N : Held) → IsSettled t (is_touched D (inserted_in D L)) (with_first D L) N
-    → IsPlainHeld N
-plain_in D held L bare t is N s =
-    let W = held.0 in (
+pub plain_in : (D : Held) → IsPlainHeld D → (L : List EntityView) → AreBare L → (row : Row) → computes row ≡ true
+    → (N : Held) → IsEnded row (is_touched D (inserted_in D L)) (with_first D L) N → IsPlainHeld N
+plain_in D held L bare row now N s =
+    let W = held.0 in
+    let S : StoreView = record { held = N; partial = W.partial } in (
       added W (map given_of L),
-      subst (λ m.
-          WhereComputed m (IsPlainStore (added W (map given_of L)) (record { held = N; partial = W.partial }))) is
-          (settled_plain W (record { held = D; partial = W.partial }) L held.1 bare t
-          (record { held = N; partial = W.partial }) refl s),
+      where_asked (computes row) (IsPlainStore (added W (map given_of L)) S) now
+          (settled_plain W (record { held = D; partial = W.partial }) L held.1 bare row S refl s),
     )
 
 -- and where some are taken out, in each mode
-pub plain_out : (D : Held) → IsPlainHeld D → (U : List EntityUID) (t : TCComputation) (N : Held)
-    → IsMended t (is_touched D (removed_from D U)) (taken_out D U) N → IsPlainHeld N
-plain_out D held U t N s =
+pub plain_out : (D : Held) → IsPlainHeld D → (U : List EntityUID) (row : Row) (N : Held)
+    → IsEnded (mending row) (is_touched D (removed_from D U)) (taken_out D U) N → IsPlainHeld N
+plain_out D held U row N s =
     let W = held.0 in (
       deleted W U,
-      mended_plain W (record { held = D; partial = W.partial }) U held.1 t
+      mended_plain W (record { held = D; partial = W.partial }) U held.1 row
           (record { held = N; partial = W.partial }) refl s,
     )
 

@@ -6,6 +6,7 @@ pub mod Changing
 pub mod Closures
 pub mod Edited
 pub mod Editing
+pub mod Ending
 pub mod FirstFaults
 pub mod Indexes
 pub mod Listed

@@ -1,6 +1,6 @@
 -- Overwriting, over any store and over the plain store of a world.
 use Rattle.std.specs.Prelude.{◌≡◌, ◌↔◌, ◌⊎◌, Bool, true, false, cond, not, ◌&&◌, ◌||◌, List, [], ◌∷◌, ◌++◌, Option}
-use Rattle.std.specs.Prelude.{Some, None, map}
+use Rattle.std.specs.Prelude.{Some, None, map, ⊤}
 use Rattle.std.proofs.Common.{inl, inr, ap, sym, refl, subst, ◌∙◌}
 use Rattle.std.proofs.lemmas.Bool.{and_from, and_parts, both_ways, false_from_ne_true, or_cases, or_left, or_parts}
 use Rattle.std.proofs.lemmas.Bool.{or_right}
@@ -8,6 +8,7 @@ use Rattle.std.specs.Option.{option_or, option_map, IfSome, is_some}
 use Rattle.std.specs.List.{AllByRecursion, list_any}
 use Rattle.std.specs.Set.{is_member}
 use Rattle.std.specs.FinSet as set
+use Rattle.std.specs.Bool.{OnFalse, OnTrue}
 use Rattle.std.specs.FinMap as finmap
 use Rattle.cedar_graph.specs.Graph.{Reach, AddsOnlyReached}
 use Rattle.cedar_graph.specs.laws.Reaches.{reach_edge}
@@ -20,23 +21,24 @@ use Rattle.cedar_entity.specs.View.{EntityView, has_ancestor}
 use Rattle.cedar_entity.specs.declared.err.EntitiesError.{EntitiesError}
 use Rattle.cedar_entities.specs.Edits.{uids_of, goes_with, lessened, put_over}
 use Rattle.cedar_entities.specs.laws.Edits.{last_entity}
-use Rattle.cedar_entities.specs.Modes.{ancestry, is_ancestor_in, IsClosureRefused, WhereComputed}
+use Rattle.cedar_entities.specs.Modes.{ancestry, computes, is_ancestor_in}
 use Rattle.cedar_entities.specs.Plain.{StoreView, Held, IsPlainStore, IsKeyed, IsApart, IsBare, AreBare, parts_of}
 use Rattle.cedar_entities.specs.Plain.{given_of}
 use Rattle.cedar_entities.specs.Present.{first_entity, keyed}
-use Rattle.cedar_entities.specs.Refusals.{MatchRefusal, IsOverwritingRefused}
+use Rattle.cedar_entities.specs.Refusals.{MatchRefusal, NamesCycle, IsOverwritingRefused}
 use Rattle.cedar_entities.specs.laws.Refusals.{refusal_cases}
-use Rattle.cedar_entities.specs.Touching.{is_touched, is_indirect_in, IsSettled, LosesBetween, StaysUntouched}
-use Rattle.cedar_entities.specs.Touching.{WhereTaken, StripsBetween}
+use Rattle.cedar_entities.specs.Touching.{is_touched, is_indirect_in, IsEnded, IsEndRefused, LosesBetween}
+use Rattle.cedar_entities.specs.Touching.{StaysUntouched, StripsBetween}
 use Rattle.cedar_entities.specs.World.{World, graph, is_parent_in, entry_of, reversed, overwritten}
-use Rattle.cedar_entities.specs.declared.entities.TCComputation.{TCComputation}
-use Rattle.cedar_entities.specs.declared.entities.TCComputation.TheVariants as modes
+use Rattle.cedar_entities.specs.declared.settling.Row.{Row}
 use Rattle.cedar_entities.specs.laws.Lists.{all_push}
+use Rattle.cedar_entities.specs.laws.Modes.{where_so}
 use Rattle.cedar_entities.specs.laws.Worlds.{get_joined, find-append, find-mapped, get_overwritten}
 use Rattle.cedar_entities.proofs.PlainStores.{plain_from, cycle_in, found_parts, map_or, if_or, first_all, first_keyed}
 use Rattle.cedar_entities.proofs.PlainStores.{bare_apart, bare_leads}
 use Rattle.cedar_entities.proofs.Reaching.{first_edge, kept_over, untouched}
 use Rattle.cedar_entities.proofs.AnyOf.{any_member, any_found, is_none, untouched_at}
+use Rattle.cedar_entities.proofs.Ending.{ended_computed, ended_taken, refused_computed}
 use Rattle.cedar_entities.specs.laws.PlainAncestors.{ancestry_plain}
 use Rattle.cedar_entities.proofs.Repaired.{repaired}
 
@@ -99,13 +101,6 @@ over_untouched D L q h =
     get_put_over D L q
     ∙ ap (λ o. option_or o (option_map (lessened D (uids_of L)) (finmap.get D q))) (last_absent L q p.0)
     ∙ untouched_at D (uids_of L) (finmap.get D q) p.1
-
--- and stays so
-pub settled_untouched : (tc : TCComputation) (A : List EntityUID) (D M N : Held) → StaysUntouched A D M
-    → IsSettled tc (is_touched D A) M N → StaysUntouched A D N
-settled_untouched modes.AssumeAlreadyComputed A D M N h s q t = ap (λ (E : Held). finmap.get E q) s ∙ h q t
-settled_untouched modes.EnforceAlreadyComputed A D M N h s q t = ap (λ (E : Held). finmap.get E q) s.0 ∙ h q t
-settled_untouched modes.ComputeNow A D M N h s q t = s.0.alone q t ∙ h q t
 
 lessened_parts : (D : Held) (A : List EntityUID) (o : Option EntityView)
     → option_map parts_of (option_map (lessened D A) o) ≡ option_map parts_of o
@@ -208,11 +203,11 @@ module _ (W : World) (S : StoreView) (plain : IsPlainStore W S) where
       (last_absent L q out)))
       (stays_at (uids_of L) q w (finmap.get S.held q) refl)
 
-  pub over_between : (tc : TCComputation) (L : List EntityView) (touched : EntityUID → Bool) (N : Held)
-      → IsSettled tc touched (put_over S.held L) N → WhereTaken tc (LosesBetween W (uids_of L) S.held N)
-  over_between modes.AssumeAlreadyComputed L touched N s = between_at L N s
-  over_between modes.EnforceAlreadyComputed L touched N s = between_at L N s.0
-  over_between modes.ComputeNow L touched N s = tt
+  pub over_between : (row : Row) (L : List EntityView) (touched : EntityUID → Bool) (N : Held)
+      → IsEnded row touched (put_over S.held L) N
+      → OnFalse row.repairs (LosesBetween W (uids_of L) S.held N)
+  over_between row L touched N =
+      ended_taken row touched (put_over S.held L) N (LosesBetween W (uids_of L) S.held N) (between_at L N)
 
 module _ (W : World) (S : StoreView) (L : List EntityView) (plain : IsPlainStore W S) (given : AreBare L) where
   holds_over : (q : EntityUID) → option_map parts_of (finmap.get (put_over S.held L) q)
@@ -309,24 +304,23 @@ module _ (W : World) (S : StoreView) (L : List EntityView) (plain : IsPlainStore
       (sym (ap (λ o. is_ancestor_in o b) (get_put_over S.held L a)) ∙ h)
 
   -- where ancestors are computed the plain store of the world that overwriting leaves comes
-  pub over_plain : (tc : TCComputation) (N : StoreView) → N.partial ≡ S.partial
-      → IsSettled tc (is_touched S.held (uids_of L)) (put_over S.held L) N.held
-      → WhereComputed tc (IsPlainStore (overwritten W (map given_of L)) N)
-  over_plain modes.AssumeAlreadyComputed N same s = tt
-  over_plain modes.EnforceAlreadyComputed N same s = tt
-  over_plain modes.ComputeNow N same s =
-      plain_from (overwritten W (map given_of L)) (put_over S.held L) N (same
+  pub over_plain : (row : Row) (N : StoreView) → N.partial ≡ S.partial
+      → IsEnded row (is_touched S.held (uids_of L)) (put_over S.held L) N.held
+      → OnTrue (computes row) (IsPlainStore (overwritten W (map given_of L)) N)
+  over_plain row N same = ended_computed row (is_touched S.held (uids_of L)) (put_over S.held L) N.held
+      (IsPlainStore (overwritten W (map given_of L)) N)
+      (λ r a. plain_from (overwritten W (map given_of L)) (put_over S.held L) N (same
       ∙ plain.partial) holds_over over_keyed over_apart over_only
       (repaired S.held (put_over S.held L) (graph W) (graph (overwritten W (map given_of L)))
       (is_touched S.held (uids_of L)) (ancestry_plain W S plain) plain.acyclic over_only over_back
-      (over_untouched S.held L) N.held s.0 s.1)
+      (over_untouched S.held L) N.held r a))
 
-  pub over_refused : (tc : TCComputation) (e : EntitiesError)
-      → MatchRefusal e (λ _. ⊥) (IsClosureRefused tc (put_over S.held L))
-      → WhereComputed tc (IsOverwritingRefused W (map given_of L) e)
-  over_refused modes.AssumeAlreadyComputed e h = tt
-  over_refused modes.EnforceAlreadyComputed e h = tt
-  over_refused modes.ComputeNow e h =
-      refusal_cases (λ _. ⊥) (IsClosureRefused modes.ComputeNow (put_over S.held L))
-      (IsOverwritingRefused W (map given_of L)) (λ u n. absurd n)
-      (λ t k. cycle_in (overwritten W (map given_of L)) (put_over S.held L) holds_over over_only t k) tt e h
+  pub over_refused : (row : Row) (touched : EntityUID → Bool) (e : EntitiesError)
+      → MatchRefusal e (λ _. ⊥) (IsEndRefused row touched (put_over S.held L))
+      → OnTrue (computes row) (IsOverwritingRefused W (map given_of L) e)
+  over_refused row touched e h =
+      refusal_cases (λ _. ⊥) (IsEndRefused row touched (put_over S.held L))
+      (λ r. OnTrue (computes row) (IsOverwritingRefused W (map given_of L) r)) (λ u n. absurd n)
+      (λ t. refused_computed row touched (put_over S.held L) t (NamesCycle (overwritten W (map given_of L)) t)
+      (cycle_in (overwritten W (map given_of L)) (put_over S.held L) holds_over over_only t))
+      (where_so (computes row) ⊤ tt) e h

@@ -21,14 +21,13 @@ use Rattle.cedar_entity.specs.View.{EntityView, has_ancestor}
 use Rattle.cedar_entity.specs.declared.err.EntitiesError.{EntitiesError}
 use Rattle.cedar_entity.specs.declared.err.EntitiesError.TheVariants as errors
 use Rattle.cedar_entities.specs.Edits.{goes_with, leaves, lessened, parted, taken_out}
-use Rattle.cedar_entities.specs.Modes.{ancestry, is_ancestor_in, IsClosureRefused, IsSound}
+use Rattle.cedar_entities.specs.Modes.{ancestry, is_ancestor_in, mending, IsSound, TellsCycle, TellsUnsound}
 use Rattle.cedar_entities.specs.Plain.{StoreView, Held, IsPlainStore, IsKeyed, IsApart, parts_of}
 use Rattle.cedar_entities.specs.Refusals.{MatchRefusal}
 use Rattle.cedar_entities.specs.laws.Refusals.{refusal_cases}
-use Rattle.cedar_entities.specs.Touching.{is_touched, removed_from, IsRepairOf, IsMended, IsMendRefused, StaysUntouched}
+use Rattle.cedar_entities.specs.Touching.{is_touched, removed_from, IsEnded, IsEndRefused, IsRepairOf, StaysUntouched}
 use Rattle.cedar_entities.specs.World.{World, Parts, graph, is_parent_in, goes, without, deleted}
-use Rattle.cedar_entities.specs.declared.entities.TCComputation.{TCComputation}
-use Rattle.cedar_entities.specs.declared.entities.TCComputation.TheVariants as modes
+use Rattle.cedar_entities.specs.declared.settling.Row.{Row}
 use Rattle.cedar_entities.specs.laws.Worlds.{get_reduced, get_deleted}
 use Rattle.cedar_entities.proofs.Adding.{reach_stays}
 use Rattle.cedar_entities.proofs.Overwriting.{map_keyed, held_alike, goes_between}
@@ -36,6 +35,7 @@ use Rattle.cedar_entities.proofs.PlainStores.{plain_from}
 use Rattle.cedar_entities.proofs.Reaching.{kept_between}
 use Rattle.cedar_entities.proofs.AnyOf.{any_filter, any_less, any_member, none_retained}
 use Rattle.cedar_entities.specs.laws.PlainAncestors.{ancestry_plain}
+use Rattle.cedar_entities.proofs.Ending.{ended_made, never_refused}
 use Rattle.cedar_entities.proofs.Repaired.{repaired}
 
 -- what a removal leaves of an entity
@@ -84,13 +84,6 @@ taken_untouched D U q h =
     get_taken_out D U q
     ∙ ap (λ b. option_map (remains D U) (cond (not b) (finmap.get D q) None)) (sym (removed_members D U q) ∙ p.0)
     ∙ out_untouched D U (finmap.get D q) p.1
-
--- and stays so
-pub mended_untouched : (t : TCComputation) (A : List EntityUID) (D M N : Held) → StaysUntouched A D M
-    → IsMended t (is_touched D A) M N → StaysUntouched A D N
-mended_untouched modes.AssumeAlreadyComputed A D M N h s q k = s.alone q k ∙ h q k
-mended_untouched modes.EnforceAlreadyComputed A D M N h s q k = s.0.alone q k ∙ h q k
-mended_untouched modes.ComputeNow A D M N h s q k = s.0.alone q k ∙ h q k
 
 without_parts : (D : Held) (U : List EntityUID) (q : EntityUID) (b : Bool) (o : Option EntityView)
     → option_map parts_of (option_map (remains D U) (cond b o None))
@@ -148,7 +141,7 @@ plain_sound W S plain = (
 )
 
 -- what is sound is not refused
-sound_passes : (D : Held) → IsSound D → (t : TcError EntityUID) → IsClosureRefused modes.EnforceAlreadyComputed D t → ⊥
+sound_passes : (D : Held) → IsSound D → (t : TcError EntityUID) → TellsUnsound D t → ⊥
 sound_passes D s (tc.MissingTcEdge x) h =
     both_ways (ancestry D x.child x.grandparent) h.2 (s.0 x.child x.parent x.grandparent h.0 h.1)
 sound_passes D s (tc.HasCycle x) h = both_ways (ancestry D x.vertex x.vertex) (s.1 x.vertex) h.1
@@ -247,27 +240,27 @@ module _ (W : World) (S : StoreView) (U : List EntityUID) (plain : IsPlainStore 
       (ancestry_plain W S plain) plain.acyclic left_only
       (λ a b _ p. was_reached a b p) (taken_untouched S.held U) N.held r (λ _ v _ p. no_loop v p))
 
-  pub mended_plain : (t : TCComputation) (N : StoreView) → N.partial ≡ S.partial
-      → IsMended t (is_touched S.held (removed_from S.held U)) (taken_out S.held U) N.held
+  pub mended_plain : (row : Row) (N : StoreView) → N.partial ≡ S.partial
+      → IsEnded (mending row) (is_touched S.held (removed_from S.held U)) (taken_out S.held U) N.held
       → IsPlainStore (deleted W U) N
-  mended_plain modes.AssumeAlreadyComputed N same s = left_plain N same s
-  mended_plain modes.EnforceAlreadyComputed N same s = left_plain N same s.0
-  mended_plain modes.ComputeNow N same s = left_plain N same s.0
+  mended_plain row N same s = left_plain N same
+      (ended_made (mending row) (is_touched S.held (removed_from S.held U)) (taken_out S.held U) N.held s)
 
-  not_refused : (m : TCComputation) (t : TcError EntityUID)
-      → IsMendRefused m (is_touched S.held (removed_from S.held U)) (taken_out S.held U) t → ⊥
-  not_refused modes.AssumeAlreadyComputed t h = h
-  not_refused modes.EnforceAlreadyComputed t h =
-      sound_passes h.0 (plain_sound (deleted W U) (record { held = h.0; partial = S.partial })
-      (left_plain (record { held = h.0; partial = S.partial }) refl h.1)) t h.2
-  not_refused modes.ComputeNow (tc.MissingTcEdge x) h = h
-  not_refused modes.ComputeNow (tc.HasCycle x) h = no_loop x.vertex h
-  not_refused modes.ComputeNow tc.Memory h = h
+  no_cycle : (t : TcError EntityUID) → TellsCycle (taken_out S.held U) t → ⊥
+  no_cycle (tc.MissingTcEdge x) h = h
+  no_cycle (tc.HasCycle x) h = no_loop x.vertex h
+  no_cycle tc.Memory h = h
 
-  pub left_refused : (m : TCComputation) (e : EntitiesError)
-      → MatchRefusal e (λ _. ⊥) (IsMendRefused m (is_touched S.held (removed_from S.held U)) (taken_out S.held U))
+  not_refused : (row : Row) (t : TcError EntityUID)
+      → IsEndRefused (mending row) (is_touched S.held (removed_from S.held U)) (taken_out S.held U) t → ⊥
+  not_refused row t = never_refused row (is_touched S.held (removed_from S.held U)) (taken_out S.held U) t (no_cycle t)
+      (λ N r h. sound_passes N (plain_sound (deleted W U) (record { held = N; partial = S.partial })
+      (left_plain (record { held = N; partial = S.partial }) refl r)) t h)
+
+  pub left_refused : (row : Row) (e : EntitiesError)
+      → MatchRefusal e (λ _. ⊥) (IsEndRefused (mending row) (is_touched S.held (removed_from S.held U)) (taken_out S.held U))
       → e ≡ errors.Memory
-  left_refused m e h =
-      refusal_cases (λ _. ⊥) (IsMendRefused m (is_touched S.held (removed_from S.held U)) (taken_out S.held U))
+  left_refused row e h =
+      refusal_cases (λ _. ⊥) (IsEndRefused (mending row) (is_touched S.held (removed_from S.held U)) (taken_out S.held U))
       (λ r. r ≡ errors.Memory) (λ u n. absurd n)
-      (λ t k. absurd (not_refused m t k)) refl e h
+      (λ t k. absurd (not_refused row t k)) refl e h

@@ -6,12 +6,12 @@ use Rattle.cedar_entity.specs.View.{EntityView}
 use Rattle.cedar_entity.specs.declared.err.EntitiesError.{EntitiesError}
 use Rattle.cedar_entity.specs.declared.err.EntitiesError.TheVariants.{Memory}
 use Rattle.cedar_entities.specs.Edits.{put_over, taken_out, uids_of}
-use Rattle.cedar_entities.specs.Modes.{IsClosureRefused, WhereComputed}
+use Rattle.cedar_entities.specs.Modes.{WhereComputed}
 use Rattle.cedar_entities.specs.Plain.{StoreView, Held, IsPlainStore}
 use Rattle.cedar_entities.specs.Present.{with_first, AllMatch, FirstMismatch}
 use Rattle.cedar_entities.specs.Refusals.{MatchRefusal, NamesOneOf, IsAddingRefused, IsOverwritingRefused}
 use Rattle.cedar_entities.specs.Touching.{inserted_in, is_touched, removed_from, IsMended, IsMendRefused, IsSettled}
-use Rattle.cedar_entities.specs.Touching.{LosesBetween, StaysUntouched, StripsBetween, WhereTaken}
+use Rattle.cedar_entities.specs.Touching.{IsSettleRefused, LosesBetween, StaysUntouched, StripsBetween, WhereTaken}
 use Rattle.cedar_entities.specs.World.{World, Given, added, overwritten, deleted, AllAgree}
 use Rattle.cedar_entities.specs.declared.entities.TCComputation.{TCComputation}
 
@@ -24,7 +24,7 @@ pub record AddsEntities {A : Type 0} (mode : TCComputation) (D : Held) (L : List
   pub ok : IfOk answer (λ s. IsSettled mode (is_touched D (inserted_in D L)) (with_first D L) (held_of s))
   pub untouched : IfOk answer (λ s. StaysUntouched (inserted_in D L) D (held_of s))
   pub err : IfErr answer (λ e. MatchRefusal e (FirstMismatch (finmap.get D) L)
-      (λ t. AllMatch (finmap.get D) L × IsClosureRefused mode (with_first D L) t))
+      (λ t. AllMatch (finmap.get D) L × IsSettleRefused mode (is_touched D (inserted_in D L)) (with_first D L) t))
   pub named : IfErr answer (λ e. WhereComputed mode (NamesOneOf (is_touched D (inserted_in D L)) e))
 
 -- to the plain store of W, a list of entities as they were handed in is added: each agrees with W and, where the
@@ -41,7 +41,8 @@ pub record UpsertsEntities (mode : TCComputation) (D : Held) (L : List EntityVie
     (answer : Result StoreView EntitiesError) : Type 0 where
   pub ok : IfOk answer (λ s. IsSettled mode (is_touched D (uids_of L)) (put_over D L) s.held)
   pub untouched : IfOk answer (λ s. StaysUntouched (uids_of L) D s.held)
-  pub err : IfErr answer (λ e. MatchRefusal e (λ _. ⊥) (IsClosureRefused mode (put_over D L)))
+  pub err : IfErr answer (λ e. MatchRefusal e (λ _. ⊥)
+      (IsSettleRefused mode (is_touched D (uids_of L)) (put_over D L)))
   pub named : IfErr answer (λ e. WhereComputed mode (NamesOneOf (is_touched D (uids_of L)) e))
 
 -- over the plain store of W, what the uids of a list strip from D is what has one of them between: of the first of the

@@ -6,11 +6,10 @@ use Rattle.std.specs.declared.cmp.Ordering.TheVariants.{Less}
 use Rattle.cedar_graph.specs.declared.err.TcError.{TcError}
 use Rattle.cedar_ids.specs.UidOf.{uid_order}
 use Rattle.cedar_ids.specs.declared.entity.EntityUID.{EntityUID}
-use Rattle.cedar_entities.specs.Modes.{IsClosureRefused, IsSound}
+use Rattle.cedar_entities.specs.Modes.{IsSound, TellsUnsound}
 use Rattle.cedar_entities.specs.Plain.{Held}
 use Rattle.cedar_entity.specs.Validity.{IsValid, IsFault}
 use Rattle.cedar_entity.specs.View.{EntityView}
-use Rattle.cedar_entities.specs.declared.entities.TCComputation.TheVariants as modes
 use Rattle.cedar_entity.specs.declared.err.EntitiesError.{EntitiesError}
 use Rattle.cedar_entity.specs.declared.err.EntitiesError.TheVariants as errors
 
@@ -43,5 +42,4 @@ IsValidStore D = IsSound D × AreAllValid D
 -- the error tells what is wrong with the store: with the graph or, only where nothing is wrong there, with the
 -- entity that has the least uid of those that are not valid
 abbrev pub IsStoreFault : Held → EntitiesError → Type 0
-IsStoreFault D r = MatchStoreFault r (IsClosureRefused modes.EnforceAlreadyComputed D) (λ f. IsSound D
-    × IsFirstFault D f)
+IsStoreFault D r = MatchStoreFault r (TellsUnsound D) (λ f. IsSound D × IsFirstFault D f)

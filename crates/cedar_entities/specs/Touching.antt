@@ -1,5 +1,6 @@
 -- What an edit touches, and what is made of that where the edit is done.
-use Rattle.std.specs.Prelude.{◌≡◌, ◌↔◌, ◌⊎◌, Bool, true, false, not, ◌||◌, List, filter, Option, Some, None}
+use Rattle.std.specs.Prelude.{◌≡◌, ◌↔◌, ◌⊎◌, Bool, true, false, not, ◌&&◌, ◌||◌, List, filter, Option, Some, None}
+use Rattle.std.specs.Bool.{MatchBool, OnFalse}
 use Rattle.std.specs.Option.{option_map}
 use Rattle.std.specs.List.{list_any}
 use Rattle.std.specs.Set.{is_member}
@@ -11,11 +12,11 @@ use Rattle.cedar_ids.specs.UidOf.{same_uid}
 use Rattle.cedar_ids.specs.declared.entity.EntityUID.{EntityUID}
 use Rattle.cedar_entity.specs.View.{EntityView, kept}
 use Rattle.cedar_entities.specs.Edits.{lessened, uids_of}
-use Rattle.cedar_entities.specs.Modes.{ancestry, IsSound, IsClosureRefused}
+use Rattle.cedar_entities.specs.Modes.{ancestry, mending, row_of, Also, IsSound, OneOf, TellsCycle, TellsUnsound}
 use Rattle.cedar_entities.specs.Plain.{Held}
 use Rattle.cedar_entities.specs.World.{World, graph}
 use Rattle.cedar_entities.specs.declared.entities.TCComputation.{TCComputation}
-use Rattle.cedar_entities.specs.declared.entities.TCComputation.TheVariants as modes
+use Rattle.cedar_entities.specs.declared.settling.Row.{Row}
 
 -- whether an edit that applies these uids touches q: it is one of them, or had one among its ancestors
 abbrev pub is_touched : Held → List EntityUID → EntityUID → Bool
@@ -46,24 +47,39 @@ pub record IsRepairOf (touched : EntityUID → Bool) (D N : Held) : Type 0 where
 abbrev pub IsAcyclicAt : (EntityUID → Bool) → Held → Type 0
 IsAcyclicAt touched D = IsTrusted touched (ancestry D) → HasNoCycleAt touched (ancestry D)
 
--- what a store has in the place of D once adding or overwriting is done: only computing adds ancestors
+-- what is touched is repaired, where that is asked for, and else all is as it was
+abbrev pub IsMadeOf : Bool → (EntityUID → Bool) → Held → Held → Type 0
+IsMadeOf repairs touched D N = MatchBool repairs (IsRepairOf touched D N) (N ≡ D)
+
+-- P of something that is made so
+abbrev pub SomeMade : Bool → (EntityUID → Bool) → Held → (Held → Type 0) → Type 0
+SomeMade repairs touched D P = MatchBool repairs ((N : Held) × IsRepairOf touched D N × P N) (P D)
+
+-- what a store has in the place of D once an edit has ended by a row: it is made of D; where a repair refuses cycles
+-- nothing touched reached itself, and where the whole is checked it is sound
+abbrev pub IsEnded : Row → (EntityUID → Bool) → Held → Held → Type 0
+IsEnded r touched D N = Also r.checks (Also (r.repairs && r.refuses_cycles) (IsMadeOf r.repairs touched D N)
+    (IsAcyclicAt touched D)) (IsSound N)
+
+-- why that is refused: where a repair refuses cycles for one of D, and where the whole is checked for what is wrong with
+-- what is made of D
+abbrev pub IsEndRefused : Row → (EntityUID → Bool) → Held → TcError EntityUID → Type 0
+IsEndRefused r touched D t = OneOf (r.repairs && r.refuses_cycles) (TellsCycle D t) r.checks
+    (SomeMade r.repairs touched D (λ N. TellsUnsound N t))
+
+-- how adding and overwriting end, by the row of the mode, and why that is refused
 abbrev pub IsSettled : TCComputation → (EntityUID → Bool) → Held → Held → Type 0
-IsSettled modes.AssumeAlreadyComputed touched D N = N ≡ D
-IsSettled modes.EnforceAlreadyComputed touched D N = (N ≡ D) × IsSound D
-IsSettled modes.ComputeNow touched D N = IsRepairOf touched D N × IsAcyclicAt touched D
+IsSettled mode touched D N = IsEnded (row_of mode) touched D N
 
--- what a store has in the place of D once a removal is done, which repairs what it touched in each mode
+abbrev pub IsSettleRefused : TCComputation → (EntityUID → Bool) → Held → TcError EntityUID → Type 0
+IsSettleRefused mode touched D t = IsEndRefused (row_of mode) touched D t
+
+-- how a removal ends, which repairs in each mode, and why that is refused
 abbrev pub IsMended : TCComputation → (EntityUID → Bool) → Held → Held → Type 0
-IsMended modes.AssumeAlreadyComputed touched D N = IsRepairOf touched D N
-IsMended modes.EnforceAlreadyComputed touched D N = IsRepairOf touched D N × IsSound N
-IsMended modes.ComputeNow touched D N = IsRepairOf touched D N × IsAcyclicAt touched D
+IsMended mode touched D N = IsEnded (mending (row_of mode)) touched D N
 
--- why a removal is refused: where closure is checked, for what the repair leaves
 abbrev pub IsMendRefused : TCComputation → (EntityUID → Bool) → Held → TcError EntityUID → Type 0
-IsMendRefused modes.AssumeAlreadyComputed touched D t = ⊥
-IsMendRefused modes.EnforceAlreadyComputed touched D t = (N : Held) × IsRepairOf touched D N
-    × IsClosureRefused modes.EnforceAlreadyComputed N t
-IsMendRefused modes.ComputeNow touched D t = IsClosureRefused modes.ComputeNow D t
+IsMendRefused mode touched D t = IsEndRefused (mending (row_of mode)) touched D t
 
 -- whether w is an indirect ancestor of the entity that was found
 abbrev pub is_indirect_in : Option EntityView → EntityUID → Bool
@@ -88,8 +104,6 @@ StripsBetween W A D =
     × ((u : EntityUID) → is_member same_uid A u ≡ true → finmap.contains_key W.entities u ≡ true → Reach (graph W) q u
     → (u ≡ w) ⊎ Reach (graph W) u w → ⊥))
 
--- P, where nothing is computed
+-- P, where what is put in is taken as it is
 abbrev pub WhereTaken : TCComputation → Type 0 → Type 0
-WhereTaken modes.AssumeAlreadyComputed P = P
-WhereTaken modes.EnforceAlreadyComputed P = P
-WhereTaken modes.ComputeNow P = Unit {0}
+WhereTaken mode P = OnFalse (row_of mode).repairs P

@@ -1,9 +1,11 @@
 pub mod Closures
 pub mod Edits
+pub mod Ends
 pub mod Held
 pub mod Indexes
 pub mod Lists
 pub mod Losses
+pub mod Modes
 pub mod PlainAncestors
 pub mod Refusals
 pub mod SameUids

@@ -18,7 +18,6 @@ ghost use Rattle.cedar_entities.specs.Plain.{no_entities};
 ghost use Rattle.cedar_entities.specs.Present.{first_entity, AllMatch, FirstMismatch};
 ghost use Rattle.cedar_entities.specs.Refusals.{MatchRefusal};
 ghost use Rattle.cedar_entity.specs.declared.err.EntitiesError.TheVariants.{Memory};
-ghost use Rattle.cedar_entities.specs.declared.entities.TCComputation.TheVariants.{EnforceAlreadyComputed, ComputeNow};
 ghost use Rattle.cedar_entities.specs.SameUids.{HaveSameUids, same_uids_and_mode};
 ghost use Rattle.cedar_entities.specs.StoreFaults.{IsStoreFault, IsValidStore};
 ghost use Rattle.cedar_entities.specs.World.{World, empty_world, graph};

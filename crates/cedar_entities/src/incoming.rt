@@ -1,7 +1,7 @@
 //! Entities that a call puts in, each with its uid to be shared: one copy of the uid serves the map and all notes.
 ghost use Rattle.std.specs.Prelude.{◌≡◌, IfOk, IsTrue};
 ghost use Rattle.cedar_entities.specs.Edits.{uids_of};
-ghost use Rattle.cedar_entities.specs.declared.entities.TCComputation.TheVariants.{ComputeNow};
+ghost use Rattle.cedar_entities.specs.Modes.{computes, row_of};
 ghost use Rattle.cedar_entities.specs.Plain.{AreBare, IsBare, entities_in};
 
 use crate::entities::TCComputation;
@@ -96,7 +96,7 @@ fn are_bare(list: &[Incoming]) -> bool
 // Whether an adding or an overwriting of these leaves a plain store plain: the closure is computed, and none has
 // indirect ancestors.
 pub(crate) fn stays_plain(tc_computation: TCComputation, list: &[Incoming]) -> bool
-    ensures { IsTrue result → (tc_computation ≡ ComputeNow) × AreBare list.now }
+    ensures { IsTrue result → IsTrue (computes (row_of tc_computation)) × AreBare list.now }
 {
     if !computes(tc_computation) {
         return false;

@@ -1,33 +1,75 @@
-//! How an edit ends: what is touched is closed, or the whole is checked, as the mode says.
+//! How an edit ends: what is touched is closed, and the whole is checked, as the row of the mode says.
 ghost use Rattle.std.specs.Prelude.{◌≡◌, Bool, true, IfErr, IsTrue, OnOk};
+ghost use Rattle.std.specs.Bool.{OnTrue};
 ghost use Rattle.std.specs.HashSet.{contains};
 ghost use Rattle.std.specs.Option.{is_some};
 ghost use Rattle.cedar_ids.specs.UidOf.{same_uid};
-ghost use Rattle.cedar_ids.specs.declared.entity.EntityUID.{EntityUID};
-ghost use Rattle.cedar_entities.specs.Modes.{IsClosureRefused, IsSound, WhereComputed};
-ghost use Rattle.cedar_entities.specs.Refusals.{MatchRefusal, NamesOneOf};
-ghost use Rattle.cedar_entities.specs.Touching.{IsAcyclicAt, IsMended, IsMendRefused, IsRepairOf, IsSettled};
-ghost use Rattle.cedar_entities.specs.declared.entities.TCComputation.TheVariants.{EnforceAlreadyComputed, ComputeNow};
+ghost use Rattle.cedar_entities.specs.Modes.{computes, mending, row_of, IsSound, TellsUnsound};
+ghost use Rattle.cedar_entities.specs.Refusals.{MatchRefusal};
+ghost use Rattle.cedar_entities.specs.laws.Ends.{repairing, Ends, EndsWhole};
 ghost use Rattle.cedar_entities.specs.laws.Held.{held, held_map, UidsMatch};
 
 use crate::entities::TCComputation;
 use cedar_entity::err::EntitiesError;
 use cedar_entity::node::SharedEntity;
-use cedar_graph::{close_dag, enforce_tc_and_dag, repair_dag, repair_tc};
+use cedar_graph::{close_dag, compute_tc, enforce_tc_and_dag, repair_dag, repair_tc};
 use cedar_uid_sets::SharedUid;
 use std::alloc::Global;
 use std::collections::{HashMap, HashSet};
 use std::hash::BuildHasher;
 
-// Whether the mode computes the ancestors of what an edit touches.
-pub(crate) fn computes(tc_computation: TCComputation) -> bool
-    ensures { IsTrue result → tc_computation ≡ ComputeNow }
+// What a mode does. A removal repairs what it touched in each mode.
+#[derive(Clone, Copy, Drop)]
+pub(crate) struct Row {
+    // Whether what is put in is repaired, with what has that among its ancestors.
+    pub(crate) repairs: bool,
+    // Whether a repair refuses a cycle, before it writes an ancestor.
+    pub(crate) refuses_cycles: bool,
+    // Whether the whole is checked at the end: that it is closed, and that no entity is its own ancestor.
+    pub(crate) checks: bool,
+}
+
+// What a mode does.
+fn row_of(tc_computation: TCComputation) -> Row
+    ensures { result ≡ row_of tc_computation }
 {
     match tc_computation {
-        TCComputation::AssumeAlreadyComputed => false,
-        TCComputation::EnforceAlreadyComputed => false,
-        TCComputation::ComputeNow => true,
+        TCComputation::AssumeAlreadyComputed => Row {
+            repairs: false,
+            refuses_cycles: false,
+            checks: false,
+        },
+        TCComputation::EnforceAlreadyComputed => Row {
+            repairs: false,
+            refuses_cycles: false,
+            checks: true,
+        },
+        TCComputation::ComputeNow => Row {
+            repairs: true,
+            refuses_cycles: true,
+            checks: false,
+        },
     }
+}
+
+// By which row a removal ends.
+fn mending(row: Row) -> Row
+    ensures { result ≡ mending row }
+{
+    Row {
+        repairs: true,
+        refuses_cycles: row.refuses_cycles,
+        checks: row.checks,
+    }
+}
+
+// Whether the mode computes the closure of what is put in: it repairs that, refuses a cycle there, and looks for
+// nothing else.
+pub(crate) fn computes(tc_computation: TCComputation) -> bool
+    ensures { result ≡ computes (row_of tc_computation) }
+{
+    let row = row_of(tc_computation);
+    row.repairs && row.refuses_cycles && !row.checks
 }
 
 // Checks that the ancestors are closed and that no entity is its own.
@@ -37,11 +79,28 @@ pub(crate) fn check<S: BuildHasher + Clone>(
 ) -> Result<(), EntitiesError>
     requires { UidsMatch entities.now }
     ensures ok { OnOk result (IsSound (held_map entities.now)) }
-    ensures err { IfErr result (λ e. MatchRefusal e (λ _. ⊥)
-        (IsClosureRefused EnforceAlreadyComputed (held_map entities.now))) }
+    ensures err { IfErr result (λ e. MatchRefusal e (λ _. ⊥) (TellsUnsound (held_map entities.now))) }
 {
     enforce_tc_and_dag(alloc, entities)?;
     Ok(())
+}
+
+// Checks that, where it is asked for.
+fn check_if<S: BuildHasher + Clone>(
+    alloc: Global,
+    entities: &HashMap<SharedUid, SharedEntity, S>,
+    checks: bool,
+) -> Result<(), EntitiesError>
+    requires { UidsMatch entities.now }
+    ensures ok { OnOk result (OnTrue checks (IsSound (held_map entities.now))) }
+    ensures err { IfErr result (λ e. MatchRefusal e (λ _. ⊥) (λ t. (checks ≡ true)
+        × TellsUnsound (held_map entities.now) t)) }
+{
+    if checks {
+        check(alloc, entities)
+    } else {
+        Ok(())
+    }
 }
 
 // Gives the entities that are touched the ancestors that they reach. Where a cycle is asked for, it is told before any
@@ -54,13 +113,8 @@ fn repair_touched<S: BuildHasher + Clone>(
 ) -> Result<(), EntitiesError>
     requires { UidsMatch entities.old }
     ensures keys { UidsMatch entities.new }
-    ensures ok { OnOk result (IsRepairOf (contains same_uid touched.now)
-        (held_map entities.old) (held_map entities.new)
-        × (IsTrue enforce_dag →
-        IsAcyclicAt (contains same_uid touched.now) (held_map entities.old))) }
-    ensures err { IfErr result (λ e. MatchRefusal e (λ _. ⊥) (λ t. IsTrue enforce_dag
-        × IsClosureRefused ComputeNow (held_map entities.old) t)) }
-    ensures named { IfErr result (NamesOneOf (contains same_uid touched.now)) }
+    ensures ends { Ends (repairing enforce_dag) (contains same_uid touched.now)
+        (held_map entities.old) (held_map entities.new) result }
 {
     if enforce_dag {
         repair_dag(alloc, touched, entities)?;
@@ -68,6 +122,45 @@ fn repair_touched<S: BuildHasher + Clone>(
     }
     repair_tc(alloc, touched, entities, false)?;
     Ok(())
+}
+
+// Gives all entities the ancestors that they reach. Where a cycle is asked for, it is told before any ancestor is
+// written. So all that a map held where it was empty before is repaired, whatever passes for touched.
+fn repair_all<S: BuildHasher + Clone>(
+    alloc: Global,
+    entities: &mut HashMap<SharedUid, SharedEntity, S>,
+    enforce_dag: bool,
+) -> Result<(), EntitiesError>
+    requires { UidsMatch entities.old }
+    ensures keys { UidsMatch entities.new }
+    ensures ends { EndsWhole (repairing enforce_dag) (λ q. is_some (held entities.old q))
+        (held_map entities.old) (held_map entities.new) result }
+{
+    if enforce_dag {
+        close_dag(alloc, entities)?;
+        return Ok(());
+    }
+    compute_tc(alloc, entities, false)?;
+    Ok(())
+}
+
+// Ends an edit: repairs what is touched, and checks the whole, as the row says.
+fn finish<S: BuildHasher + Clone>(
+    alloc: Global,
+    entities: &mut HashMap<SharedUid, SharedEntity, S>,
+    touched: &HashSet<SharedUid, S>,
+    row: Row,
+) -> Result<(), EntitiesError>
+    requires { UidsMatch entities.old }
+    ensures keys { UidsMatch entities.new }
+    ensures ends { Ends row (contains same_uid touched.now)
+        (held_map entities.old) (held_map entities.new) result }
+{
+    if !row.repairs {
+        return check_if(alloc, entities, row.checks);
+    }
+    repair_touched(alloc, entities, touched, row.refuses_cycles)?;
+    check_if(alloc, entities, row.checks)
 }
 
 // Ends an adding or an overwriting, as the mode says.
@@ -79,39 +172,28 @@ pub(crate) fn settle_touched<S: BuildHasher + Clone>(
 ) -> Result<(), EntitiesError>
     requires { UidsMatch entities.old }
     ensures keys { UidsMatch entities.new }
-    ensures ok { OnOk result (IsSettled tc_computation (contains same_uid touched.now)
-        (held_map entities.old) (held_map entities.new)) }
-    ensures err { IfErr result (λ e. MatchRefusal e (λ _. ⊥)
-        (IsClosureRefused tc_computation (held_map entities.old))) }
-    ensures named { IfErr result (λ e. WhereComputed tc_computation (NamesOneOf (contains same_uid touched.now) e)) }
+    ensures ends { Ends (row_of tc_computation) (contains same_uid touched.now)
+        (held_map entities.old) (held_map entities.new) result }
 {
-    match tc_computation {
-        TCComputation::AssumeAlreadyComputed => Ok(()),
-        TCComputation::EnforceAlreadyComputed => check(alloc, entities),
-        TCComputation::ComputeNow => repair_touched(alloc, entities, touched, true),
-    }
+    finish(alloc, entities, touched, row_of(tc_computation))
 }
 
-// Gives all entities the ancestors that they reach, and refuses where one reaches itself, before any ancestor is
-// written. So all that a map held where it was empty before is repaired, whatever passes for touched.
-fn close_whole<S: BuildHasher + Clone>(
+// Ends an adding to an empty map: repairs all, and checks it, as the row says.
+fn finish_whole<S: BuildHasher + Clone>(
     alloc: Global,
     entities: &mut HashMap<SharedUid, SharedEntity, S>,
+    row: Row,
 ) -> Result<(), EntitiesError>
     requires { UidsMatch entities.old }
     ensures keys { UidsMatch entities.new }
-    ensures ok { OnOk result ((touched : EntityUID → Bool) →
-        ((q : EntityUID) → is_some (held entities.old q) ≡ true → touched q ≡ true) →
-        IsRepairOf touched (held_map entities.old) (held_map entities.new)
-        × IsAcyclicAt touched (held_map entities.old)) }
-    ensures err { IfErr result (λ e. MatchRefusal e (λ _. ⊥)
-        (IsClosureRefused ComputeNow (held_map entities.old))) }
-    ensures named { IfErr result (λ e. (touched : EntityUID → Bool) →
-        ((q : EntityUID) → is_some (held entities.old q) ≡ true → touched q ≡ true) →
-        NamesOneOf touched e) }
+    ensures ends { EndsWhole row (λ q. is_some (held entities.old q))
+        (held_map entities.old) (held_map entities.new) result }
 {
-    close_dag(alloc, entities)?;
-    Ok(())
+    if !row.repairs {
+        return check_if(alloc, entities, row.checks);
+    }
+    repair_all(alloc, entities, row.refuses_cycles)?;
+    check_if(alloc, entities, row.checks)
 }
 
 // Ends an adding to an empty map, as the mode says.
@@ -122,20 +204,10 @@ pub(crate) fn settle_whole<S: BuildHasher + Clone>(
 ) -> Result<(), EntitiesError>
     requires { UidsMatch entities.old }
     ensures keys { UidsMatch entities.new }
-    ensures ok { OnOk result ((touched : EntityUID → Bool) →
-        ((q : EntityUID) → is_some (held entities.old q) ≡ true → touched q ≡ true) →
-        IsSettled tc_computation touched (held_map entities.old) (held_map entities.new)) }
-    ensures err { IfErr result (λ e. MatchRefusal e (λ _. ⊥)
-        (IsClosureRefused tc_computation (held_map entities.old))) }
-    ensures named { IfErr result (λ e. (touched : EntityUID → Bool) →
-        ((q : EntityUID) → is_some (held entities.old q) ≡ true → touched q ≡ true) →
-        WhereComputed tc_computation (NamesOneOf touched e)) }
+    ensures ends { EndsWhole (row_of tc_computation)
+        (λ q. is_some (held entities.old q)) (held_map entities.old) (held_map entities.new) result }
 {
-    match tc_computation {
-        TCComputation::AssumeAlreadyComputed => Ok(()),
-        TCComputation::EnforceAlreadyComputed => check(alloc, entities),
-        TCComputation::ComputeNow => close_whole(alloc, entities),
-    }
+    finish_whole(alloc, entities, row_of(tc_computation))
 }
 
 // Repairs what a removal touched, and ends that as the mode says.
@@ -147,18 +219,8 @@ pub(crate) fn mend<S: BuildHasher + Clone>(
 ) -> Result<(), EntitiesError>
     requires { UidsMatch entities.old }
     ensures keys { UidsMatch entities.new }
-    ensures ok { OnOk result (IsMended tc_computation (contains same_uid touched.now)
-        (held_map entities.old) (held_map entities.new)) }
-    ensures err { IfErr result (λ e. MatchRefusal e (λ _. ⊥) (IsMendRefused tc_computation
-        (contains same_uid touched.now) (held_map entities.old))) }
-    ensures named { IfErr result (λ e. WhereComputed tc_computation (NamesOneOf (contains same_uid touched.now) e)) }
+    ensures ends { Ends (mending (row_of tc_computation)) (contains same_uid touched.now)
+        (held_map entities.old) (held_map entities.new) result }
 {
-    match tc_computation {
-        TCComputation::AssumeAlreadyComputed => repair_touched(alloc, entities, touched, false),
-        TCComputation::EnforceAlreadyComputed => {
-            repair_touched(alloc, entities, touched, false)?;
-            check(alloc, entities)
-        }
-        TCComputation::ComputeNow => repair_touched(alloc, entities, touched, true),
-    }
+    finish(alloc, entities, touched, mending(row_of(tc_computation)))
 }

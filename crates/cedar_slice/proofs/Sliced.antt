@@ -3,20 +3,15 @@ use Rattle.std.specs.Prelude.{◌≡◌, true, false, cond, List, None, filter_m
 use Rattle.std.proofs.Common.{ap, refl, subst, ◌∙◌}
 use Rattle.std.specs.Set.{is_member}
 use Rattle.std.specs.FinMap as finmap
-use Rattle.cedar_graph.specs.declared.err.TcError.{TcError}
-use Rattle.cedar_graph.specs.declared.err.TcError.TheVariants as tc
 use Rattle.cedar_ids.specs.UidOf.{same_uid}
 use Rattle.cedar_ids.specs.declared.entity.EntityUID.{EntityUID}
 use Rattle.cedar_entity.specs.View.{EntityView}
 use Rattle.cedar_entity.specs.declared.err.EntitiesError.{EntitiesError}
 use Rattle.cedar_entity.specs.declared.err.EntitiesError.TheVariants.{Memory}
-use Rattle.cedar_entities.specs.ClosureFaults.{IsClosureFault}
-use Rattle.cedar_entities.specs.Modes.{IsClosureRefused}
 use Rattle.cedar_entities.specs.Plain.{StoreView, Held, no_entities}
 use Rattle.cedar_entities.specs.Present.{with_first, AllMatch, FirstMismatch}
 use Rattle.cedar_entities.specs.Refusals.{MatchRefusal}
 use Rattle.cedar_entities.specs.laws.Refusals.{refusal_cases}
-use Rattle.cedar_entities.specs.declared.entities.TCComputation.TheVariants.{AssumeAlreadyComputed}
 use Rattle.cedar_slice.specs.Slices.{is_wanted, sliced}
 use Rattle.cedar_slice.specs.laws.OneSlice.{asked_is_wanted}
 use Rattle.cedar_slice.proofs.Copies.{AreKeyed, none_differs, store_of}
@@ -26,11 +21,6 @@ use Rattle.cedar_slice.proofs.PlainSlices.{get_kept}
 pub asked_stays : (D : Held) (U : List EntityUID) (q : EntityUID) → is_member same_uid U q ≡ true
     → finmap.get (sliced D U) q ≡ finmap.get D q
 asked_stays D U q m = get_kept D (is_wanted D U) q ∙ ap (λ t. cond t (finmap.get D q) None) (asked_is_wanted D U q m)
-
-no_fault : (t : TcError EntityUID) → IsClosureFault t (λ _ _ _. ⊥) (λ _. ⊥) → ⊥
-no_fault (tc.MissingTcEdge e) h = h
-no_fault (tc.HasCycle e) h = h
-no_fault tc.Memory h = h
 
 module _ (D : Held) (ks : List EntityUID) (keyed : AreKeyed D ks) (L : List EntityView)
     (copies : L ≡ filter_map (finmap.get D) ks) where
@@ -45,15 +35,14 @@ module _ (D : Held) (ks : List EntityUID) (keyed : AreKeyed D ks) (L : List Enti
       λ i. record { held = is i; partial = flag i }
   holds_slice U same (Err e) flag held = tt
 
-  -- and only want of memory refuses it
+  -- and only want of memory refuses it, since that mode refuses no closure
   pub only_memory : (r : Result StoreView EntitiesError)
       → IfErr r
-      (λ e. MatchRefusal e (FirstMismatch (finmap.get no_entities) L) (λ t. AllMatch (finmap.get no_entities) L
-      × IsClosureRefused AssumeAlreadyComputed (with_first no_entities L) t))
+      (λ e. MatchRefusal e (FirstMismatch (finmap.get no_entities) L) (λ t. AllMatch (finmap.get no_entities) L × ⊥))
       → IfErr r (λ e. e ≡ Memory)
   only_memory (Ok s) h = tt
   only_memory (Err e) h =
-      refusal_cases (FirstMismatch (finmap.get no_entities) L) (λ t. AllMatch (finmap.get no_entities) L
-      × IsClosureRefused AssumeAlreadyComputed (with_first no_entities L) t) (λ x. x ≡ Memory)
+      refusal_cases (FirstMismatch (finmap.get no_entities) L) (λ t. AllMatch (finmap.get no_entities) L × ⊥)
+      (λ x. x ≡ Memory)
       (λ u m. absurd (none_differs D ks keyed u (subst (λ l. FirstMismatch (finmap.get no_entities) l u) copies m)))
-      (λ t k. absurd (no_fault t k.1)) refl e h
+      (λ t k. absurd k.1) refl e h

@@ -19,13 +19,12 @@ use Rattle.cedar_entity.specs.View.{EntityView, IsDeepEqual, has_ancestor}
 use Rattle.cedar_entity.specs.declared.err.EntitiesError.{EntitiesError}
 use Rattle.cedar_entity.specs.declared.err.EntitiesError.TheVariants as errors
 use Rattle.cedar_entities.specs.Edits.{goes_with, lessened, put_over, uids_of}
-use Rattle.cedar_entities.specs.Modes.{ancestry, is_ancestor_in, IsClosureRefused}
+use Rattle.cedar_entities.specs.Modes.{ancestry, is_ancestor_in, TellsCycle}
 use Rattle.cedar_entities.specs.Plain.{Held}
 use Rattle.cedar_entities.specs.Present.{keyed, first_entity, present, with_first, AllMatch, FirstMismatch, MatchesPresent}
 use Rattle.cedar_entities.specs.Refusals.{MatchRefusal, NamesOneOf}
 use Rattle.cedar_entities.specs.Touching.{inserted_in, is_touched}
 use Rattle.cedar_entities.specs.World.{reversed}
-use Rattle.cedar_entities.specs.declared.entities.TCComputation.TheVariants.{ComputeNow}
 use Rattle.cedar_entities.specs.laws.Refusals.{refusal_cases}
 use Rattle.cedar_entities.specs.laws.Worlds.{get_joined, find-mapped}
 use Rattle.cedar_slice.specs.Slices.{is_wanted, sliced}
@@ -150,8 +149,8 @@ module _ (D : Held) (U : List EntityUID) where
     none_first a b f = ap (λ o. is_ancestor_in o b) (get_with_first part L a
         ∙ ap (λ o. option_or o (first_entity L a)) (get_none a f) ∙ no_first a f)
 
-    cycle_out : (t : TcError EntityUID) → IsClosureRefused ComputeNow (with_first part L) t
-        → IsClosureRefused ComputeNow (with_first D L) t
+    cycle_out : (t : TcError EntityUID) → TellsCycle (with_first part L) t
+        → TellsCycle (with_first D L) t
     cycle_out (tc.MissingTcEdge e) h = h
     cycle_out (tc.HasCycle e) h = reach_out (is_wanted D U) (ancestry (with_first D L)) (ancestry (with_first part L))
         same_first none_first (vertex_of e) (vertex_of e) h
@@ -174,9 +173,9 @@ module _ (D : Held) (U : List EntityUID) where
       ok = tt;
       untouched = tt;
       err = refusal_cases (FirstMismatch (finmap.get part) L) (λ t. AllMatch (finmap.get part) L
-          × IsClosureRefused ComputeNow (with_first part L) t)
+          × TellsCycle (with_first part L) t)
           (λ x. MatchRefusal x (FirstMismatch (finmap.get D) L)
-          (λ t. AllMatch (finmap.get D) L × IsClosureRefused ComputeNow (with_first D L) t)) mismatch_out
+          (λ t. AllMatch (finmap.get D) L × TellsCycle (with_first D L) t)) mismatch_out
           (λ t k. (all_match L asked k.0, cycle_out t k.1)) tt e h.err;
       named = names_out (inserted_in D L) e (subst (λ A. NamesOneOf (is_touched part A) e) same_inserted h.named);
     }
@@ -203,8 +202,8 @@ module _ (D : Held) (U : List EntityUID) where
         ∙ ap (λ o. option_or (last_entity L a) (option_map (lessened part (uids_of L)) o)) (get_none a f)
         ∙ ap (λ o. option_or o None) (no_last a f))
 
-    over_out : (t : TcError EntityUID) → IsClosureRefused ComputeNow (put_over part L) t
-        → IsClosureRefused ComputeNow (put_over D L) t
+    over_out : (t : TcError EntityUID) → TellsCycle (put_over part L) t
+        → TellsCycle (put_over D L) t
     over_out (tc.MissingTcEdge e) h = h
     over_out (tc.HasCycle e) h = reach_out (is_wanted D U) (ancestry (put_over D L)) (ancestry (put_over part L)) same_over
         none_over (vertex_of e) (vertex_of e) h
@@ -215,7 +214,7 @@ module _ (D : Held) (U : List EntityUID) where
     upsert_refusal e h = record {
       ok = tt;
       untouched = tt;
-      err = refusal_cases (λ _. ⊥) (IsClosureRefused ComputeNow (put_over part L))
-          (λ x. MatchRefusal x (λ _. ⊥) (IsClosureRefused ComputeNow (put_over D L))) (λ u d. d) over_out tt e h.err;
+      err = refusal_cases (λ _. ⊥) (TellsCycle (put_over part L))
+          (λ x. MatchRefusal x (λ _. ⊥) (TellsCycle (put_over D L))) (λ u d. d) over_out tt e h.err;
       named = names_out (uids_of L) e h.named;
     }

@@ -1,5 +1,5 @@
 use Rattle.std.proofs.Common.{ap, refl, subst, not, is_some, ◌∙◌, ◌≡◌, ◌||◌}
-use Rattle.std.proofs.lemmas.Result.{IfErr-weaker, on_ok_weaker}
+use Rattle.std.proofs.lemmas.Result.{on_ok_weaker}
 use Rattle.std.specs.FinMap as finmap
 use Rattle.std.specs.HashSet.{contains}
 use Rattle.std.specs.List.{filter}
@@ -9,16 +9,17 @@ use Rattle.cedar_ids.specs.UidOf.{same_uid}
 use Rattle.cedar_ids.specs.declared.entity.EntityUID.{EntityUID}
 use Rattle.cedar_entity.specs.View.{kept}
 use Rattle.cedar_entities.specs.Edits.{uids_of}
-use Rattle.cedar_entities.specs.Modes.{WhereComputed}
+use Rattle.cedar_entities.specs.Modes.{row_of}
 use Rattle.cedar_entities.specs.Present.{with_first}
-use Rattle.cedar_entities.specs.Refusals.{NamesOneOf}
-use Rattle.cedar_entities.specs.Touching.{inserted_in, IsSettled}
+use Rattle.cedar_entities.specs.Touching.{inserted_in}
+use Rattle.cedar_entities.specs.laws.Ends.{Ends}
 use Rattle.cedar_entities.specs.laws.Held.{held, held_map}
 use Rattle.cedar_entities.specs.laws.Indexes.{parentage}
 use Rattle.cedar_entities.proofs.Adds.{put_in, stored}
 use Rattle.cedar_entities.proofs.Changing.{adds_settled, adds_unmatched}
 use Rattle.cedar_entities.proofs.Edited.{added_alike, known_touched}
-use Rattle.cedar_entities.proofs.Indexes.{children_back, children_in, if_some, settled_kept}
+use Rattle.cedar_entities.proofs.Ending.{ended_kept}
+use Rattle.cedar_entities.proofs.Indexes.{children_back, children_in, if_some}
 use Rattle.cedar_entities.proofs.entities.add_to.Goals as goal
 
 pub returns-in_err-put_all-clause-adds : goal.returns-in_err-put_all-clause-adds
@@ -48,10 +49,8 @@ returns-clause-adds g c =
     (c.in_ok-touched.ensures.ok D c.list_if_it_pays.ensures.index (added_alike n D L A put same)) in
     adds_settled m c.args.tc_computation L n N c.settle_touched.result
     c.in_ok-put_all.ensures.agree c.in_ok-put_all.ensures.ok
-    (on_ok_weaker c.settle_touched.result (subst (λ f. IsSettled c.args.tc_computation f (held_map n) N) touched)
-    c.settle_touched.ensures.ok) c.settle_touched.ensures.err
-    (IfErr-weaker c.settle_touched.result _ _
-    (λ e. subst (λ f. WhereComputed c.args.tc_computation (NamesOneOf f e)) touched) c.settle_touched.ensures.named)
+    (subst (λ f. Ends (row_of c.args.tc_computation) f (held_map n) N
+    c.settle_touched.result) touched c.settle_touched.ensures.ends)
 
 pub returns-clause-children : goal.returns-clause-children
 returns-clause-children g c =
@@ -76,6 +75,6 @@ returns-clause-children g c =
     (λ s. children_back c.settle_touched.new.entities N c.join.new.index.children refl
     (if_some _ _ c.join.new.index.children
     (λ ch h p q. h p q ∙ children_in D N L A (held n) same (λ x. ap (λ f. f x) (stored n (with_first D L) put))
-    (λ x. settled_kept c.args.tc_computation _ (held_map n) N s x ∙ ap (λ M. option_map kept (finmap.get M x)) put) p q)
+    (λ x. ended_kept (row_of c.args.tc_computation) _ (held_map n) N s x ∙ ap (λ M. option_map kept (finmap.get M x)) put) p q)
     (c.join.ensures.children
-    (parentage (finmap.get D)) c.list_if_it_pays.ensures.index.children))) c.settle_touched.ensures.ok
+    (parentage (finmap.get D)) c.list_if_it_pays.ensures.index.children))) c.settle_touched.ensures.ends.ok

@@ -1,4 +1,3 @@
-use Rattle.std.proofs.lemmas.Result.{IfErr-weaker, on_ok_weaker}
 use Rattle.std.proofs.Common.{◌≡◌, subst}
 use Rattle.std.specs.Option.{option_or}
 use Rattle.cedar_ids.specs.declared.entity.EntityUID.{EntityUID}
@@ -30,6 +29,4 @@ returns-clause-adds g c =
     subst (λ f. (q : EntityUID) → held n q ≡ option_or (f q) (first_entity L q)) same c.in_ok-put_all.ensures.ok in
     let all = all_inserted m n L c.requires.empty put in
     adds_settled m c.args.tc_computation L n (held_map c.settle_whole.new.entities) c.settle_whole.result
-    (subst (λ f. AllMatch f L) same c.in_ok-put_all.ensures.agree) put
-    (on_ok_weaker c.settle_whole.result (λ h. h touched all) c.settle_whole.ensures.ok) c.settle_whole.ensures.err
-    (IfErr-weaker c.settle_whole.result _ _ (λ e h. h touched all) c.settle_whole.ensures.named)
+    (subst (λ f. AllMatch f L) same c.in_ok-put_all.ensures.agree) put (c.settle_whole.ensures.ends touched all)

@@ -1,7 +1,9 @@
+use Rattle.std.proofs.Common.{subst}
+use Rattle.cedar_entities.specs.laws.Ends.{Ends}
+use Rattle.cedar_entities.specs.laws.Held.{held_map}
 use Rattle.cedar_entities.proofs.settling.settle_whole.Goals as goal
 
-pub returns-in-ComputeNow-clause-ok : goal.returns-in-ComputeNow-clause-ok
-returns-in-ComputeNow-clause-ok g c = rw c.in-ComputeNow.is c.close_whole.ensures.ok
-
-pub returns-in-ComputeNow-clause-named : goal.returns-in-ComputeNow-clause-named
-returns-in-ComputeNow-clause-named g c = rw c.in-ComputeNow.is c.close_whole.ensures.named
+pub returns-clause-ends : goal.returns-clause-ends
+returns-clause-ends g c touched all = subst
+    (λ r. Ends r touched (held_map c.args.entities.now) (held_map c.finish_whole.new.entities) c.finish_whole.result)
+    c.row_of.ensures (c.finish_whole.ensures.ends touched all)

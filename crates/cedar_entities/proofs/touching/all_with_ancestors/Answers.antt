@@ -1,5 +1,4 @@
 use Rattle.std.proofs.Common.{◌∙◌, ◌||◌, ◌<◌, ap, arith, length, sym, take}
-use Rattle.std.specs.List.{list_any}
 use Rattle.cedar_ids.specs.declared.entity.EntityUID.{EntityUID}
 use Rattle.cedar_entities.specs.laws.Held.{held}
 use Rattle.cedar_entities.specs.laws.Losses.{takes}

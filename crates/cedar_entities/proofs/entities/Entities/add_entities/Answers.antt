@@ -1,5 +1,6 @@
-use Rattle.std.proofs.Common.{ap, subst, sym, map, ◌≡◌, ◌∙◌}
+use Rattle.std.proofs.Common.{ap, subst, sym, map, ◌∙◌}
 use Rattle.cedar_entity.specs.declared.err.EntitiesError.TheVariants.{Memory}
+use Rattle.cedar_entities.specs.Modes.{row_of}
 use Rattle.cedar_entities.specs.Plain.{AreBare, StoreView}
 use Rattle.cedar_entities.specs.laws.Held.{held_map}
 use Rattle.cedar_entities.proofs.Changing.{adds_kept, adds_nothing, adds_plain, adds_same, adds_told, none_came}
@@ -59,7 +60,7 @@ invariant_of-result g c =
             let p = c.plain_if.ensures.plain t in
             let stays = c.stays_plain-stays.ensures p.1 in
             plain_in (held_map m) (c.self.invariant.1.plain (sym c.add_all.ensures.plain ∙ p.0))
-            c.in_ok-coming.coming.items (subst AreBare c.deref.ensures.value stays.1) c.args.tc_computation stays.0
+            c.in_ok-coming.coming.items (subst AreBare c.deref.ensures.value stays.1) (row_of c.args.tc_computation) stays.0
             (held_map n) c.in_ok-add_all.ensures.adds.ok;
         children =
             c.plain_if.ensures.children _

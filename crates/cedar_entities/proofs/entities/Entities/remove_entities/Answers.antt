@@ -9,13 +9,14 @@ use Rattle.cedar_uid_sets.specs.UidSets.{UidValues}
 use Rattle.cedar_uid_sets.specs.laws.Sets.{contains_listed}
 use Rattle.cedar_entities.specs.Edits.{taken_out}
 use Rattle.cedar_entities.specs.laws.Held.{held_map}
-use Rattle.cedar_entities.specs.Modes.{WhereComputed}
+use Rattle.cedar_entities.specs.Modes.{mending, row_of, WhereComputed}
 use Rattle.cedar_entities.specs.Plain.{StoreView}
 use Rattle.cedar_entities.specs.Refusals.{MatchRefusal, NamesOneOf}
 use Rattle.cedar_entities.specs.Touching.{removed_from, IsMended, IsMendRefused}
 use Rattle.cedar_entities.proofs.Edited.{gone_leaves, known_touched, taken_from}
 use Rattle.cedar_entities.proofs.Editing.{changed_match}
-use Rattle.cedar_entities.proofs.Indexes.{children_back, children_out, if_some, mended_kept, plain_out}
+use Rattle.cedar_entities.proofs.Ending.{ended_kept, mending_computes}
+use Rattle.cedar_entities.proofs.Indexes.{children_back, children_out, if_some, plain_out}
 use Rattle.cedar_entities.proofs.Indexes.{plain_transitive}
 use Rattle.cedar_entities.proofs.Changing.{none_came, removes_mended, removes_nothing, removes_plain, removes_refused}
 use Rattle.cedar_entities.specs.laws.Edits.{stripped}
@@ -53,8 +54,9 @@ returns-in_err-mend-clause-removes g c =
     removes_refused mode D U _ e c.from_residual-in_err-mend.ensures.1
     (subst (λ f. MatchRefusal e (λ _. ⊥) (IsMendRefused mode f (taken_out D U))) touched
     (subst (λ E. MatchRefusal e (λ _. ⊥) (IsMendRefused mode (contains same_uid c.in_ok-touched.touched) E)) taken
-    c.in_err-mend.ensures.err))
-    (subst (λ f. WhereComputed mode (NamesOneOf f e)) touched c.in_err-mend.ensures.named)
+    c.in_err-mend.ensures.ends.err))
+    (subst (λ f. WhereComputed mode (NamesOneOf f e)) touched
+    (mending_computes (row_of mode) (NamesOneOf (contains same_uid c.in_ok-touched.touched) e) c.in_err-mend.ensures.ends.named))
 
 pub returns-in_err-mend-clause-plain : goal.returns-in_err-mend-clause-plain
 returns-in_err-mend-clause-plain g c =
@@ -89,7 +91,7 @@ returns-clause-removes g c =
     let s : StoreView = record { held = N; partial = c.self.inside.partial } in
     removes_mended mode D U s
     (subst (λ f. IsMended mode f (taken_out D U) N) touched
-    (subst (λ E. IsMended mode (contains same_uid c.in_ok-touched.touched) E N) taken c.in_ok-mend.ensures.ok))
+    (subst (λ E. IsMended mode (contains same_uid c.in_ok-touched.touched) E N) taken c.in_ok-mend.ensures.ends.ok))
 
 pub returns-clause-plain : goal.returns-clause-plain
 returns-clause-plain g c =
@@ -156,18 +158,18 @@ invariant_of-result g c =
     let ok = subst (λ f. IsMended c.args.tc_computation f (taken_out D U) (held_map c.mend.new.entities)) touched
     (subst
     (λ E. IsMended c.args.tc_computation (contains same_uid c.in_ok-touched.touched) E
-    (held_map c.mend.new.entities)) taken c.in_ok-mend.ensures.ok) in (
+    (held_map c.mend.new.entities)) taken c.in_ok-mend.ensures.ends.ok) in (
       c.in_ok-mend.ensures.keys,
       record {
         plain =
             λ t. plain_out D
             (subst IsPlainHeld is (c.self.invariant.1.plain (sym c.list_if_it_pays.ensures.plain
-            ∙ sym c.forget.ensures.plain ∙ t))) U c.args.tc_computation N ok;
+            ∙ sym c.forget.ensures.plain ∙ t))) U (row_of c.args.tc_computation) N ok;
         children = if_some _ _ c.forget.new.index.children
             (λ ch h p q. h p q
             ∙ ap (λ f. not (is_member same_uid A p) && (not (is_member same_uid A q) && is_parent_at (f q) p))
             (stored m D is)
-            ∙ children_out D N U A same (mended_kept c.args.tc_computation _ (taken_out D U) N ok) p q)
+            ∙ children_out D N U A same (ended_kept (mending (row_of c.args.tc_computation)) _ (taken_out D U) N ok) p q)
             (c.forget.ensures.children
             (children_back m E c.list_if_it_pays.new.index.children refl
             c.list_if_it_pays.ensures.index.children));

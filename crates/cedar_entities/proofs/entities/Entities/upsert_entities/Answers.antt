@@ -8,17 +8,17 @@ use Rattle.cedar_entities.specs.Edits.{put_over, uids_of}
 use Rattle.std.specs.Option.{option_or}
 use Rattle.cedar_entities.specs.laws.Edits.{last_entity}
 use Rattle.cedar_entities.specs.laws.Held.{held, held_map}
-use Rattle.cedar_entities.specs.Modes.{IsClosureRefused, WhereComputed}
+use Rattle.cedar_entities.specs.Modes.{row_of, WhereComputed}
 use Rattle.cedar_entities.specs.Plain.{StoreView}
 use Rattle.cedar_entities.specs.Refusals.{MatchRefusal, NamesOneOf}
-use Rattle.cedar_entities.specs.Touching.{IsSettled}
+use Rattle.cedar_entities.specs.Touching.{IsSettled, IsSettleRefused}
 use Rattle.cedar_entities.proofs.Edited.{known_touched, laid_over}
 use Rattle.cedar_entities.proofs.Adds.{stored}
 use Rattle.cedar_entities.proofs.Changing.{none_came, strips_plain}
 use Rattle.cedar_entities.proofs.Changing.{upserts_nothing, upserts_plain, upserts_refused, upserts_settled}
 use Rattle.cedar_entities.proofs.Editing.{changed_match}
 use Rattle.cedar_entities.proofs.Indexes.{children_back, children_over, if_some, plain_over, plain_transitive}
-use Rattle.cedar_entities.proofs.Indexes.{settled_kept}
+use Rattle.cedar_entities.proofs.Ending.{ended_kept}
 use Rattle.cedar_entities.specs.Plain.{AreBare}
 use Rattle.cedar_entities.specs.laws.Edits.{stripped}
 use Rattle.cedar_entities.specs.laws.Indexes.{IsPlainHeld, is_parent_at}
@@ -47,9 +47,12 @@ returns-in_err-settle_touched-clause-upserts g c =
     (c.in_ok-touched.ensures.ok (held_map m) c.list_if_it_pays.ensures.index (λ q. refl)) in
     let e = c.in_err-settle_touched.field-0.0 in
     upserts_refused c.args.tc_computation D L _ e c.from_residual-in_err-settle_touched.ensures.1
+    (subst (λ f. MatchRefusal e (λ _. ⊥) (IsSettleRefused c.args.tc_computation f (put_over D L))) touched
     (subst (λ E. MatchRefusal e (λ _. ⊥)
-    (IsClosureRefused c.args.tc_computation E)) laid c.in_err-settle_touched.ensures.err)
-    (subst (λ f. WhereComputed c.args.tc_computation (NamesOneOf f e)) touched c.in_err-settle_touched.ensures.named)
+    (IsSettleRefused c.args.tc_computation (contains same_uid c.in_ok-touched.touched) E)) laid
+    c.in_err-settle_touched.ensures.ends.err))
+    (subst (λ f. WhereComputed c.args.tc_computation (NamesOneOf f e)) touched
+    c.in_err-settle_touched.ensures.ends.named)
 
 pub returns-in_err-settle_touched-clause-strips : goal.returns-in_err-settle_touched-clause-strips
 returns-in_err-settle_touched-clause-strips g c =
@@ -86,7 +89,7 @@ returns-clause-upserts g c =
     upserts_settled c.args.tc_computation D L s
     (subst (λ f. IsSettled c.args.tc_computation f (put_over D L) N) touched
     (subst (λ E. IsSettled c.args.tc_computation (contains same_uid c.in_ok-touched.touched) E N) laid
-    c.in_ok-settle_touched.ensures.ok))
+    c.in_ok-settle_touched.ensures.ends.ok))
 
 pub returns-clause-strips : goal.returns-clause-strips
 returns-clause-strips g c =
@@ -183,8 +186,8 @@ invariant_of-result g c =
     let ok = subst (λ f. IsSettled c.args.tc_computation f (put_over c.args.self.held L)
     (held_map c.settle_touched.new.entities)) touched
     (subst (λ D. IsSettled c.args.tc_computation (contains same_uid c.in_ok-touched.touched) D
-    (held_map c.settle_touched.new.entities)) laid c.in_ok-settle_touched.ensures.ok) in
-    let keeps = λ (x : EntityUID). settled_kept c.args.tc_computation _ (put_over D L) N ok x in (
+    (held_map c.settle_touched.new.entities)) laid c.in_ok-settle_touched.ensures.ends.ok) in
+    let keeps = λ (x : EntityUID). ended_kept (row_of c.args.tc_computation) _ (put_over D L) N ok x in (
       c.in_ok-settle_touched.ensures.keys,
       record {
         plain = λ t.
@@ -193,7 +196,8 @@ invariant_of-result g c =
             plain_over D
             (subst IsPlainHeld is (c.self.invariant.1.plain (sym c.list_if_it_pays.ensures.plain
             ∙ sym c.leave.ensures.plain ∙ sym c.join.ensures.plain ∙ p.0))) L
-            (subst AreBare (c.deref-3.ensures.value ∙ c.in_ok-coming.ensures) stays.1) c.args.tc_computation stays.0 N
+            (subst AreBare (c.deref-3.ensures.value ∙ c.in_ok-coming.ensures) stays.1) (row_of c.args.tc_computation)
+            stays.0 N
             ok;
         children = c.plain_if.ensures.children _ (if_some _ _ c.join.new.index.children
             (λ ch h p q. h p q
