@@ -68,6 +68,7 @@ WIDE = {
     ('Entities', 'upsert_entities'): {'list': 'pass'},
     ('incoming', 'with_uids'): {'list': 'loop'},
     ('Entities', 'remove_entities'): {'list': 'pass'},
+    ('edits', 'take_all_out'): {'list': 'pass'},
     ('touching', 'held_uids'): {'list': 'loop'},
     ('ActionConstraint', 'is_in'): {'euids': 'pass'},
     ('action', 'shared'): {'euids': 'loop'},

@@ -19,7 +19,7 @@ use Rattle.cedar_entities.specs.Modes.{ancestry, computes, row_of, WhereComputed
 use Rattle.cedar_entities.specs.Plain.{StoreView, Held, IsPlainStore, AreBare, given_of}
 use Rattle.cedar_entities.specs.Present.{first_entity, with_first, AllMatch, FirstMismatch}
 use Rattle.cedar_entities.specs.Refusals.{MatchRefusal, NamesCycle, IsAddingRefused}
-use Rattle.cedar_entities.specs.laws.Modes.{where_map, where_so}
+use Rattle.cedar_entities.specs.laws.Rows.{where_map, where_so}
 use Rattle.cedar_entities.specs.laws.Refusals.{refusal_cases}
 use Rattle.cedar_entities.specs.Edits.{uids_of}
 use Rattle.cedar_entities.specs.Touching.{inserted_in, is_touched, IsSettleRefused}

@@ -1,7 +1,8 @@
 -- What a call that changes a store answered, from what it did; and want of memory, of which each call says nothing.
-use Rattle.std.specs.Prelude.{◌≡◌, List, map, Result, Ok, Err, IfOk}
+use Rattle.std.specs.Prelude.{◌≡◌, List, map, Result, Ok, Err, OnOk, IfOk, IfErr}
 use Rattle.std.specs.Result.{IsErrAnd}
 use Rattle.std.proofs.Common.{refl, subst, sym, take}
+use Rattle.std.specs.Bool.{OnTrue}
 use Rattle.std.specs.FinMap as finmap
 use Rattle.std.specs.HashMap.{HashMap}
 use Rattle.std.specs.Option.{option_or}
@@ -10,27 +11,27 @@ use Rattle.cedar_entity.specs.View.{EntityView}
 use Rattle.cedar_entity.specs.declared.err.EntitiesError.{EntitiesError}
 use Rattle.cedar_entity.specs.declared.err.EntitiesError.TheVariants.{Memory}
 use Rattle.cedar_entity.specs.declared.node.SharedEntity.{SharedEntity}
-use Rattle.cedar_entities.specs.Changes.{AddsEntities, AddsPlain, RemovesEntities, RemovesPlain}
+use Rattle.cedar_entities.specs.Changes.{AddsEntities, AddsPlain, EditsStore, RemovesEntities, RemovesPlain}
 use Rattle.cedar_entities.specs.Changes.{StripsPlain, UpsertsEntities, UpsertsPlain}
-use Rattle.cedar_entities.specs.Edits.{put_over, taken_out, uids_of}
-use Rattle.cedar_entities.specs.Modes.{computes, mending, row_of, WhereComputed}
+use Rattle.cedar_entities.specs.Edits.{uids_of}
+use Rattle.cedar_entities.specs.Modes.{computes, row_of, WhereComputed}
 use Rattle.cedar_entities.specs.Plain.{StoreView, Held, IsPlainStore, AreBare, given_of}
 use Rattle.cedar_entities.specs.Present.{first_entity, with_first, AllMatch, FirstMismatch}
 use Rattle.cedar_entities.specs.Refusals.{MatchRefusal, NamesOneOf}
-use Rattle.cedar_entities.specs.Touching.{inserted_in, is_touched, removed_from, IsMended, IsMendRefused, IsSettled}
-use Rattle.cedar_entities.specs.Touching.{IsSettleRefused}
+use Rattle.cedar_entities.specs.Touching.{inserted_in, is_touched, IsEndRefused, IsSettled, IsSettleRefused}
+use Rattle.cedar_entities.specs.Touching.{StaysUntouched}
 use Rattle.cedar_entities.specs.World.{World}
 use Rattle.cedar_entities.specs.declared.entities.TCComputation.{TCComputation}
+use Rattle.cedar_entities.specs.declared.settling.Row.{Row}
 use Rattle.cedar_entities.specs.laws.Ends.{Ends}
 use Rattle.cedar_entities.specs.laws.Held.{held, held_map}
-use Rattle.cedar_entities.specs.laws.Modes.{where_so}
+use Rattle.cedar_entities.specs.laws.Rows.{where_so}
 use Rattle.cedar_entities.proofs.Adding.{add_untouched, all_agree, settled_plain}
 use Rattle.cedar_entities.proofs.Adds.{closure_at, mismatch_at, put_in, refused_over_plain, stored}
 use Rattle.cedar_entities.proofs.Closures.{none_named}
 use Rattle.cedar_entities.proofs.Ending.{ended_untouched}
 use Rattle.cedar_entities.proofs.Overwriting.{so_far, over_between, over_plain, over_refused}
-use Rattle.cedar_entities.proofs.Overwriting.{over_untouched}
-use Rattle.cedar_entities.proofs.Removing.{left_refused, mended_plain, taken_untouched}
+use Rattle.cedar_entities.proofs.Removing.{left_refused, mended_plain}
 
 -- where something was refused, nothing is said of what came
 pub none_came : {A : Type 0} (answer : Result A EntitiesError) (P : A → Type 0) (e : EntitiesError)
@@ -149,51 +150,33 @@ module _ (mode : TCComputation) (S : StoreView) (L : List EntityView) where
   }
   strips_plain (Err e) puts W plain = record { so_far = tt; between = tt }
 
-module _ (mode : TCComputation) (D : Held) (L : List EntityView) where
-  pub upserts_settled : (s : StoreView) → IsSettled mode (is_touched D (uids_of L)) (put_over D L) s.held
-      → UpsertsEntities mode D L (Ok s)
-  upserts_settled s ok = record {
-    ok = ok;
-    untouched = ended_untouched (row_of mode) (uids_of L) D (put_over D L) s.held
-        (over_untouched D L) ok;
+module _ (row : Row) (A : List EntityUID) (D M : Held) where
+  edit_refused : (answer : Result StoreView EntitiesError) (e : EntitiesError) → IsErrAnd answer (λ x. x ≡ e)
+      → MatchRefusal e (λ _. ⊥) (IsEndRefused row (is_touched D A) M)
+      → OnTrue (computes row) (NamesOneOf (is_touched D A) e) → EditsStore row A D M answer
+  edit_refused (Ok s) e h err named = absurd h
+  edit_refused (Err x) e h err named = subst (λ f. EditsStore row A D M (Err f)) (sym h)
+      (record { ok = tt; untouched = tt; err = err; named = named })
+
+  -- what the map refused, the store refuses
+  pub edit_told : {X : Type 0} (N : Held) (answer : Result StoreView EntitiesError) (e : EntitiesError)
+      → IsErrAnd answer (λ x. x ≡ e) → Ends {A = X} row (is_touched D A) M N (Err e) → EditsStore row A D M answer
+  edit_told N answer e h ends = edit_refused answer e h ends.err ends.named
+
+  -- want of memory
+  pub edit_nothing : (answer : Result StoreView EntitiesError) → IsErrAnd answer (λ x. x ≡ Memory)
+      → EditsStore row A D M answer
+  edit_nothing answer h = edit_refused answer Memory h tt (where_so (computes row) _ tt)
+
+  -- what the map became, the store has
+  pub edit_made : {X : Type 0} (s : StoreView) (x : X) → StaysUntouched A D M
+      → Ends row (is_touched D A) M s.held (Ok x) → EditsStore row A D M (Ok s)
+  edit_made s x stays ends = record {
+    ok = ends.ok;
+    untouched = ended_untouched row A D M s.held stays ends.ok;
     err = tt;
     named = tt;
   }
-
-  pub upserts_refused : (answer : Result StoreView EntitiesError) (e : EntitiesError) → IsErrAnd answer (λ x. x ≡ e)
-      → MatchRefusal e (λ _. ⊥) (IsSettleRefused mode (is_touched D (uids_of L)) (put_over D L))
-      → WhereComputed mode (NamesOneOf (is_touched D (uids_of L)) e)
-      → UpsertsEntities mode D L answer
-  upserts_refused (Ok s) e h err named = absurd h
-  upserts_refused (Err x) e h err named = subst (λ f. UpsertsEntities mode D L (Err f)) (sym h)
-      (record { ok = tt; untouched = tt; err = err; named = named })
-
-  pub upserts_nothing : (answer : Result StoreView EntitiesError) → IsErrAnd answer (λ x. x ≡ Memory)
-      → UpsertsEntities mode D L answer
-  upserts_nothing answer h = upserts_refused answer Memory h tt (where_so (computes (row_of mode)) _ tt)
-
-module _ (mode : TCComputation) (D : Held) (uids : List EntityUID) where
-  pub removes_mended : (s : StoreView) → IsMended mode (is_touched D (removed_from D uids)) (taken_out D uids) s.held
-      → RemovesEntities mode D uids (Ok s)
-  removes_mended s ok = record {
-    ok = ok;
-    untouched = ended_untouched (mending (row_of mode)) (removed_from D uids) D (taken_out D uids) s.held
-        (taken_untouched D uids) ok;
-    err = tt;
-    named = tt;
-  }
-
-  pub removes_refused : (answer : Result StoreView EntitiesError) (e : EntitiesError) → IsErrAnd answer (λ x. x ≡ e)
-      → MatchRefusal e (λ _. ⊥) (IsMendRefused mode (is_touched D (removed_from D uids)) (taken_out D uids))
-      → WhereComputed mode (NamesOneOf (is_touched D (removed_from D uids)) e)
-      → RemovesEntities mode D uids answer
-  removes_refused (Ok s) e h err named = absurd h
-  removes_refused (Err x) e h err named = subst (λ f. RemovesEntities mode D uids (Err f)) (sym h)
-      (record { ok = tt; untouched = tt; err = err; named = named })
-
-  pub removes_nothing : (answer : Result StoreView EntitiesError) → IsErrAnd answer (λ x. x ≡ Memory)
-      → RemovesEntities mode D uids answer
-  removes_nothing answer h = removes_refused answer Memory h tt (where_so (computes (row_of mode)) _ tt)
 
 pub removes_plain : (mode : TCComputation) (S : StoreView) (uids : List EntityUID)
     (answer : Result StoreView EntitiesError)
@@ -203,3 +186,9 @@ removes_plain mode S uids (Ok s) same out W plain =
     record { ok = mended_plain W S uids plain (row_of mode) s same out.ok; err = tt }
 removes_plain mode S uids (Err e) same out W plain =
     record { ok = tt; err = left_refused W S uids plain (row_of mode) e out.err }
+
+-- what is said of one list over one map is said of what these are
+pub upserts_same : (mode : TCComputation) (D E : Held) (L M : List EntityView) (answer : Result StoreView EntitiesError)
+    → D ≡ E → L ≡ M → UpsertsEntities mode D L answer → UpsertsEntities mode E M answer
+upserts_same mode D E L M answer is same h =
+    subst (λ K. UpsertsEntities mode K M answer) is (subst (λ l. UpsertsEntities mode D l answer) same h)

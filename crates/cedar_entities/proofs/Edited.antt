@@ -1,14 +1,15 @@
 -- From what the steps of an edit leave of the map to what the edit makes of what is held.
-use Rattle.std.specs.Prelude.{◌≡◌, Bool, true, false, cond, not, ◌&&◌, ◌||◌, List, Option, Some, None, filter}
-use Rattle.std.proofs.Common.{ap, sym, refl, subst, ◌∙◌}
-use Rattle.std.proofs.lemmas.Bool.{false≢true, or_left}
+use Rattle.std.specs.Prelude.{◌≡◌, Bool, true, false, cond, not, ◌&&◌, ◌||◌, List, [], Option, Some, None, filter}
+use Rattle.std.proofs.Common.{ap, sym, refl, subst, inl, inr, ◌∙◌}
+use Rattle.std.proofs.lemmas.Bool.{false≢true, or_cases, or_left, or_parts, or_right}
 use Rattle.std.specs.Option.{option_map, option_or, is_some}
 use Rattle.std.specs.HashMap.{HashMap}
+use Rattle.std.specs.HashSet.{contains}
 use Rattle.std.specs.List.{AllByRecursion, list_any}
 use Rattle.std.specs.Set.{is_member}
 use Rattle.std.specs.FinSet as set
 use Rattle.std.specs.FinMap as finmap
-use Rattle.cedar_ids.specs.UidOf.{same_uid}
+use Rattle.cedar_ids.specs.UidOf.{same_uid, uid_order}
 use Rattle.cedar_ids.specs.laws.UidOfLaws.{uid_order_total}
 use Rattle.cedar_ids.specs.declared.entity.EntityUID.{EntityUID}
 use Rattle.cedar_uid_sets.specs.UidSets.{UidValues}
@@ -16,118 +17,126 @@ use Rattle.cedar_uid_sets.specs.laws.Sets.{contains_listed, one_equal}
 use Rattle.cedar_entity.specs.laws.UidSets.{kept_in}
 use Rattle.cedar_entity.specs.View.{EntityView, has_ancestor}
 use Rattle.cedar_entity.specs.declared.node.SharedEntity.{SharedEntity}
-use Rattle.cedar_entities.specs.Edits.{goes_with, leaves, lessened, put_over, taken_out, uids_of}
-use Rattle.cedar_entities.specs.laws.Edits.{last_entity, stripped}
+use Rattle.cedar_entities.specs.Edits.{goes_with, leaves, parted, put_over, taken_out, uids_of}
+use Rattle.cedar_entities.specs.laws.Edits.{edited_at, last_entity, remains, stripped, IsEdit}
 use Rattle.cedar_entities.specs.Modes.{ancestry, is_ancestor_in}
 use Rattle.cedar_entities.specs.Plain.{Held}
 use Rattle.cedar_entities.specs.Present.{with_first}
 use Rattle.cedar_entities.specs.Touching.{inserted_in, is_touched, removed_from}
+use Rattle.cedar_entities.specs.declared.edits.Reading.{Reading}
 use Rattle.cedar_entities.specs.declared.touching.Loss.{Loss}
 use Rattle.cedar_entities.specs.laws.Held.{held, held_map}
-use Rattle.cedar_entities.specs.laws.Losses.{IsLossOf, is_stripped, loses, loses_uid}
+use Rattle.cedar_entities.specs.laws.Losses.{IsLossOf, IsReadingOf, is_stripped, loses, loses_uid}
 use Rattle.cedar_entities.proofs.Adding.{touched_alike}
 use Rattle.cedar_entities.proofs.Adds.{stored}
-use Rattle.cedar_entities.proofs.AnyOf.{any_alike, any_filter, any_member}
-use Rattle.cedar_entities.proofs.Losses.{goes_by_loss, lessened_alike, loses_below, stripped_at, within}
-use Rattle.cedar_entities.proofs.Overwriting.{get_put_over, last_some}
-use Rattle.cedar_entities.proofs.Removing.{get_taken_out, remains, removed_members}
-use Rattle.cedar_entities.proofs.StoreMaps.{seen_as}
+use Rattle.cedar_entities.proofs.AnyOf.{any_alike, any_member, is_none}
+use Rattle.cedar_entities.proofs.Losses.{goes_by_loss, loses_below, within}
+use Rattle.cedar_entities.proofs.Overwriting.{last_some, over_edit}
+use Rattle.cedar_entities.proofs.Removing.{out_edit, removed_members}
+use Rattle.cedar_entities.proofs.StoreMaps.{get_seen}
+
+-- outside the uids of an edit entities remain
+pub made_outside : (D M : Held) (gone : EntityUID → Bool) (put : EntityUID → Option EntityView) (A : List EntityUID)
+    → IsEdit D M gone put A → (q : EntityUID) → is_member same_uid A q ≡ false
+    → finmap.get M q ≡ option_map (remains D gone A) (finmap.get D q)
+made_outside D M gone put A x q out =
+    let p = or_parts (is_some (put q)) (gone q) (sym (x.applied q) ∙ out) in
+    x.made q
+    ∙ (λ i. option_or (is_none (put q) p.0 i) (cond (p.1 i) None (option_map (remains D gone A) (finmap.get D q))))
 
 covered : (o x y : Option EntityView) → is_some o ≡ true → option_or o x ≡ option_or o y
 covered None x y h = absurd (false≢true h)
 covered (Some e) x y h = refl
 
-module _ (D : Held) (L : List EntityView) (A : List EntityUID) (none : UidValues) (R : List Loss)
-    (same : (q : EntityUID) → is_member same_uid A q ≡ is_member same_uid (uids_of L) q) (empty : none ≡ set.empty)
-    (who : (q : EntityUID) → loses R q ≡ is_stripped A q (ancestry D q))
-    (lost : AllByRecursion (IsLossOf (finmap.get D) A) R) (q : EntityUID) where
-  -- the last of the list covers what is not stripped
-  laid_at : (b : Bool) → is_member same_uid (uids_of L) q ≡ b
-      → option_or (last_entity L q) (option_map (stripped (λ p. loses R q && set.contains none p) (loses_uid R q))
-      (finmap.get D q)) ≡ option_or (last_entity L q) (option_map (lessened D (uids_of L)) (finmap.get D q))
-  laid_at true t =
-      covered (last_entity L q) (option_map (stripped (λ p. loses R q && set.contains none p) (loses_uid R q))
-      (finmap.get D q)) (option_map (lessened D (uids_of L)) (finmap.get D q)) (last_some L q ∙ t)
-  laid_at false t =
-      ap (option_or (last_entity L q)) (stripped_at D A R who lost q (same q ∙ t) none empty (finmap.get D q) refl
-      ∙ lessened_alike D A (uids_of L) same (finmap.get D q))
+module _ (D : Held) (gone : UidValues) (L : List EntityView) (K : List EntityUID) (R : List Loss)
+    (all : (q : EntityUID) → is_member same_uid K q ≡ (is_member same_uid (uids_of L) q || set.contains gone q))
+    (who : (q : EntityUID) → loses R q ≡ is_stripped K q (ancestry D q))
+    (lost : AllByRecursion (IsLossOf (finmap.get D) K) R) (q : EntityUID) where
+  abbrev left : EntityView → EntityView
+  left = stripped (λ p. loses R q && set.contains gone p) (loses_uid R q)
 
-pub laid_over : {S : Type 0} (l m n : HashMap EntityUID SharedEntity S) (D : Held) (L : List EntityView)
-    (A : List EntityUID) (none : UidValues) (R : List Loss) → held_map l ≡ D
-    → ((q : EntityUID) → is_member same_uid A q ≡ is_member same_uid (uids_of L) q) → none ≡ set.empty
-    → ((q : EntityUID) → loses R q ≡ is_stripped A q (is_ancestor_in (held l q)))
-    → AllByRecursion (IsLossOf (held l) A) R
-    → ((q : EntityUID)
-    → held m q ≡ option_map (stripped (λ p. loses R q && set.contains none p) (loses_uid R q)) (held l q))
-    → ((q : EntityUID) → held n q ≡ option_or (last_entity L q) (held m q)) → held_map n ≡ put_over D L
-laid_over l m n D L A none R is same empty who lost strip over =
-    let f : held l ≡ finmap.get D = stored l D is in
-    seen_as n (put_over D L) (λ q.
-    over q ∙ ap (option_or (last_entity L q))
-    (strip q ∙ ap (λ g. option_map (stripped (λ p. loses R q && set.contains none p) (loses_uid R q)) (g q)) f)
-    ∙ laid_at D L A none R same empty (λ p. who p ∙ ap (λ g. is_stripped A p (is_ancestor_in (g p))) f)
-    (subst (λ g. AllByRecursion (IsLossOf g A) R) f lost) q (is_member same_uid (uids_of L) q) refl
-    ∙ sym (get_put_over D L q))
-
-absorbed : (k x y : Bool) → (k && ((k && x) && y)) ≡ ((k && x) && y)
-absorbed true x y = refl
-absorbed false x y = refl
-
-module _ (D : Held) (U A : List EntityUID) (gone : UidValues) (R : List Loss)
-    (all : (q : EntityUID) → set.contains gone q ≡ leaves D U q)
-    (keys : (q : EntityUID) → is_member same_uid A q ≡ set.contains gone q)
-    (who : (q : EntityUID) → loses R q ≡ is_stripped A q (ancestry D q))
-    (lost : AllByRecursion (IsLossOf (finmap.get D) A) R) (q : EntityUID) (out : leaves D U q ≡ false) where
-  none_of : is_member same_uid A q ≡ false
-  none_of = keys q ∙ all q ∙ out
-
-  goes_removed : (e : EntityView) → finmap.get D q ≡ Some e → (w : EntityUID)
-      → loses_uid R q w ≡ list_any (goes_with D e w) U
-  goes_removed e is w =
-      goes_by_loss D A R who lost q none_of e is w
-      ∙ any_alike (goes_with D e w) A (removed_from D U) (λ u. keys u ∙ all u ∙ sym (removed_members D U u))
-      ∙ any_filter (finmap.contains_key D) (goes_with D e w) U
-      ∙ ap (λ f. list_any f U)
-      (λ i u. absorbed (finmap.contains_key D u) (has_ancestor e u) (same_uid u w || ancestry D u w) i)
-
-  -- a parent that leaves is an ancestor
-  parents_gone : (e : EntityView) → finmap.get D q ≡ Some e
+  -- a parent that goes is an ancestor
+  parents_gone : is_member same_uid K q ≡ false → (e : EntityView) → finmap.get D q ≡ Some e
       → set.retain e.parents (λ p. not (loses R q && set.contains gone p))
-      ≡ set.retain e.parents (λ p. not (leaves D U p))
-  parents_gone e is = set.same_set uid_order_total one_equal _ _ (λ x.
+      ≡ set.retain e.parents (λ p. not (set.contains gone p))
+  parents_gone out e is = set.same_set uid_order_total one_equal _ _ (λ x.
       kept_in e.parents (λ p. loses R q && set.contains gone p) x
       ∙ at x (set.contains e.parents x) refl
-      ∙ sym (kept_in e.parents (leaves D U) x))
+      ∙ sym (kept_in e.parents (set.contains gone) x))
     where
-      below : (x : EntityUID) → set.contains e.parents x ≡ true → leaves D U x ≡ true → loses R q ≡ true
-      below x t l =
-          loses_below D A R who lost q none_of
-          ∙ any_member (ancestry D q) A x (keys x ∙ all x ∙ l) (ap (λ o. is_ancestor_in o x) is
-          ∙ or_left (set.contains e.parents x) (set.contains e.indirect x) t)
-
       at : (x : EntityUID) (b : Bool) → set.contains e.parents x ≡ b
-          → (b && not (loses R q && set.contains gone x)) ≡ (b && not (leaves D U x))
+          → (b && not (loses R q && set.contains gone x)) ≡ (b && not (set.contains gone x))
       at x false t = refl
-      at x true t = ap (λ m. not (loses R q && m)) (all x) ∙ ap not (within (loses R q) (leaves D U x) (below x t))
+      at x true t = ap not (within (loses R q) (set.contains gone x) (λ g.
+          loses_below D K R who lost q out
+          ∙ any_member (ancestry D q) K x (all x ∙ or_right (is_member same_uid (uids_of L) x) (set.contains gone x) g)
+          (ap (λ o. is_ancestor_in o x) is ∙ or_left (set.contains e.parents x) (set.contains e.indirect x) t)))
 
-  left_at : (o : Option EntityView) → finmap.get D q ≡ o
-      → option_map (stripped (λ p. loses R q && set.contains gone p) (loses_uid R q)) o ≡ option_map (remains D U) o
-  left_at None is = refl
-  left_at (Some e) is = λ i. Some (record e {
-    parents = parents_gone e is i;
-    indirect = set.retain e.indirect (λ w. not (goes_removed e is w i));
+  left_at : is_member same_uid K q ≡ false → (o : Option EntityView) → finmap.get D q ≡ o
+      → option_map left o ≡ option_map (remains D (set.contains gone) K) o
+  left_at out None is = refl
+  left_at out (Some e) is = λ i. Some (record e {
+    parents = parents_gone out e is i;
+    indirect = set.retain e.indirect (λ w. not (goes_by_loss D K R who lost q out e is w i));
   })
 
-module _ (D : Held) (U A : List EntityUID) (gone : UidValues) (R : List Loss)
-    (all : (q : EntityUID) → set.contains gone q ≡ leaves D U q)
-    (keys : (q : EntityUID) → is_member same_uid A q ≡ set.contains gone q)
-    (who : (q : EntityUID) → loses R q ≡ is_stripped A q (ancestry D q))
-    (lost : AllByRecursion (IsLossOf (finmap.get D) A) R) (q : EntityUID) where
-  taken_at : (d : Bool) → leaves D U q ≡ d
-      → cond d None (option_map (stripped (λ p. loses R q && set.contains gone p) (loses_uid R q)) (finmap.get D q))
-      ≡ option_map (remains D U) (cond (not d) (finmap.get D q) None)
-  taken_at true t = refl
-  taken_at false t = left_at D U A gone R all keys who lost q t (finmap.get D q) refl
+  written_at : (b : Bool) → is_member same_uid K q ≡ b
+      → option_or (last_entity L q) (cond (set.contains gone q) None (option_map left (finmap.get D q)))
+      ≡ edited_at D (set.contains gone) K (last_entity L) q
+  written_at false out = ap (λ o. option_or (last_entity L q) (cond (set.contains gone q) None o))
+      (left_at out (finmap.get D q) refl)
+  written_at true t =
+      elim (or_cases (is_member same_uid (uids_of L) q) (set.contains gone q) (sym (all q) ∙ t)) [
+        | inl m ↦ covered (last_entity L q) _ _ (last_some L q ∙ m)
+        | inr g ↦
+            ap (λ d. option_or (last_entity L q) (cond d None (option_map left (finmap.get D q)))) g
+            ∙ sym (ap (λ d. option_or (last_entity L q)
+            (cond d None (option_map (remains D (set.contains gone) K) (finmap.get D q)))) g)
+      ]
+
+-- what the steps of an edit leave is what it leaves
+pub written_edit : {S : Type 0} (m n : HashMap EntityUID SharedEntity S) (gone : UidValues) (L : List EntityView)
+    (K : List EntityUID) (R : List Loss)
+    → ((q : EntityUID) → is_member same_uid K q ≡ (is_member same_uid (uids_of L) q || set.contains gone q))
+    → ((q : EntityUID) → loses R q ≡ is_stripped K q (ancestry (held_map m) q))
+    → AllByRecursion (IsLossOf (finmap.get (held_map m)) K) R
+    → ((q : EntityUID) → held n q ≡ option_or (last_entity L q) (cond (set.contains gone q) None
+    (option_map (stripped (λ p. loses R q && set.contains gone p) (loses_uid R q)) (held m q))))
+    → IsEdit (held_map m) (held_map n) (set.contains gone) (last_entity L) K
+written_edit m n gone L K R all who lost is = record {
+  applied = λ q. all q ∙ ap (λ b. b || set.contains gone q) (sym (last_some L q));
+  made = λ q. get_seen n q ∙ is q ∙ ap (λ f. option_or (last_entity L q) (cond (set.contains gone q) None
+      (option_map (stripped (λ p. loses R q && set.contains gone p) (loses_uid R q)) (f q))))
+      (stored m (held_map m) refl)
+      ∙ written_at (held_map m) gone L K R all who lost q (is_member same_uid K q) refl;
+}
+
+-- and an edit leaves one thing
+pub edit_same : (D N M : Held) (gone : EntityUID → Bool) (put : EntityUID → Option EntityView) (K A : List EntityUID)
+    → IsEdit D N gone put K → IsEdit D M gone put A → N ≡ M
+edit_same D N M gone put K A x y = finmap.same_map uid_order_total one_equal N M (λ q.
+    x.made q ∙ (λ i. option_or (put q) (cond (gone q) None (option_map (λ e. parted gone (record e {
+      indirect = set.retain e.indirect
+          (λ w. not (any_alike (goes_with D e w) K A (λ u. x.applied u ∙ sym (y.applied u)) i));
+    })) (finmap.get D q)))) ∙ sym (y.made q))
+
+-- what is read of the map, of what is held
+pub reading_of : {S T H : Type 0} (m : HashMap EntityUID SharedEntity S) (us ks : List EntityUID) (r : Reading T H)
+    → r.uids.items ≡ ks → ((q : EntityUID) → is_member same_uid ks q ≡ is_member same_uid us q)
+    → ((q : EntityUID) → contains same_uid r.touched q ≡ is_touched (held_map m) ks q)
+    → ((q : EntityUID) → loses r.losses.items q ≡ is_stripped ks q (is_ancestor_in (held m q)))
+    → AllByRecursion (IsLossOf (held m) ks) r.losses.items → IsReadingOf (held_map m) us r
+reading_of m us ks r is same touched who lost =
+    let D = held_map m in
+    let f = stored m D refl in
+    record {
+      same = λ q. ap (λ l. is_member same_uid l q) is ∙ same q;
+      touched = λ q. touched q ∙ ap (λ l. is_touched D l q) (sym is);
+      who = λ q. who q ∙ ap (λ g. is_stripped ks q (is_ancestor_in (g q))) f
+          ∙ ap (λ l. is_stripped l q (ancestry D q)) (sym is);
+      lost = subst (λ l. AllByRecursion (IsLossOf (finmap.get D) l) r.losses.items) (sym is)
+          (subst (λ g. AllByRecursion (IsLossOf g ks) r.losses.items) f lost);
+    }
 
 pub gone_all : {S : Type 0} (l : HashMap EntityUID SharedEntity S) (D : Held) (U : List EntityUID) → held_map l ≡ D
     → filter (λ u. is_some (held l u)) U ≡ removed_from D U
@@ -142,35 +151,12 @@ gone_leaves l D U listed gone is all made q =
     ap (λ s. set.contains s q) made ∙ contains_listed listed q
     ∙ ap (λ us. is_member same_uid us q) (all ∙ gone_all l D U is) ∙ removed_members D U q
 
-pub taken_from : {S : Type 0} (l m n : HashMap EntityUID SharedEntity S) (D : Held) (U A out : List EntityUID)
-    (gone : UidValues) (R : List Loss) → held_map l ≡ D
-    → ((q : EntityUID) → set.contains gone q ≡ leaves D U q)
-    → ((q : EntityUID) → is_member same_uid A q ≡ set.contains gone q)
-    → ((q : EntityUID) → is_member same_uid out q ≡ set.contains gone q)
-    → ((q : EntityUID) → loses R q ≡ is_stripped A q (is_ancestor_in (held l q)))
-    → AllByRecursion (IsLossOf (held l) A) R
-    → ((q : EntityUID)
-    → held m q ≡ option_map (stripped (λ p. loses R q && set.contains gone p) (loses_uid R q)) (held l q))
-    → ((q : EntityUID) → held n q ≡ cond (is_member same_uid out q) None (held m q)) → held_map n ≡ taken_out D U
-taken_from l m n D U A out gone R is all keys outs who lost strip take =
-    let f : held l ≡ finmap.get D = stored l D is in
-    seen_as n (taken_out D U) (λ q.
-    take q ∙ ap (cond (is_member same_uid out q) None) (strip q
-    ∙ ap (λ h. option_map (stripped (λ p. loses R q && set.contains gone p) (loses_uid R q)) (h q)) f)
-    ∙ ap (λ d.
-    cond d None (option_map (stripped (λ p. loses R q && set.contains gone p) (loses_uid R q)) (finmap.get D q)))
-    (outs q ∙ all q)
-    ∙ taken_at D U A gone R all keys (λ p. who p ∙ ap (λ g. is_stripped A p (is_ancestor_in (g p))) f)
-    (subst (λ g. AllByRecursion (IsLossOf g A) R) f lost) q (leaves D U q) refl
-    ∙ sym (get_taken_out D U q))
-
 -- what an edit touches is what it is known to touch in the map, by uids that are the same
-pub known_touched : (E D : Held) (A B : List EntityUID) (f : EntityUID → Bool) → E ≡ D
-    → ((q : EntityUID) → is_member same_uid A q ≡ is_member same_uid B q) → ((q : EntityUID) → f q ≡ is_touched E A q)
+pub known_touched : (D : Held) (A B : List EntityUID) (f : EntityUID → Bool)
+    → ((q : EntityUID) → is_member same_uid A q ≡ is_member same_uid B q) → ((q : EntityUID) → f q ≡ is_touched D A q)
     → f ≡ is_touched D B
-known_touched E D A B f is same known = λ i q. (
+known_touched D A B f same known = λ i q. (
     known q
-    ∙ ap (λ M. is_touched M A q) is
     ∙ ap (λ b. b || list_any (ancestry D q) A) (same q)
     ∙ ap (λ b. is_member same_uid B q || b) (any_alike (ancestry D q) A B same)) i
 
@@ -187,3 +173,16 @@ added_alike m D L A put same q =
     ∙ touched_alike D L q
     ∙ ap (λ b. b || list_any (ancestry D q) (inserted_in D L)) (sym (same q))
     ∙ ap (λ b. is_member same_uid A q || b) (sym (any_alike (ancestry D q) A (inserted_in D L) same))
+
+-- overwriting and removing are edits
+pub over_made : (D : Held) (L : List EntityView) (gone : UidValues) → gone ≡ set.empty
+    → IsEdit D (put_over D L) (set.contains gone) (last_entity L) (uids_of L)
+over_made D L gone is = subst (λ f. IsEdit D (put_over D L) f (last_entity L) (uids_of L))
+    (λ i q. sym (ap (λ s. set.contains s q) is ∙ set.contains-empty uid_order q) i) (over_edit D L)
+
+pub out_made : (D : Held) (U : List EntityUID) (gone : UidValues) (L : List EntityView)
+    → ((q : EntityUID) → set.contains gone q ≡ leaves D U q) → L ≡ []
+    → IsEdit D (taken_out D U) (set.contains gone) (last_entity L) (removed_from D U)
+out_made D U gone L all none = subst
+    (λ K. IsEdit D (taken_out D U) (set.contains gone) (last_entity K) (removed_from D U)) (sym none)
+    (subst (λ f. IsEdit D (taken_out D U) f (λ _. None) (removed_from D U)) (λ i q. sym (all q) i) (out_edit D U))

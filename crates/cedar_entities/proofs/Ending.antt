@@ -15,16 +15,17 @@ use Rattle.cedar_ids.specs.declared.entity.EntityUID.{EntityUID}
 use Rattle.cedar_entity.specs.ClosureRefusals.{refusal_of, Tells}
 use Rattle.cedar_entity.specs.View.{kept}
 use Rattle.cedar_entity.specs.declared.err.EntitiesError.{EntitiesError}
+use Rattle.cedar_entity.specs.declared.err.EntitiesError.TheVariants.{Memory}
 use Rattle.cedar_entity.specs.declared.node.SharedEntity.{SharedEntity}
 use Rattle.cedar_entities.specs.Modes.{computes, mending, Also, IsSound, OneOf, TellsCycle, TellsUnsound}
 use Rattle.cedar_entities.specs.Plain.{Held}
 use Rattle.cedar_entities.specs.Refusals.{MatchRefusal, NamesOneOf}
-use Rattle.cedar_entities.specs.Touching.{is_touched, IsAcyclicAt, IsEnded, IsEndRefused, IsMadeOf, IsRepairOf, SomeMade}
-use Rattle.cedar_entities.specs.Touching.{StaysUntouched}
+use Rattle.cedar_entities.specs.Touching.{is_touched, IsAcyclicAt, IsEnded, IsEndRefused, IsMadeOf, IsRepairOf}
+use Rattle.cedar_entities.specs.Touching.{SomeMade, StaysUntouched}
 use Rattle.cedar_entities.specs.declared.settling.Row.{Row}
 use Rattle.cedar_entities.specs.laws.Ends.{repairing, Ends}
 use Rattle.cedar_entities.specs.laws.Held.{held_map}
-use Rattle.cedar_entities.specs.laws.Modes.{also, also_first, one_cases, one_first, one_more, one_second, where_so}
+use Rattle.cedar_entities.specs.laws.Rows.{also, also_first, one_cases, one_first, one_more, one_second, where_so}
 use Rattle.cedar_entities.specs.laws.Refusals.{refusal_cases}
 use Rattle.cedar_entities.proofs.Closures.{cycle_named, cycle_told, named_for, node_edges, none_named}
 
@@ -33,8 +34,8 @@ pub refused_for : (C F : TcError EntityUID → Type 0) → ((t : TcError EntityU
     → MatchRefusal e (λ _. ⊥) C → MatchRefusal e (λ _. ⊥) F
 refused_for C F f e h = refusal_cases (λ _. ⊥) C (λ r. MatchRefusal r (λ _. ⊥) F) (λ u n. absurd n) f tt e h
 
-some_made : (repairs : Bool) (touched : EntityUID → Bool) (D N : Held) (P : Held → Type 0) → IsMadeOf repairs touched D N
-    → P N → SomeMade repairs touched D P
+some_made : (repairs : Bool) (touched : EntityUID → Bool) (D N : Held) (P : Held → Type 0)
+    → IsMadeOf repairs touched D N → P N → SomeMade repairs touched D P
 some_made true touched D N P made p = (N, made, p)
 some_made false touched D N P made p = subst P made p
 
@@ -44,8 +45,8 @@ module _ (row : Row) (touched : EntityUID → Bool) (D N : Held) where
   RepairedBy repairs = Also (repairs && row.refuses_cycles) (IsMadeOf repairs touched D N) (IsAcyclicAt touched D)
 
   pub ended_made : IsEnded row touched D N → IsMadeOf row.repairs touched D N
-  ended_made h = also_first (row.repairs && row.refuses_cycles) (IsMadeOf row.repairs touched D N) (IsAcyclicAt touched D)
-      (also_first row.checks (RepairedBy row.repairs) (IsSound N) h)
+  ended_made h = also_first (row.repairs && row.refuses_cycles) (IsMadeOf row.repairs touched D N)
+      (IsAcyclicAt touched D) (also_first row.checks (RepairedBy row.repairs) (IsSound N) h)
 
   named_so : (a c : Bool) (e : EntitiesError) → MatchRefusal e (λ _. ⊥) (λ t. (c ≡ true) × TellsUnsound N t)
       → OnTrue (a && not c) (NamesOneOf touched e)
@@ -80,7 +81,8 @@ module _ (row : Row) (touched : EntityUID → Bool) (D N : Held) where
 
   -- or as its repair was refused
   pub ends_refused : {X Y : Type 0} (M : Held) (r : Result X EntitiesError) (e : EntitiesError) → row.repairs ≡ true
-      → IsErrAnd r (λ x. x ≡ e) → Ends {A = Y} (repairing row.refuses_cycles) touched D M (Err e) → Ends row touched D N r
+      → IsErrAnd r (λ x. x ≡ e) → Ends {A = Y} (repairing row.refuses_cycles) touched D M (Err e)
+      → Ends row touched D N r
   ends_refused M (Ok x) e is h ends = absurd h
   ends_refused {X} M (Err x) e is h ends = subst (λ f. Ends {A = X} row touched D N (Err f)) (sym h) (record {
     ok = tt;
@@ -97,6 +99,13 @@ module _ (row : Row) (touched : EntityUID → Bool) (D N : Held) where
       on_more true true P h = h
       on_more true false P h = tt
       on_more false b P h = tt
+
+-- or for want of memory
+pub ends_nothing : {X : Type 0} (row : Row) (touched : EntityUID → Bool) (D N : Held) (r : Result X EntitiesError)
+    (e : EntitiesError) → e ≡ Memory → IsErrAnd r (λ x. x ≡ e) → Ends row touched D N r
+ends_nothing row touched D N (Ok x) e none h = absurd h
+ends_nothing {X} row touched D N (Err x) e none h = subst (λ f. Ends {A = X} row touched D N (Err f)) (sym (h ∙ none))
+    (record { ok = tt; err = tt; named = where_so (computes row) _ tt })
 
 -- where nothing is repaired
 pub ends_taken : {X : Type 0} (row : Row) (touched : EntityUID → Bool) (D : Held) (r : Result X EntitiesError)

@@ -21,25 +21,26 @@ use Rattle.cedar_entity.specs.View.{EntityView, Kept, kept}
 use Rattle.cedar_entity.specs.declared.node.SharedEntity.{SharedEntity}
 use Rattle.cedar_children.specs.Children.{IsBelow}
 use Rattle.cedar_children.specs.declared.children.Children.{Children}
-use Rattle.cedar_entities.specs.Edits.{leaves, lessened, put_over, taken_out, uids_of}
+use Rattle.cedar_entities.specs.Edits.{put_over, taken_out, uids_of}
 use Rattle.cedar_entities.specs.Modes.{ancestry, computes, mending}
 use Rattle.cedar_entities.specs.Plain.{AreBare, Held, IsPlainStore, StoreView, given_of, parts_of}
 use Rattle.cedar_entities.specs.Present.{with_first}
 use Rattle.cedar_entities.specs.Touching.{inserted_in, is_touched, removed_from, IsEnded}
 use Rattle.cedar_entities.specs.declared.settling.Row.{Row}
 use Rattle.cedar_entities.specs.World.{World, added, deleted, graph, is_parent_in, overwritten}
-use Rattle.cedar_entities.specs.laws.Edits.{last_entity}
+use Rattle.cedar_entities.specs.laws.Edits.{remains, IsEdit}
 use Rattle.cedar_entities.specs.laws.Held.{held, held_map, shared}
 use Rattle.cedar_entities.specs.laws.Indexes.{HasChildren, IsPlainHeld, is_parent_at, parentage}
 use Rattle.cedar_entities.specs.laws.Losses.{AreTransitive}
-use Rattle.cedar_entities.specs.laws.Modes.{where_asked}
+use Rattle.cedar_entities.specs.laws.Rows.{where_asked}
 use Rattle.cedar_entities.specs.laws.PlainAncestors.{ancestry_plain}
 use Rattle.cedar_entities.proofs.Adds.{stored}
 use Rattle.cedar_entities.proofs.Adding.{added_same, settled_plain}
 use Rattle.cedar_entities.proofs.AnyOf.{any_found, any_member, is_none, same_bool}
-use Rattle.cedar_entities.proofs.Losses.{and_both}
-use Rattle.cedar_entities.proofs.Overwriting.{get_put_over, last_some, over_plain}
-use Rattle.cedar_entities.proofs.Removing.{get_taken_out, mended_plain, remains}
+use Rattle.cedar_entities.proofs.Edited.{made_outside}
+use Rattle.cedar_entities.proofs.Losses.{and_both, and_off}
+use Rattle.cedar_entities.proofs.Overwriting.{over_plain}
+use Rattle.cedar_entities.proofs.Removing.{mended_plain}
 
 -- one more uid of a list is put in
 pub joined_more : (a m k x : Bool) → ((a || (m && x)) || (k && x)) ≡ (a || ((m || k) && x))
@@ -124,65 +125,35 @@ or_off : (b : Bool) → (b || false) ≡ b
 or_off true = refl
 or_off false = refl
 
-and_off : (b : Bool) → (b && false) ≡ false
-and_off true = refl
-and_off false = refl
-
-lessened_parents : (D : Held) (A : List EntityUID) (o : Option EntityView) (p : EntityUID)
-    → is_parent_at (option_map (lessened D A) o) p ≡ is_parent_at o p
-lessened_parents D A None p = refl
-lessened_parents D A (Some e) p = refl
-
--- the children after an overwriting
-pub children_over : (D N : Held) (L : List EntityView) (A : List EntityUID) (mid : EntityUID → Option EntityView)
-    → ((q : EntityUID) → is_member same_uid A q ≡ is_member same_uid (uids_of L) q)
-    → ((q : EntityUID) → mid q ≡ finmap.get (put_over D L) q)
-    → ((q : EntityUID) → option_map kept (finmap.get N q) ≡ option_map kept (finmap.get (put_over D L) q))
-    → (p q : EntityUID)
-    → ((not (is_member same_uid A q) && is_parent_at (finmap.get D q) p)
-    || (is_member same_uid A q && is_parent_at (mid q) p)) ≡ parentage (finmap.get N) p q
-children_over D N L A mid same is keeps p q = at (is_member same_uid A q) refl
+-- the children after an edit: some were taken from the children, and as parents, and some put in
+pub children_edited : (D M N : Held) (gone : EntityUID → Bool) (put : EntityUID → Option EntityView)
+    (A K J G : List EntityUID) (was mid : EntityUID → Option EntityView) → IsEdit D M gone put A
+    → ((q : EntityUID) → is_member same_uid K q ≡ is_member same_uid A q)
+    → ((q : EntityUID) → is_member same_uid J q ≡ is_member same_uid A q)
+    → ((q : EntityUID) → is_member same_uid G q ≡ gone q) → was ≡ finmap.get D → mid ≡ finmap.get M
+    → ((q : EntityUID) → option_map kept (finmap.get N q) ≡ option_map kept (finmap.get M q)) → (p q : EntityUID)
+    → ((not (is_member same_uid G p) && (not (is_member same_uid K q) && is_parent_at (was q) p))
+    || (is_member same_uid J q && is_parent_at (mid q) p)) ≡ parentage (finmap.get N) p q
+children_edited D M N gone put A K J G was mid x left came goes old is keeps p q =
+    at (is_member same_uid A q) refl ∙ sym (same_parents (finmap.get N q) (finmap.get M q) (keeps q) p)
   where
-    after : parentage (finmap.get N) p q ≡ is_parent_at (finmap.get (put_over D L) q) p
-    after = same_parents (finmap.get N q) (finmap.get (put_over D L) q) (keeps q) p
+    stays : (o : Option EntityView) → (not (gone p) && is_parent_at o p)
+        ≡ is_parent_at (option_map (remains D gone A) o) p
+    stays None = and_off (not (gone p))
+    stays (Some e) = and_both (not (gone p)) (set.contains e.parents p) ∙ sym (kept_in e.parents gone p)
 
     at : (b : Bool) → is_member same_uid A q ≡ b
-        → ((not b && is_parent_at (finmap.get D q) p) || (b && is_parent_at (mid q) p)) ≡ parentage (finmap.get N) p q
-    at true t = ap (λ o. is_parent_at o p) (is q) ∙ sym after
+        → ((not (is_member same_uid G p) && (not (is_member same_uid K q) && is_parent_at (was q) p))
+        || (is_member same_uid J q && is_parent_at (mid q) p)) ≡ is_parent_at (finmap.get M q) p
+    at true t =
+        (λ i. (not (goes p i) && (not ((left q ∙ t) i) && is_parent_at (was q) p))
+        || ((came q ∙ t) i && is_parent_at (is i q) p))
+        ∙ ap (λ b. b || is_parent_at (finmap.get M q) p) (and_off (not (gone p)))
     at false t =
-        or_off (is_parent_at (finmap.get D q) p)
-        ∙ sym (after
-        ∙ ap (λ o. is_parent_at o p) (get_put_over D L q
-        ∙ ap (λ o. option_or o (option_map (lessened D (uids_of L)) (finmap.get D q)))
-        (is_none (last_entity L q) (last_some L q ∙ sym (same q) ∙ t)))
-        ∙ lessened_parents D (uids_of L) (finmap.get D q) p)
-
--- after a removal
-pub children_out : (D N : Held) (U A : List EntityUID) → ((q : EntityUID) → is_member same_uid A q ≡ leaves D U q)
-    → ((q : EntityUID) → option_map kept (finmap.get N q) ≡ option_map kept (finmap.get (taken_out D U) q))
-    → (p q : EntityUID)
-    → (not (is_member same_uid A p) && (not (is_member same_uid A q) && is_parent_at (finmap.get D q) p))
-    ≡ parentage (finmap.get N) p q
-children_out D N U A same keeps p q = at (leaves D U q) refl ∙ sym after
-  where
-    after : parentage (finmap.get N) p q ≡ is_parent_at
-        (option_map (remains D U) (cond (not (leaves D U q)) (finmap.get D q) None)) p
-    after = same_parents (finmap.get N q) (finmap.get (taken_out D U) q) (keeps q) p
-        ∙ ap (λ o. is_parent_at o p) (get_taken_out D U q)
-
-    stays : (o : Option EntityView) → (not (is_member same_uid A p) && is_parent_at o p)
-        ≡ is_parent_at (option_map (remains D U) o) p
-    stays None = and_off (not (is_member same_uid A p))
-    stays (Some e) = and_both (not (is_member same_uid A p)) (set.contains e.parents p)
-        ∙ ap (λ b. set.contains e.parents p && not b) (same p) ∙ sym (kept_in e.parents (leaves D U) p)
-
-    at : (b : Bool) → leaves D U q ≡ b
-        → (not (is_member same_uid A p) && (not (is_member same_uid A q) && is_parent_at (finmap.get D q) p))
-        ≡ is_parent_at (option_map (remains D U) (cond (not b) (finmap.get D q) None)) p
-    at true t = ap (λ b. not (is_member same_uid A p) && (not b && is_parent_at (finmap.get D q) p)) (same q ∙ t)
-        ∙ and_off (not (is_member same_uid A p))
-    at false t = ap (λ b. not (is_member same_uid A p) && (not b && is_parent_at (finmap.get D q) p)) (same q ∙ t)
-        ∙ stays (finmap.get D q)
+        (λ i. (not (goes p i) && (not ((left q ∙ t) i) && is_parent_at (old i q) p))
+        || ((came q ∙ t) i && is_parent_at (mid q) p))
+        ∙ or_off (not (gone p) && is_parent_at (finmap.get D q) p) ∙ stays (finmap.get D q)
+        ∙ ap (λ o. is_parent_at o p) (sym (made_outside D M gone put A x q t))
 
 -- after an adding
 pub children_in : (D N : Held) (L : List EntityView) (A : List EntityUID) (mid : EntityUID → Option EntityView)

@@ -20,7 +20,7 @@ use Rattle.cedar_entity.specs.laws.UidSets.{kept_in}
 use Rattle.cedar_entity.specs.View.{EntityView, has_ancestor}
 use Rattle.cedar_entity.specs.declared.err.EntitiesError.{EntitiesError}
 use Rattle.cedar_entities.specs.Edits.{uids_of, goes_with, lessened, put_over}
-use Rattle.cedar_entities.specs.laws.Edits.{last_entity}
+use Rattle.cedar_entities.specs.laws.Edits.{last_entity, remains, IsEdit}
 use Rattle.cedar_entities.specs.Modes.{ancestry, computes, is_ancestor_in}
 use Rattle.cedar_entities.specs.Plain.{StoreView, Held, IsPlainStore, IsKeyed, IsApart, IsBare, AreBare, parts_of}
 use Rattle.cedar_entities.specs.Plain.{given_of}
@@ -32,15 +32,16 @@ use Rattle.cedar_entities.specs.Touching.{StaysUntouched, StripsBetween}
 use Rattle.cedar_entities.specs.World.{World, graph, is_parent_in, entry_of, reversed, overwritten}
 use Rattle.cedar_entities.specs.declared.settling.Row.{Row}
 use Rattle.cedar_entities.specs.laws.Lists.{all_push}
-use Rattle.cedar_entities.specs.laws.Modes.{where_so}
+use Rattle.cedar_entities.specs.laws.Rows.{where_so}
 use Rattle.cedar_entities.specs.laws.Worlds.{get_joined, find-append, find-mapped, get_overwritten}
 use Rattle.cedar_entities.proofs.PlainStores.{plain_from, cycle_in, found_parts, map_or, if_or, first_all, first_keyed}
 use Rattle.cedar_entities.proofs.PlainStores.{bare_apart, bare_leads}
 use Rattle.cedar_entities.proofs.Reaching.{first_edge, kept_over, untouched}
-use Rattle.cedar_entities.proofs.AnyOf.{any_member, any_found, is_none, untouched_at}
+use Rattle.cedar_entities.proofs.AnyOf.{any_member, any_found, is_none, none_retained, untouched_at}
 use Rattle.cedar_entities.proofs.Ending.{ended_computed, ended_taken, refused_computed}
 use Rattle.cedar_entities.specs.laws.PlainAncestors.{ancestry_plain}
 use Rattle.cedar_entities.proofs.Repaired.{repaired}
+use Rattle.cedar_entities.proofs.Touched.{or_off}
 
 map_append : {X Y : Type 0} (f : X → Y) (xs ys : List X) → map f (xs ++ ys) ≡ map f xs ++ map f ys
 map_append f [] ys = refl
@@ -93,6 +94,19 @@ last_some (e ∷ L) q =
 
 last_absent : (L : List EntityView) (q : EntityUID) → is_member same_uid (uids_of L) q ≡ false → last_entity L q ≡ None
 last_absent L q h = is_none (last_entity L q) (last_some L q ∙ h)
+
+lessened_remains : (D : Held) (A : List EntityUID) (o : Option EntityView)
+    → option_map (lessened D A) o ≡ option_map (remains D (λ _. false) A) o
+lessened_remains D A None = refl
+lessened_remains D A (Some e) = ap Some
+    (λ i. record (lessened D A e) { parents = sym (none_retained e.parents (λ _. false) (λ x t. refl)) i })
+
+-- it is an edit from which nothing goes
+pub over_edit : (D : Held) (L : List EntityView) → IsEdit D (put_over D L) (λ _. false) (last_entity L) (uids_of L)
+over_edit D L = record {
+  applied = λ q. sym (last_some L q) ∙ or_off (is_some (last_entity L q));
+  made = λ q. get_put_over D L q ∙ ap (option_or (last_entity L q)) (lessened_remains D (uids_of L) (finmap.get D q));
+}
 
 -- what is not touched is as it was
 pub over_untouched : (D : Held) (L : List EntityView) → StaysUntouched (uids_of L) D (put_over D L)

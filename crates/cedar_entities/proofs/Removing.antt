@@ -28,6 +28,7 @@ use Rattle.cedar_entities.specs.laws.Refusals.{refusal_cases}
 use Rattle.cedar_entities.specs.Touching.{is_touched, removed_from, IsEnded, IsEndRefused, IsRepairOf, StaysUntouched}
 use Rattle.cedar_entities.specs.World.{World, Parts, graph, is_parent_in, goes, without, deleted}
 use Rattle.cedar_entities.specs.declared.settling.Row.{Row}
+use Rattle.cedar_entities.specs.laws.Edits.{IsEdit, remains as remains_by}
 use Rattle.cedar_entities.specs.laws.Worlds.{get_reduced, get_deleted}
 use Rattle.cedar_entities.proofs.Adding.{reach_stays}
 use Rattle.cedar_entities.proofs.Overwriting.{map_keyed, held_alike, goes_between}
@@ -52,6 +53,31 @@ pub removed_members : (D : Held) (U : List EntityUID) (q : EntityUID)
 removed_members D U q =
     is_member-filter same_uid_equiv (finmap.contains_key D) q
     (λ x t. ap (finmap.contains_key D) ((same_uid_decides q x).0 t)) U
+
+absorbed : (k x y : Bool) → (k && ((k && x) && y)) ≡ ((k && x) && y)
+absorbed true x y = refl
+absorbed false x y = refl
+
+-- what goes with the uids of the list goes with those that leave
+remains_left : (D : Held) (U : List EntityUID) → remains D U ≡ remains_by D (leaves D U) (removed_from D U)
+remains_left D U = λ i e. parted (leaves D U) (record e {
+  indirect = set.retain e.indirect (λ w. not ((sym (any_filter (finmap.contains_key D) (goes_with D e w) U
+      ∙ ap (λ f. list_any f U)
+      (λ j u. absorbed (finmap.contains_key D u) (has_ancestor e u) (same_uid u w || ancestry D u w) j))) i));
+})
+
+out_at : {X Y : Type 0} (f g : X → Y) (d : Bool) (o : Option X) → f ≡ g
+    → option_map f (cond (not d) o None) ≡ cond d None (option_map g o)
+out_at f g true o is = refl
+out_at f g false o is = ap (λ h. option_map h o) is
+
+-- it is an edit by which nothing comes
+pub out_edit : (D : Held) (U : List EntityUID) → IsEdit D (taken_out D U) (leaves D U) (λ _. None) (removed_from D U)
+out_edit D U = record {
+  applied = removed_members D U;
+  made = λ q. get_taken_out D U q ∙ out_at (remains D U) (remains_by D (leaves D U) (removed_from D U)) (leaves D U q)
+      (finmap.get D q) (remains_left D U);
+}
 
 -- where none of the uids that leave is an ancestor, the entity remains as it is
 remains_same : (D : Held) (U : List EntityUID) (e : EntityView) → list_any (has_ancestor e) (removed_from D U) ≡ false
@@ -258,9 +284,11 @@ module _ (W : World) (S : StoreView) (U : List EntityUID) (plain : IsPlainStore 
       (left_plain (record { held = N; partial = S.partial }) refl r)) t h)
 
   pub left_refused : (row : Row) (e : EntitiesError)
-      → MatchRefusal e (λ _. ⊥) (IsEndRefused (mending row) (is_touched S.held (removed_from S.held U)) (taken_out S.held U))
+      → MatchRefusal e (λ _. ⊥)
+      (IsEndRefused (mending row) (is_touched S.held (removed_from S.held U)) (taken_out S.held U))
       → e ≡ errors.Memory
   left_refused row e h =
-      refusal_cases (λ _. ⊥) (IsEndRefused (mending row) (is_touched S.held (removed_from S.held U)) (taken_out S.held U))
+      refusal_cases (λ _. ⊥)
+      (IsEndRefused (mending row) (is_touched S.held (removed_from S.held U)) (taken_out S.held U))
       (λ r. r ≡ errors.Memory) (λ u n. absurd n)
       (λ t k. absurd (not_refused row t k)) refl e h

@@ -24,8 +24,8 @@ row_of modes.ComputeNow = record { repairs = true; refuses_cycles = true; checks
 abbrev pub mending : Row → Row
 mending r = record r { repairs = true }
 
--- whether a row computes the closure of what it puts in: that is repaired, a cycle there is refused, and nothing else is
--- looked for
+-- whether a row computes the closure of what it puts in: that is repaired, a cycle there is refused, and nothing else
+-- is looked for
 abbrev pub computes : Row → Bool
 computes r = (r.repairs && r.refuses_cycles) && not r.checks
 

@@ -61,23 +61,25 @@ abbrev pub IsEnded : Row → (EntityUID → Bool) → Held → Held → Type 0
 IsEnded r touched D N = Also r.checks (Also (r.repairs && r.refuses_cycles) (IsMadeOf r.repairs touched D N)
     (IsAcyclicAt touched D)) (IsSound N)
 
--- why that is refused: where a repair refuses cycles for one of D, and where the whole is checked for what is wrong with
--- what is made of D
+-- why that is refused: where a repair refuses cycles for one of D, and where the whole is checked for what is wrong
+-- with what is made of D
 abbrev pub IsEndRefused : Row → (EntityUID → Bool) → Held → TcError EntityUID → Type 0
 IsEndRefused r touched D t = OneOf (r.repairs && r.refuses_cycles) (TellsCycle D t) r.checks
     (SomeMade r.repairs touched D (λ N. TellsUnsound N t))
 
--- how adding and overwriting end, by the row of the mode, and why that is refused
+-- how adding and overwriting end, by the row of the mode
 abbrev pub IsSettled : TCComputation → (EntityUID → Bool) → Held → Held → Type 0
 IsSettled mode touched D N = IsEnded (row_of mode) touched D N
 
+-- why that is refused
 abbrev pub IsSettleRefused : TCComputation → (EntityUID → Bool) → Held → TcError EntityUID → Type 0
 IsSettleRefused mode touched D t = IsEndRefused (row_of mode) touched D t
 
--- how a removal ends, which repairs in each mode, and why that is refused
+-- how a removal ends, which repairs in each mode
 abbrev pub IsMended : TCComputation → (EntityUID → Bool) → Held → Held → Type 0
 IsMended mode touched D N = IsEnded (mending (row_of mode)) touched D N
 
+-- why that is refused
 abbrev pub IsMendRefused : TCComputation → (EntityUID → Bool) → Held → TcError EntityUID → Type 0
 IsMendRefused mode touched D t = IsEndRefused (mending (row_of mode)) touched D t
 

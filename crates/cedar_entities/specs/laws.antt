@@ -5,9 +5,9 @@ pub mod Held
 pub mod Indexes
 pub mod Lists
 pub mod Losses
-pub mod Modes
 pub mod PlainAncestors
 pub mod Refusals
+pub mod Rows
 pub mod SameUids
 pub mod Settled
 pub mod StoreFaults

@@ -2,7 +2,6 @@
 ghost use Rattle.std.specs.Prelude.{◌≡◌, true, false, cond, map, Some, None, IfOk, IfErr, OnOk, OnErr, IsTrue, ◌↔◌};
 ghost use Rattle.std.specs.Option.{option_or, option_map, IfSome};
 ghost use Rattle.std.specs.FinMap as finmap;
-ghost use Rattle.std.specs.Set.{is_member};
 ghost use Rattle.cedar_ids.specs.UidOf.{same_uid};
 ghost use Rattle.cedar_ids.specs.declared.entity.EntityUID.{EntityUID};
 ghost use Rattle.cedar_entity.specs.View.{EntityView, IsDeepEqual, IsEquivalenceRelation};
@@ -10,7 +9,6 @@ ghost use Rattle.cedar_entities.specs.Answers.{AreDeepEqual, Finds, ListsHeld};
 ghost use Rattle.cedar_entities.specs.Changes.{AddsEntities, AddsPlain, RemovesEntities, RemovesPlain};
 ghost use Rattle.cedar_entities.specs.Changes.{StripsPlain, UpsertsEntities, UpsertsPlain};
 ghost use Rattle.cedar_entities.specs.Edits.{put_over, uids_of};
-ghost use Rattle.cedar_entities.specs.laws.Edits.{last_entity};
 ghost use Rattle.cedar_entities.specs.laws.Indexes.{HasChildren, IsIndexOf, parentage};
 ghost use Rattle.cedar_entities.specs.laws.Held.{held, held_map, shared, UidsMatch};
 ghost use Rattle.cedar_entities.specs.Plain.{StoreView, entities_in, IsPlainStore, IsKeyed, AreBare, given_of};
@@ -23,19 +21,20 @@ ghost use Rattle.cedar_entities.specs.StoreFaults.{IsStoreFault, IsValidStore};
 ghost use Rattle.cedar_entities.specs.World.{World, empty_world, graph};
 
 use crate::dereference::{Dereference, unknown_of};
+use crate::edits::{put_all_over, take_all_out};
 use crate::incoming::{Incoming, shared_all, stays_plain, uids_in, with_uids};
-use crate::index::{Index, forget, join, leave, list_if_it_pays, touched_by};
-use crate::settling::{check, mend, settle_touched, settle_whole};
+use crate::index::{Index, join, list_if_it_pays, touched_by};
+use crate::settling::{check, settle_touched, settle_whole};
 use crate::sought::listed;
 use crate::store_iters::{IntoIter, Iter};
 use crate::store_same::{have_deep_equals, have_keys_of};
 use crate::store_valid::check_each;
-use crate::touching::{absent_uids, held_uids, losses_among, note_all, pointers_of, strip_each};
+use crate::touching::{absent_uids, note_all};
 use cedar_entity::entity::Entity;
 use cedar_entity::err::EntitiesError;
 use cedar_entity::node::SharedEntity;
 use cedar_ids::entity::EntityUID;
-use cedar_uid_sets::{SharedUid, UidSet};
+use cedar_uid_sets::SharedUid;
 use std::alloc::{AllocError, Global};
 use std::collections::hash_map::Entry;
 use std::collections::{HashMap, HashSet};
@@ -145,62 +144,6 @@ fn put_all<S: BuildHasher>(
         }
     }
     Ok(())
-}
-
-// Puts in an entity, over one with its uid.
-fn put_over<S: BuildHasher>(
-    entities: &mut HashMap<SharedUid, SharedEntity, S>,
-    coming: Incoming,
-) -> Result<(), EntitiesError>
-    requires { UidsMatch entities.old }
-    ensures keys { OnOk result (UidsMatch entities.new) }
-    ensures ok { OnOk result ((q : EntityUID) → held entities.new q ≡ option_or
-        (cond (same_uid coming.uid q) (Some coming) None) (held entities.old q)) }
-    ensures err { IfErr result (λ e. e ≡ Memory) }
-{
-    let Incoming { uid: key, entity } = coming;
-    entities.insert(key, SharedEntity(entity))?;
-    Ok(())
-}
-
-// Puts in the entities in turn, each over one with its uid.
-fn overwrite_all<S: BuildHasher>(
-    entities: &mut HashMap<SharedUid, SharedEntity, S>,
-    list: Vec<Incoming>,
-) -> Result<(), EntitiesError>
-    requires { UidsMatch entities.old }
-    ensures keys { OnOk result (UidsMatch entities.new) }
-    ensures ok { OnOk result ((q : EntityUID) → held entities.new q ≡ option_or
-        (last_entity list.items q) (held entities.old q)) }
-    ensures err { IfErr result (λ e. e ≡ Memory) }
-{
-    for entity in list {
-        put_over(entities, entity)?;
-    }
-    Ok(())
-}
-
-// Takes out the entity with a uid, if there is one.
-fn take_at<S: BuildHasher>(entities: &mut HashMap<SharedUid, SharedEntity, S>, uid: &SharedUid)
-    ensures { (q : EntityUID) → held entities.new q
-        ≡ cond (same_uid uid.now q) None (held entities.old q) }
-{
-    let _gone = entities.remove(uid);
-}
-
-// Takes out the entities with these uids.
-fn take_out<S: BuildHasher>(
-    entities: &mut HashMap<SharedUid, SharedEntity, S>,
-    gone: Vec<SharedUid>,
-)
-    requires { UidsMatch entities.old }
-    ensures keys { UidsMatch entities.new }
-    ensures left { (q : EntityUID) → held entities.new q
-        ≡ cond (is_member same_uid gone.items q) None (held entities.old q) }
-{
-    for uid in gone {
-        take_at(entities, &uid);
-    }
 }
 
 // Makes room for so many entities more.
@@ -433,26 +376,14 @@ impl<S: BuildHasher + Clone> Entities<S> {
         ensures plain { (W : World) → IsPlainStore W self → AreBare (entities_in list.items)
             → UpsertsPlain tc_computation W (map given_of (entities_in list.items)) result }
     {
-        let coming = with_uids(alloc, list)?;
-        let uids = uids_in(alloc, &coming)?;
         let Entities {
             mut entities,
             partial,
             mut index,
         } = self;
-        let mut applied = HashSet::with_hasher(alloc, entities.hasher().clone()?);
-        note_all(&mut applied, uids)?;
-        list_if_it_pays(alloc, &entities, &mut index);
-        let touched = touched_by(alloc, &entities, &index, &applied)?;
-        let losses = losses_among(alloc, &entities, &applied, &touched, index.plain)?;
-        let joining = listed(alloc, &applied)?;
-        leave(&mut index, &entities, &joining);
-        let none = UidSet::new(alloc);
-        strip_each(&mut entities, losses, &none)?;
+        let coming = with_uids(alloc, list)?;
         let stays = stays_plain(tc_computation, &coming);
-        overwrite_all(&mut entities, coming)?;
-        join(alloc, &mut index, &entities, &joining);
-        settle_touched(alloc, &mut entities, &touched, tc_computation)?;
+        put_all_over(alloc, &mut entities, &mut index, coming, tc_computation)?;
         Ok(Entities {
             entities,
             partial,
@@ -478,23 +409,12 @@ impl<S: BuildHasher + Clone> Entities<S> {
         ensures removes { RemovesEntities tc_computation self.held list.items result }
         ensures plain { (W : World) → IsPlainStore W self → RemovesPlain W list.items result }
     {
-        let listed = held_uids(alloc, &self.entities, list)?;
-        let gone = UidSet::from_pointers(listed)?;
-        let copies = pointers_of(&gone)?;
         let Entities {
             mut entities,
             partial,
             mut index,
         } = self;
-        let mut applied = HashSet::with_hasher(alloc, entities.hasher().clone()?);
-        note_all(&mut applied, copies)?;
-        list_if_it_pays(alloc, &entities, &mut index);
-        let touched = touched_by(alloc, &entities, &index, &applied)?;
-        let losses = losses_among(alloc, &entities, &applied, &touched, index.plain)?;
-        forget(&mut index, &entities, gone.pointers());
-        strip_each(&mut entities, losses, &gone)?;
-        take_out(&mut entities, gone.into_pointers());
-        mend(alloc, &mut entities, &touched, tc_computation)?;
+        take_all_out(alloc, &mut entities, &mut index, list, tc_computation)?;
         Ok(Entities {
             entities,
             partial,

@@ -237,37 +237,21 @@ fn forget_all<S: BuildHasher + Clone>(children: &mut Children<S>, uids: &[Shared
     }
 }
 
-// Takes the entities at some uids from the children that are listed, before they are overwritten.
-pub(crate) fn leave<S: BuildHasher + Clone>(
+// Takes the entities at some uids from the children that are listed, and some as parents too, before they are written.
+pub(crate) fn part<S: BuildHasher + Clone>(
     index: &mut Index<S>,
     entities: &HashMap<SharedUid, SharedEntity, S>,
     uids: &[SharedUid],
+    gone: &[SharedUid],
 )
     ensures plain { index.new.plain ≡ index.old.plain }
     ensures children { IfSome index.old.children (HasChildren (parentage (held entities.now)))
-        → IfSome index.new.children (HasChildren (λ p q. not (is_member same_uid uids.now q)
-        && is_parent_at (held entities.now q) p)) }
-{
-    if let Some(children) = &mut index.children {
-        leave_all(children, entities, uids);
-    }
-}
-
-// Takes the entities at some uids from the children that are listed, and these uids as parents, before they are
-// removed.
-pub(crate) fn forget<S: BuildHasher + Clone>(
-    index: &mut Index<S>,
-    entities: &HashMap<SharedUid, SharedEntity, S>,
-    uids: &[SharedUid],
-)
-    ensures plain { index.new.plain ≡ index.old.plain }
-    ensures children { IfSome index.old.children (HasChildren (parentage (held entities.now)))
-        → IfSome index.new.children (HasChildren (λ p q. not (is_member same_uid uids.now p)
+        → IfSome index.new.children (HasChildren (λ p q. not (is_member same_uid gone.now p)
         && (not (is_member same_uid uids.now q) && is_parent_at (held entities.now q) p))) }
 {
     if let Some(children) = &mut index.children {
         leave_all(children, entities, uids);
-        forget_all(children, uids);
+        forget_all(children, gone);
     }
 }
 

@@ -7,6 +7,7 @@
 
 mod default_hasher;
 pub mod dereference;
+mod edits;
 pub mod entities;
 mod incoming;
 mod index;

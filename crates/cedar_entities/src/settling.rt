@@ -30,7 +30,7 @@ pub(crate) struct Row {
 }
 
 // What a mode does.
-fn row_of(tc_computation: TCComputation) -> Row
+pub(crate) fn row_of(tc_computation: TCComputation) -> Row
     ensures { result ≡ row_of tc_computation }
 {
     match tc_computation {
@@ -53,7 +53,7 @@ fn row_of(tc_computation: TCComputation) -> Row
 }
 
 // By which row a removal ends.
-fn mending(row: Row) -> Row
+pub(crate) fn mending(row: Row) -> Row
     ensures { result ≡ mending row }
 {
     Row {
@@ -145,7 +145,7 @@ fn repair_all<S: BuildHasher + Clone>(
 }
 
 // Ends an edit: repairs what is touched, and checks the whole, as the row says.
-fn finish<S: BuildHasher + Clone>(
+pub(crate) fn finish<S: BuildHasher + Clone>(
     alloc: Global,
     entities: &mut HashMap<SharedUid, SharedEntity, S>,
     touched: &HashSet<SharedUid, S>,
@@ -163,7 +163,7 @@ fn finish<S: BuildHasher + Clone>(
     check_if(alloc, entities, row.checks)
 }
 
-// Ends an adding or an overwriting, as the mode says.
+// Ends an adding, as the mode says.
 pub(crate) fn settle_touched<S: BuildHasher + Clone>(
     alloc: Global,
     entities: &mut HashMap<SharedUid, SharedEntity, S>,
@@ -208,19 +208,4 @@ pub(crate) fn settle_whole<S: BuildHasher + Clone>(
         (λ q. is_some (held entities.old q)) (held_map entities.old) (held_map entities.new) result }
 {
     finish_whole(alloc, entities, row_of(tc_computation))
-}
-
-// Repairs what a removal touched, and ends that as the mode says.
-pub(crate) fn mend<S: BuildHasher + Clone>(
-    alloc: Global,
-    entities: &mut HashMap<SharedUid, SharedEntity, S>,
-    touched: &HashSet<SharedUid, S>,
-    tc_computation: TCComputation,
-) -> Result<(), EntitiesError>
-    requires { UidsMatch entities.old }
-    ensures keys { UidsMatch entities.new }
-    ensures ends { Ends (mending (row_of tc_computation)) (contains same_uid touched.now)
-        (held_map entities.old) (held_map entities.new) result }
-{
-    finish(alloc, entities, touched, mending(row_of(tc_computation)))
 }

@@ -3,20 +3,21 @@
 //! The store of entities.
 
 use crate::cedar_entities::dereference::{Dereference, unknown_of};
+use crate::cedar_entities::edits::{put_all_over, take_all_out};
 use crate::cedar_entities::incoming::{Incoming, shared_all, stays_plain, uids_in, with_uids};
-use crate::cedar_entities::index::{Index, forget, join, leave, list_if_it_pays, touched_by};
-use crate::cedar_entities::settling::{check, mend, settle_touched, settle_whole};
+use crate::cedar_entities::index::{Index, join, list_if_it_pays, touched_by};
+use crate::cedar_entities::settling::{check, settle_touched, settle_whole};
 use crate::cedar_entities::sought::listed;
 use crate::cedar_entities::store_iters::{IntoIter, Iter};
 use crate::cedar_entities::store_same::{have_deep_equals, have_keys_of};
 use crate::cedar_entities::store_valid::check_each;
-use crate::cedar_entities::touching::{absent_uids, held_uids, losses_among, note_all, pointers_of, strip_each};
+use crate::cedar_entities::touching::{absent_uids, note_all};
 use crate::cedar_entity::entity::Entity;
 use crate::cedar_entity::err::EntitiesError;
 use crate::cedar_entity::node::SharedEntity;
 use crate::cedar_ids::entity::EntityUID;
 use crate::cedar_keyed_hash::KeyedState;
-use crate::cedar_uid_sets::{SharedUid, UidSet};
+use crate::cedar_uid_sets::SharedUid;
 use std::collections::hash_map::Entry;
 use std::collections::{HashMap, HashSet};
 use std::hash::BuildHasher;
@@ -90,31 +91,6 @@ fn put_all<S: BuildHasher>(
         }
     }
     Ok(())
-}
-
-// Puts in an entity, over one with its uid.
-fn put_over<S: BuildHasher>(entities: &mut HashMap<SharedUid, SharedEntity, S>, coming: Incoming) {
-    let Incoming { uid: key, entity } = coming;
-    entities.insert(key, SharedEntity(entity));
-}
-
-// Puts in the entities in turn, each over one with its uid.
-fn overwrite_all<S: BuildHasher>(entities: &mut HashMap<SharedUid, SharedEntity, S>, list: Vec<Incoming>) {
-    for entity in list {
-        put_over(entities, entity);
-    }
-}
-
-// Takes out the entity with a uid, if there is one.
-fn take_at<S: BuildHasher>(entities: &mut HashMap<SharedUid, SharedEntity, S>, uid: &SharedUid) {
-    entities.remove(uid);
-}
-
-// Takes out the entities with these uids.
-fn take_out<S: BuildHasher>(entities: &mut HashMap<SharedUid, SharedEntity, S>, gone: Vec<SharedUid>) {
-    for uid in gone {
-        take_at(entities, &uid);
-    }
 }
 
 // Makes room for so many entities more.
@@ -463,26 +439,14 @@ impl<S: BuildHasher + Clone> Entities<S> {
         list: impl IntoIterator<Item = Arc<Entity>>,
         tc_computation: TCComputation,
     ) -> Result<Self, EntitiesError> {
-        let coming = with_uids(list);
-        let uids = uids_in(&coming);
         let Self {
             mut entities,
             partial,
             mut index,
         } = self;
-        let mut applied = HashSet::with_hasher(entities.hasher().clone());
-        note_all(&mut applied, uids);
-        list_if_it_pays(&entities, &mut index);
-        let touched = touched_by(&entities, &index, &applied);
-        let losses = losses_among(&entities, &applied, &touched, index.plain);
-        let joining = listed(&applied);
-        leave(&mut index, &entities, &joining);
-        let none = UidSet::new();
-        strip_each(&mut entities, losses, &none);
+        let coming = with_uids(list);
         let stays = stays_plain(tc_computation, &coming);
-        overwrite_all(&mut entities, coming);
-        join(&mut index, &entities, &joining);
-        settle_touched(&mut entities, &touched, tc_computation)?;
+        put_all_over(&mut entities, &mut index, coming, tc_computation)?;
         Ok(Self {
             entities,
             partial,
@@ -529,23 +493,12 @@ impl<S: BuildHasher + Clone> Entities<S> {
         list: impl IntoIterator<Item = EntityUID>,
         tc_computation: TCComputation,
     ) -> Result<Self, EntitiesError> {
-        let listed = held_uids(&self.entities, list);
-        let gone = UidSet::from_pointers(listed);
-        let copies = pointers_of(&gone);
         let Self {
             mut entities,
             partial,
             mut index,
         } = self;
-        let mut applied = HashSet::with_hasher(entities.hasher().clone());
-        note_all(&mut applied, copies);
-        list_if_it_pays(&entities, &mut index);
-        let touched = touched_by(&entities, &index, &applied);
-        let losses = losses_among(&entities, &applied, &touched, index.plain);
-        forget(&mut index, &entities, gone.pointers());
-        strip_each(&mut entities, losses, &gone);
-        take_out(&mut entities, gone.into_pointers());
-        mend(&mut entities, &touched, tc_computation)?;
+        take_all_out(&mut entities, &mut index, list, tc_computation)?;
         Ok(Self {
             entities,
             partial,

@@ -4,6 +4,7 @@
 
 mod default_hasher;
 pub mod dereference;
+mod edits;
 pub mod entities;
 mod incoming;
 mod index;

@@ -22,7 +22,7 @@ pub(crate) struct Row {
 }
 
 // What a mode does.
-fn row_of(tc_computation: TCComputation) -> Row {
+pub(crate) fn row_of(tc_computation: TCComputation) -> Row {
     match tc_computation {
         TCComputation::AssumeAlreadyComputed => Row {
             repairs: false,
@@ -43,7 +43,7 @@ fn row_of(tc_computation: TCComputation) -> Row {
 }
 
 // By which row a removal ends.
-fn mending(row: Row) -> Row {
+pub(crate) fn mending(row: Row) -> Row {
     Row {
         repairs: true,
         refuses_cycles: row.refuses_cycles,
@@ -104,7 +104,7 @@ fn repair_all<S: BuildHasher + Clone>(
 }
 
 // Ends an edit: repairs what is touched, and checks the whole, as the row says.
-fn finish<S: BuildHasher + Clone>(
+pub(crate) fn finish<S: BuildHasher + Clone>(
     entities: &mut HashMap<SharedUid, SharedEntity, S>,
     touched: &HashSet<SharedUid, S>,
     row: Row,
@@ -116,7 +116,7 @@ fn finish<S: BuildHasher + Clone>(
     check_if(entities, row.checks)
 }
 
-// Ends an adding or an overwriting, as the mode says.
+// Ends an adding, as the mode says.
 pub(crate) fn settle_touched<S: BuildHasher + Clone>(
     entities: &mut HashMap<SharedUid, SharedEntity, S>,
     touched: &HashSet<SharedUid, S>,
@@ -143,13 +143,4 @@ pub(crate) fn settle_whole<S: BuildHasher + Clone>(
     tc_computation: TCComputation,
 ) -> Result<(), EntitiesError> {
     finish_whole(entities, row_of(tc_computation))
-}
-
-// Repairs what a removal touched, and ends that as the mode says.
-pub(crate) fn mend<S: BuildHasher + Clone>(
-    entities: &mut HashMap<SharedUid, SharedEntity, S>,
-    touched: &HashSet<SharedUid, S>,
-    tc_computation: TCComputation,
-) -> Result<(), EntitiesError> {
-    finish(entities, touched, mending(row_of(tc_computation)))
 }

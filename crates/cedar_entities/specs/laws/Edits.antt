@@ -1,10 +1,14 @@
--- What an edit does on the way: the last of a list, and an entity that is stripped.
-use Rattle.std.specs.Prelude.{Bool, not, List, map, Option}
+-- What an edit leaves before it ends, and what it does on the way.
+use Rattle.std.specs.Prelude.{◌≡◌, ◌||◌, Bool, cond, not, is_some, List, map, None, Option}
+use Rattle.std.specs.Option.{option_map, option_or}
+use Rattle.std.specs.Set.{is_member}
 use Rattle.std.specs.FinSet as set
 use Rattle.std.specs.FinMap as finmap
-use Rattle.cedar_ids.specs.UidOf.{uid_order}
+use Rattle.cedar_ids.specs.UidOf.{same_uid, uid_order}
 use Rattle.cedar_ids.specs.declared.entity.EntityUID.{EntityUID}
 use Rattle.cedar_entity.specs.View.{EntityView}
+use Rattle.cedar_entities.specs.Edits.{lessened, parted}
+use Rattle.cedar_entities.specs.Plain.{Held}
 use Rattle.cedar_entities.specs.Present.{keyed}
 use Rattle.cedar_entities.specs.World.{reversed}
 
@@ -18,3 +22,18 @@ stripped parents indirect e = record e {
   parents = set.retain e.parents (λ p. not (parents p));
   indirect = set.retain e.indirect (λ w. not (indirect w));
 }
+
+-- what an edit leaves of an entity that stays: it is without the parents that go, and lessened by the uids A
+abbrev pub remains : Held → (EntityUID → Bool) → List EntityUID → EntityView → EntityView
+remains D gone A e = parted gone (lessened D A e)
+
+-- what it leaves at q: what comes, or nothing where q goes, or what remains
+abbrev pub edited_at : Held → (EntityUID → Bool) → List EntityUID → (EntityUID → Option EntityView) → EntityUID
+    → Option EntityView
+edited_at D gone A put q = option_or (put q) (cond (gone q) None (option_map (remains D gone A) (finmap.get D q)))
+
+-- M is what it leaves of D; A are the uids that come and those that go
+pub record IsEdit (D M : Held) (gone : EntityUID → Bool) (put : EntityUID → Option EntityView) (A : List EntityUID)
+    : Type 0 where
+  pub applied : (q : EntityUID) → is_member same_uid A q ≡ (is_some (put q) || gone q)
+  pub made : (q : EntityUID) → finmap.get M q ≡ edited_at D gone A put q

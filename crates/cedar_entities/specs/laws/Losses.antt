@@ -1,13 +1,18 @@
 -- What goes from each entity by all uids that an edit applies, read before anything changes.
 use Rattle.std.specs.Prelude.{◌≡◌, Bool, true, ◌&&◌, ◌||◌, not, List, Option}
 use Rattle.std.specs.Option.{is_some}
-use Rattle.std.specs.List.{list_any}
+use Rattle.std.specs.HashSet.{contains}
+use Rattle.std.specs.List.{AllByRecursion, list_any}
+use Rattle.std.specs.FinMap as finmap
 use Rattle.std.specs.FinSet as set
 use Rattle.std.specs.Set.{is_member}
 use Rattle.cedar_ids.specs.UidOf.{same_uid}
 use Rattle.cedar_ids.specs.declared.entity.EntityUID.{EntityUID}
 use Rattle.cedar_entity.specs.View.{EntityView}
-use Rattle.cedar_entities.specs.Modes.{is_ancestor_in}
+use Rattle.cedar_entities.specs.Modes.{ancestry, is_ancestor_in}
+use Rattle.cedar_entities.specs.Plain.{Held}
+use Rattle.cedar_entities.specs.Touching.{is_touched}
+use Rattle.cedar_entities.specs.declared.edits.Reading.{Reading}
 use Rattle.cedar_entities.specs.declared.touching.Counted.{Counted}
 use Rattle.cedar_entities.specs.declared.touching.Loss.{Loss}
 
@@ -39,3 +44,10 @@ loses_uid R q w = list_any (λ a. same_uid q a.uid && set.contains a.lost w) R
 -- whether the list has q with the number of its ancestors
 abbrev pub counts : List Counted → EntityUID → Bool
 counts L q = list_any (λ a. same_uid q a.uid) L
+
+-- what an edit of some uids reads of what D holds: it lists these uids, what they touch, and what goes from that
+pub record IsReadingOf {S H : Type 0} (D : Held) (uids : List EntityUID) (r : Reading S H) : Type 0 where
+  pub same : (q : EntityUID) → is_member same_uid r.uids.items q ≡ is_member same_uid uids q
+  pub touched : (q : EntityUID) → contains same_uid r.touched q ≡ is_touched D r.uids.items q
+  pub who : (q : EntityUID) → loses r.losses.items q ≡ is_stripped r.uids.items q (ancestry D q)
+  pub lost : AllByRecursion (IsLossOf (finmap.get D) r.uids.items) r.losses.items

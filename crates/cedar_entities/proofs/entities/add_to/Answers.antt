@@ -45,7 +45,7 @@ returns-clause-adds g c =
     ∙ ap (λ ks. is_member same_uid ks q || is_member same_uid fresh q) c.with_hasher-inserted.ensures.empty
     ∙ ap (λ us. is_member same_uid us q)
     (all ∙ ap (λ h. filter (λ u. not (is_some (h u))) (uids_of L)) (stored m D refl)) in
-    let touched = known_touched D D A (inserted_in D L) (contains same_uid c.in_ok-touched.touched) refl same
+    let touched = known_touched D A (inserted_in D L) (contains same_uid c.in_ok-touched.touched) same
     (c.in_ok-touched.ensures.ok D c.list_if_it_pays.ensures.index (added_alike n D L A put same)) in
     adds_settled m c.args.tc_computation L n N c.settle_touched.result
     c.in_ok-put_all.ensures.agree c.in_ok-put_all.ensures.ok
@@ -75,6 +75,7 @@ returns-clause-children g c =
     (λ s. children_back c.settle_touched.new.entities N c.join.new.index.children refl
     (if_some _ _ c.join.new.index.children
     (λ ch h p q. h p q ∙ children_in D N L A (held n) same (λ x. ap (λ f. f x) (stored n (with_first D L) put))
-    (λ x. ended_kept (row_of c.args.tc_computation) _ (held_map n) N s x ∙ ap (λ M. option_map kept (finmap.get M x)) put) p q)
+    (λ x. ended_kept (row_of c.args.tc_computation) _ (held_map n) N s x
+    ∙ ap (λ M. option_map kept (finmap.get M x)) put) p q)
     (c.join.ensures.children
     (parentage (finmap.get D)) c.list_if_it_pays.ensures.index.children))) c.settle_touched.ensures.ends.ok

@@ -13,8 +13,8 @@ returns-then-not-row-clause-ends g c =
 pub returns-in_err-repair_touched-clause-ends : goal.returns-in_err-repair_touched-clause-ends
 returns-in_err-repair_touched-clause-ends g c =
     ends_refused c.args.row (contains same_uid c.args.touched.now) (held_map c.args.entities.now) _
-    (held_map c.repair_touched.new.entities) _ c.in_err-repair_touched.field-0.0 (not-false c.args.row.repairs c.if-not-row.false)
-    c.from_residual.ensures.1
+    (held_map c.repair_touched.new.entities) _ c.in_err-repair_touched.field-0.0
+    (not-false c.args.row.repairs c.if-not-row.false) c.from_residual.ensures.1
     c.in_err-repair_touched.ensures.ends
 
 pub returns-clause-ends : goal.returns-clause-ends

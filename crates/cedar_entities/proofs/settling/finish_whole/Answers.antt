@@ -11,8 +11,8 @@ returns-then-not-row-clause-ends g c touched all =
 pub returns-in_err-repair_all-clause-ends : goal.returns-in_err-repair_all-clause-ends
 returns-in_err-repair_all-clause-ends g c touched all =
     ends_refused c.args.row touched (held_map c.args.entities.now) _
-    (held_map c.repair_all.new.entities) _ c.in_err-repair_all.field-0.0 (not-false c.args.row.repairs c.if-not-row.false)
-    c.from_residual.ensures.1
+    (held_map c.repair_all.new.entities) _ c.in_err-repair_all.field-0.0
+    (not-false c.args.row.repairs c.if-not-row.false) c.from_residual.ensures.1
     (c.in_err-repair_all.ensures.ends touched all)
 
 pub returns-clause-ends : goal.returns-clause-ends

@@ -3,7 +3,7 @@ use Rattle.cedar_ids.specs.UidOf.{same_uid}
 use Rattle.cedar_graph.specs.Faults.{NamesCycleAt}
 use Rattle.cedar_graph.specs.Graph.{graph_of}
 use Rattle.cedar_entities.specs.laws.Held.{held_map}
-use Rattle.cedar_entities.specs.laws.Modes.{also, where_not, where_so}
+use Rattle.cedar_entities.specs.laws.Rows.{also, where_not, where_so}
 use Rattle.cedar_entities.specs.Touching.{IsAcyclicAt, IsRepairOf}
 use Rattle.cedar_entities.proofs.Closures.{acyclic_whole, node_edges, repair_of_whole, touched_named}
 use Rattle.cedar_entities.proofs.Ending.{repair_told}

@@ -60,8 +60,8 @@ invariant_of-result g c =
             let p = c.plain_if.ensures.plain t in
             let stays = c.stays_plain-stays.ensures p.1 in
             plain_in (held_map m) (c.self.invariant.1.plain (sym c.add_all.ensures.plain ∙ p.0))
-            c.in_ok-coming.coming.items (subst AreBare c.deref.ensures.value stays.1) (row_of c.args.tc_computation) stays.0
-            (held_map n) c.in_ok-add_all.ensures.adds.ok;
+            c.in_ok-coming.coming.items (subst AreBare c.deref.ensures.value stays.1)
+            (row_of c.args.tc_computation) stays.0 (held_map n) c.in_ok-add_all.ensures.adds.ok;
         children =
             c.plain_if.ensures.children _
             (children_seen n c.add_all.new.index.children c.in_ok-add_all.ensures.children);

@@ -69,7 +69,8 @@ module _ (touched : EntityUID → Bool) (D N : Held) (t : TcError EntityUID) whe
   pub enforced : (IsSettled modes.EnforceAlreadyComputed touched D N ↔ ((N ≡ D) × IsSound N))
       × (IsSettleRefused modes.EnforceAlreadyComputed touched D t ↔ (TellsUnsound D t))
       × (IsMended modes.EnforceAlreadyComputed touched D N ↔ (IsRepairOf touched D N × IsSound N))
-      × (IsMendRefused modes.EnforceAlreadyComputed touched D t ↔ ((M : Held) × IsRepairOf touched D M × TellsUnsound M t))
+      × (IsMendRefused modes.EnforceAlreadyComputed touched D t
+      ↔ ((M : Held) × IsRepairOf touched D M × TellsUnsound M t))
   enforced = ((λ h. h, λ h. h), (λ h. h, λ h. h), (λ h. h, λ h. h), (λ h. h, λ h. h))
 
   pub computed : (IsSettled modes.ComputeNow touched D N ↔ (IsRepairOf touched D N × IsAcyclicAt touched D))

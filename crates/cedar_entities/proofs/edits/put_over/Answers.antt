@@ -1,7 +1,7 @@
 use Rattle.std.proofs.Common.{ap, ◌∙◌}
 use Rattle.cedar_entity.specs.View.{EntityView}
 use Rattle.cedar_entities.proofs.Versions.{put_over, put_keys}
-use Rattle.cedar_entities.proofs.entities.put_over.Goals as goal
+use Rattle.cedar_entities.proofs.edits.put_over.Goals as goal
 
 pub returns-clause-keys : goal.returns-clause-keys
 returns-clause-keys g c =

@@ -6,7 +6,7 @@ use Rattle.cedar_ids.specs.UidOf.{same_uid}
 use Rattle.cedar_entities.specs.laws.Held.{held}
 use Rattle.cedar_entities.proofs.Versions.{map_same}
 use Rattle.cedar_entities.proofs.Editing.{out_push, left_match}
-use Rattle.cedar_entities.proofs.entities.take_out.Goals as goal
+use Rattle.cedar_entities.proofs.edits.take_out.Goals as goal
 
 pub loop-uid-preserved : goal.loop-uid-preserved
 loop-uid-preserved g c q =

@@ -5,7 +5,7 @@ use Rattle.std.proofs.lemmas.Iterator.Adapters.{YieldsList-from_vec}
 use Rattle.cedar_entities.specs.laws.Edits.{last_entity}
 use Rattle.cedar_entities.specs.laws.Held.{held}
 use Rattle.cedar_entities.proofs.Versions.{over_push, map_same}
-use Rattle.cedar_entities.proofs.entities.overwrite_all.Goals as goal
+use Rattle.cedar_entities.proofs.edits.overwrite_all.Goals as goal
 
 pub loop-entity-preserved : goal.loop-entity-preserved
 loop-entity-preserved g c = record {

@@ -3,7 +3,7 @@ use Rattle.std.specs.Option.{option_or}
 use Rattle.cedar_ids.specs.declared.entity.EntityUID.{EntityUID}
 use Rattle.cedar_entities.specs.laws.Edits.{last_entity}
 use Rattle.cedar_entities.specs.laws.Held.{held, UidsMatch}
-use Rattle.cedar_entities.proofs.entities.overwrite_all.Given as goal
+use Rattle.cedar_entities.proofs.edits.overwrite_all.Given as goal
 
 abbrev pub invariant-loop-entity : goal.invariant-loop-entity
 invariant-loop-entity g l = record {

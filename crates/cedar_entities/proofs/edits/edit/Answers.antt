@@ -1,0 +1,74 @@
+use Rattle.std.proofs.Common.{ap, refl, subst, sym, ◌∙◌, ◌≡◌, ◌||◌, ◌&&◌, not}
+use Rattle.std.proofs.lemmas.Result.{on_ok_weaker}
+use Rattle.std.specs.FinMap as finmap
+use Rattle.std.specs.FinSet as set
+use Rattle.std.specs.HashSet.{contains}
+use Rattle.std.specs.Set.{is_member}
+use Rattle.cedar_ids.specs.UidOf.{same_uid}
+use Rattle.cedar_ids.specs.declared.entity.EntityUID.{EntityUID}
+use Rattle.cedar_uid_sets.specs.UidSets.{UidValues}
+use Rattle.cedar_uid_sets.specs.laws.Sets.{contains_listed}
+use Rattle.cedar_entities.specs.Edits.{uids_of}
+use Rattle.cedar_entities.specs.laws.Edits.{last_entity, IsEdit}
+use Rattle.cedar_entities.specs.laws.Ends.{Ends}
+use Rattle.cedar_entities.specs.laws.Held.{held, held_map}
+use Rattle.cedar_entities.specs.laws.Indexes.{is_parent_at}
+use Rattle.cedar_entities.proofs.Adds.{stored}
+use Rattle.cedar_entities.proofs.Edited.{edit_same, known_touched, written_edit}
+use Rattle.cedar_entities.proofs.Ending.{ended_kept, ends_nothing}
+use Rattle.cedar_entities.proofs.Indexes.{children_back, children_edited, if_some}
+use Rattle.cedar_entities.proofs.edits.edit.Goals as goal
+
+pub returns-in_err-reading-clause-ends : goal.returns-in_err-reading-clause-ends
+returns-in_err-reading-clause-ends g c A M x = ends_nothing c.args.row _ M _ _ c.in_err-reading.field-0.0
+    c.in_err-reading.ensures.err c.from_residual.ensures.1
+
+pub returns-in_err-write-clause-ends : goal.returns-in_err-write-clause-ends
+returns-in_err-write-clause-ends g c A M x = ends_nothing c.args.row _ M _ _ c.in_err-write.field-0.0
+    c.in_err-write.ensures.err c.from_residual-in_err-write.ensures.1
+
+pub returns-clause-ends : goal.returns-clause-ends
+returns-clause-ends g c A M x =
+    let m = c.args.entities.now in
+    let n = c.write.new.entities in
+    let D = held_map m in
+    let r = c.in_ok-reading.reading in
+    let is = c.in_ok-reading.ensures.ok in
+    let gone = c.args.change.gone in
+    let made : IsEdit D (held_map n) (set.contains gone) (last_entity c.args.change.coming.items) r.uids.items =
+    written_edit m n gone c.args.change.coming.items r.uids.items r.losses.items
+    (λ q. is.same q ∙ c.requires.uids q) is.who is.lost c.in_ok-write.ensures.ok in
+    let touched = known_touched D r.uids.items A (contains same_uid r.touched)
+    (λ q. made.applied q ∙ sym (x.applied q)) is.touched in
+    subst (λ f. Ends c.args.row f M (held_map c.finish.new.entities) c.finish.result) touched
+    (subst (λ E. Ends c.args.row (contains same_uid r.touched) E (held_map c.finish.new.entities) c.finish.result)
+    (edit_same D (held_map n) M (set.contains gone) (last_entity c.args.change.coming.items) r.uids.items A made x)
+    c.finish.ensures.ends)
+
+pub returns-clause-children : goal.returns-clause-children
+returns-clause-children g c =
+    let m = c.args.entities.now in
+    let n = c.write.new.entities in
+    let N = c.finish.new.entities in
+    let D = held_map m in
+    let r = c.in_ok-reading.reading in
+    let is = c.in_ok-reading.ensures.ok in
+    let gone = c.args.change.gone in
+    let put = last_entity c.args.change.coming.items in
+    let made : IsEdit D (held_map n) (set.contains gone) put r.uids.items =
+    written_edit m n gone c.args.change.coming.items r.uids.items r.losses.items
+    (λ q. is.same q ∙ c.requires.uids q) is.who is.lost c.in_ok-write.ensures.ok in
+    on_ok_weaker c.finish.result
+    (λ s. children_back N (held_map N) c.join.new.index.children refl
+    (if_some _ _ c.join.new.index.children
+    (λ ch h p q. h p q ∙ children_edited D (held_map n) (held_map N) (set.contains gone) put r.uids.items
+    c.deref.result.now c.deref-2.result.now c.pointers.result.now (held m) (held n) made
+    (λ y. ap (λ l. is_member same_uid l y) c.deref.ensures.value)
+    (λ y. ap (λ l. is_member same_uid l y) c.deref-2.ensures.value)
+    (λ y. sym (contains_listed c.pointers.result.now y)
+    ∙ ap (λ (z : UidValues). set.contains z y) c.pointers.ensures.all)
+    (stored m D refl) (stored n (held_map n) refl)
+    (ended_kept c.args.row (contains same_uid r.touched) (held_map n) (held_map N) s) p q)
+    (c.join.ensures.children _ (c.part.ensures.children (children_back m D c.read.new.index.children refl
+    c.read.ensures.index.children)))))
+    c.finish.ensures.ends.ok
