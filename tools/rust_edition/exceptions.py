@@ -28,7 +28,7 @@ DROPPED = {('KeyedState', 'new'), ('fresh', 'count_ids'), ('fresh', 'size'), ('n
 UNASKED = {
     ('PolicySet', 'from_raw_components'), ('PolicyMaps', 'from_raw_components'), ('lists', 'read_policy'),
     ('lists', 'read_policies'), ('maps', 'keep_templates'), ('LineStore', 'new'), ('PolicySets', 'new'),
-    ('Entity', 'with_shared_parents'), ('Entity', 'remove_shared_ancestor'), ('Entity', 'remove_shared_parent'),
+    ('Entity', 'with_shared_parents'),
     ('UidSet', 'is_ascending'), ('UidSet', 'retain'),
 }
 # Of those what the library for C asks for; what it does without, as proofs alone ask for it; and files of it that go.
@@ -81,8 +81,7 @@ WIDE = {
 
 # Public functions of the layer that speak of uids as stores keep them: `pub(crate)` here.
 HIDDEN = {('Entity', name) for name in '''with_shared_parents with_parent_set is_descendant_of_shared shared_parents
-shared_ancestors add_shared_parent remove_shared_ancestor remove_shared_parent remove_ancestors_of
-remove_parents_of'''.split()}
+shared_ancestors add_shared_parent remove_ancestors_of remove_parents_of'''.split()}
 
 # Files whose functions are called so often from others that each is to be inlined, into whatever unit of code: hashing,
 # and telling uids apart.

@@ -18,8 +18,8 @@ OK = 'Ok::<_, AllocError>'
 STD_TYPES = set('Rc RcStr Vec String Box IndexSet IndexMap HashMap HashSet BTreeMap BTreeSet VecDeque'.split())
 STD_MEMORY = re.compile(r'(Rc|Box)::new|Rc::(make_mut|unwrap_or_clone)|\w+::(with_capacity|with_capacity_and_hasher)'
                         r'|Vec::from_slice|(String|RcStr)::from_str')
-NODE = set('''get_key add_edge_to out_edges has_edge_to may_have_edges reset_edges direct_edges list_edges reserve_edges
-shrink_edges order add_edges_to add_new_edges_to'''.split())
+NODE = set('''get_key add_edge_to out_edges has_edge_to may_have_edges reset_edges direct_edges list_edges
+order add_edges_to add_new_edges_to'''.split())
 ERRORS = (r'\b(ParseErrors|ExprValidationError|TcError|EntitiesError|ActionTypesError|TemplateValidationError'
           r'|UnexpectedSlotError|LinkingError|PolicySet\w*Error|RunError|TalkError)(::<\w+>)?::Memory')
 WORDS = {'if', 'match', 'while', 'return', 'in', 'fn', 'let', 'mut', 'for', 'Some', 'Ok', 'Err', 'move', 'else'}

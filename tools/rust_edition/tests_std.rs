@@ -110,20 +110,14 @@ pub trait TestNode<K: Eq> {
         *list = self.out_edges(alloc)?;
         Ok(())
     }
-    fn reserve_edges(&mut self, _alloc: Global, _additional: usize) -> Result<(), AllocError> {
-        Ok(())
-    }
-    fn shrink_edges(&mut self) {}
     fn order(_alloc: Global, keys: &[K]) -> Result<Vec<usize>, AllocError> {
         Ok((0..keys.len()).collect())
     }
     fn add_edges_to(&mut self, alloc: Global, keys: &mut Vec<K>) -> Result<(), AllocError> {
         let row = std::mem::take(keys);
-        self.reserve_edges(alloc, row.len())?;
         for key in row {
             self.add_edge_to(alloc, key)?;
         }
-        self.shrink_edges();
         Ok(())
     }
     fn add_new_edges_to(&mut self, alloc: Global, keys: &mut Vec<K>) -> Result<(), AllocError> {
@@ -155,12 +149,6 @@ impl<K: Eq, N: TestNode<K>> crate::transitive_closure::TCNode<K> for N {
     }
     fn list_edges<'a>(&'a self, list: &mut Vec<&'a K>) {
         TestNode::list_edges(self, Global, list).unwrap()
-    }
-    fn reserve_edges(&mut self, additional: usize) {
-        TestNode::reserve_edges(self, Global, additional).unwrap()
-    }
-    fn shrink_edges(&mut self) {
-        TestNode::shrink_edges(self)
     }
     fn order(keys: &[K]) -> Vec<usize> {
         <N as TestNode<K>>::order(Global, keys).unwrap()

@@ -705,27 +705,11 @@ impl Entity {
         self.indirect_ancestors.remove(uid);
     }
 
-    /// Takes a uid that is shared out of the indirect ancestors; the parents stay. It takes no memory; its look-up
-    /// costs less than that of [`Entity::remove_indirect_ancestor`].
-    pub fn remove_shared_ancestor(&mut self, shared: &SharedUid)
-        ensures { self.new ≡ record self.old { indirect = set.remove self.old.indirect shared.now } }
-    {
-        self.indirect_ancestors.remove_shared(shared);
-    }
-
     /// Takes a uid out of the parents; the indirect ancestors stay. It takes no memory.
     pub fn remove_parent(&mut self, uid: &EntityUID)
         ensures { self.new ≡ record self.old { parents = set.remove self.old.parents uid.now } }
     {
         self.parents.remove(uid);
-    }
-
-    /// Takes a uid that is shared out of the parents; the indirect ancestors stay. It takes no memory; its look-up
-    /// costs less than that of [`Entity::remove_parent`].
-    pub fn remove_shared_parent(&mut self, shared: &SharedUid)
-        ensures { self.new ≡ record self.old { parents = set.remove self.old.parents shared.now } }
-    {
-        self.parents.remove_shared(shared);
     }
 
     /// Takes the uids of a set out of the indirect ancestors, as [`UidSet::difference`] does; the parents stay. It

@@ -132,37 +132,6 @@ pub trait TCNode<K: Eq + Drop> {
         Ok(())
     }
 
-    /// Makes room for so many further edges, where the node type has a use for that; the default
-    /// does nothing. Edges, direct edges, key, rest and what adding keeps stay, whatever the
-    /// answer. May take memory and be refused it.
-    ///
-    /// The original has no such call.
-    fn reserve_edges(
-        &mut self,
-        _alloc: Global,
-        _additional: usize,
-    ) -> std::result::Result<(), AllocError>
-        ensures edges { (q : K) → edges self.new q ≡ edges self.old q }
-        ensures direct { (q : K) → direct self.new q ≡ direct self.old q }
-        ensures key { key self.new ≡ key self.old }
-        ensures rest { rest self.new ≡ rest self.old }
-        ensures kept { kept self.new ≡ kept self.old }
-    {
-        Ok(())
-    }
-
-    /// Gives back room that the edges do not need, where the node type has a use for that; the
-    /// default does nothing. Edges, direct edges, key, rest and what adding keeps stay.
-    ///
-    /// The original has no such call.
-    fn shrink_edges(&mut self)
-        ensures edges { (q : K) → edges self.new q ≡ edges self.old q }
-        ensures direct { (q : K) → direct self.new q ≡ direct self.old q }
-        ensures key { key self.new ≡ key self.old }
-        ensures rest { rest self.new ≡ rest self.old }
-        ensures kept { kept self.new ≡ kept self.old }
-    {}
-
     /// The order in which the nodes like to be given edges to these keys: the numbers below
     /// `keys.len()`, which are the keys' places, each once. The default is 0, 1, 2, .., as the keys
     /// come. It asks no node, and no edge depends on it. A closure asks it once, for copies of the
@@ -178,10 +147,9 @@ pub trait TCNode<K: Eq + Drop> {
 
     /// Adds an edge to each of the keys, which may be equal to one another and to keys that the
     /// node has an edge to. It may take the keys out of the vector; what it leaves there is not
-    /// said. The default takes all of them, makes room, adds one after another as they come, and
-    /// gives back the room that is left. Key, rest and what adding keeps stay, whatever the answer.
-    /// May take memory; where it is refused, the former edges stay, and each further edge leads to
-    /// one of the keys.
+    /// said. The default takes all of them and adds one after another as they come. Key, rest and what
+    /// adding keeps stay, whatever the answer. May take memory; where it is refused, the former edges
+    /// stay, and each further edge leads to one of the keys.
     ///
     /// The original has no such call.
     fn add_edges_to(
@@ -197,11 +165,9 @@ pub trait TCNode<K: Eq + Drop> {
         ensures kept { kept self.new ≡ kept self.old }
     {
         let row = replace(keys, Vec::new(alloc));
-        self.reserve_edges(alloc, row.len())?;
         for key in row {
             self.add_edge_to(alloc, key)?;
         }
-        self.shrink_edges();
         Ok(())
     }
 

@@ -55,18 +55,6 @@ pub trait TCNode<K> {
         list.extend(self.out_edges());
     }
 
-    /// Makes room for so many further edges, where the node type has a use for that; the default does nothing. Nothing
-    /// else changes.
-    ///
-    /// The original has no such call.
-    fn reserve_edges(&mut self, _additional: usize) {}
-
-    /// Gives back room that the edges do not need, where the node type has a use for that; the default does nothing.
-    /// Nothing else changes.
-    ///
-    /// The original has no such call.
-    fn shrink_edges(&mut self) {}
-
     /// The order in which the nodes like to be given edges to these keys: the numbers below `keys.len()`, which are the
     /// keys' places, each once. The default is 0, 1, 2, .., as the keys come. It asks no node, and no edge depends on
     /// it. A closure asks it once, for copies of the keys that edges lead to.
@@ -77,17 +65,15 @@ pub trait TCNode<K> {
     }
 
     /// Adds an edge to each of the keys, which may be equal to one another and to keys that the node has an edge to. It
-    /// may take the keys out of the vector; what it leaves there is not said. The default takes all of them, makes
-    /// room, adds one after another as they come, and gives back the room that is left. All else stays.
+    /// may take the keys out of the vector; what it leaves there is not said. The default takes all of them and adds
+    /// one after another as they come. All else stays.
     ///
     /// The original has no such call.
     fn add_edges_to(&mut self, keys: &mut Vec<K>) {
         let row = mem::take(keys);
-        self.reserve_edges(row.len());
         for key in row {
             self.add_edge_to(key);
         }
-        self.shrink_edges();
     }
 
     /// As [`TCNode::add_edges_to`], of keys that the node has no edge to yet: so a node type may

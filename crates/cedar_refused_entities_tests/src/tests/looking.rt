@@ -109,10 +109,10 @@ fn takes_apart(mut entity: Entity, parent: &EntityUID) -> bool {
 fn is_taken_out(entity: &mut Entity, parent: &SharedUid, indirect: &UidSet) -> bool {
     let leads = entity.is_descendant_of_shared(parent) && entity.shared_ancestors().count() == 2;
     entity.remove_ancestors_of(indirect);
-    entity.remove_shared_ancestor(parent);
+    entity.remove_indirect_ancestor(parent.uid());
     let left = entity.shared_parents().count() == 1 && entity.ancestors().count() == 1;
     entity.remove_parents_of(indirect);
-    entity.remove_shared_parent(parent);
+    entity.remove_parent(parent.uid());
     leads && left && entity.ancestors().next().is_none()
 }
 

@@ -314,17 +314,6 @@ fn asked<K: Eq + Display + Drop, N: TCNode<K> + Told + Drop>(
                 |node: &mut N| node.reset_edges(alloc),
             )
         }
-        "reserve_edges" => {
-            drop(keys);
-            changed(
-                alloc,
-                number,
-                Some(node),
-                want,
-                |alloc, node: &N| N::told(alloc, node),
-                |node: &mut N| node.reserve_edges(alloc, 1),
-            )
-        }
         "add_edge_to" => led(alloc, number, node, keys, want),
         "add_edges_to" => joined_to(alloc, number, node, keys, want),
         "add_new_edges_to" => newly_joined(alloc, number, node, keys, want),
@@ -398,7 +387,6 @@ const ENTITIES: &str = "
     TCNode::order | a, c b | 0 ; 1 ;
     TCNode::add_edges_to | a b / c e, f d b | a b / c d e f / /
     TCNode::add_new_edges_to | a b / c e, f d | a b / c d e f / /
-    - TCNode::reserve_edges | a b / c, d | a b / c / /
     TCNode<SharedUid> for Entity::get_key | a b / c | A::\"a\"
     TCNode<SharedUid> for Entity::add_edge_to | a b / c / k=1, d | a b / c d / k=1 /
     - TCNode<SharedUid> for Entity::add_edge_to | a b / c, b | a b / c / /
