@@ -117,6 +117,21 @@ def called(block, public, name, signature, body, errors, is_type):
     return name if is_type(name) else None
 
 
+def aliases(files):
+    """The names that a crate gives the instances of its generic types."""
+    named = {}
+    for text in files.values():
+        for name, of in re.findall(r'^pub type (\w+) = (\w+)<', text, re.M):
+            named.setdefault(of, []).append(name)
+    return named
+
+
+def under(call, named):
+    """A call by the names that instances of its type have, where they have some."""
+    of, colons, name = call.partition('::')
+    return [f'{given}::{name}' for given in named[of]] if colons and of in named else [call]
+
+
 def calls():
     texts = {crate: {os.path.basename(file): open(file, encoding='utf-8').read()
                      for file in sorted(glob.glob(f'crates/{crate}/src/*.rt'))} for crate in crates()}
@@ -139,7 +154,8 @@ def calls():
                 call = called(*function, errors, lambda name: name in seen)
                 if call:
                     listed.add(call)
-        for call in sorted(listed):
+        named = aliases(files)
+        for call in sorted({given for call in listed for given in under(call, named)}):
             yield crate, call
 
 

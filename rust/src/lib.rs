@@ -87,6 +87,7 @@ pub mod ast {
         PolicySet, PolicySetError, PolicySetGetLinksError, PolicySetPolicyRemovalError, PolicySetTemplateRemovalError,
         PolicySetUnlinkError, PolicySetValidationError,
     };
+    pub use crate::cedar_scope::on_variable::{ScopeVariable, VariableConstraint};
     pub use crate::cedar_scope::{
         EntityReference, PrincipalConstraint, PrincipalOrResource, PrincipalOrResourceConstraint, ResourceConstraint,
     };

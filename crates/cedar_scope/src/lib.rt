@@ -8,13 +8,13 @@
 
 pub mod constraint;
 pub mod iters;
-pub mod principal;
+pub mod on_variable;
 pub mod reference;
-pub mod resource;
 pub mod variable;
 
 pub use constraint::PrincipalOrResourceConstraint;
-pub use principal::PrincipalConstraint;
+pub use on_variable::{
+    Principal, PrincipalConstraint, Resource, ResourceConstraint, ScopeVariable, VariableConstraint,
+};
 pub use reference::EntityReference;
-pub use resource::ResourceConstraint;
 pub use variable::PrincipalOrResource;

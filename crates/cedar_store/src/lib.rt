@@ -180,7 +180,7 @@ pub mod ast {
     };
     pub use cedar_scope::{
         EntityReference, PrincipalConstraint, PrincipalOrResource, PrincipalOrResourceConstraint,
-        ResourceConstraint,
+        ResourceConstraint, ScopeVariable, VariableConstraint,
     };
     pub use cedar_terms::{
         Expr, ExprNode, ExprValidationError, ExtensionValue, Literal, PartialValue, Slot, SlotId,

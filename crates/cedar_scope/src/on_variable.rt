@@ -1,4 +1,5 @@
-//! The constraint of the principal. What it does is done in the form that it shares with the resource's.
+//! A constraint with the variable that it is on: the principal's and the resource's are its two instances. What it does
+//! is done in the form that both share.
 ghost use Rattle.std.specs.Prelude.{◌≡◌, IfOk, false};
 ghost use Rattle.std.specs.Ordering.{as_partial_cmp};
 ghost use Rattle.std.specs.Cmp.{partial_equiv_from_equiv, po};
@@ -14,6 +15,7 @@ ghost use Rattle.cedar_scope.specs.ScopeTexts.{constraint_output};
 ghost use Rattle.cedar_scope.specs.Views.{constraint_of};
 ghost use Rattle.cedar_scope.specs.laws.ScopeOrders.{constraint_cmp_total, same_constraint_equiv};
 ghost use Rattle.cedar_scope.specs.laws.ScopeOrders.{constraint_hash_respects};
+ghost use Rattle.cedar_scope.specs.declared.variable.PrincipalOrResource.{PrincipalOrResource};
 ghost use Rattle.cedar_scope.specs.declared.variable.PrincipalOrResource.TheVariants as variables;
 
 use crate::constraint::PrincipalOrResourceConstraint;
@@ -24,22 +26,69 @@ use std::alloc::{AllocError, Global};
 use std::cmp::Ordering;
 use std::fmt;
 use std::hash::{Hash, Hasher};
-use std::marker::Model;
+use std::marker::{Model, PhantomData};
 use std::rc::Rc;
 
+/// A variable as a type: `Principal` or `Resource`. It tells a constraint on the one from a constraint on the other.
+pub trait ScopeVariable {
+    ghost variable: { PrincipalOrResource };
+
+    /// What a constraint on the variable is called, as `Debug` writes it.
+    const NAME: &'static str;
+
+    /// The variable.
+    fn variable() -> PrincipalOrResource
+        ensures { result ≡ variable };
+}
+
+/// The principal, as a type.
+#[derive(Clone, Copy, Debug, Drop)]
+pub struct Principal;
+
+impl ScopeVariable for Principal {
+    ghost variable = { variables.Principal };
+
+    const NAME: &'static str = "PrincipalConstraint";
+
+    fn variable() -> PrincipalOrResource {
+        PrincipalOrResource::Principal
+    }
+}
+
+/// The resource, as a type.
+#[derive(Clone, Copy, Debug, Drop)]
+pub struct Resource;
+
+impl ScopeVariable for Resource {
+    ghost variable = { variables.Resource };
+
+    const NAME: &'static str = "ResourceConstraint";
+
+    fn variable() -> PrincipalOrResource {
+        PrincipalOrResource::Resource
+    }
+}
+
 /// What the principal of a request has to be.
+pub type PrincipalConstraint = VariableConstraint<Principal>;
+
+/// What the resource of a request has to be.
+pub type ResourceConstraint = VariableConstraint<Resource>;
+
+/// What one variable of a request has to be: [`PrincipalConstraint`] or [`ResourceConstraint`].
 ///
 /// Contracts see the constraint without its locations. Equality, order and hash are those of the
 /// constraint and look at no location. `clone` shares types and uids, and is refused only where a shared
-/// part can't be shared once more. `Display` writes the constraint on `principal`, with `?principal` for its
-/// slot, and takes no memory: exactly so where its eid is ASCII, else with the eid as `str::escape_debug`
-/// writes it.
-#[derive(Debug, Drop)]
-pub struct PrincipalConstraint {
+/// part can't be shared once more. `Display` writes the constraint on its variable, as `principal`, with
+/// `?principal` for its slot, and takes no memory: exactly so where its eid is ASCII, else with the eid as
+/// `str::escape_debug` writes it.
+#[derive(Drop)]
+pub struct VariableConstraint<V: ScopeVariable> {
     constraint: PrincipalOrResourceConstraint,
+    variable: PhantomData<V>,
 }
 
-impl Model for PrincipalConstraint {
+impl<V: ScopeVariable> Model for VariableConstraint<V> {
     ghost use Rattle.cedar_scope.specs.Scope.{Constraint};
     ghost use Rattle.cedar_scope.specs.Codes.{constraint_code};
 
@@ -52,12 +101,15 @@ impl Model for PrincipalConstraint {
     ghost view = { λ c. constraint_of c.constraint };
 }
 
-impl PrincipalConstraint {
-    /// The principal under this constraint. Takes no memory, as no constructor here does.
-    pub fn new(constraint: PrincipalOrResourceConstraint) -> PrincipalConstraint
+impl<V: ScopeVariable> VariableConstraint<V> {
+    /// The variable under this constraint. Takes no memory, as no constructor here does.
+    pub fn new(constraint: PrincipalOrResourceConstraint) -> VariableConstraint<V>
         ensures { result ≡ constraint_of constraint }
     {
-        PrincipalConstraint { constraint }
+        VariableConstraint {
+            constraint,
+            variable: PhantomData,
+        }
     }
 
     /// The constraint. Takes no memory.
@@ -71,133 +123,142 @@ impl PrincipalConstraint {
     pub fn into_inner(self) -> PrincipalOrResourceConstraint
         ensures { constraint_of result ≡ self }
     {
-        let PrincipalConstraint { constraint } = self;
+        let VariableConstraint { constraint, .. } = self;
         constraint
     }
 
-    /// The expression of the constraint on `principal` and its slot, as
+    /// The expression of the constraint on its variable and the variable's slot, as
     /// `PrincipalOrResourceConstraint::as_expr` makes it. Takes memory as that does.
     pub fn as_expr(&self, alloc: Global) -> Result<Expr, AllocError>
-        ensures { IfOk result (λ e. e ≡ constraint_expr variables.Principal self.now) }
+        ensures { IfOk result (λ e. e ≡ constraint_expr V.variable self.now) }
     {
-        self.constraint
-            .as_expr(alloc, PrincipalOrResource::Principal)
+        self.constraint.as_expr(alloc, V::variable())
     }
 
     /// Anything.
-    pub fn any() -> PrincipalConstraint
+    pub fn any() -> VariableConstraint<V>
         ensures { result ≡ any }
     {
-        PrincipalConstraint::new(PrincipalOrResourceConstraint::any())
+        VariableConstraint::<V>::new(PrincipalOrResourceConstraint::any())
     }
 
     /// Equal to this uid.
-    pub fn is_eq(euid: Rc<EntityUID>) -> PrincipalConstraint
+    pub fn is_eq(euid: Rc<EntityUID>) -> VariableConstraint<V>
         ensures { result ≡ equals (to_uid (uid_parts euid.value)) }
     {
-        PrincipalConstraint::new(PrincipalOrResourceConstraint::is_eq(euid))
+        VariableConstraint::<V>::new(PrincipalOrResourceConstraint::is_eq(euid))
     }
 
     /// Equal to what the slot is bound to.
-    pub fn is_eq_slot() -> PrincipalConstraint
+    pub fn is_eq_slot() -> VariableConstraint<V>
         ensures { result ≡ equals to_slot }
     {
-        PrincipalConstraint::new(PrincipalOrResourceConstraint::is_eq_slot())
+        VariableConstraint::<V>::new(PrincipalOrResourceConstraint::is_eq_slot())
     }
 
     /// In this uid.
-    pub fn is_in(euid: Rc<EntityUID>) -> PrincipalConstraint
+    pub fn is_in(euid: Rc<EntityUID>) -> VariableConstraint<V>
         ensures { result ≡ within (to_uid (uid_parts euid.value)) }
     {
-        PrincipalConstraint::new(PrincipalOrResourceConstraint::is_in(euid))
+        VariableConstraint::<V>::new(PrincipalOrResourceConstraint::is_in(euid))
     }
 
     /// In what the slot is bound to.
-    pub fn is_in_slot() -> PrincipalConstraint
+    pub fn is_in_slot() -> VariableConstraint<V>
         ensures { result ≡ within to_slot }
     {
-        PrincipalConstraint::new(PrincipalOrResourceConstraint::is_in_slot())
+        VariableConstraint::<V>::new(PrincipalOrResourceConstraint::is_in_slot())
     }
 
     /// Of this type.
-    pub fn is_entity_type(entity_type: Rc<EntityType>) -> PrincipalConstraint
+    pub fn is_entity_type(entity_type: Rc<EntityType>) -> VariableConstraint<V>
         ensures { result ≡ of_type (type_name entity_type.value) }
     {
-        PrincipalConstraint::new(PrincipalOrResourceConstraint::is_entity_type(entity_type))
+        VariableConstraint::<V>::new(PrincipalOrResourceConstraint::is_entity_type(entity_type))
     }
 
     /// Of this type, and in this uid.
     pub fn is_entity_type_in(
         entity_type: Rc<EntityType>,
         in_entity: Rc<EntityUID>,
-    ) -> PrincipalConstraint
+    ) -> VariableConstraint<V>
         ensures { result
             ≡ of_type_within (type_name entity_type.value) (to_uid (uid_parts in_entity.value)) }
     {
         let constraint = PrincipalOrResourceConstraint::is_entity_type_in(entity_type, in_entity);
-        PrincipalConstraint::new(constraint)
+        VariableConstraint::<V>::new(constraint)
     }
 
     /// Of this type, and in what the slot is bound to.
-    pub fn is_entity_type_in_slot(entity_type: Rc<EntityType>) -> PrincipalConstraint
+    pub fn is_entity_type_in_slot(entity_type: Rc<EntityType>) -> VariableConstraint<V>
         ensures { result ≡ of_type_within (type_name entity_type.value) to_slot }
     {
-        PrincipalConstraint::new(PrincipalOrResourceConstraint::is_entity_type_in_slot(entity_type))
+        VariableConstraint::<V>::new(PrincipalOrResourceConstraint::is_entity_type_in_slot(
+            entity_type,
+        ))
     }
 
     /// The constraint with this uid in place of the slot, if it refers to the slot; else it stays as it is.
     /// What comes holds no slot, so filling it once more changes nothing. Takes no memory.
     #[tactic(auto, using(crate::proofs::Filled::holds_no_slot, crate::proofs::Filled::stays_filled))]
-    pub fn with_filled_slot(self, euid: Rc<EntityUID>) -> PrincipalConstraint
+    pub fn with_filled_slot(self, euid: Rc<EntityUID>) -> VariableConstraint<V>
         ensures fills { result ≡ filled (uid_parts euid.value) self }
         ensures no_slot { has_slot result ≡ false }
         ensures again { (u : UidParts) → filled u result ≡ result }
     {
-        PrincipalConstraint::new(self.constraint.with_filled_slot(euid))
+        VariableConstraint::<V>::new(self.constraint.with_filled_slot(euid))
     }
 }
 
-impl fmt::Display for PrincipalConstraint {
-    ghost output = { constraint_output variables.Principal };
+impl<V: ScopeVariable> fmt::Debug for VariableConstraint<V> {
+    fn fmt<W: fmt::Write>(&self, f: &mut fmt::Formatter<W>) -> fmt::Result {
+        f.debug_struct(V::NAME)
+            .field("constraint", &self.constraint)
+            .finish()
+    }
+}
+
+impl<V: ScopeVariable> fmt::Display for VariableConstraint<V> {
+    ghost output = { constraint_output V.variable };
 
     fn fmt<W: fmt::Write>(&self, f: &mut fmt::Formatter<W>) -> fmt::Result {
-        self.constraint.write(PrincipalOrResource::Principal, f)
+        self.constraint.write(V::variable(), f)
     }
 }
 
-impl Clone for PrincipalConstraint {
+impl<V: ScopeVariable> Clone for VariableConstraint<V> {
     ghost is_clone = { λ x y. y ≡ x };
 
-    fn clone(&self) -> Result<PrincipalConstraint, AllocError> {
-        Ok(PrincipalConstraint::new(self.constraint.clone()?))
+    fn clone(&self) -> Result<VariableConstraint<V>, AllocError> {
+        Ok(VariableConstraint::<V>::new(self.constraint.clone()?))
     }
 }
 
-impl PartialEq for PrincipalConstraint {
+impl<V: ScopeVariable> PartialEq for VariableConstraint<V> {
     ghost eq = { same_constraint };
 
     ghost laws = { partial_equiv_from_equiv same_constraint_equiv };
 
-    fn eq(&self, other: &PrincipalConstraint) -> bool {
+    fn eq(&self, other: &VariableConstraint<V>) -> bool {
         self.constraint == other.constraint
     }
 }
 
-impl Eq for PrincipalConstraint {
+impl<V: ScopeVariable> Eq for VariableConstraint<V> {
     ghost laws = { same_constraint_equiv };
 }
 
-impl PartialOrd for PrincipalConstraint {
+impl<V: ScopeVariable> PartialOrd for VariableConstraint<V> {
     ghost partial_cmp = { as_partial_cmp constraint_cmp };
 
     ghost laws = { po constraint_cmp_total (λ x y. refl) };
 
-    fn partial_cmp(&self, other: &PrincipalConstraint) -> Option<Ordering> {
+    fn partial_cmp(&self, other: &VariableConstraint<V>) -> Option<Ordering> {
         Some(self.cmp(other))
     }
 }
 
-impl Ord for PrincipalConstraint {
+impl<V: ScopeVariable> Ord for VariableConstraint<V> {
     ghost cmp = { constraint_cmp };
 
     ghost total = { constraint_cmp_total };
@@ -206,12 +267,12 @@ impl Ord for PrincipalConstraint {
 
     ghost matches_eq = { λ x y. refl };
 
-    fn cmp(&self, other: &PrincipalConstraint) -> Ordering {
+    fn cmp(&self, other: &VariableConstraint<V>) -> Ordering {
         self.constraint.cmp(&other.constraint)
     }
 }
 
-impl Hash for PrincipalConstraint {
+impl<V: ScopeVariable> Hash for VariableConstraint<V> {
     ghost hash_input = { constraint_hash };
 
     ghost respects_eq = { constraint_hash_respects };
