@@ -81,7 +81,7 @@ WIDE = {
 
 # Public functions of the layer that speak of uids as stores keep them: `pub(crate)` here.
 HIDDEN = {('Entity', name) for name in '''with_shared_parents with_parent_set is_descendant_of_shared shared_parents
-shared_ancestors add_shared_parent remove_ancestors_of remove_parents_of'''.split()}
+shared_ancestors add_shared_parent add_shared_ancestors remove_ancestors_of remove_parents_of'''.split()}
 
 # Files whose functions are called so often from others that each is to be inlined, into whatever unit of code: hashing,
 # and telling uids apart.

@@ -17,7 +17,6 @@ use crate::listing::{Listed, first_of, put_edges, uid_in, without_parents};
 use cedar_c_lists::{Edge, Reason};
 use cedar_c_trees::{Node, partial_value_of};
 use cedar_entities::Entity;
-use cedar_graph::TCNode;
 use cedar_ids::entity::EntityUID;
 use cedar_terms::PartialValue;
 use cedar_uid_sets::{SharedUid, UidSet};
@@ -83,17 +82,13 @@ fn add_parents(entity: &mut Entity, parents: Vec<SharedUid>) -> Result<(), Alloc
 }
 
 // An entity without indirect ancestors gets these, which stay shared, but for its parents.
-fn add_above(
-    alloc: Global,
-    entity: &mut Entity,
-    mut above: Vec<SharedUid>,
-) -> Result<(), AllocError>
+fn add_above(entity: &mut Entity, above: Vec<SharedUid>) -> Result<(), AllocError>
     requires { entity.old.indirect ≡ set.empty }
     ensures { OnOk result (entity.new ≡ record entity.old {
       indirect = set.difference (set.from_list above.items) entity.old.parents;
     }) }
 {
-    entity.add_edges_to(alloc, &mut above)?;
+    entity.add_shared_ancestors(above)?;
     Ok(())
 }
 
@@ -151,7 +146,7 @@ impl Row {
         } = self;
         let mut entity = with_fields(alloc, uid.into_uid()?, attrs, tags)?;
         add_parents(&mut entity, parents)?;
-        add_above(alloc, &mut entity, above)?;
+        add_above(&mut entity, above)?;
         Ok(Rc::new(alloc, entity)?)
     }
 }

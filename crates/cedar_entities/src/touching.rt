@@ -45,11 +45,11 @@ pub(crate) fn pointers_of(uids: &UidSet) -> Result<Vec<SharedUid>, AllocError>
 }
 
 // Copies of the ancestors of an entity.
-fn ancestors_of(alloc: Global, entity: &Entity) -> Result<Vec<SharedUid>, AllocError>
-    ensures { IfOk result (λ v. (q : EntityUID) → is_member same_uid v.items q ≡ has_ancestor entity.now q) }
+fn ancestors_of(alloc: Global, node: &SharedEntity) -> Result<Vec<SharedUid>, AllocError>
+    ensures { IfOk result (λ v. (q : EntityUID) → is_member same_uid v.items q ≡ has_ancestor node.now.0.value q) }
 {
     let mut all = Vec::new(alloc);
-    let ancestors: Vec<&SharedUid> = entity.out_edges(alloc)?;
+    let ancestors: Vec<&SharedUid> = node.out_edges(alloc)?;
     for ancestor in ancestors {
         all.push(ancestor.clone()?)?;
     }
@@ -60,12 +60,12 @@ fn ancestors_of(alloc: Global, entity: &Entity) -> Result<Vec<SharedUid>, AllocE
 fn with_ancestors(
     alloc: Global,
     uid: &SharedUid,
-    entity: &Entity,
+    node: &SharedEntity,
 ) -> Result<Vec<SharedUid>, AllocError>
     ensures { IfOk result (λ v. (q : EntityUID) →
-        is_member same_uid v.items q ≡ (same_uid uid.now q || has_ancestor entity.now q)) }
+        is_member same_uid v.items q ≡ (same_uid uid.now q || has_ancestor node.now.0.value q)) }
 {
-    let mut all = ancestors_of(alloc, entity)?;
+    let mut all = ancestors_of(alloc, node)?;
     all.push(uid.clone()?)?;
     Ok(all)
 }
@@ -81,7 +81,7 @@ fn with_ancestors_at<S: BuildHasher>(
         && (same_uid uid.now q || is_ancestor_in (held entities.now uid.now) q))) }
 {
     match entities.get(uid) {
-        Some(node) => with_ancestors(alloc, uid, &node.0),
+        Some(node) => with_ancestors(alloc, uid, node),
         None => Ok(Vec::new(alloc)),
     }
 }

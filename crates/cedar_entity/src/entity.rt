@@ -629,8 +629,10 @@ impl Entity {
         self.indirect_ancestors.insert(shared)
     }
 
-    // Takes in indirect ancestors that are shared, but for those that are parents.
-    pub(crate) fn add_shared_ancestors(&mut self, shared: Vec<SharedUid>) -> Result<(), AllocError>
+    /// Adds indirect ancestors that are shared, but for those that are parents. The parents stay.
+    ///
+    /// It takes memory, and where that is refused the entity stays as it was.
+    pub fn add_shared_ancestors(&mut self, shared: Vec<SharedUid>) -> Result<(), AllocError>
         ensures ok { OnOk result (self.new ≡ record self.old {
           indirect = set.union self.old.indirect
               (set.difference (set.from_list shared.items) self.old.parents);
@@ -643,7 +645,7 @@ impl Entity {
             .extend_ascending(added.into_pointers())
     }
 
-    // As above, of uids none of which is an ancestor: no parent is looked for among them.
+    // As that, of uids none of which is an ancestor: no parent is looked for among them.
     pub(crate) fn add_new_ancestors(&mut self, shared: Vec<SharedUid>) -> Result<(), AllocError>
         requires { AreNewTo self.old shared.items }
         ensures ok { OnOk result (self.new ≡ record self.old {

@@ -1,4 +1,4 @@
-//! Entities as nodes of a graph whose keys are shared uids, as the store closes it.
+//! Entities that stores share as nodes of a graph whose keys are shared uids, as a store closes it.
 ghost use Rattle.std.specs.Prelude.{◌≡◌, ◌||◌, IfOk, OnOk, OnErr, map, length};
 ghost use Rattle.std.specs.List.{range_with_len};
 ghost use Rattle.std.specs.List.Sorted.{IsPermutation};
@@ -53,6 +53,19 @@ fn taken(alloc: Global, keys: &mut Vec<SharedUid>) -> Vec<SharedUid>
     mem::replace(keys, Vec::new(alloc))
 }
 
+// Takes in a uid, unless it is a parent, as an indirect ancestor.
+fn add_pointer(entity: &mut Entity, shared: SharedUid) -> Result<(), AllocError>
+    ensures ok { OnOk result ((q : EntityUID) → has_ancestor entity.new q
+        ≡ (has_ancestor entity.old q || same_uid shared q)) }
+    ensures err { OnErr result (entity.new ≡ entity.old) }
+    ensures direct { entity.new.parents ≡ entity.old.parents }
+    ensures key { entity.new.uid ≡ entity.old.uid }
+    ensures rest { rest entity.new ≡ rest entity.old }
+    ensures kept { kept entity.new ≡ kept entity.old }
+{
+    entity.add_shared_ancestor(shared)
+}
+
 // Takes in the keys of a vector, but for parents, as indirect ancestors.
 fn add_row(alloc: Global, entity: &mut Entity, keys: &mut Vec<SharedUid>) -> Result<(), AllocError>
     ensures ok { OnOk result ((q : EntityUID) → has_ancestor entity.new q
@@ -86,110 +99,6 @@ fn add_new_row(
     entity.add_new_ancestors(keys)
 }
 
-impl TCNode<SharedUid> for Entity {
-    ghost use Rattle.cedar_ids.specs.declared.entity.EntityUID.{EntityUID};
-    ghost use Rattle.std.specs.FinSet as set;
-    ghost use Rattle.cedar_entity.specs.View.{EntityView, has_ancestor, Rest, rest, Kept, kept};
-    ghost use Rattle.cedar_entity.specs.laws.Views.{ancestors_respect, parents_are_ancestors};
-
-    ghost Rest = { Rest };
-
-    ghost Kept = { Kept };
-
-    ghost key = { λ e. e.uid };
-
-    ghost edges = { has_ancestor };
-
-    ghost direct = { λ e. set.contains e.parents };
-
-    ghost rest = { rest };
-
-    ghost kept = { kept };
-
-    /// A copy of the uid, to be shared. It takes memory, and is refused only where that is.
-    fn get_key(&self, alloc: Global) -> Result<SharedUid, AllocError> {
-        SharedUid::copy_of(alloc, self.uid())
-    }
-
-    /// As [`Entity::add_indirect_ancestor`], but for sharing the uid.
-    fn add_edge_to(&mut self, _alloc: Global, k: SharedUid) -> Result<(), AllocError> {
-        self.add_shared_ancestor(k)
-    }
-
-    /// The ancestors. It takes memory for the list, and is refused only where that is.
-    fn out_edges(&self, alloc: Global) -> Result<Vec<&SharedUid>, AllocError> {
-        listed_pointers(alloc, self.shared_ancestors())
-    }
-
-    /// The ancestors, the parents last, in the place of what the list has. It takes memory where the list has no room
-    /// for as many, and is refused only where that is.
-    fn list_edges<'a>(
-        &'a self,
-        _alloc: Global,
-        list: &mut Vec<&'a SharedUid>,
-    ) -> Result<(), AllocError> {
-        relist(list, self.ancestors_parents_last())
-    }
-
-    /// As [`Entity::is_descendant_of_shared`].
-    fn has_edge_to(&self, k: &SharedUid) -> bool {
-        self.is_descendant_of_shared(k)
-    }
-
-    /// Whether there is an ancestor. It takes no memory.
-    fn may_have_edges(&self) -> bool {
-        self.has_ancestors()
-    }
-
-    /// As [`Entity::remove_all_indirect_ancestors`]. It takes no memory and is never refused.
-    fn reset_edges(&mut self, _alloc: Global) -> Result<(), AllocError>
-        ensures exact { self.new ≡ record self.old { indirect = set.empty } }
-        ensures ok { OnOk result ((q : _) →
-            has_ancestor self.new q ≡ set.contains self.old.parents q) }
-        ensures err { OnErr result ((q : _) → has_ancestor self.new q ≡ has_ancestor self.old q) }
-        ensures err_kept { OnErr result (kept self.new ≡ kept self.old) }
-        ensures direct { (q : _) →
-            set.contains self.new.parents q ≡ set.contains self.old.parents q }
-        ensures key { self.new.uid ≡ self.old.uid }
-        ensures rest { rest self.new ≡ rest self.old }
-    {
-        reset(self);
-        Ok(())
-    }
-
-    /// The parents alone. It takes memory for the list, and is refused only where that is.
-    fn direct_edges(&self, alloc: Global) -> Result<Vec<&SharedUid>, AllocError>
-        ensures exact { IfOk result (λ v. (q : _) →
-            is_member same_uid (map (λ x. x.now) v.items) q ≡ set.contains self.now.parents q) }
-    {
-        listed_pointers(alloc, self.shared_parents())
-    }
-
-    /// The places of the keys in the order of uids. It takes memory, and is refused only where that is.
-    fn order(alloc: Global, keys: &[SharedUid]) -> Result<Vec<usize>, AllocError> {
-        order(alloc, keys)
-    }
-
-    /// Takes in the uids, but for parents, as indirect ancestors: at once where they ascend.
-    fn add_edges_to(&mut self, alloc: Global, keys: &mut Vec<SharedUid>) -> Result<(), AllocError> {
-        add_row(alloc, self, keys)
-    }
-
-    /// Takes in the uids, none of which is an ancestor yet, as indirect ancestors: at once where they ascend. It looks
-    /// for no parent among them.
-    fn add_new_edges_to(
-        &mut self,
-        alloc: Global,
-        keys: &mut Vec<SharedUid>,
-    ) -> Result<(), AllocError> {
-        add_new_row(alloc, self, keys)
-    }
-
-    ghost respects_eq = { ancestors_respect };
-
-    ghost direct_are_edges = { parents_are_ancestors };
-}
-
 impl TCNode<SharedUid> for SharedEntity {
     ghost use Rattle.cedar_ids.specs.declared.entity.EntityUID.{EntityUID};
     ghost use Rattle.std.specs.FinSet as set;
@@ -212,42 +121,43 @@ impl TCNode<SharedUid> for SharedEntity {
 
     /// A copy of the uid. It takes memory, and is refused only where that is.
     fn get_key(&self, alloc: Global) -> Result<SharedUid, AllocError> {
-        self.0.get_key(alloc)
+        SharedUid::copy_of(alloc, self.0.uid())
     }
 
-    /// As that of the entity, where it is shared on a copy of its own.
-    fn add_edge_to(&mut self, alloc: Global, k: SharedUid) -> Result<(), AllocError> {
+    /// As [`Entity::add_indirect_ancestor`], but for sharing the uid; where the entity is shared on a copy of its own.
+    fn add_edge_to(&mut self, _alloc: Global, k: SharedUid) -> Result<(), AllocError> {
         match Rc::get_mut(&mut self.0) {
-            Some(entity) => entity.add_edge_to(alloc, k),
-            None => Rc::make_mut(&mut self.0)?.add_edge_to(alloc, k),
+            Some(entity) => add_pointer(entity, k),
+            None => add_pointer(Rc::make_mut(&mut self.0)?, k),
         }
     }
 
     /// The ancestors. It takes memory for the list, and is refused only where that is.
     fn out_edges(&self, alloc: Global) -> Result<Vec<&SharedUid>, AllocError> {
-        self.0.out_edges(alloc)
+        listed_pointers(alloc, self.0.shared_ancestors())
     }
 
-    /// As that of the entity.
+    /// The ancestors, the parents last, in the place of what the list has. It takes memory where the list has no room
+    /// for as many, and is refused only where that is.
     fn list_edges<'a>(
         &'a self,
-        alloc: Global,
+        _alloc: Global,
         list: &mut Vec<&'a SharedUid>,
     ) -> Result<(), AllocError> {
-        self.0.list_edges(alloc, list)
+        relist(list, self.0.ancestors_parents_last())
     }
 
-    /// As that of the entity. It takes no memory.
+    /// As [`Entity::is_descendant_of_shared`]. It takes no memory.
     fn has_edge_to(&self, k: &SharedUid) -> bool {
-        self.0.has_edge_to(k)
+        self.0.is_descendant_of_shared(k)
     }
 
-    /// As that of the entity. It takes no memory.
+    /// Whether there is an ancestor. It takes no memory.
     fn may_have_edges(&self) -> bool {
         self.0.has_ancestors()
     }
 
-    /// As that of the entity, where it is shared on a copy of its own: that takes memory.
+    /// As [`Entity::remove_all_indirect_ancestors`], where the entity is shared on a copy of its own: that takes memory.
     fn reset_edges(&mut self, _alloc: Global) -> Result<(), AllocError>
         ensures exact { OnOk result
             (self.new.0.value ≡ record self.old.0.value { indirect = set.empty }) }
@@ -270,7 +180,7 @@ impl TCNode<SharedUid> for SharedEntity {
         ensures exact { IfOk result (λ v. (q : _) → is_member same_uid (map (λ x. x.now) v.items) q
             ≡ set.contains self.now.0.value.parents q) }
     {
-        self.0.direct_edges(alloc)
+        listed_pointers(alloc, self.0.shared_parents())
     }
 
     /// The places of the keys in the order of uids. It takes memory, and is refused only where that is.
@@ -278,12 +188,14 @@ impl TCNode<SharedUid> for SharedEntity {
         order(alloc, keys)
     }
 
-    /// As that of the entity, where it is shared on a copy of its own.
+    /// Takes in the uids, but for parents, as indirect ancestors: at once where they ascend; where the entity is shared
+    /// on a copy of its own.
     fn add_edges_to(&mut self, alloc: Global, keys: &mut Vec<SharedUid>) -> Result<(), AllocError> {
         add_row(alloc, Rc::make_mut(&mut self.0)?, keys)
     }
 
-    /// As that of the entity, where it is shared on a copy of its own.
+    /// Takes in the uids, none of which is an ancestor yet, as indirect ancestors: at once where they ascend; where the
+    /// entity is shared on a copy of its own. It looks for no parent among them.
     fn add_new_edges_to(
         &mut self,
         alloc: Global,

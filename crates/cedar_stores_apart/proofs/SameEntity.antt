@@ -13,7 +13,7 @@ use Rattle.cedar_ids.specs.declared.entity.EntityUID.{EntityUID}
 use Rattle.cedar_uid_sets.specs.UidSets.{UidValues}
 use Rattle.cedar_uid_sets.specs.laws.Sets.{contains_listed, one_equal, same_members}
 use Rattle.cedar_entity.specs.Listing.{Lists}
-use Rattle.cedar_entity.specs.View.{EntityView, Kept, Rest, has_ancestor, kept, rest}
+use Rattle.cedar_entity.specs.View.{EntityView}
 use Rattle.cedar_entities.specs.Plain.{IsApart}
 
 and_false : (b : Bool) → (b && false) ≡ false
@@ -57,49 +57,19 @@ pub all_parents : (first new : EntityView) (ys ps : List EntityUID) (s : UidValu
 all_parents first new ys ps s sorted same so =
     so ∙ ap (λ (t : UidValues). record first { parents = t }) (sorted ∙ same)
 
--- p is whether a uid is a parent, i whether it is an indirect ancestor then, and m whether it was to become one
-only_new : (p i m : Bool) → (p || i) ≡ ((p || false) || m) → (p && i) ≡ (p && false) → i ≡ (m && not p)
-only_new true true true h g = g
-only_new true true false h g = g
-only_new true false true h g = refl
-only_new true false false h g = refl
-only_new false true true h g = refl
-only_new false true false h g = h
-only_new false false true h g = h
-only_new false false false h g = refl
-
--- an entity without indirect ancestors has those that edges were added to, but for its parents
+-- an entity without indirect ancestors has those that came, but for its parents
 pub above_added : (old new : EntityView) (ks : List EntityUID) → old.indirect ≡ set.empty
-    → ((q : EntityUID) → has_ancestor new q ≡ (has_ancestor old q || is_member same_uid ks q)) → new.uid ≡ old.uid
-    → rest new ≡ rest old → kept new ≡ kept old
-    → new ≡ record old { indirect = set.difference (set.from_list ks) old.parents }
-above_added old new ks none edges uid same keeps =
-    let parents : new.parents ≡ old.parents = ap (λ (r : Rest). r.1) same in
-    let nothing : (q : EntityUID) → set.contains old.indirect q ≡ false =
-    λ q. ap (λ (s : UidValues). set.contains s q) none ∙ set.contains-empty uid_order q in
-    let either : (q : EntityUID) → (set.contains old.parents q || set.contains new.indirect q)
-    ≡ ((set.contains old.parents q || false) || is_member same_uid ks q) =
-    λ q. sym (ap (λ (s : UidValues). set.contains s q || set.contains new.indirect q) parents) ∙ edges q
-    ∙ ap (λ b. (set.contains old.parents q || b) || is_member same_uid ks q) (nothing q) in
-    let both : (q : EntityUID) → (set.contains old.parents q && set.contains new.indirect q)
-    ≡ (set.contains old.parents q && false) =
-    λ q. sym (ap (λ (s : UidValues). set.contains s q && set.contains new.indirect q) parents)
-    ∙ sym (set.contains-intersection uid_order_total new.parents new.indirect q)
-    ∙ ap (λ (s : UidValues). set.contains s q) (ap (λ (k : Kept). k.1.1) keeps)
-    ∙ set.contains-intersection uid_order_total old.parents old.indirect q
-    ∙ ap (λ b. set.contains old.parents q && b) (nothing q) in
-    let indirect : new.indirect ≡ set.difference (set.from_list ks) old.parents =
-    same_members new.indirect (set.difference (set.from_list ks) old.parents) (λ q.
-    only_new (set.contains old.parents q) (set.contains new.indirect q) (is_member same_uid ks q) (either q) (both q)
-    ∙ sym (set.contains-difference uid_order_total (set.from_list ks) old.parents q
-    ∙ ap (λ b. b && not (set.contains old.parents q)) (contains_listed ks q))) in
-    λ i. record {
-      uid = uid i;
-      attrs = ap (λ (r : Rest). r.0.0) same i;
-      tags = ap (λ (r : Rest). r.0.1) same i;
-      parents = parents i;
-      indirect = indirect i;
+    → new ≡ record old {
+      indirect = set.union old.indirect (set.difference (set.from_list ks) old.parents);
     }
+    → new ≡ record old { indirect = set.difference (set.from_list ks) old.parents }
+above_added old new ks none so =
+    let come = set.difference (set.from_list ks) old.parents in
+    let alone : set.union old.indirect come ≡ come =
+    same_members (set.union old.indirect come) come (λ q. set.contains-union uid_order_total old.indirect come q
+    ∙ ap (λ b. b || set.contains come q)
+    (ap (λ (s : UidValues). set.contains s q) none ∙ set.contains-empty uid_order q)) in
+    so ∙ λ i. record old { indirect = alone i }
 
 -- a set whose uids are those of two lists is the set of the second
 pub listed_as : (s : UidValues) (us ks : List EntityUID) → Lists s us

@@ -7,7 +7,6 @@ use crate::parts::{fields_apart, uids_apart};
 use crate::unshared::entity_of_own_sets;
 use cedar_apart::OwnUids;
 use cedar_entity::{Entity, SharedUid, UidSet};
-use cedar_graph::TCNode;
 use cedar_ids::entity::EntityUID;
 use std::alloc::{AllocError, Global};
 use std::collections::HashSet;
@@ -55,17 +54,13 @@ fn add_parents(entity: &mut Entity, parents: Vec<SharedUid>) -> Result<(), Alloc
 }
 
 // An entity without indirect ancestors gets these, which stay shared, but for its parents.
-fn add_above(
-    alloc: Global,
-    entity: &mut Entity,
-    mut above: Vec<SharedUid>,
-) -> Result<(), AllocError>
+fn add_above(entity: &mut Entity, above: Vec<SharedUid>) -> Result<(), AllocError>
     requires { entity.old.indirect ≡ set.empty }
     ensures { OnOk result (entity.new ≡ record entity.old {
       indirect = set.difference (set.from_list above.items) entity.old.parents;
     }) }
 {
-    entity.add_edges_to(alloc, &mut above)?;
+    entity.add_shared_ancestors(above)?;
     Ok(())
 }
 
@@ -83,7 +78,7 @@ fn entity_of_shared<S: BuildHasher + Clone>(
     let above = uids_apart(alloc, own, entity.indirect_ancestors())?;
     let mut copy = with_fields_of(alloc, uid, entity)?;
     add_parents(&mut copy, parents)?;
-    add_above(alloc, &mut copy, above)?;
+    add_above(&mut copy, above)?;
     Ok(copy)
 }
 

@@ -26,17 +26,17 @@ pub(crate) fn pointers_of(uids: &UidSet) -> Vec<SharedUid> {
 }
 
 // Copies of the ancestors of an entity.
-fn ancestors_of(entity: &Entity) -> Vec<SharedUid> {
+fn ancestors_of(node: &SharedEntity) -> Vec<SharedUid> {
     let mut all = Vec::new();
-    for ancestor in entity.shared_ancestors() {
+    for ancestor in node.0.shared_ancestors() {
         all.push(ancestor.clone());
     }
     all
 }
 
 // An entity's uid and its ancestors.
-fn with_ancestors(uid: &SharedUid, entity: &Entity) -> Vec<SharedUid> {
-    let mut all = ancestors_of(entity);
+fn with_ancestors(uid: &SharedUid, node: &SharedEntity) -> Vec<SharedUid> {
+    let mut all = ancestors_of(node);
     all.push(uid.clone());
     all
 }
@@ -47,7 +47,7 @@ fn with_ancestors_at<S: BuildHasher>(
     uid: &SharedUid,
 ) -> Vec<SharedUid> {
     match entities.get(uid) {
-        Some(node) => with_ancestors(uid, &node.0),
+        Some(node) => with_ancestors(uid, node),
         None => Vec::new(),
     }
 }

@@ -1132,14 +1132,14 @@ impl Entity {
         self.indirect_ancestors.insert(shared);
     }
 
-    // Takes in indirect ancestors that are shared, but for those that are parents.
+    /// Adds indirect ancestors that are shared, but for those that are parents. The parents stay.
     pub(crate) fn add_shared_ancestors(&mut self, shared: Vec<SharedUid>) {
         let mut added = UidSet::from_pointers(shared);
         added.difference(&self.parents);
         self.indirect_ancestors.extend_ascending(added.into_pointers());
     }
 
-    // As above, of uids none of which is an ancestor: no parent is looked for among them.
+    // As that, of uids none of which is an ancestor: no parent is looked for among them.
     pub(crate) fn add_new_ancestors(&mut self, shared: Vec<SharedUid>) {
         let added = UidSet::from_pointers(shared).into_pointers();
         self.indirect_ancestors.extend_ascending(added);

@@ -133,6 +133,7 @@ const CHANGING: &str = "
     Entity::add_parent | a b / d / /, c | a b c / d / /
     Entity::add_parent | a b / d / /, d | a b d / / /
     Entity::add_parent | a b / d / /, b | a b / d / /
+    Entity::add_shared_ancestors | a b / d / k=1 /, e b c d | a b / c d e / k=1 /
     Entity::add_shared_parent | a b / d / /, c | a b c / d / /
     Entity::add_shared_parent | a b / d / /, d | a b d / / /
     - Entity::add_shared_parent | a b / d / /, b | a b / d / /
@@ -169,9 +170,22 @@ fn parent_shared(alloc: Global, number: usize, row: Row<'_>) -> Tried {
     }
 }
 
+fn ancestors_shared(alloc: Global, number: usize, row: Row<'_>) -> Tried {
+    let (text, names) = row.given.split_once(", ").unwrap_or((row.given, ""));
+    match both(pointers(alloc, names), entity(alloc, text)) {
+        Some((uids, made)) => {
+            changed(alloc, number, Some(made), row.want, text_of, |entity| {
+                entity.add_shared_ancestors(uids)
+            })
+        }
+        None => unmade(),
+    }
+}
+
 impl Calls for OnChanging {
     fn tried(&self, alloc: Global, number: usize, row: Row<'_>) -> Tried {
         match row.call {
+            "Entity::add_shared_ancestors" => ancestors_shared(alloc, number, row),
             "Entity::add_shared_parent" => parent_shared(alloc, number, row),
             _ => entity_changed(alloc, number, row),
         }

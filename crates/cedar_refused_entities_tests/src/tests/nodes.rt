@@ -387,18 +387,6 @@ const ENTITIES: &str = "
     TCNode::order | a, c b | 0 ; 1 ;
     TCNode::add_edges_to | a b / c e, f d b | a b / c d e f / /
     TCNode::add_new_edges_to | a b / c e, f d | a b / c d e f / /
-    TCNode<SharedUid> for Entity::get_key | a b / c | A::\"a\"
-    TCNode<SharedUid> for Entity::add_edge_to | a b / c / k=1, d | a b / c d / k=1 /
-    - TCNode<SharedUid> for Entity::add_edge_to | a b / c, b | a b / c / /
-    TCNode<SharedUid> for Entity::out_edges | a b / c d | A::\"b\" A::\"c\" A::\"d\"
-    TCNode<SharedUid> for Entity::list_edges | a b / c d | A::\"c\" A::\"d\" A::\"b\"
-    - TCNode<SharedUid> for Entity::reset_edges | a b / c d | a b / / /
-    TCNode<SharedUid> for Entity::direct_edges | a b / c d | A::\"b\"
-    TCNode<SharedUid> for Entity::order | a, c b | 1 ; 0 ;
-    TCNode<SharedUid> for Entity::add_edges_to | a b / c e, f d b | a b / c d e f / /
-    TCNode<SharedUid> for Entity::add_edges_to | a b / c e, d f | a b / c d e f / /
-    TCNode<SharedUid> for Entity::add_new_edges_to | a b / c e, d f | a b / c d e f / /
-    - TCNode<SharedUid> for Entity::add_new_edges_to | a b / /, d f | a b / d f / /
 ";
 
 impl Calls for OnEntities {
@@ -409,11 +397,7 @@ impl Calls for OnEntities {
                 None => unmade(),
             };
         }
-        let made = entity(alloc, node_of(row));
-        if row.call.starts_with("TCNode<SharedUid>") {
-            return on_shared(alloc, number, made, row);
-        }
-        on_uids(alloc, number, made, row)
+        on_uids(alloc, number, entity(alloc, node_of(row)), row)
     }
 }
 

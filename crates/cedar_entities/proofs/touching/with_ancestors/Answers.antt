@@ -13,4 +13,4 @@ returns c q =
     ∙ member_push all c.in_ok-clone.field-0 q
     ∙ ap (λ k. is_member same_uid all q || same_uid k q) c.in_ok-clone.ensures.cases
     ∙ ap (λ b. b || same_uid c.args.uid.now q) (c.in_ok-all.ensures q)
-    ∙ or_both (has_ancestor c.args.entity.now q) (same_uid c.args.uid.now q)
+    ∙ or_both (has_ancestor c.args.node.now.0.value q) (same_uid c.args.uid.now q)
