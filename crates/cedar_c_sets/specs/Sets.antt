@@ -20,7 +20,7 @@ use Rattle.cedar_policy_set.specs.Steps.{Refusal, occupied, no_body, no_such_tem
 use Rattle.cedar_policy_set.specs.Steps.{id_conflict, no_link, not_a_link, no_template, with_links, not_a_template}
 use Rattle.cedar_policy_set.specs.Steps.{no_static, not_static, add_static_step, add_template_step, link_step}
 use Rattle.cedar_policy_lines.specs.PolicyCommand.{bound_more}
-use Rattle.cedar_policy_lines.specs.PolicyOutput.{slot_constraint, slot_rule, static_body}
+use Rattle.cedar_policy_lines.specs.PolicyOutput.{slotted_body, static_body}
 use Rattle.cedar_c_lists.specs.Answers.{part}
 use Rattle.cedar_c_lists.specs.Reasons.{words_of}
 use Rattle.cedar_c_lists.specs.Stops.{IsStopped, KeepsRefusal}
@@ -45,15 +45,7 @@ IsNoSlots n w = (w ≡ reasons.BadArgument) × ((s : SlotsNamed) → IsSlots n s
 
 -- a template with these slots, which constrains nothing else
 abbrev pub template_body : List ℕ → Effect → SlotsNamed → BodyParts
-template_body i e s = record {
-  id = i;
-  annotations = [];
-  effect = e;
-  principal = slot_constraint s.principal;
-  action = slot_rule s.action;
-  resource = slot_constraint s.resource;
-  clause = None;
-}
+template_body i e s = slotted_body i e s.principal s.action s.resource
 
 -- what a part of a text says that a slot is bound to: nothing where the part is empty, else the uid that is read of it
 abbrev pub IsBoundAs : List ℕ → Span → Option EntityUID → Type 0

@@ -11,13 +11,14 @@ ghost use Rattle.cedar_c_sets.specs.Sets.{AddsStatic, AddsTemplate, CopiesSet, K
 ghost use Rattle.cedar_c_sets.specs.Sets.{MergesSet, Takes, renaming_texts, taking};
 ghost use Rattle.cedar_c_lists.specs.declared.reason.Reason.TheVariants as reasons;
 
-use crate::making::{bindings_of, slots_of, static_policy, template};
+use crate::making::{bindings_of, slots_of, template};
 use crate::telling::{Told, by_linking, by_removal, by_set, by_template_removal, by_unlinking};
 use cedar_c_bodies::effect_of;
 use cedar_c_lists::{Answer, Reason, Span, id_of};
 use cedar_c_trees::Node;
 use cedar_ids::policy_id::PolicyID;
 use cedar_policy::{LinkingError, SlotEnv, StaticPolicy, Template};
+use cedar_policy_lines::making::static_policy;
 use cedar_policy_set::PolicySet;
 use indexmap::IndexMap;
 use std::alloc::{AllocError, Global};

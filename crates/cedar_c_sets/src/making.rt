@@ -1,22 +1,18 @@
 //! The policies, templates and bindings that a caller describes by numbers and texts.
 ghost use Rattle.std.specs.Prelude.{◌≡◌, IfOk, MatchResult, OnOk};
 ghost use Rattle.cedar_ids.specs.UidOf.{uid_parts};
-ghost use Rattle.cedar_action.specs.Views.{rule_of};
 ghost use Rattle.cedar_binding.specs.Views.{env_of};
 ghost use Rattle.cedar_policy_lines.specs.PolicyCommand.{bound_more};
-ghost use Rattle.cedar_policy_lines.specs.PolicyOutput.{slot_constraint, slot_rule, static_body};
 ghost use Rattle.cedar_c_sets.specs.Sets.{AreBindings, Binds, IsBoundAs, IsNoSlots, IsSlots};
 ghost use Rattle.cedar_c_sets.specs.Sets.{IsUnboundAs, IsUnboundBy, template_body};
 
-use cedar_action::ActionConstraint;
-use cedar_annotation::Annotations;
 use cedar_binding::no_bindings;
 use cedar_body::Effect;
 use cedar_c_lists::{Reason, Span, text_at, uid_of};
 use cedar_ids::entity::EntityUID;
 use cedar_ids::policy_id::PolicyID;
-use cedar_policy::{SlotEnv, StaticPolicy, Template, UnexpectedSlotError};
-use cedar_scope::{PrincipalConstraint, ResourceConstraint};
+use cedar_policy::{SlotEnv, Template};
+use cedar_policy_lines::making::slotted_template;
 use cedar_terms::slot::SlotId;
 use std::alloc::{AllocError, Global};
 
@@ -60,62 +56,6 @@ pub(crate) fn slots_of(number: u32) -> Result<SlotsNamed, Reason>
     }
 }
 
-// A static policy that constrains nothing. Takes memory.
-pub(crate) fn static_policy(
-    alloc: Global,
-    id: PolicyID,
-    effect: Effect,
-) -> Result<StaticPolicy, AllocError>
-    ensures { IfOk result (λ p. p ≡ static_body id effect) }
-{
-    let policy = StaticPolicy::new(
-        alloc,
-        id,
-        None,
-        Annotations::new(alloc),
-        effect,
-        PrincipalConstraint::any(),
-        ActionConstraint::any(),
-        ResourceConstraint::any(),
-        None,
-    );
-    match policy {
-        Ok(policy) => Ok(policy),
-        Err(UnexpectedSlotError::FoundSlot(_slot)) => unreachable!(),
-        Err(UnexpectedSlotError::Memory) => Err(AllocError),
-    }
-}
-
-// The principal is what its slot is bound to, where that is named.
-fn principal_of(named: bool) -> PrincipalConstraint
-    ensures { result ≡ slot_constraint named }
-{
-    if named {
-        return PrincipalConstraint::is_eq_slot();
-    }
-    PrincipalConstraint::any()
-}
-
-// The action is what its slot is bound to, where that is named.
-fn action_of(named: bool) -> ActionConstraint
-    ensures { rule_of result ≡ slot_rule named }
-{
-    if named {
-        return ActionConstraint::is_eq_slot();
-    }
-    ActionConstraint::any()
-}
-
-// The resource is what its slot is bound to, where that is named.
-fn resource_of(named: bool) -> ResourceConstraint
-    ensures { result ≡ slot_constraint named }
-{
-    if named {
-        return ResourceConstraint::is_eq_slot();
-    }
-    ResourceConstraint::any()
-}
-
 // A template with these slots, which constrains nothing else. Takes memory.
 pub(crate) fn template(
     alloc: Global,
@@ -125,16 +65,13 @@ pub(crate) fn template(
 ) -> Result<Template, AllocError>
     ensures { IfOk result (λ t. t ≡ template_body id effect slots) }
 {
-    Template::new(
+    slotted_template(
         alloc,
         id,
-        None,
-        Annotations::new(alloc),
         effect,
-        principal_of(slots.principal),
-        action_of(slots.action),
-        resource_of(slots.resource),
-        None,
+        slots.principal,
+        slots.action,
+        slots.resource,
     )
 }
 

@@ -100,17 +100,22 @@ slot_constraint b = if b then equals to_slot else any
 abbrev pub slot_rule : Bool → ActionRule
 slot_rule b = if b then just_slot else any_action
 
--- a template that permits, with the slots that are named
-abbrev pub template_body : List ℕ → TemplateSlots → BodyParts
-template_body i w = record {
+-- a template with the slots of the principal, the action and the resource that are named, which constrains nothing else
+abbrev pub slotted_body : List ℕ → Effect → Bool → Bool → Bool → BodyParts
+slotted_body i e on_principal on_action on_resource = record {
   id = i;
   annotations = [];
-  effect = Permit;
-  principal = slot_constraint (is_among (slots_named w) Principal);
-  action = slot_rule (is_among (slots_named w) Action);
-  resource = slot_constraint (is_among (slots_named w) Resource);
+  effect = e;
+  principal = slot_constraint on_principal;
+  action = slot_rule on_action;
+  resource = slot_constraint on_resource;
   clause = None;
 }
+
+-- a template that permits, with the slots that are named
+abbrev pub template_body : List ℕ → TemplateSlots → BodyParts
+template_body i w = slotted_body i Permit (is_among (slots_named w) Principal) (is_among (slots_named w) Action)
+    (is_among (slots_named w) Resource)
 
 -- ---- commands
 

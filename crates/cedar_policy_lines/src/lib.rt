@@ -8,7 +8,7 @@
 mod command;
 pub mod field;
 pub mod machine;
-mod making;
+pub mod making;
 mod writing;
 
 pub use command::{PolicyCommand, read_policy_command};

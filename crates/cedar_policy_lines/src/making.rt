@@ -1,9 +1,10 @@
-//! The policies and templates that lines make.
+//! The policies and templates that constrain nothing but by slots, as lines make them.
 ghost use Rattle.std.specs.Prelude.{◌≡◌, IfOk};
 ghost use Rattle.cedar_binding.specs.Views.{env_of};
 ghost use Rattle.cedar_policy_set.specs.Refusals.{Steps, told_by_linking};
 ghost use Rattle.cedar_policy_set.specs.Steps.{link_step};
-ghost use Rattle.cedar_policy_lines.specs.PolicyOutput.{static_body, template_body, slot_constraint, slot_rule};
+ghost use Rattle.cedar_policy_lines.specs.PolicyOutput.{slot_constraint, slot_rule, slotted_body, static_body};
+ghost use Rattle.cedar_policy_lines.specs.PolicyOutput.{template_body};
 ghost use Rattle.cedar_policy_lines.specs.PolicyCommand.{slots_named};
 ghost use Rattle.cedar_action.specs.Views.{rule_of};
 ghost use Rattle.cedar_binding.specs.Bindings.{is_among};
@@ -20,8 +21,8 @@ use cedar_scope::{PrincipalConstraint, ResourceConstraint};
 use std::alloc::{AllocError, Global};
 use std::hash::BuildHasher;
 
-// A static policy that constrains nothing.
-pub(crate) fn static_policy(
+/// A static policy that constrains nothing. Takes memory, and is refused only where that is. It is this project's own.
+pub fn static_policy(
     alloc: Global,
     id: PolicyID,
     effect: Effect,
@@ -118,6 +119,31 @@ fn resource_of(named: bool) -> ResourceConstraint
     ResourceConstraint::any()
 }
 
+/// A template whose principal, action and resource are what their slots are bound to, each where it is named; it
+/// constrains nothing else. Takes memory, and is refused only where that is. It is this project's own.
+pub fn slotted_template(
+    alloc: Global,
+    id: PolicyID,
+    effect: Effect,
+    on_principal: bool,
+    on_action: bool,
+    on_resource: bool,
+) -> Result<Template, AllocError>
+    ensures { IfOk result (λ t. t ≡ slotted_body id effect on_principal on_action on_resource) }
+{
+    Template::new(
+        alloc,
+        id,
+        None,
+        Annotations::new(alloc),
+        effect,
+        principal_of(on_principal),
+        action_of(on_action),
+        resource_of(on_resource),
+        None,
+    )
+}
+
 // A template that permits, with the slots that are named.
 pub(crate) fn template(
     alloc: Global,
@@ -126,17 +152,10 @@ pub(crate) fn template(
 ) -> Result<Template, AllocError>
     ensures { IfOk result (λ t. t ≡ template_body id slots) }
 {
-    Template::new(
-        alloc,
-        id,
-        None,
-        Annotations::new(alloc),
-        Effect::Permit,
-        principal_of(on_principal(slots)),
-        action_of(on_action(slots)),
-        resource_of(on_resource(slots)),
-        None,
-    )
+    let principal = on_principal(slots);
+    let action = on_action(slots);
+    let resource = on_resource(slots);
+    slotted_template(alloc, id, Effect::Permit, principal, action, resource)
 }
 
 // Links a template, and keeps the link in the set alone.

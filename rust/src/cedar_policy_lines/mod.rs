@@ -5,7 +5,7 @@
 mod command;
 pub mod field;
 pub mod machine;
-mod making;
+pub mod making;
 mod writing;
 
 pub use command::read_policy_command;

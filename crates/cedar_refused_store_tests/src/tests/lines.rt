@@ -5,11 +5,13 @@ use cedar_lines::field::uid_field;
 use cedar_lines::known_types::{KnownTypes, uid_of_text};
 use cedar_lines::line::read_fields;
 use cedar_lines::writing::push_line;
+use cedar_policy_lines::making::{slotted_template, static_policy};
 use cedar_policy_lines::{PolicyCommand, PolicySets, TemplateSlots, read_policy_command};
 use cedar_refusals::{
-    Answer, Calls, Row, Tried, ample_if, is_worded, judged, refuse, relent, tried_rows, unmade,
+    Answer, Calls, Row, Tried, ample_if, is_worded, judged, made, refuse, relent, tried_rows,
+    unmade, with,
 };
-use cedar_store::{SlotEnv, SlotId};
+use cedar_store::{Effect, PolicyID, SlotEnv, SlotId};
 use std::alloc::Global;
 
 struct OnLines;
@@ -39,6 +41,8 @@ const LINES: &str = "
     - read_policy_command | ids | some
     - read_policy_command | frob | none
     - read_policy_command | link t l principal=A::x | none
+    static_policy | p | permit( principal, action, resource );
+    slotted_template | t | permit( principal == ?principal, action, resource == ?resource );
     PolicySets::take | static a permit | ok
     PolicySets::take | static a permit; static a forbid | refused: occupied a
     PolicySets::take | template t principal; link t l principal=A::\"x\" | ok
@@ -282,6 +286,10 @@ fn written(alloc: Global, number: usize, row: Row<'_>) -> Tried {
     Tried { answer, refused }
 }
 
+fn id_of(alloc: Global, text: &str) -> Option<PolicyID> {
+    PolicyID::from_string(alloc, text).ok()
+}
+
 impl Calls for OnLines {
     fn tried(&self, alloc: Global, number: usize, row: Row<'_>) -> Tried {
         match row.call {
@@ -302,6 +310,16 @@ impl Calls for OnLines {
             "push_line" => written(alloc, number, row),
             "read_policy_command" => read(alloc, number, row),
             "PolicySets::take" => taken(alloc, number, row),
+            "static_policy" => with(alloc, number, id_of(alloc, row.given), |id| {
+                made(alloc, static_policy(alloc, id, Effect::Permit), row.want)
+            }),
+            "slotted_template" => with(alloc, number, id_of(alloc, row.given), |id| {
+                made(
+                    alloc,
+                    slotted_template(alloc, id, Effect::Permit, true, false, true),
+                    row.want,
+                )
+            }),
             _ => unmade(),
         }
     }
