@@ -149,6 +149,80 @@ fn with_content(entities: Vec<Entity>, asked: &[(EntityUID, EntityUID)]) {
     print("whole entities", least(wholes).0);
 }
 
+const USERS: usize = 40_000;
+const GROUPS: usize = 500;
+const MILLION: usize = 1_000_000;
+
+// Numbers that look drawn, each below a bound.
+struct Drawn(u64);
+
+impl Drawn {
+    fn below(&mut self, bound: usize) -> usize {
+        self.0 ^= self.0 << 13;
+        self.0 ^= self.0 >> 7;
+        self.0 ^= self.0 << 17;
+        (self.0 % bound as u64) as usize
+    }
+}
+
+// Users of two groups each, which are nested: what an authorizer asks, through this crate and of sets of Rust.
+fn users_in_groups() {
+    let mut drawn = Drawn(88_172_645_463_325_252);
+    let named = |kind: &str, place: usize| read(&format!("{kind}::\"{place}\""));
+    let groups: Vec<EntityUID> = (0..GROUPS).map(|place| named("Group", place)).collect();
+    let users: Vec<EntityUID> = (0..USERS).map(|place| named("User", place)).collect();
+    let mut entities = vec![Entity::with_uid(groups[0].clone())];
+    for place in 1..GROUPS {
+        let above = groups[drawn.below(place)].clone();
+        entities.push(Entity::with_uid(groups[place].clone()).with_parents([above]));
+    }
+    for user in &users {
+        let above = [drawn.below(GROUPS), drawn.below(GROUPS)].map(|place| groups[place].clone());
+        entities.push(Entity::with_uid(user.clone()).with_parents(above));
+    }
+    let store = Entities::from_entities(&entities, ComputeNow).unwrap();
+    let asked: Vec<(usize, usize)> = (0..MILLION)
+        .map(|_| (drawn.below(USERS), drawn.below(GROUPS)))
+        .collect();
+    let asks = || {
+        let is_below = |&&(user, group): &&(usize, usize)| {
+            store
+                .is_descendant_of(&users[user], &groups[group])
+                .unwrap()
+        };
+        asked.iter().filter(is_below).count()
+    };
+    let (seconds, count) = least(asks);
+    print(
+        "a million is_descendant_of, of 40,000 users in 500 groups",
+        seconds,
+    );
+    let texts: Vec<String> = groups.iter().map(EntityUID::to_string).collect();
+    let above: Vec<(String, HashSet<String>)> = users
+        .iter()
+        .map(|user| {
+            let above = store.ancestors(user).unwrap();
+            (
+                user.to_string(),
+                above.iter().map(EntityUID::to_string).collect(),
+            )
+        })
+        .collect();
+    let sets: HashMap<&str, &HashSet<String>> = above
+        .iter()
+        .map(|(user, above)| (user.as_str(), above))
+        .collect();
+    let asks = || {
+        let is_below = |&&(user, group): &&(usize, usize)| {
+            sets[above[user].0.as_str()].contains(&texts[group])
+        };
+        asked.iter().filter(is_below).count()
+    };
+    let (seconds, same) = least(asks);
+    assert_eq!(same, count);
+    print("the same in hash maps of Rust", seconds);
+}
+
 type Above = HashMap<String, HashSet<String>>;
 
 // The ancestors of each entity, whose parents stand before it.
@@ -215,4 +289,5 @@ fn main() {
     let count = through_the_crate(&pairs);
     assert_eq!(count, in_hash_maps(&pairs));
     by_the_program(&pairs);
+    users_in_groups();
 }
