@@ -58,7 +58,9 @@ class WrongBody:
         lines = [self.text[:self.text.index(old)].count('\n') for old, _ in self.pairs]
         for start, end, owner, name in bodies(self.text):
             if all(start < line < end for line in lines):
-                inner = [it for it in (*self.file[len('src/'):-len('.rt')].split('/'), owner) if it and it not in ('lib', 'main')]
+                # The functions of a type's own impl are called by the file of the type, whatever file they stand in.
+                file = [] if owner.endswith('::') else self.file[len('src/'):-len('.rt')].split('/')
+                inner = [it for it in (*file, owner.removesuffix('::')) if it and it not in ('lib', 'main')]
                 return '::'.join([*inner, name])
         return None
 
@@ -70,13 +72,13 @@ class WrongBody:
 
 
 def owner_of(head):
-    """What a check calls the functions of an `impl`: the type, and behind it a trait with what it is given."""
+    """What a check calls the functions of an `impl`: the type, and behind it a trait with what it is given; a type's own with colons."""
     head = re.sub(r'^impl(<(?:[^<>]|<[^<>]*>)*>)? ', '', head.split(' where ')[0].rstrip(' {'))
     trait, _, kind = head.rpartition(' for ')
     kind = re.sub(r"<.*|&(?:'\w+ )?(?:mut )?", '', kind)
     given = re.findall(r'<(.*)>', trait)
     inner = ''.join(re.findall(r'\w+', re.sub(r"'\w+", '', given[0]))) if given else ''
-    return kind.split('::')[-1] + re.sub(r'<.*', '', trait).split('::')[-1] + inner
+    return kind.split('::')[-1] + (re.sub(r'<.*', '', trait).split('::')[-1] + inner if trait else '::')
 
 
 def bodies(text):
@@ -193,7 +195,7 @@ class Crate:
             for file, text in changed.items():
                 with open(f'{self.folder}/{file}', 'w', encoding='utf-8') as out:
                     out.write(text)
-            words = [word for function in only for word in ('--only', f'{self.name}::{function}')]
+            words = [word for function in only for word in ('--only', function)]
             ran = subprocess.run(['rt', 'check', *self.jobs, *(['--allow-holes'] if only else []), *words], cwd=self.folder,
                                  stdout=subprocess.PIPE, stderr=subprocess.STDOUT, text=True, errors='replace', check=False)
         finally:
