@@ -9,7 +9,7 @@ use Rattle.std.specs.Set.{is_member}
 use Rattle.std.specs.HashMap.{HashMap, get}
 use Rattle.std.specs.FinSet as set
 use Rattle.std.specs.FinMap as finmap
-use Rattle.cedar_ids.specs.UidOf.{same_uid}
+use Rattle.cedar_ids.specs.UidOf.{same_uid, uid_order}
 use Rattle.cedar_ids.specs.laws.UidOfLaws.{uid_order_total, same_uid_decides}
 use Rattle.cedar_ids.specs.declared.entity.EntityUID.{EntityUID}
 use Rattle.cedar_uid_sets.specs.UidSets.{UidValues}
@@ -116,6 +116,17 @@ none_retained s g h = set.same_set uid_order_total one_equal _ _ (λ x. kept_in 
     at : (x : EntityUID) (b : Bool) → set.contains s x ≡ b → (b && not (g x)) ≡ b
     at x true t = ap not (h x t)
     at x false t = refl
+
+-- or of which all goes
+pub all_retained : (s : UidValues) (g : EntityUID → Bool) → ((x : EntityUID) → g x ≡ true)
+    → set.empty ≡ set.retain s (λ p. not (g p))
+all_retained s g h = set.same_set uid_order_total one_equal _ _ (λ x.
+    set.contains-empty uid_order x
+    ∙ sym (kept_in s g x ∙ ap (λ b. set.contains s x && not b) (h x) ∙ none (set.contains s x)))
+  where
+    none : (b : Bool) → (b && false) ≡ false
+    none true = refl
+    none false = refl
 
 -- where the entity has none of the uids among its ancestors, nothing goes
 none_goes : (D : Held) (A : List EntityUID) (e : EntityView) → list_any (has_ancestor e) A ≡ false → (w : EntityUID)

@@ -15,7 +15,7 @@ use Rattle.cedar_ids.specs.declared.entity.EntityUID.{EntityUID}
 use Rattle.cedar_uid_sets.specs.UidSets.{UidValues}
 use Rattle.cedar_uid_sets.specs.laws.Sets.{contains_listed, one_equal}
 use Rattle.cedar_entity.specs.laws.UidSets.{kept_in}
-use Rattle.cedar_entity.specs.View.{EntityView, has_ancestor}
+use Rattle.cedar_entity.specs.View.{EntityView}
 use Rattle.cedar_entity.specs.declared.node.SharedEntity.{SharedEntity}
 use Rattle.cedar_entities.specs.Edits.{goes_with, leaves, parted, put_over, taken_out, uids_of}
 use Rattle.cedar_entities.specs.laws.Edits.{edited_at, last_entity, remains, stripped, IsEdit}
@@ -26,11 +26,12 @@ use Rattle.cedar_entities.specs.Touching.{inserted_in, is_touched, removed_from}
 use Rattle.cedar_entities.specs.declared.edits.Reading.{Reading}
 use Rattle.cedar_entities.specs.declared.touching.Loss.{Loss}
 use Rattle.cedar_entities.specs.laws.Held.{held, held_map}
-use Rattle.cedar_entities.specs.laws.Losses.{IsLossOf, IsReadingOf, is_stripped, loses, loses_uid}
+use Rattle.cedar_entities.specs.laws.Indexes.{is_parent_at}
+use Rattle.cedar_entities.specs.laws.Losses.{AreLossesOf, IsLossOf, IsReadingOf, is_stripped, loses, loses_uid}
 use Rattle.cedar_entities.proofs.Adding.{touched_alike}
 use Rattle.cedar_entities.proofs.Adds.{stored}
 use Rattle.cedar_entities.proofs.AnyOf.{any_alike, any_member, is_none}
-use Rattle.cedar_entities.proofs.Losses.{goes_by_loss, loses_below, within}
+use Rattle.cedar_entities.proofs.Losses.{and_both, and_off, goes_by_loss, loses_below, within}
 use Rattle.cedar_entities.proofs.Overwriting.{last_some, over_edit}
 use Rattle.cedar_entities.proofs.Removing.{out_edit, removed_members}
 use Rattle.cedar_entities.proofs.StoreMaps.{get_seen}
@@ -50,10 +51,26 @@ covered (Some e) x y h = refl
 
 module _ (D : Held) (gone : UidValues) (L : List EntityView) (K : List EntityUID) (R : List Loss)
     (all : (q : EntityUID) → is_member same_uid K q ≡ (is_member same_uid (uids_of L) q || set.contains gone q))
-    (who : (q : EntityUID) → loses R q ≡ is_stripped K q (ancestry D q))
-    (lost : AllByRecursion (IsLossOf (finmap.get D) K) R) (q : EntityUID) where
-  abbrev left : EntityView → EntityView
-  left = stripped (λ p. loses R q && set.contains gone p) (loses_uid R q)
+    (who : (q : EntityUID) → loses R q ≡ is_stripped K q (ancestry D q)) (q : EntityUID) where
+  -- what is written at q, where o was
+  abbrev pub written : Option EntityView → Option EntityView
+  written o = option_or (last_entity L q) (cond (set.contains gone q) None o)
+
+  -- at the uids of an edit nothing is left of what was
+  pub at_applied : is_member same_uid K q ≡ true → (x y : Option EntityView) → written x ≡ written y
+  at_applied t x y =
+      elim (or_cases (is_member same_uid (uids_of L) q) (set.contains gone q) (sym (all q) ∙ t)) [
+        | inl m ↦ covered (last_entity L q) _ _ (last_some L q ∙ m)
+        | inr g ↦
+            ap (λ d. option_or (last_entity L q) (cond d None x)) g
+            ∙ sym (ap (λ d. option_or (last_entity L q) (cond d None y)) g)
+      ]
+
+  -- and nothing comes or goes at others
+  pub at_others : is_member same_uid K q ≡ false → (x : Option EntityView) → written x ≡ x
+  at_others out x =
+      let p = or_parts (is_member same_uid (uids_of L) q) (set.contains gone q) (sym (all q) ∙ out) in
+      λ i. option_or (is_none (last_entity L q) (last_some L q ∙ p.0) i) (cond (p.1 i) None x)
 
   -- a parent that goes is an ancestor
   parents_gone : is_member same_uid K q ≡ false → (e : EntityView) → finmap.get D q ≡ Some e
@@ -68,15 +85,32 @@ module _ (D : Held) (gone : UidValues) (L : List EntityView) (K : List EntityUID
           → (b && not (loses R q && set.contains gone x)) ≡ (b && not (set.contains gone x))
       at x false t = refl
       at x true t = ap not (within (loses R q) (set.contains gone x) (λ g.
-          loses_below D K R who lost q out
+          loses_below D K R who q out
           ∙ any_member (ancestry D q) K x (all x ∙ or_right (is_member same_uid (uids_of L) x) (set.contains gone x) g)
           (ap (λ o. is_ancestor_in o x) is ∙ or_left (set.contains e.parents x) (set.contains e.indirect x) t)))
+
+  -- so what is written at others has the parents that do not go
+  pub parents_left : is_member same_uid K q ≡ false → (indirect : EntityUID → Bool) (x : EntityUID)
+      → (o : Option EntityView) → finmap.get D q ≡ o
+      → is_parent_at (option_map (stripped (λ p. loses R q && set.contains gone p) indirect) o) x
+      ≡ (not (set.contains gone x) && is_parent_at o x)
+  parents_left out indirect x None is = sym (and_off (not (set.contains gone x)))
+  parents_left out indirect x (Some e) is =
+      ap (λ s. set.contains s x) (parents_gone out e is) ∙ kept_in e.parents (set.contains gone) x
+      ∙ and_both (set.contains e.parents x) (not (set.contains gone x))
+
+module _ (D : Held) (gone : UidValues) (L : List EntityView) (K : List EntityUID) (R : List Loss)
+    (all : (q : EntityUID) → is_member same_uid K q ≡ (is_member same_uid (uids_of L) q || set.contains gone q))
+    (who : (q : EntityUID) → loses R q ≡ is_stripped K q (ancestry D q))
+    (lost : AllByRecursion (IsLossOf (finmap.get D) K) R) (q : EntityUID) where
+  abbrev left : EntityView → EntityView
+  left = stripped (λ p. loses R q && set.contains gone p) (loses_uid R q)
 
   left_at : is_member same_uid K q ≡ false → (o : Option EntityView) → finmap.get D q ≡ o
       → option_map left o ≡ option_map (remains D (set.contains gone) K) o
   left_at out None is = refl
   left_at out (Some e) is = λ i. Some (record e {
-    parents = parents_gone out e is i;
+    parents = parents_gone D gone L K R all who q out e is i;
     indirect = set.retain e.indirect (λ w. not (goes_by_loss D K R who lost q out e is w i));
   })
 
@@ -85,14 +119,36 @@ module _ (D : Held) (gone : UidValues) (L : List EntityView) (K : List EntityUID
       ≡ edited_at D (set.contains gone) K (last_entity L) q
   written_at false out = ap (λ o. option_or (last_entity L q) (cond (set.contains gone q) None o))
       (left_at out (finmap.get D q) refl)
-  written_at true t =
-      elim (or_cases (is_member same_uid (uids_of L) q) (set.contains gone q) (sym (all q) ∙ t)) [
-        | inl m ↦ covered (last_entity L q) _ _ (last_some L q ∙ m)
-        | inr g ↦
-            ap (λ d. option_or (last_entity L q) (cond d None (option_map left (finmap.get D q)))) g
-            ∙ sym (ap (λ d. option_or (last_entity L q)
-            (cond d None (option_map (remains D (set.contains gone) K) (finmap.get D q)))) g)
-      ]
+  written_at true t = at_applied D gone L K R all who q t (option_map left (finmap.get D q))
+      (option_map (remains D (set.contains gone) K) (finmap.get D q))
+
+-- what the steps of an edit leave of the map, of what is held
+pub seen_written : {S : Type 0} (m n : HashMap EntityUID SharedEntity S) (gone : UidValues) (L : List EntityView)
+    (R : List Loss)
+    → ((q : EntityUID) → held n q ≡ option_or (last_entity L q) (cond (set.contains gone q) None
+    (option_map (stripped (λ p. loses R q && set.contains gone p) (loses_uid R q)) (held m q)))) → (q : EntityUID)
+    → finmap.get (held_map n) q ≡ option_or (last_entity L q) (cond (set.contains gone q) None
+    (option_map (stripped (λ p. loses R q && set.contains gone p) (loses_uid R q)) (finmap.get (held_map m) q)))
+seen_written m n gone L R is q =
+    get_seen n q ∙ is q ∙ ap (λ f. option_or (last_entity L q) (cond (set.contains gone q) None
+    (option_map (stripped (λ p. loses R q && set.contains gone p) (loses_uid R q)) (f q))))
+    (stored m (held_map m) refl)
+
+-- and of parents
+pub parents_written : {S : Type 0} (m n : HashMap EntityUID SharedEntity S) (gone : UidValues) (L : List EntityView)
+    (K : List EntityUID) (R : List Loss)
+    → ((q : EntityUID) → is_member same_uid K q ≡ (is_member same_uid (uids_of L) q || set.contains gone q))
+    → ((q : EntityUID) → loses R q ≡ is_stripped K q (ancestry (held_map m) q))
+    → ((q : EntityUID) → held n q ≡ option_or (last_entity L q) (cond (set.contains gone q) None
+    (option_map (stripped (λ p. loses R q && set.contains gone p) (loses_uid R q)) (held m q)))) → (p q : EntityUID)
+    → is_member same_uid K q ≡ false → is_parent_at (finmap.get (held_map n) q) p
+    ≡ (not (set.contains gone p) && is_parent_at (finmap.get (held_map m) q) p)
+parents_written m n gone L K R all who is p q out =
+    let D = held_map m in
+    ap (λ o. is_parent_at o p) (seen_written m n gone L R is q
+    ∙ at_others D gone L K R all who q out
+    (option_map (stripped (λ x. loses R q && set.contains gone x) (loses_uid R q)) (finmap.get D q)))
+    ∙ parents_left D gone L K R all who q out (loses_uid R q) p (finmap.get D q) refl
 
 -- what the steps of an edit leave is what it leaves
 pub written_edit : {S : Type 0} (m n : HashMap EntityUID SharedEntity S) (gone : UidValues) (L : List EntityView)
@@ -105,9 +161,7 @@ pub written_edit : {S : Type 0} (m n : HashMap EntityUID SharedEntity S) (gone :
     → IsEdit (held_map m) (held_map n) (set.contains gone) (last_entity L) K
 written_edit m n gone L K R all who lost is = record {
   applied = λ q. all q ∙ ap (λ b. b || set.contains gone q) (sym (last_some L q));
-  made = λ q. get_seen n q ∙ is q ∙ ap (λ f. option_or (last_entity L q) (cond (set.contains gone q) None
-      (option_map (stripped (λ p. loses R q && set.contains gone p) (loses_uid R q)) (f q))))
-      (stored m (held_map m) refl)
+  made = λ q. seen_written m n gone L R is q
       ∙ written_at (held_map m) gone L K R all who lost q (is_member same_uid K q) refl;
 }
 
@@ -122,11 +176,11 @@ edit_same D N M gone put K A x y = finmap.same_map uid_order_total one_equal N M
 
 -- what is read of the map, of what is held
 pub reading_of : {S T H : Type 0} (m : HashMap EntityUID SharedEntity S) (us ks : List EntityUID) (r : Reading T H)
-    → r.uids.items ≡ ks → ((q : EntityUID) → is_member same_uid ks q ≡ is_member same_uid us q)
+    (anew : Bool) → r.uids.items ≡ ks → ((q : EntityUID) → is_member same_uid ks q ≡ is_member same_uid us q)
     → ((q : EntityUID) → contains same_uid r.touched q ≡ is_touched (held_map m) ks q)
     → ((q : EntityUID) → loses r.losses.items q ≡ is_stripped ks q (is_ancestor_in (held m q)))
-    → AllByRecursion (IsLossOf (held m) ks) r.losses.items → IsReadingOf (held_map m) us r
-reading_of m us ks r is same touched who lost =
+    → AreLossesOf anew (held m) ks r.losses.items → IsReadingOf anew (held_map m) us r
+reading_of m us ks r anew is same touched who lost =
     let D = held_map m in
     let f = stored m D refl in
     record {
@@ -134,8 +188,8 @@ reading_of m us ks r is same touched who lost =
       touched = λ q. touched q ∙ ap (λ l. is_touched D l q) (sym is);
       who = λ q. who q ∙ ap (λ g. is_stripped ks q (is_ancestor_in (g q))) f
           ∙ ap (λ l. is_stripped l q (ancestry D q)) (sym is);
-      lost = subst (λ l. AllByRecursion (IsLossOf (finmap.get D) l) r.losses.items) (sym is)
-          (subst (λ g. AllByRecursion (IsLossOf g ks) r.losses.items) f lost);
+      lost = subst (λ l. AreLossesOf anew (finmap.get D) l r.losses.items) (sym is)
+          (subst (λ g. AreLossesOf anew g ks r.losses.items) f lost);
     }
 
 pub gone_all : {S : Type 0} (l : HashMap EntityUID SharedEntity S) (D : Held) (U : List EntityUID) → held_map l ≡ D

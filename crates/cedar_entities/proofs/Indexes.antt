@@ -1,10 +1,10 @@
 -- What becomes of the children that are listed, one uid after another and over a whole edit.
-use Rattle.std.specs.Prelude.{◌≡◌, ◌↔◌, Bool, true, false, cond, not, ◌&&◌, ◌||◌, List, Option, Some, None, Result, Ok}
+use Rattle.std.specs.Prelude.{◌≡◌, ◌↔◌, Bool, true, false, not, ◌&&◌, ◌||◌, List, Option, Some, None, Result, Ok}
 use Rattle.std.specs.Prelude.{Err, IfOk, map}
 use Rattle.std.proofs.Common.{ap, sym, refl, subst, inl, inr, ◌∙◌}
 use Rattle.std.proofs.lemmas.Map.Made.{is_member-filter}
 use Rattle.std.proofs.lemmas.Bool.{and_parts, or_left, or_right, or_cases}
-use Rattle.std.specs.Option.{IfSome, option_map, option_or, is_some}
+use Rattle.std.specs.Option.{IfSome, option_map, is_some}
 use Rattle.std.specs.Result.{result_ok}
 use Rattle.std.specs.HashMap.{HashMap}
 use Rattle.std.specs.List.{list_any}
@@ -16,7 +16,6 @@ use Rattle.cedar_graph.specs.laws.Reaches.{reach_trans}
 use Rattle.cedar_ids.specs.UidOf.{same_uid}
 use Rattle.cedar_ids.specs.laws.UidOfLaws.{same_uid_decides, same_uid_equiv}
 use Rattle.cedar_ids.specs.declared.entity.EntityUID.{EntityUID}
-use Rattle.cedar_entity.specs.laws.UidSets.{kept_in}
 use Rattle.cedar_entity.specs.View.{EntityView, Kept, kept}
 use Rattle.cedar_entity.specs.declared.node.SharedEntity.{SharedEntity}
 use Rattle.cedar_children.specs.Children.{IsBelow}
@@ -28,7 +27,6 @@ use Rattle.cedar_entities.specs.Present.{with_first}
 use Rattle.cedar_entities.specs.Touching.{inserted_in, is_touched, removed_from, IsEnded}
 use Rattle.cedar_entities.specs.declared.settling.Row.{Row}
 use Rattle.cedar_entities.specs.World.{World, added, deleted, graph, is_parent_in, overwritten}
-use Rattle.cedar_entities.specs.laws.Edits.{remains, IsEdit}
 use Rattle.cedar_entities.specs.laws.Held.{held, held_map, shared}
 use Rattle.cedar_entities.specs.laws.Indexes.{HasChildren, IsPlainHeld, is_parent_at, parentage}
 use Rattle.cedar_entities.specs.laws.Losses.{AreTransitive}
@@ -37,8 +35,7 @@ use Rattle.cedar_entities.specs.laws.PlainAncestors.{ancestry_plain}
 use Rattle.cedar_entities.proofs.Adds.{stored}
 use Rattle.cedar_entities.proofs.Adding.{added_same, settled_plain}
 use Rattle.cedar_entities.proofs.AnyOf.{any_found, any_member, is_none, same_bool}
-use Rattle.cedar_entities.proofs.Edited.{made_outside}
-use Rattle.cedar_entities.proofs.Losses.{and_both, and_off}
+use Rattle.cedar_entities.proofs.Losses.{and_off}
 use Rattle.cedar_entities.proofs.Overwriting.{over_plain}
 use Rattle.cedar_entities.proofs.Removing.{mended_plain}
 
@@ -66,7 +63,7 @@ forgotten_more true true x = refl
 forgotten_more true false x = refl
 forgotten_more false k x = refl
 
-parent_held : (o : Option EntityView) (p : EntityUID) → is_parent_in (option_map parts_of o) p ≡ is_parent_at o p
+pub parent_held : (o : Option EntityView) (p : EntityUID) → is_parent_in (option_map parts_of o) p ≡ is_parent_at o p
 parent_held None p = refl
 parent_held (Some e) p = refl
 
@@ -126,22 +123,19 @@ or_off true = refl
 or_off false = refl
 
 -- the children after an edit: some were taken from the children, and as parents, and some put in
-pub children_edited : (D M N : Held) (gone : EntityUID → Bool) (put : EntityUID → Option EntityView)
-    (A K J G : List EntityUID) (was mid : EntityUID → Option EntityView) → IsEdit D M gone put A
+pub children_edited : (D M N : Held) (gone : EntityUID → Bool) (A K J G : List EntityUID)
+    (was mid : EntityUID → Option EntityView)
+    → ((p q : EntityUID) → is_member same_uid A q ≡ false
+    → is_parent_at (finmap.get M q) p ≡ (not (gone p) && is_parent_at (finmap.get D q) p))
     → ((q : EntityUID) → is_member same_uid K q ≡ is_member same_uid A q)
     → ((q : EntityUID) → is_member same_uid J q ≡ is_member same_uid A q)
     → ((q : EntityUID) → is_member same_uid G q ≡ gone q) → was ≡ finmap.get D → mid ≡ finmap.get M
     → ((q : EntityUID) → option_map kept (finmap.get N q) ≡ option_map kept (finmap.get M q)) → (p q : EntityUID)
     → ((not (is_member same_uid G p) && (not (is_member same_uid K q) && is_parent_at (was q) p))
     || (is_member same_uid J q && is_parent_at (mid q) p)) ≡ parentage (finmap.get N) p q
-children_edited D M N gone put A K J G was mid x left came goes old is keeps p q =
+children_edited D M N gone A K J G was mid others left came goes old is keeps p q =
     at (is_member same_uid A q) refl ∙ sym (same_parents (finmap.get N q) (finmap.get M q) (keeps q) p)
   where
-    stays : (o : Option EntityView) → (not (gone p) && is_parent_at o p)
-        ≡ is_parent_at (option_map (remains D gone A) o) p
-    stays None = and_off (not (gone p))
-    stays (Some e) = and_both (not (gone p)) (set.contains e.parents p) ∙ sym (kept_in e.parents gone p)
-
     at : (b : Bool) → is_member same_uid A q ≡ b
         → ((not (is_member same_uid G p) && (not (is_member same_uid K q) && is_parent_at (was q) p))
         || (is_member same_uid J q && is_parent_at (mid q) p)) ≡ is_parent_at (finmap.get M q) p
@@ -152,13 +146,12 @@ children_edited D M N gone put A K J G was mid x left came goes old is keeps p q
     at false t =
         (λ i. (not (goes p i) && (not ((left q ∙ t) i) && is_parent_at (old i q) p))
         || ((came q ∙ t) i && is_parent_at (mid q) p))
-        ∙ or_off (not (gone p) && is_parent_at (finmap.get D q) p) ∙ stays (finmap.get D q)
-        ∙ ap (λ o. is_parent_at o p) (sym (made_outside D M gone put A x q t))
+        ∙ or_off (not (gone p) && is_parent_at (finmap.get D q) p) ∙ sym (others p q t)
 
 -- after an adding
 pub children_in : (D N : Held) (L : List EntityView) (A : List EntityUID) (mid : EntityUID → Option EntityView)
     → ((q : EntityUID) → is_member same_uid A q ≡ is_member same_uid (inserted_in D L) q)
-    → ((q : EntityUID) → mid q ≡ finmap.get (with_first D L) q)
+    → ((p q : EntityUID) → is_parent_at (mid q) p ≡ is_parent_at (finmap.get (with_first D L) q) p)
     → ((q : EntityUID) → option_map kept (finmap.get N q) ≡ option_map kept (finmap.get (with_first D L) q))
     → (p q : EntityUID) → (parentage (finmap.get D) p q || (is_member same_uid A q && is_parent_at (mid q) p))
     ≡ parentage (finmap.get N) p q
@@ -182,7 +175,7 @@ children_in D N L A mid same is keeps p q = at (is_member same_uid (inserted_in 
         → (parentage (finmap.get D) p q || (is_member same_uid A q && is_parent_at (mid q) p))
         ≡ is_parent_at (finmap.get (with_first D L) q) p
     at true t = ap (λ o. is_parent_at o p || (is_member same_uid A q && is_parent_at (mid q) p)) (absent t)
-        ∙ ap (λ b. b && is_parent_at (mid q) p) (same q ∙ t) ∙ ap (λ o. is_parent_at o p) (is q)
+        ∙ ap (λ b. b && is_parent_at (mid q) p) (same q ∙ t) ∙ is p q
     at false t = ap (λ b. parentage (finmap.get D) p q || (b && is_parent_at (mid q) p)) (same q ∙ t)
         ∙ or_off (parentage (finmap.get D) p q) ∙ ap (λ o. is_parent_at o p) (sym (added_same D L q t))
 

@@ -16,6 +16,7 @@ pub mod PlainLen
 pub mod PlainStores
 pub mod Reaching
 pub mod Removing
+pub mod Renewing
 pub mod Repaired
 pub mod StoreMaps
 pub mod Touched

@@ -22,7 +22,8 @@ use Rattle.cedar_entities.specs.Plain.{Held}
 use Rattle.cedar_entities.specs.declared.touching.Counted.{Counted}
 use Rattle.cedar_entities.specs.declared.touching.Loss.{Loss}
 use Rattle.cedar_entities.specs.laws.Edits.{stripped}
-use Rattle.cedar_entities.specs.laws.Losses.{AreTransitive, IsLossOf, counts, is_stripped, loses, loses_uid, takes}
+use Rattle.cedar_entities.specs.laws.Losses.{AreTransitive, IsLossOf, counts, is_lost, is_stripped, loses, loses_uid}
+use Rattle.cedar_entities.specs.laws.Losses.{takes}
 use Rattle.cedar_entities.proofs.Editing.{any_more}
 use Rattle.cedar_entities.proofs.AnyOf.{and_turn, any_alike, any_found, any_member, none_retained, same_bool}
 
@@ -45,6 +46,11 @@ pub stripped_touched : (m l : Bool) → ((m || l) && (not m && l)) ≡ (not m &&
 stripped_touched true l = refl
 stripped_touched false true = refl
 stripped_touched false false = refl
+
+pub touched_alone : (m l : Bool) → ((m || l) && not m) ≡ (not m && l)
+touched_alone true l = refl
+touched_alone false true = refl
+touched_alone false false = refl
 
 -- of the hits T holds for one where it does for one of the list that is hit
 pub any_hit : (h T : EntityUID → Bool) (hits A : List EntityUID)
@@ -113,6 +119,12 @@ absorb true false = refl
 absorb false true = refl
 absorb false false = refl
 
+-- one that is none of the uids loses where it has one of them
+pub loses_below : (D : Held) (A : List EntityUID) (R : List Loss)
+    → ((q : EntityUID) → loses R q ≡ is_stripped A q (ancestry D q)) → (q : EntityUID) → is_member same_uid A q ≡ false
+    → loses R q ≡ list_any (ancestry D q) A
+loses_below D A R who q out = who q ∙ ap (λ m. not m && list_any (ancestry D q) A) out
+
 module _ (D : Held) (A : List EntityUID) (R : List Loss)
     (who : (q : EntityUID) → loses R q ≡ is_stripped A q (ancestry D q))
     (lost : AllByRecursion (IsLossOf (finmap.get D) A) R) (q : EntityUID) where
@@ -121,7 +133,7 @@ module _ (D : Held) (A : List EntityUID) (R : List Loss)
   by_loss e is w [] h = refl
   by_loss e is w (a ∷ S) h = at (same_uid q a.uid) refl (by_loss e is w S h.1)
     where
-      here : same_uid q a.uid ≡ true → set.contains a.lost w ≡ list_any (goes_with D e w) A
+      here : same_uid q a.uid ≡ true → is_lost a.lost w ≡ list_any (goes_with D e w) A
       here t =
           h.0 w ∙ ap (λ x. list_any (λ u. is_ancestor_in (finmap.get D x) u && takes (finmap.get D) u w) A)
           (sym ((same_uid_decides q a.uid).0 t))
@@ -130,22 +142,18 @@ module _ (D : Held) (A : List EntityUID) (R : List Loss)
           (λ i u. and_turn (has_ancestor e u) (is_some (finmap.get D u)) (same_uid u w || ancestry D u w) i)
 
       at : (b : Bool) → same_uid q a.uid ≡ b → loses_uid S q w ≡ (loses S q && list_any (goes_with D e w) A)
-          → ((b && set.contains a.lost w) || loses_uid S q w) ≡ ((b || loses S q) && list_any (goes_with D e w) A)
+          → ((b && is_lost a.lost w) || loses_uid S q w) ≡ ((b || loses S q) && list_any (goes_with D e w) A)
       at true t more =
           ap (λ c. c || loses_uid S q w) (here t) ∙ ap (λ c. list_any (goes_with D e w) A || c) more
           ∙ absorb (loses S q) (list_any (goes_with D e w) A)
       at false t more = more
 
-  -- one that is none of the uids loses where it has one of them
-  pub loses_below : is_member same_uid A q ≡ false → loses R q ≡ list_any (ancestry D q) A
-  loses_below out = who q ∙ ap (λ m. not m && list_any (ancestry D q) A) out
-
-  -- and what goes from it is what goes with one of them
+  -- what goes from it is what goes with one of them
   pub goes_by_loss : is_member same_uid A q ≡ false → (e : EntityView) → finmap.get D q ≡ Some e → (w : EntityUID)
       → loses_uid R q w ≡ list_any (goes_with D e w) A
   goes_by_loss out e is w =
       by_loss e is w R lost
-      ∙ ap (λ b. b && list_any (goes_with D e w) A) (loses_below out ∙ ap (λ o. list_any (is_ancestor_in o) A) is)
+      ∙ ap (λ b. b && list_any (goes_with D e w) A) (loses_below D A R who q out ∙ ap (λ o. list_any (is_ancestor_in o) A) is)
       ∙ within (list_any (has_ancestor e) A) (list_any (goes_with D e w) A)
       (λ t. let r = any_found (goes_with D e w) A t in
       any_member (has_ancestor e) A r.0 r.1 (and_parts (is_some (finmap.get D r.0)) (has_ancestor e r.0)

@@ -3,8 +3,7 @@ use Rattle.std.specs.Prelude.{◌≡◌, Bool, true, false, cond, ◌&&◌, ◌|
 use Rattle.std.proofs.Common.{ap, sym, refl, ◌∙◌}
 use Rattle.std.proofs.lemmas.Bool.{false≢true}
 use Rattle.std.proofs.lemmas.List.Folds.{list_any-append}
-use Rattle.std.specs.FinSet as set
-use Rattle.std.specs.List.{list_any}
+use Rattle.std.specs.List.{AllByRecursion, list_any}
 use Rattle.std.specs.Map.{lookup}
 use Rattle.std.specs.Option.{option_map, is_some}
 use Rattle.std.specs.Set.{is_member}
@@ -16,7 +15,7 @@ use Rattle.cedar_entity.specs.declared.node.SharedEntity.{SharedEntity}
 use Rattle.cedar_entities.specs.laws.Edits.{stripped}
 use Rattle.cedar_entities.specs.Modes.{is_ancestor_in}
 use Rattle.cedar_entities.specs.laws.Held.{shared}
-use Rattle.cedar_entities.specs.laws.Losses.{loses, loses_uid}
+use Rattle.cedar_entities.specs.laws.Losses.{IsWhole, is_lost, loses, loses_uid}
 use Rattle.cedar_entities.specs.declared.touching.Loss.{Loss}
 use Rattle.cedar_entities.proofs.Editing.{member_push, stripped_both}
 
@@ -80,19 +79,26 @@ loses_push done a q =
 -- one more entity is stripped
 pub loss_push : (G : EntityUID → Bool) (done : List Loss) (a : Loss) (first now new : Option EntityView) (q : EntityUID)
     → now ≡ option_map (stripped (λ p. loses done q && G p) (loses_uid done q)) first
-    → new ≡ cond (same_uid a.uid q) (option_map (stripped G (set.contains a.lost)) now) now
+    → new ≡ cond (same_uid a.uid q) (option_map (stripped G (is_lost a.lost)) now) now
     → new ≡ option_map (stripped (λ p. loses (done ++ a ∷ []) q && G p) (loses_uid (done ++ a ∷ []) q)) first
 loss_push G done a first now new q so step =
-    step ∙ ap (λ b. cond b (option_map (stripped G (set.contains a.lost)) now) now) (same_uid_equiv.symm a.uid q)
-    ∙ ap (λ o. cond (same_uid q a.uid) (option_map (stripped G (set.contains a.lost)) o) o) so
-    ∙ grow G (loses_uid done q) (set.contains a.lost) (loses done q) (same_uid q a.uid) first
+    step ∙ ap (λ b. cond b (option_map (stripped G (is_lost a.lost)) now) now) (same_uid_equiv.symm a.uid q)
+    ∙ ap (λ o. cond (same_uid q a.uid) (option_map (stripped G (is_lost a.lost)) o) o) so
+    ∙ grow G (loses_uid done q) (is_lost a.lost) (loses done q) (same_uid q a.uid) first
     ∙ λ i. option_map (stripped
     (λ p. sym (list_any-append (λ (x : Loss). same_uid q x.uid) done (a ∷ [])) i && G p)
-    (λ w. sym (list_any-append (λ (x : Loss). same_uid q x.uid && set.contains x.lost w) done (a ∷ [])) i)) first
+    (λ w. sym (list_any-append (λ (x : Loss). same_uid q x.uid && is_lost x.lost w) done (a ∷ [])) i)) first
 
 pub and_on : (c : Bool) → (c && true) ≡ c
 and_on true = refl
 and_on false = refl
+
+-- where all goes from each of a list, each uid does
+pub loses_whole : (R : List Loss) → AllByRecursion IsWhole R → (q w : EntityUID) → loses_uid R q w ≡ loses R q
+loses_whole [] h q w = refl
+loses_whole (a ∷ R) h q w =
+    (λ i. (same_uid q a.uid && is_lost (h.0 i) w) || loses_whole R h.1 q w i)
+    ∙ ap (λ b. b || loses R q) (and_on (same_uid q a.uid))
 
 -- one more loss is listed, or none
 pub listed_loss : (done : List Loss) (a : Loss) (key q : EntityUID) (b : Bool) → a.uid ≡ key → b ≡ true

@@ -1,14 +1,15 @@
 //! One edit of the entities of a store: some go, some come, and what had one of either among its ancestors is stripped
 //! of what goes with it. Overwriting is an edit by which none goes, removing one by which none comes.
-ghost use Rattle.std.specs.Prelude.{◌≡◌, ◌||◌, ◌&&◌, List, None, Some, cond, IfErr, IfOk, OnOk};
+ghost use Rattle.std.specs.Prelude.{◌≡◌, ◌⊎◌, ◌||◌, ◌&&◌, List, None, Some, cond, length, true, IfErr, IfOk, IsTrue, OnOk};
 ghost use Rattle.std.specs.FinSet as set;
+ghost use Rattle.std.specs.FinMap as finmap;
 ghost use Rattle.std.specs.Option.{option_map, option_or, IfSome};
 ghost use Rattle.std.specs.Set.{is_member};
 ghost use Rattle.cedar_ids.specs.UidOf.{same_uid};
 ghost use Rattle.cedar_ids.specs.declared.entity.EntityUID.{EntityUID};
 ghost use Rattle.cedar_entity.specs.declared.err.EntitiesError.TheVariants.{Memory};
 ghost use Rattle.cedar_entities.specs.Edits.{put_over, taken_out, uids_of};
-ghost use Rattle.cedar_entities.specs.Modes.{mending, row_of};
+ghost use Rattle.cedar_entities.specs.Modes.{computes, mending, row_of};
 ghost use Rattle.cedar_entities.specs.Plain.{Held};
 ghost use Rattle.cedar_entities.specs.Touching.{is_touched, removed_from};
 ghost use Rattle.cedar_entities.specs.laws.Edits.{last_entity, stripped, IsEdit};
@@ -20,9 +21,9 @@ ghost use Rattle.cedar_entities.specs.laws.Losses.{loses, loses_uid, IsReadingOf
 use crate::entities::TCComputation;
 use crate::incoming::{Incoming, uids_in};
 use crate::index::{Index, join, list_if_it_pays, part, touched_by};
-use crate::settling::{Row, finish, mending, row_of};
+use crate::settling::{Row, finish, mending, row_computes, row_of};
 use crate::sought::listed;
-use crate::touching::{Loss, held_uids, losses_among, note_all, pointers_of, strip_each};
+use crate::touching::{Loss, held_uids, losses_by, note_all, pointers_of, strip_each};
 use cedar_entity::err::EntitiesError;
 use cedar_entity::node::SharedEntity;
 use cedar_ids::entity::EntityUID;
@@ -47,24 +48,53 @@ pub(crate) struct Reading<S: BuildHasher> {
     pub(crate) losses: Vec<Loss>,
 }
 
+// Whether all indirect ancestors go from what an edit touches, for its repair to write them anew from the parents. In a
+// plain store they are what is reached over the parents that stay, so that what is reached then, and whether that has
+// a cycle, is the same as where those alone go that the edit takes. That a repair refuses what has a cycle, or that
+// nothing comes that could make one, sees to it that all of them are written.
+fn renews<S: BuildHasher>(index: &Index<S>, coming: &[Incoming], row: Row) -> bool
+    ensures plain { IsTrue result → IsTrue index.now.plain }
+    ensures repairs { IsTrue result → row.repairs ≡ true }
+    ensures acyclic { IsTrue result → (computes row ≡ true) ⊎ (length coming.now ≡ 0) }
+{
+    if !index.plain {
+        return false;
+    }
+    if !row.repairs {
+        return false;
+    }
+    row_computes(row) || coming.is_empty()
+}
+
+// Whether all indirect ancestors go from what an adding touches, for the same reason.
+pub(crate) fn renews_adding<S: BuildHasher>(index: &Index<S>, row: Row) -> bool
+    ensures { IsTrue result → IsTrue index.now.plain × (computes row ≡ true) }
+{
+    if !index.plain {
+        return false;
+    }
+    row_computes(row)
+}
+
 // What an edit of some uids reads. The children are listed where that pays.
 fn read<S: BuildHasher + Clone>(
     alloc: Global,
     entities: &HashMap<SharedUid, SharedEntity, S>,
     index: &mut Index<S>,
     uids: Vec<SharedUid>,
+    anew: bool,
 ) -> Result<Reading<S>, EntitiesError>
     requires { IsIndexOf index.old (held_map entities.now) }
     ensures index { IsIndexOf index.new (held_map entities.now) }
     ensures plain { index.new.plain ≡ index.old.plain }
-    ensures ok { IfOk result (IsReadingOf (held_map entities.now) uids.items) }
+    ensures ok { IfOk result (IsReadingOf anew (held_map entities.now) uids.items) }
     ensures err { IfErr result (λ e. e ≡ Memory) }
 {
     let mut applied = HashSet::with_hasher(alloc, entities.hasher().clone()?);
     note_all(&mut applied, uids)?;
     list_if_it_pays(alloc, entities, index);
     let touched = touched_by(alloc, entities, index, &applied)?;
-    let losses = losses_among(alloc, entities, &applied, &touched, index.plain)?;
+    let losses = losses_by(alloc, entities, &applied, &touched, index.plain, anew)?;
     let uids = listed(alloc, &applied)?;
     Ok(Reading {
         uids,
@@ -161,6 +191,8 @@ fn edit<S: BuildHasher + Clone>(
     requires index { IsIndexOf index.old (held_map entities.old) }
     requires uids { (q : EntityUID) → is_member same_uid change.uids.items q
         ≡ (is_member same_uid (uids_of change.coming.items) q || set.contains change.gone q) }
+    requires gone { (q : EntityUID) → set.contains change.gone q ≡ true
+        → finmap.contains_key (held_map entities.old) q ≡ true }
     ensures plain { index.new.plain ≡ index.old.plain }
     ensures keys { OnOk result (UidsMatch entities.new) }
     ensures children { OnOk result (IfSome index.new.children (HasChildren (parentage (held entities.new)))) }
@@ -169,7 +201,8 @@ fn edit<S: BuildHasher + Clone>(
         → Ends row (is_touched (held_map entities.old) A) M (held_map entities.new) result }
 {
     let Change { gone, coming, uids } = change;
-    let reading = read(alloc, entities, index, uids)?;
+    let anew = renews(index, &coming, row);
+    let reading = read(alloc, entities, index, uids, anew)?;
     let Reading {
         uids,
         touched,

@@ -21,15 +21,15 @@ ghost use Rattle.cedar_entities.specs.StoreFaults.{IsStoreFault, IsValidStore};
 ghost use Rattle.cedar_entities.specs.World.{World, empty_world, graph};
 
 use crate::dereference::{Dereference, unknown_of};
-use crate::edits::{put_all_over, take_all_out};
+use crate::edits::{put_all_over, renews_adding, take_all_out};
 use crate::incoming::{Incoming, shared_all, stays_plain, uids_in, with_uids};
 use crate::index::{Index, join, list_if_it_pays, touched_by};
-use crate::settling::{check, settle_touched, settle_whole};
+use crate::settling::{check, row_of, settle_touched, settle_whole};
 use crate::sought::listed;
 use crate::store_iters::{IntoIter, Iter};
 use crate::store_same::{have_deep_equals, have_keys_of};
 use crate::store_valid::check_each;
-use crate::touching::{absent_uids, note_all};
+use crate::touching::{absent_uids, forget_each, note_all};
 use cedar_entity::entity::Entity;
 use cedar_entity::err::EntitiesError;
 use cedar_entity::node::SharedEntity;
@@ -176,7 +176,8 @@ fn fill<S: BuildHasher + Clone>(
     settle_whole(alloc, entities, tc_computation)
 }
 
-// Adds entities, and closes what is inserted and what has one of that among its ancestors.
+// Adds entities, and closes what is inserted and what has one of that among its ancestors. In a plain store all indirect
+// ancestors of the latter go before, to be written anew from the parents.
 fn add_to<S: BuildHasher + Clone>(
     alloc: Global,
     entities: &mut HashMap<SharedUid, SharedEntity, S>,
@@ -188,7 +189,7 @@ fn add_to<S: BuildHasher + Clone>(
     requires index { IsIndexOf index.old (held_map entities.old) }
     ensures plain { index.new.plain ≡ index.old.plain }
     ensures children { OnOk result (IfSome index.new.children (HasChildren (parentage (held entities.new)))) }
-    ensures keys { UidsMatch entities.new }
+    ensures keys { OnOk result (UidsMatch entities.new) }
     ensures adds { AddsEntities tc_computation (held_map entities.old) list.items result
         (λ _. held_map entities.new) }
 {
@@ -200,6 +201,8 @@ fn add_to<S: BuildHasher + Clone>(
     list_if_it_pays(alloc, entities, index);
     put_all(entities, list)?;
     let touched = touched_by(alloc, entities, index, &inserted)?;
+    let anew = renews_adding(index, row_of(tc_computation));
+    forget_each(alloc, entities, &inserted, &touched, anew)?;
     join(alloc, index, entities, &joining);
     settle_touched(alloc, entities, &touched, tc_computation)
 }
@@ -216,7 +219,7 @@ fn add_all<S: BuildHasher + Clone>(
     requires index { IsIndexOf index.old (held_map entities.old) }
     ensures plain { index.new.plain ≡ index.old.plain }
     ensures children { OnOk result (IfSome index.new.children (HasChildren (parentage (held entities.new)))) }
-    ensures keys { UidsMatch entities.new }
+    ensures keys { OnOk result (UidsMatch entities.new) }
     ensures adds { AddsEntities tc_computation (held_map entities.old) list.items result
         (λ _. held_map entities.new) }
 {
@@ -323,7 +326,9 @@ impl<S: BuildHasher + Clone> Entities<S> {
     /// An indirect ancestor that an entity was given with counts as one that it has. What is touched is what was
     /// inserted, and what has one of that among its ancestors; the others stay as they are in every mode. It takes
     /// memory. It looks up each entity of the list a few times and finds what is touched, as [`Entities`] says; then it
-    /// closes that, or checks the whole. A store without entities is closed as a whole.
+    /// closes that, or checks the whole. A store without entities is closed as a whole. Where the store is known to be
+    /// plain and the mode computes, the parents alone are read of what was touched and not inserted, and its indirect
+    /// ancestors are written anew.
     pub fn add_entities(
         self,
         alloc: Global,
@@ -360,7 +365,9 @@ impl<S: BuildHasher + Clone> Entities<S> {
     /// It finds what is touched, as [`Entities`] says, once for the whole list. For an entity that is touched and none
     /// of the list it gathers what goes with the uids that this has as ancestors, in memory for a pointer each, and
     /// takes that out at once; where the store is known to be plain it reads the ancestors of those uids alone that go
-    /// with no other. Then it closes what is touched, or checks the whole.
+    /// with no other. Then it closes what is touched, or checks the whole. Where the store is known to be plain and the
+    /// mode computes, it takes out all indirect ancestors of these entities instead, reads their parents alone, and
+    /// writes the ancestors anew: then an edit costs about what it costs to build what it touches.
     ///
     /// Unlike the original it takes neither a schema nor extensions.
     pub fn upsert_entities(
@@ -398,7 +405,8 @@ impl<S: BuildHasher + Clone> Entities<S> {
     ///
     /// Refused by [`EntitiesError::TransitiveClosureError`] as the mode says, which over a computed store is
     /// never, and by `Memory`; a refusal gives no store back. It takes memory, and finds and strips what is touched as
-    /// [`Entities::upsert_entities`] does, once for the whole list; then it closes that, or checks the whole.
+    /// [`Entities::upsert_entities`] does, once for the whole list, in each mode as where it computes; then it closes
+    /// that, or checks the whole.
     pub fn remove_entities(
         self,
         alloc: Global,

@@ -12,10 +12,10 @@ ghost use Rattle.cedar_entity.specs.View.{has_ancestor};
 ghost use Rattle.cedar_entity.specs.declared.err.EntitiesError.TheVariants.{Memory};
 ghost use Rattle.cedar_entities.specs.Modes.{is_ancestor_in};
 ghost use Rattle.cedar_entities.specs.Touching.{is_touched};
-ghost use Rattle.cedar_entities.specs.laws.Edits.{stripped};
-ghost use Rattle.cedar_entities.specs.laws.Held.{held, held_map};
-ghost use Rattle.cedar_entities.specs.laws.Losses.{AreTransitive, IsLossOf, counts, is_stripped, loses, loses_uid};
-ghost use Rattle.cedar_entities.specs.laws.Losses.{takes};
+ghost use Rattle.cedar_entities.specs.laws.Edits.{bared, stripped};
+ghost use Rattle.cedar_entities.specs.laws.Held.{held, held_map, UidsMatch};
+ghost use Rattle.cedar_entities.specs.laws.Losses.{AreLossesOf, AreTransitive, IsLossOf, IsWhole, counts, is_lost};
+ghost use Rattle.cedar_entities.specs.laws.Losses.{is_stripped, loses, loses_uid, takes};
 
 use crate::sought::{Sought, listed};
 use cedar_entity::entity::Entity;
@@ -29,11 +29,20 @@ use std::collections::{HashMap, HashSet};
 use std::hash::BuildHasher;
 use std::rc::Rc;
 
+// What goes of the indirect ancestors of an entity.
+#[derive(Drop)]
+pub(crate) enum Lost {
+    // All of them.
+    All,
+    // Those of a set.
+    These(UidSet),
+}
+
 // What goes from an entity that has one of the applied uids among its ancestors.
 #[derive(Drop)]
 pub(crate) struct Loss {
     pub(crate) uid: SharedUid,
-    pub(crate) lost: UidSet,
+    pub(crate) lost: Lost,
 }
 
 // The uids of a set, each shared once more.
@@ -289,13 +298,16 @@ fn loss_of<S: BuildHasher + Clone>(
 ) -> Result<Loss, AllocError>
     requires { IsTrue transitive → AreTransitive (held entities.now) }
     ensures uid { IfOk result (λ a. a.uid ≡ key.now) }
-    ensures lost { IfOk result (λ a. (w : EntityUID) → set.contains a.lost w
+    ensures lost { IfOk result (λ a. (w : EntityUID) → is_lost a.lost w
         ≡ list_any (λ u. has_ancestor entity.now u && takes (held entities.now) u w) uids.now) }
 {
     let hits = uids.hits(alloc, entity)?;
     let lost = uid_set_with_ancestors(alloc, entities, &hits, transitive)?;
     let uid = key.clone()?;
-    Ok(Loss { uid, lost })
+    Ok(Loss {
+        uid,
+        lost: Lost::These(lost),
+    })
 }
 
 // Notes what goes from an entity by some uids, where something does.
@@ -346,7 +358,7 @@ fn push_loss_at<S: BuildHasher + Clone>(
 
 // What goes by some uids from each entity that is none of them and has one of them among its ancestors. All these are
 // among the entities that are touched.
-pub(crate) fn losses_among<S: BuildHasher + Clone>(
+fn losses_among<S: BuildHasher + Clone>(
     alloc: Global,
     entities: &HashMap<SharedUid, SharedEntity, S>,
     uids: &HashSet<SharedUid, S>,
@@ -368,11 +380,83 @@ pub(crate) fn losses_among<S: BuildHasher + Clone>(
     Ok(losses)
 }
 
-// Takes some uids from the parents and others from the indirect ancestors of an entity.
-fn strip_once(entity: &mut Entity, gone: &UidSet, lost: &UidSet)
-    ensures { entity.new ≡ stripped (set.contains gone.now) (set.contains lost.now) entity.old }
+// Notes that all indirect ancestors go from the entity at a uid, unless that is one of some uids.
+fn push_whole<S: BuildHasher>(
+    key: &SharedUid,
+    uids: &HashSet<SharedUid, S>,
+    losses: &mut Vec<Loss>,
+) -> Result<(), AllocError>
+    ensures who { OnOk result ((q : EntityUID) → loses losses.new.items q
+        ≡ (loses losses.old.items q || (same_uid key.now q && not (contains same_uid uids.now key.now)))) }
+    ensures lost { OnOk result (AllByRecursion IsWhole losses.old.items → AllByRecursion IsWhole losses.new.items) }
 {
-    entity.remove_ancestors_of(lost);
+    if uids.contains(key) {
+        return Ok(());
+    }
+    losses.push(Loss {
+        uid: key.clone()?,
+        lost: Lost::All,
+    })?;
+    Ok(())
+}
+
+// All indirect ancestors, from each entity that is touched and none of some uids.
+fn whole_losses<S: BuildHasher>(
+    alloc: Global,
+    uids: &HashSet<SharedUid, S>,
+    touched: &HashSet<SharedUid, S>,
+) -> Result<Vec<Loss>, AllocError>
+    ensures who { IfOk result (λ v. (q : EntityUID) → loses v.items q
+        ≡ (contains same_uid touched.now q && not (contains same_uid uids.now q))) }
+    ensures lost { IfOk result (λ v. AllByRecursion IsWhole v.items) }
+{
+    let mut losses = Vec::new(alloc);
+    for key in touched {
+        push_whole(key, uids, &mut losses)?;
+    }
+    Ok(losses)
+}
+
+// What goes by some uids from each entity that is touched and none of them: where a repair writes all ancestors of that
+// anew, all indirect ones, of which none is then read.
+pub(crate) fn losses_by<S: BuildHasher + Clone>(
+    alloc: Global,
+    entities: &HashMap<SharedUid, SharedEntity, S>,
+    uids: &HashSet<SharedUid, S>,
+    touched: &HashSet<SharedUid, S>,
+    transitive: bool,
+    anew: bool,
+) -> Result<Vec<Loss>, AllocError>
+    requires transitive { IsTrue transitive → AreTransitive (held entities.now) }
+    requires touched { (q : EntityUID) → contains same_uid touched.now q
+        ≡ is_touched (held_map entities.now) uids.now.keys q }
+    ensures who { IfOk result (λ v. (q : EntityUID) → loses v.items q
+        ≡ is_stripped uids.now.keys q (is_ancestor_in (held entities.now q))) }
+    ensures lost { IfOk result (λ v. AreLossesOf anew (held entities.now) uids.now.keys v.items) }
+{
+    if anew {
+        return whole_losses(alloc, uids, touched);
+    }
+    losses_among(alloc, entities, uids, touched, transitive)
+}
+
+// Takes what goes out of the indirect ancestors of an entity.
+fn lose(entity: &mut Entity, lost: &Lost)
+    ensures { entity.new ≡ record entity.old {
+      indirect = set.retain entity.old.indirect (λ w. not (is_lost lost.now w));
+    } }
+{
+    match lost {
+        Lost::All => entity.remove_all_indirect_ancestors(),
+        Lost::These(uids) => entity.remove_ancestors_of(uids),
+    }
+}
+
+// Takes some uids from the parents and others from the indirect ancestors of an entity.
+fn strip_once(entity: &mut Entity, gone: &UidSet, lost: &Lost)
+    ensures { entity.new ≡ stripped (set.contains gone.now) (is_lost lost.now) entity.old }
+{
+    lose(entity, lost);
     entity.remove_parents_of(gone);
 }
 
@@ -381,10 +465,10 @@ fn strip_once_at<S: BuildHasher>(
     entities: &mut HashMap<SharedUid, SharedEntity, S>,
     uid: &SharedUid,
     gone: &UidSet,
-    lost: &UidSet,
+    lost: &Lost,
 ) -> Result<(), EntitiesError>
     ensures ok { OnOk result ((q : EntityUID) → held entities.new q ≡ cond (same_uid uid.now q)
-        (option_map (stripped (set.contains gone.now) (set.contains lost.now)) (held entities.old q))
+        (option_map (stripped (set.contains gone.now) (is_lost lost.now)) (held entities.old q))
         (held entities.old q)) }
     ensures err { IfErr result (λ e. e ≡ Memory) }
 {
@@ -409,4 +493,28 @@ pub(crate) fn strip_each<S: BuildHasher>(
         strip_once_at(entities, &loss.uid, gone, &loss.lost)?;
     }
     Ok(())
+}
+
+// Takes all indirect ancestors from the entities that are touched and none of some uids, where a repair writes them
+// anew.
+pub(crate) fn forget_each<S: BuildHasher>(
+    alloc: Global,
+    entities: &mut HashMap<SharedUid, SharedEntity, S>,
+    uids: &HashSet<SharedUid, S>,
+    touched: &HashSet<SharedUid, S>,
+    anew: bool,
+) -> Result<(), EntitiesError>
+    requires { UidsMatch entities.old }
+    ensures keys { OnOk result (UidsMatch entities.new) }
+    ensures ok { OnOk result ((q : EntityUID) → held entities.new q ≡ cond
+        (anew && (contains same_uid touched.now q && not (contains same_uid uids.now q)))
+        (option_map bared (held entities.old q)) (held entities.old q)) }
+    ensures err { IfErr result (λ e. e ≡ Memory) }
+{
+    if !anew {
+        return Ok(());
+    }
+    let losses = whole_losses(alloc, uids, touched)?;
+    let none = UidSet::new(alloc);
+    strip_each(entities, losses, &none)
 }

@@ -6,9 +6,9 @@
 use crate::cedar_entities::entities::TCComputation;
 use crate::cedar_entities::incoming::{Incoming, uids_in};
 use crate::cedar_entities::index::{Index, join, list_if_it_pays, part, touched_by};
-use crate::cedar_entities::settling::{Row, finish, mending, row_of};
+use crate::cedar_entities::settling::{Row, finish, mending, row_computes, row_of};
 use crate::cedar_entities::sought::listed;
-use crate::cedar_entities::touching::{Loss, held_uids, losses_among, note_all, pointers_of, strip_each};
+use crate::cedar_entities::touching::{Loss, held_uids, losses_by, note_all, pointers_of, strip_each};
 use crate::cedar_entity::err::EntitiesError;
 use crate::cedar_entity::node::SharedEntity;
 use crate::cedar_ids::entity::EntityUID;
@@ -30,17 +30,40 @@ pub(crate) struct Reading<S: BuildHasher> {
     pub(crate) losses: Vec<Loss>,
 }
 
+// Whether all indirect ancestors go from what an edit touches, for its repair to write them anew from the parents. In a
+// plain store they are what is reached over the parents that stay, so that what is reached then, and whether that has
+// a cycle, is the same as where those alone go that the edit takes. That a repair refuses what has a cycle, or that
+// nothing comes that could make one, sees to it that all of them are written.
+fn renews<S: BuildHasher>(index: &Index<S>, coming: &[Incoming], row: Row) -> bool {
+    if !index.plain {
+        return false;
+    }
+    if !row.repairs {
+        return false;
+    }
+    row_computes(row) || coming.is_empty()
+}
+
+// Whether all indirect ancestors go from what an adding touches, for the same reason.
+pub(crate) fn renews_adding<S: BuildHasher>(index: &Index<S>, row: Row) -> bool {
+    if !index.plain {
+        return false;
+    }
+    row_computes(row)
+}
+
 // What an edit of some uids reads. The children are listed where that pays.
 fn read<S: BuildHasher + Clone>(
     entities: &HashMap<SharedUid, SharedEntity, S>,
     index: &mut Index<S>,
     uids: Vec<SharedUid>,
+    anew: bool,
 ) -> Reading<S> {
     let mut applied = HashSet::with_hasher(entities.hasher().clone());
     note_all(&mut applied, uids);
     list_if_it_pays(entities, index);
     let touched = touched_by(entities, index, &applied);
-    let losses = losses_among(entities, &applied, &touched, index.plain);
+    let losses = losses_by(entities, &applied, &touched, index.plain, anew);
     let uids = listed(&applied);
     Reading { uids, touched, losses }
 }
@@ -90,7 +113,8 @@ fn edit<S: BuildHasher + Clone>(
     row: Row,
 ) -> Result<(), EntitiesError> {
     let Change { gone, coming, uids } = change;
-    let reading = read(entities, index, uids);
+    let anew = renews(index, &coming, row);
+    let reading = read(entities, index, uids, anew);
     let Reading { uids, touched, losses } = reading;
     part(index, entities, &uids, gone.pointers());
     write(entities, losses, gone, coming);

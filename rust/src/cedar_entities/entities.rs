@@ -3,15 +3,15 @@
 //! The store of entities.
 
 use crate::cedar_entities::dereference::{Dereference, unknown_of};
-use crate::cedar_entities::edits::{put_all_over, take_all_out};
+use crate::cedar_entities::edits::{put_all_over, renews_adding, take_all_out};
 use crate::cedar_entities::incoming::{Incoming, shared_all, stays_plain, uids_in, with_uids};
 use crate::cedar_entities::index::{Index, join, list_if_it_pays, touched_by};
-use crate::cedar_entities::settling::{check, settle_touched, settle_whole};
+use crate::cedar_entities::settling::{check, row_of, settle_touched, settle_whole};
 use crate::cedar_entities::sought::listed;
 use crate::cedar_entities::store_iters::{IntoIter, Iter};
 use crate::cedar_entities::store_same::{have_deep_equals, have_keys_of};
 use crate::cedar_entities::store_valid::check_each;
-use crate::cedar_entities::touching::{absent_uids, note_all};
+use crate::cedar_entities::touching::{absent_uids, forget_each, note_all};
 use crate::cedar_entity::entity::Entity;
 use crate::cedar_entity::err::EntitiesError;
 use crate::cedar_entity::node::SharedEntity;
@@ -109,7 +109,8 @@ fn fill<S: BuildHasher + Clone>(
     settle_whole(entities, tc_computation)
 }
 
-// Adds entities, and closes what is inserted and what has one of that among its ancestors.
+// Adds entities, and closes what is inserted and what has one of that among its ancestors. In a plain store all indirect
+// ancestors of the latter go before, to be written anew from the parents.
 fn add_to<S: BuildHasher + Clone>(
     entities: &mut HashMap<SharedUid, SharedEntity, S>,
     index: &mut Index<S>,
@@ -124,6 +125,8 @@ fn add_to<S: BuildHasher + Clone>(
     list_if_it_pays(entities, index);
     put_all(entities, list)?;
     let touched = touched_by(entities, index, &inserted);
+    let anew = renews_adding(index, row_of(tc_computation));
+    forget_each(entities, &inserted, &touched, anew);
     join(index, entities, &joining);
     settle_touched(entities, &touched, tc_computation)
 }
@@ -341,7 +344,9 @@ impl<S: BuildHasher + Clone> Entities<S> {
     /// An indirect ancestor that an entity was given with counts as one that it has. What is touched is what was
     /// inserted, and what has one of that among its ancestors; the others stay as they are in every mode. It looks up
     /// each entity of the list a few times and finds what is touched, as [`Entities`] says; then it closes that, or
-    /// checks the whole. A store without entities is closed as a whole.
+    /// checks the whole. A store without entities is closed as a whole. Where the store is known to be plain and the
+    /// mode computes, the parents alone are read of what was touched and not inserted, and its indirect ancestors are
+    /// written anew.
     ///
     /// ```
     /// # use cedar_store::{ast::*, entities::*};
@@ -402,7 +407,9 @@ impl<S: BuildHasher + Clone> Entities<S> {
     /// as [`Entities`] says, once for the whole list. For an entity that is touched and none of the list it gathers
     /// what goes with the uids that this has as ancestors, and takes that out at once; where the store is known to be
     /// plain it reads the ancestors of those uids alone that go with no other. Then it closes what is touched, or
-    /// checks the whole.
+    /// checks the whole. Where the store is known to be plain and the mode computes, it takes out all indirect
+    /// ancestors of these entities instead, reads their parents alone, and writes the ancestors anew: then an edit
+    /// costs about what it costs to build what it touches.
     ///
     /// Unlike the original it takes neither a schema nor extensions.
     ///
@@ -461,7 +468,7 @@ impl<S: BuildHasher + Clone> Entities<S> {
     ///
     /// Refused by [`EntitiesError::TransitiveClosureError`] as the mode says, which over a computed store is never; a
     /// refusal gives no store back. It finds and strips what is touched as [`Entities::upsert_entities`] does, once for
-    /// the whole list; then it closes that, or checks the whole.
+    /// the whole list, in each mode as where it computes; then it closes that, or checks the whole.
     ///
     /// ```
     /// # use cedar_store::{ast::*, entities::*};

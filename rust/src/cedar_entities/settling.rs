@@ -51,11 +51,15 @@ pub(crate) fn mending(row: Row) -> Row {
     }
 }
 
-// Whether the mode computes the closure of what is put in: it repairs that, refuses a cycle there, and looks for
-// nothing else.
-pub(crate) fn computes(tc_computation: TCComputation) -> bool {
-    let row = row_of(tc_computation);
+// Whether a row computes the closure of what is put in: it repairs that, refuses a cycle there, and looks for nothing
+// else.
+pub(crate) fn row_computes(row: Row) -> bool {
     row.repairs && row.refuses_cycles && !row.checks
+}
+
+// Whether the mode does.
+pub(crate) fn computes(tc_computation: TCComputation) -> bool {
+    row_computes(row_of(tc_computation))
 }
 
 // Checks that the ancestors are closed and that no entity is its own.

@@ -13,10 +13,18 @@ use std::collections::{HashMap, HashSet};
 use std::hash::BuildHasher;
 use std::sync::Arc;
 
+// What goes of the indirect ancestors of an entity.
+pub(crate) enum Lost {
+    // All of them.
+    All,
+    // Those of a set.
+    These(UidSet),
+}
+
 // What goes from an entity that has one of the applied uids among its ancestors.
 pub(crate) struct Loss {
     pub(crate) uid: SharedUid,
-    pub(crate) lost: UidSet,
+    pub(crate) lost: Lost,
 }
 
 // The uids of a set, each shared once more.
@@ -194,7 +202,10 @@ fn loss_of<S: BuildHasher + Clone>(
     let hits = uids.hits(entity);
     let lost = uid_set_with_ancestors(entities, &hits, transitive);
     let uid = key.clone();
-    Loss { uid, lost }
+    Loss {
+        uid,
+        lost: Lost::These(lost),
+    }
 }
 
 // Notes what goes from an entity by some uids, where something does.
@@ -227,7 +238,7 @@ fn push_loss_at<S: BuildHasher + Clone>(
 
 // What goes by some uids from each entity that is none of them and has one of them among its ancestors. All these are
 // among the entities that are touched.
-pub(crate) fn losses_among<S: BuildHasher + Clone>(
+fn losses_among<S: BuildHasher + Clone>(
     entities: &HashMap<SharedUid, SharedEntity, S>,
     uids: &HashSet<SharedUid, S>,
     touched: &HashSet<SharedUid, S>,
@@ -241,9 +252,52 @@ pub(crate) fn losses_among<S: BuildHasher + Clone>(
     losses
 }
 
+// Notes that all indirect ancestors go from the entity at a uid, unless that is one of some uids.
+fn push_whole<S: BuildHasher>(key: &SharedUid, uids: &HashSet<SharedUid, S>, losses: &mut Vec<Loss>) {
+    if uids.contains(key) {
+        return;
+    }
+    losses.push(Loss {
+        uid: key.clone(),
+        lost: Lost::All,
+    });
+}
+
+// All indirect ancestors, from each entity that is touched and none of some uids.
+fn whole_losses<S: BuildHasher>(uids: &HashSet<SharedUid, S>, touched: &HashSet<SharedUid, S>) -> Vec<Loss> {
+    let mut losses = Vec::new();
+    for key in touched {
+        push_whole(key, uids, &mut losses);
+    }
+    losses
+}
+
+// What goes by some uids from each entity that is touched and none of them: where a repair writes all ancestors of that
+// anew, all indirect ones, of which none is then read.
+pub(crate) fn losses_by<S: BuildHasher + Clone>(
+    entities: &HashMap<SharedUid, SharedEntity, S>,
+    uids: &HashSet<SharedUid, S>,
+    touched: &HashSet<SharedUid, S>,
+    transitive: bool,
+    anew: bool,
+) -> Vec<Loss> {
+    if anew {
+        return whole_losses(uids, touched);
+    }
+    losses_among(entities, uids, touched, transitive)
+}
+
+// Takes what goes out of the indirect ancestors of an entity.
+fn lose(entity: &mut Entity, lost: &Lost) {
+    match lost {
+        Lost::All => entity.remove_all_indirect_ancestors(),
+        Lost::These(uids) => entity.remove_ancestors_of(uids),
+    }
+}
+
 // Takes some uids from the parents and others from the indirect ancestors of an entity.
-fn strip_once(entity: &mut Entity, gone: &UidSet, lost: &UidSet) {
-    entity.remove_ancestors_of(lost);
+fn strip_once(entity: &mut Entity, gone: &UidSet, lost: &Lost) {
+    lose(entity, lost);
     entity.remove_parents_of(gone);
 }
 
@@ -252,7 +306,7 @@ fn strip_once_at<S: BuildHasher>(
     entities: &mut HashMap<SharedUid, SharedEntity, S>,
     uid: &SharedUid,
     gone: &UidSet,
-    lost: &UidSet,
+    lost: &Lost,
 ) {
     if let Some(node) = entities.get_mut(uid) {
         strip_once(Arc::make_mut(&mut node.0), gone, lost);
@@ -268,4 +322,20 @@ pub(crate) fn strip_each<S: BuildHasher>(
     for loss in losses {
         strip_once_at(entities, &loss.uid, gone, &loss.lost);
     }
+}
+
+// Takes all indirect ancestors from the entities that are touched and none of some uids, where a repair writes them
+// anew.
+pub(crate) fn forget_each<S: BuildHasher>(
+    entities: &mut HashMap<SharedUid, SharedEntity, S>,
+    uids: &HashSet<SharedUid, S>,
+    touched: &HashSet<SharedUid, S>,
+    anew: bool,
+) {
+    if !anew {
+        return;
+    }
+    let losses = whole_losses(uids, touched);
+    let none = UidSet::new();
+    strip_each(entities, losses, &none);
 }

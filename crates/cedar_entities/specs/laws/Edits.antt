@@ -23,6 +23,10 @@ stripped parents indirect e = record e {
   indirect = set.retain e.indirect (λ w. not (indirect w));
 }
 
+-- the entity without its indirect ancestors
+abbrev pub bared : EntityView → EntityView
+bared e = record e { indirect = set.empty }
+
 -- what an edit leaves of an entity that stays: it is without the parents that go, and lessened by the uids A
 abbrev pub remains : Held → (EntityUID → Bool) → List EntityUID → EntityView → EntityView
 remains D gone A e = parted gone (lessened D A e)

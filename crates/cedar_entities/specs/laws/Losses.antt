@@ -1,5 +1,5 @@
 -- What goes from each entity by all uids that an edit applies, read before anything changes.
-use Rattle.std.specs.Prelude.{◌≡◌, Bool, true, ◌&&◌, ◌||◌, not, List, Option}
+use Rattle.std.specs.Prelude.{◌≡◌, Bool, true, false, ◌&&◌, ◌||◌, not, List, Option}
 use Rattle.std.specs.Option.{is_some}
 use Rattle.std.specs.HashSet.{contains}
 use Rattle.std.specs.List.{AllByRecursion, list_any}
@@ -15,6 +15,8 @@ use Rattle.cedar_entities.specs.Touching.{is_touched}
 use Rattle.cedar_entities.specs.declared.edits.Reading.{Reading}
 use Rattle.cedar_entities.specs.declared.touching.Counted.{Counted}
 use Rattle.cedar_entities.specs.declared.touching.Loss.{Loss}
+use Rattle.cedar_entities.specs.declared.touching.Lost.{Lost}
+use Rattle.cedar_entities.specs.declared.touching.Lost.TheVariants as lost
 
 -- whether w goes with u: u is held, and w is u or an ancestor of u
 abbrev pub takes : (EntityUID → Option EntityView) → EntityUID → EntityUID → Bool
@@ -29,9 +31,23 @@ AreTransitive f = (a b c : EntityUID) → is_ancestor_in (f a) b ≡ true → is
 abbrev pub is_stripped : List EntityUID → EntityUID → (EntityUID → Bool) → Bool
 is_stripped A q f = not (is_member same_uid A q) && list_any f A
 
+-- whether a uid is of what goes
+abbrev pub is_lost : Lost → EntityUID → Bool
+is_lost lost.All w = true
+is_lost (lost.These s) w = set.contains s w
+
+-- all indirect ancestors go
+abbrev pub IsWhole : Loss → Type 0
+IsWhole a = a.lost ≡ lost.All
+
 -- what goes from an entity is what goes with one of the uids that it has among its ancestors
 abbrev pub IsLossOf : (EntityUID → Option EntityView) → List EntityUID → Loss → Type 0
-IsLossOf f A a = (w : EntityUID) → set.contains a.lost w ≡ list_any (λ u. is_ancestor_in (f a.uid) u && takes f u w) A
+IsLossOf f A a = (w : EntityUID) → is_lost a.lost w ≡ list_any (λ u. is_ancestor_in (f a.uid) u && takes f u w) A
+
+-- from each of the list so much goes, or all
+abbrev pub AreLossesOf : Bool → (EntityUID → Option EntityView) → List EntityUID → List Loss → Type 0
+AreLossesOf true f A R = AllByRecursion IsWhole R
+AreLossesOf false f A R = AllByRecursion (IsLossOf f A) R
 
 -- whether the list has a loss of q
 abbrev pub loses : List Loss → EntityUID → Bool
@@ -39,15 +55,16 @@ loses R q = list_any (λ a. same_uid q a.uid) R
 
 -- whether w goes from q by the list
 abbrev pub loses_uid : List Loss → EntityUID → EntityUID → Bool
-loses_uid R q w = list_any (λ a. same_uid q a.uid && set.contains a.lost w) R
+loses_uid R q w = list_any (λ a. same_uid q a.uid && is_lost a.lost w) R
 
 -- whether the list has q with the number of its ancestors
 abbrev pub counts : List Counted → EntityUID → Bool
 counts L q = list_any (λ a. same_uid q a.uid) L
 
--- what an edit of some uids reads of what D holds: it lists these uids, what they touch, and what goes from that
-pub record IsReadingOf {S H : Type 0} (D : Held) (uids : List EntityUID) (r : Reading S H) : Type 0 where
+-- what an edit of some uids reads of what D holds: it lists these uids, what they touch, and what goes from that, which
+-- is all where it is to be written anew
+pub record IsReadingOf {S H : Type 0} (anew : Bool) (D : Held) (uids : List EntityUID) (r : Reading S H) : Type 0 where
   pub same : (q : EntityUID) → is_member same_uid r.uids.items q ≡ is_member same_uid uids q
   pub touched : (q : EntityUID) → contains same_uid r.touched q ≡ is_touched D r.uids.items q
   pub who : (q : EntityUID) → loses r.losses.items q ≡ is_stripped r.uids.items q (ancestry D q)
-  pub lost : AllByRecursion (IsLossOf (finmap.get D) r.uids.items) r.losses.items
+  pub lost : AreLossesOf anew (finmap.get D) r.uids.items r.losses.items

@@ -1,6 +1,6 @@
-use Rattle.std.proofs.Common.{ap, refl, subst, sym, ◌∙◌, ◌≡◌, ◌||◌, ◌&&◌, not}
+use Rattle.std.proofs.Common.{ap, length, refl, subst, sym, true, ◌∙◌, ◌≡◌, ◌||◌}
+use Rattle.std.specs.Prelude.{◌⊎◌}
 use Rattle.std.proofs.lemmas.Result.{on_ok_weaker}
-use Rattle.std.specs.FinMap as finmap
 use Rattle.std.specs.FinSet as set
 use Rattle.std.specs.HashSet.{contains}
 use Rattle.std.specs.Set.{is_member}
@@ -9,14 +9,14 @@ use Rattle.cedar_ids.specs.declared.entity.EntityUID.{EntityUID}
 use Rattle.cedar_uid_sets.specs.UidSets.{UidValues}
 use Rattle.cedar_uid_sets.specs.laws.Sets.{contains_listed}
 use Rattle.cedar_entities.specs.Edits.{uids_of}
-use Rattle.cedar_entities.specs.laws.Edits.{last_entity, IsEdit}
-use Rattle.cedar_entities.specs.laws.Ends.{Ends}
+use Rattle.cedar_entities.specs.Modes.{computes}
 use Rattle.cedar_entities.specs.laws.Held.{held, held_map}
-use Rattle.cedar_entities.specs.laws.Indexes.{is_parent_at}
 use Rattle.cedar_entities.proofs.Adds.{stored}
-use Rattle.cedar_entities.proofs.Edited.{edit_same, known_touched, written_edit}
+use Rattle.cedar_entities.proofs.Edited.{known_touched, parents_written}
 use Rattle.cedar_entities.proofs.Ending.{ended_kept, ends_nothing}
 use Rattle.cedar_entities.proofs.Indexes.{children_back, children_edited, if_some}
+use Rattle.cedar_entities.proofs.Overwriting.{last_some}
+use Rattle.cedar_entities.proofs.Renewing.{edit_ends}
 use Rattle.cedar_entities.proofs.edits.edit.Goals as goal
 
 pub returns-in_err-reading-clause-ends : goal.returns-in_err-reading-clause-ends
@@ -31,19 +31,22 @@ pub returns-clause-ends : goal.returns-clause-ends
 returns-clause-ends g c A M x =
     let m = c.args.entities.now in
     let n = c.write.new.entities in
-    let D = held_map m in
     let r = c.in_ok-reading.reading in
     let is = c.in_ok-reading.ensures.ok in
     let gone = c.args.change.gone in
-    let made : IsEdit D (held_map n) (set.contains gone) (last_entity c.args.change.coming.items) r.uids.items =
-    written_edit m n gone c.args.change.coming.items r.uids.items r.losses.items
-    (λ q. is.same q ∙ c.requires.uids q) is.who is.lost c.in_ok-write.ensures.ok in
-    let touched = known_touched D r.uids.items A (contains same_uid r.touched)
-    (λ q. made.applied q ∙ sym (x.applied q)) is.touched in
-    subst (λ f. Ends c.args.row f M (held_map c.finish.new.entities) c.finish.result) touched
-    (subst (λ E. Ends c.args.row (contains same_uid r.touched) E (held_map c.finish.new.entities) c.finish.result)
-    (edit_same D (held_map n) M (set.contains gone) (last_entity c.args.change.coming.items) r.uids.items A made x)
-    c.finish.ensures.ends)
+    let L = c.args.change.coming.items in
+    let all : (q : EntityUID) → is_member same_uid r.uids.items q
+    ≡ (is_member same_uid (uids_of L) q || set.contains gone q) = λ q. is.same q ∙ c.requires.uids q in
+    edit_ends c.renews-anew.result m n gone L M A r.uids.items r.losses.items c.args.row
+    (held_map c.finish.new.entities) c.finish.result (contains same_uid r.touched)
+    (λ t. c.requires.index.plain (c.renews-anew.ensures.plain t))
+    c.renews-anew.ensures.repairs
+    (λ t. subst (λ l. (computes c.args.row ≡ true) ⊎ (length l ≡ 0)) c.deref.ensures.value
+    (c.renews-anew.ensures.acyclic t))
+    c.requires.gone x all is.who is.lost c.in_ok-write.ensures.ok
+    (known_touched (held_map m) r.uids.items A (contains same_uid r.touched)
+    (λ q. all q ∙ ap (λ b. b || set.contains gone q) (sym (last_some L q)) ∙ sym (x.applied q)) is.touched)
+    c.finish.ensures.ends
 
 pub returns-clause-children : goal.returns-clause-children
 returns-clause-children g c =
@@ -54,17 +57,15 @@ returns-clause-children g c =
     let r = c.in_ok-reading.reading in
     let is = c.in_ok-reading.ensures.ok in
     let gone = c.args.change.gone in
-    let put = last_entity c.args.change.coming.items in
-    let made : IsEdit D (held_map n) (set.contains gone) put r.uids.items =
-    written_edit m n gone c.args.change.coming.items r.uids.items r.losses.items
-    (λ q. is.same q ∙ c.requires.uids q) is.who is.lost c.in_ok-write.ensures.ok in
     on_ok_weaker c.finish.result
     (λ s. children_back N (held_map N) c.join.new.index.children refl
     (if_some _ _ c.join.new.index.children
-    (λ ch h p q. h p q ∙ children_edited D (held_map n) (held_map N) (set.contains gone) put r.uids.items
-    c.deref.result.now c.deref-2.result.now c.pointers.result.now (held m) (held n) made
-    (λ y. ap (λ l. is_member same_uid l y) c.deref.ensures.value)
+    (λ ch h p q. h p q ∙ children_edited D (held_map n) (held_map N) (set.contains gone) r.uids.items
+    c.deref-2.result.now c.deref-3.result.now c.pointers.result.now (held m) (held n)
+    (parents_written m n gone c.args.change.coming.items r.uids.items r.losses.items
+    (λ y. is.same y ∙ c.requires.uids y) is.who c.in_ok-write.ensures.ok)
     (λ y. ap (λ l. is_member same_uid l y) c.deref-2.ensures.value)
+    (λ y. ap (λ l. is_member same_uid l y) c.deref-3.ensures.value)
     (λ y. sym (contains_listed c.pointers.result.now y)
     ∙ ap (λ (z : UidValues). set.contains z y) c.pointers.ensures.all)
     (stored m D refl) (stored n (held_map n) refl)

@@ -1,4 +1,5 @@
-use Rattle.std.proofs.Common.{ap, subst, sym, ◌∙◌, ◌≡◌, ◌||◌}
+use Rattle.std.proofs.Common.{ap, subst, sym, ◌∙◌, ◌||◌}
+use Rattle.std.proofs.lemmas.Bool.{both_ways}
 use Rattle.std.specs.FinSet as set
 use Rattle.std.specs.Set.{is_member}
 use Rattle.cedar_ids.specs.UidOf.{same_uid, uid_order}
@@ -16,6 +17,10 @@ edit-requires-clause-uids g c q =
     ∙ or_off (is_member same_uid (uids_of c.args.coming.items) q)
     ∙ ap (λ b. is_member same_uid (uids_of c.args.coming.items) q || b)
     (sym (ap (λ s. set.contains s q) c.new-gone.ensures ∙ set.contains-empty uid_order q))
+
+pub edit-requires-clause-gone : goal.edit-requires-clause-gone
+edit-requires-clause-gone g c q t = absurd (both_ways (set.contains c.new-gone.result q)
+    (ap (λ s. set.contains s q) c.new-gone.ensures ∙ set.contains-empty uid_order q) t)
 
 pub returns-clause-ends : goal.returns-clause-ends
 returns-clause-ends g c =

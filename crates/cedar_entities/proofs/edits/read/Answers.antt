@@ -1,4 +1,4 @@
-use Rattle.std.proofs.Common.{ap, refl, ◌∙◌, ◌≡◌, ◌||◌}
+use Rattle.std.proofs.Common.{ap, refl, ◌∙◌, ◌||◌}
 use Rattle.std.specs.Set.{is_member}
 use Rattle.cedar_ids.specs.UidOf.{same_uid}
 use Rattle.cedar_entities.specs.laws.Held.{held_map}
@@ -6,15 +6,15 @@ use Rattle.cedar_entities.proofs.Edited.{reading_of}
 use Rattle.cedar_entities.proofs.Indexes.{plain_transitive}
 use Rattle.cedar_entities.proofs.edits.read.Goals as goal
 
-pub losses_among-requires-clause-transitive : goal.losses_among-requires-clause-transitive
-losses_among-requires-clause-transitive g c is =
+pub losses_by-requires-clause-transitive : goal.losses_by-requires-clause-transitive
+losses_by-requires-clause-transitive g c is =
     plain_transitive c.args.entities.now (c.list_if_it_pays.ensures.index.plain is)
 
 pub returns-clause-ok : goal.returns-clause-ok
 returns-clause-ok g c =
     let m = c.args.entities.now in
     let us = c.args.uids.items in
-    reading_of m us c.note_all.new.noted.keys _ c.in_ok-uids.ensures
+    reading_of m us c.note_all.new.noted.keys _ c.args.anew c.in_ok-uids.ensures
     (λ q. c.in_ok-note_all.ensures.ok q
     ∙ ap (λ ks. is_member same_uid ks q || is_member same_uid us q) c.with_hasher-applied.ensures.empty)
     (c.in_ok-touched.ensures.ok (held_map m) c.list_if_it_pays.ensures.index (λ q. refl))

@@ -1,5 +1,7 @@
-use Rattle.std.proofs.Common.{ap, refl, subst, sym, ◌∙◌, ◌≡◌, ◌||◌}
+use Rattle.std.proofs.Common.{ap, refl, subst, sym, ◌∙◌, ◌||◌}
+use Rattle.std.proofs.lemmas.Bool.{and_parts}
 use Rattle.std.specs.FinSet as set
+use Rattle.std.specs.FinMap as finmap
 use Rattle.std.specs.Set.{is_member}
 use Rattle.cedar_ids.specs.UidOf.{same_uid}
 use Rattle.cedar_entities.specs.Edits.{taken_out, uids_of}
@@ -13,6 +15,15 @@ use Rattle.cedar_entities.proofs.edits.take_all_out.Goals as goal
 pub edit-requires-clause-uids : goal.edit-requires-clause-uids
 edit-requires-clause-uids g c q = c.in_ok-uids.ensures q
     ∙ ap (λ l. is_member same_uid (uids_of l) q || set.contains c.in_ok-gone.gone q) (sym c.new-coming.ensures.items)
+
+pub edit-requires-clause-gone : goal.edit-requires-clause-gone
+edit-requires-clause-gone g c q t =
+    let m = c.args.entities.now in
+    let D = held_map m in
+    let U = c.args.list.items in
+    (and_parts (is_member same_uid U q) (finmap.contains_key D q)
+    (sym (gone_leaves m D U c.in_ok-listed.listed.items c.in_ok-gone.gone refl c.in_ok-listed.ensures
+    c.in_ok-gone.ensures q) ∙ t)).1
 
 pub returns-clause-ends : goal.returns-clause-ends
 returns-clause-ends g c =

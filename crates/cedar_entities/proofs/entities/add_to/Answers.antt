@@ -1,4 +1,4 @@
-use Rattle.std.proofs.Common.{ap, refl, subst, not, is_some, ◌∙◌, ◌≡◌, ◌||◌}
+use Rattle.std.proofs.Common.{ap, refl, sym, not, is_some, ◌∙◌, ◌≡◌, ◌&&◌, ◌||◌}
 use Rattle.std.proofs.lemmas.Result.{on_ok_weaker}
 use Rattle.std.specs.FinMap as finmap
 use Rattle.std.specs.HashSet.{contains}
@@ -9,17 +9,17 @@ use Rattle.cedar_ids.specs.UidOf.{same_uid}
 use Rattle.cedar_ids.specs.declared.entity.EntityUID.{EntityUID}
 use Rattle.cedar_entity.specs.View.{kept}
 use Rattle.cedar_entities.specs.Edits.{uids_of}
-use Rattle.cedar_entities.specs.Modes.{row_of}
+use Rattle.cedar_entities.specs.Modes.{computes, row_of}
 use Rattle.cedar_entities.specs.Present.{with_first}
 use Rattle.cedar_entities.specs.Touching.{inserted_in}
-use Rattle.cedar_entities.specs.laws.Ends.{Ends}
 use Rattle.cedar_entities.specs.laws.Held.{held, held_map}
-use Rattle.cedar_entities.specs.laws.Indexes.{parentage}
+use Rattle.cedar_entities.specs.laws.Indexes.{is_parent_at, parentage}
 use Rattle.cedar_entities.proofs.Adds.{put_in, stored}
 use Rattle.cedar_entities.proofs.Changing.{adds_settled, adds_unmatched}
 use Rattle.cedar_entities.proofs.Edited.{added_alike, known_touched}
 use Rattle.cedar_entities.proofs.Ending.{ended_kept}
 use Rattle.cedar_entities.proofs.Indexes.{children_back, children_in, if_some}
+use Rattle.cedar_entities.proofs.Renewing.{add_ends, parents_forgot}
 use Rattle.cedar_entities.proofs.entities.add_to.Goals as goal
 
 pub returns-in_err-put_all-clause-adds : goal.returns-in_err-put_all-clause-adds
@@ -49,8 +49,11 @@ returns-clause-adds g c =
     (c.in_ok-touched.ensures.ok D c.list_if_it_pays.ensures.index (added_alike n D L A put same)) in
     adds_settled m c.args.tc_computation L n N c.settle_touched.result
     c.in_ok-put_all.ensures.agree c.in_ok-put_all.ensures.ok
-    (subst (λ f. Ends (row_of c.args.tc_computation) f (held_map n) N
-    c.settle_touched.result) touched c.settle_touched.ensures.ends)
+    (add_ends c.renews_adding-anew.result m n c.forget_each.new.entities L A (row_of c.args.tc_computation) N
+    c.settle_touched.result (contains same_uid c.in_ok-touched.touched)
+    (λ t. c.list_if_it_pays.ensures.index.plain (c.renews_adding-anew.ensures t).0)
+    (λ t. ap computes (sym c.row_of.ensures) ∙ (c.renews_adding-anew.ensures t).1) put same
+    c.in_ok-forget_each.ensures.ok touched c.settle_touched.ensures.ends)
 
 pub returns-clause-children : goal.returns-clause-children
 returns-clause-children g c =
@@ -64,18 +67,32 @@ returns-clause-children g c =
     let all : fresh ≡ filter (λ u. not (is_some (held m u))) (uids_of L) =
     c.in_ok-fresh.ensures
     ∙ ap (filter (λ u. not (is_some (held m u)))) (c.in_ok-uids.ensures ∙ ap uids_of c.deref.ensures.value) in
-    let A = c.deref-2.result.now in
+    let A = c.note_all.new.noted.keys in
     let same : (q : EntityUID) → is_member same_uid A q ≡ is_member same_uid (inserted_in D L) q =
-    λ q. ap (λ l. is_member same_uid l q) (c.deref-2.ensures.value ∙ c.in_ok-joining.ensures)
-    ∙ c.in_ok-note_all.ensures.ok q ∙ ap
+    λ q. c.in_ok-note_all.ensures.ok q ∙ ap
     (λ ks. is_member same_uid ks q || is_member same_uid fresh q) c.with_hasher-inserted.ensures.empty
     ∙ ap (λ us. is_member same_uid us q) (all
     ∙ ap (λ h. filter (λ u. not (is_some (h u))) (uids_of L)) (stored m D refl)) in
+    let J = c.deref-2.result.now in
+    let joined : (q : EntityUID) → is_member same_uid J q ≡ is_member same_uid (inserted_in D L) q =
+    λ q. ap (λ l. is_member same_uid l q) (c.deref-2.ensures.value ∙ c.in_ok-joining.ensures) ∙ same q in
+    let touched = known_touched D A (inserted_in D L) (contains same_uid c.in_ok-touched.touched) same
+    (c.in_ok-touched.ensures.ok D c.list_if_it_pays.ensures.index (added_alike n D L A put same)) in
+    let o = c.forget_each.new.entities in
     on_ok_weaker c.settle_touched.result
     (λ s. children_back c.settle_touched.new.entities N c.join.new.index.children refl
     (if_some _ _ c.join.new.index.children
-    (λ ch h p q. h p q ∙ children_in D N L A (held n) same (λ x. ap (λ f. f x) (stored n (with_first D L) put))
+    (λ ch h p q. h p q ∙ children_in D N L J (held o) joined
+    (λ y x. ap (λ e. is_parent_at e y) (c.in_ok-forget_each.ensures.ok x)
+    ∙ parents_forgot (c.renews_adding-anew.result && (contains same_uid c.in_ok-touched.touched x
+    && not (is_member same_uid A x))) (held n x) y
+    ∙ ap (λ f. is_parent_at (f x) y) (stored n (with_first D L) put))
     (λ x. ended_kept (row_of c.args.tc_computation) _ (held_map n) N s x
     ∙ ap (λ M. option_map kept (finmap.get M x)) put) p q)
     (c.join.ensures.children
-    (parentage (finmap.get D)) c.list_if_it_pays.ensures.index.children))) c.settle_touched.ensures.ends.ok
+    (parentage (finmap.get D)) c.list_if_it_pays.ensures.index.children)))
+    (add_ends c.renews_adding-anew.result m n o L A (row_of c.args.tc_computation) N
+    c.settle_touched.result (contains same_uid c.in_ok-touched.touched)
+    (λ t. c.list_if_it_pays.ensures.index.plain (c.renews_adding-anew.ensures t).0)
+    (λ t. ap computes (sym c.row_of.ensures) ∙ (c.renews_adding-anew.ensures t).1) put same
+    c.in_ok-forget_each.ensures.ok touched c.settle_touched.ensures.ends).ok
