@@ -153,7 +153,8 @@ module _ (D : Held) (A : List EntityUID) (R : List Loss)
       → loses_uid R q w ≡ list_any (goes_with D e w) A
   goes_by_loss out e is w =
       by_loss e is w R lost
-      ∙ ap (λ b. b && list_any (goes_with D e w) A) (loses_below D A R who q out ∙ ap (λ o. list_any (is_ancestor_in o) A) is)
+      ∙ ap (λ b. b && list_any (goes_with D e w) A)
+      (loses_below D A R who q out ∙ ap (λ o. list_any (is_ancestor_in o) A) is)
       ∙ within (list_any (has_ancestor e) A) (list_any (goes_with D e w) A)
       (λ t. let r = any_found (goes_with D e w) A t in
       any_member (has_ancestor e) A r.0 r.1 (and_parts (is_some (finmap.get D r.0)) (has_ancestor e r.0)

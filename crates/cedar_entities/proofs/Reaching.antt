@@ -35,8 +35,8 @@ module _ {K : Type 0} where
         past_path G H A B same off x b inner end (λ u r s. none u (x ∷ r.0, (p.0, r.1)) s) xs p.1,
       )
 
-  -- where H keeps the edges but at keys of A, and those that lead to keys of B, which are of A, what is reached over none
-  -- of A, and is none of B, is reached over H
+  -- where H keeps the edges but at keys of A, and those that lead to keys of B, which are of A, what is reached over
+  -- none of A, and is none of B, is reached over H
   pub kept_past : (G H : K → K → Bool) (A B : K → Bool)
       → ((a b : K) → A a ≡ false → B b ≡ false → G a b ≡ true → H a b ≡ true)
       → ((a : K) → A a ≡ false → B a ≡ false) → (a b : K) → A a ≡ false → B b ≡ false

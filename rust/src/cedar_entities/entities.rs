@@ -109,8 +109,8 @@ fn fill<S: BuildHasher + Clone>(
     settle_whole(entities, tc_computation)
 }
 
-// Adds entities, and closes what is inserted and what has one of that among its ancestors. In a plain store all indirect
-// ancestors of the latter go before, to be written anew from the parents.
+// Adds entities, and closes what is inserted and what has one of that among its ancestors. In a plain store all
+// indirect ancestors of the latter go before, to be written anew from the parents.
 fn add_to<S: BuildHasher + Clone>(
     entities: &mut HashMap<SharedUid, SharedEntity, S>,
     index: &mut Index<S>,
