@@ -121,6 +121,33 @@ impl<S: BuildHasher + Copy> PolicyMaps<S> {
     }
 }
 
+// The policies that enter, by their ids, and under each template that stands the ids of those that it gets.
+#[derive(Drop)]
+struct EnteringPolicies<S: BuildHasher> {
+    links: IndexMap<PolicyID, Policy, S>,
+    grown: IndexMap<PolicyID, IndexSet<PolicyID, S>, S>,
+}
+
+// What enters of policies a set with these policies, where some bodies stand.
+fn policies_that_enter<S: BuildHasher + Copy>(
+    alloc: Global,
+    known: &IndexMap<PolicyID, Policy, S>,
+    stand: &[Rc<Template>],
+    policies: Vec<Policy>,
+) -> Result<EnteringPolicies<S>, AllocError>
+    requires keyed { IsKeyed policy_id known.now.entries }
+    requires stand { AreOnce (λ (t : BodyParts). t.id) (bodies_of stand.now) }
+    requires policies { AreOnce policy_id policies.items }
+    ensures policies_keyed { IfOk result (λ e. IsKeyed policy_id e.links.entries) }
+    ensures policies { IfOk result (λ e. values_of e.links.entries ≡ policies.items) }
+    ensures grown { IfOk result (λ e. lists_of e.grown.entries
+        ≡ ids_by_body (templates_in (values_of known.now.entries) (bodies_of stand.now)) policies.items) }
+{
+    let grown = ids_by_template(alloc, stand, known, &policies)?;
+    let links = policies_by_id(alloc, *known.hasher(), policies)?;
+    Ok(EnteringPolicies { links, grown })
+}
+
 // What enters a set with these policies where some bodies stand and others join, with policies on both.
 fn what_enters<S: BuildHasher + Copy>(
     alloc: Global,
@@ -142,10 +169,10 @@ fn what_enters<S: BuildHasher + Copy>(
     ensures grown { IfOk result (λ e. lists_of e.grown.entries
         ≡ ids_by_body (templates_in (values_of known.now.entries) (bodies_of stand.now)) policies.items) }
 {
-    let grown = ids_by_template(alloc, stand, known, &policies)?;
-    let links = policies_by_id(alloc, *known.hasher(), policies)?;
+    let hasher = *known.hasher();
+    let EnteringPolicies { links, grown } = policies_that_enter(alloc, known, stand, policies)?;
     let listed = ids_by_template(alloc, &bodies, &links, links.values().as_slice())?;
-    let templates = bodies_by_id(alloc, *known.hasher(), bodies)?;
+    let templates = bodies_by_id(alloc, hasher, bodies)?;
     Ok(Entering {
         templates,
         links,
