@@ -75,6 +75,23 @@ impl<S: BuildHasher + Copy> PolicyMaps<S> {
     }
 }
 
+// The policies that enter, by their ids, and under each template that stands the ids of those that it gets.
+struct EnteringPolicies<S: BuildHasher> {
+    links: OrderedMap<PolicyID, Policy, S>,
+    grown: OrderedMap<PolicyID, OrderedSet<PolicyID, S>, S>,
+}
+
+// What enters of policies a set with these policies, where some bodies stand.
+fn policies_that_enter<S: BuildHasher + Copy>(
+    known: &OrderedMap<PolicyID, Policy, S>,
+    stand: &[Arc<Template>],
+    policies: Vec<Policy>,
+) -> EnteringPolicies<S> {
+    let grown = ids_by_template(stand, known, &policies);
+    let links = policies_by_id(*known.hasher(), policies);
+    EnteringPolicies { links, grown }
+}
+
 // What enters a set with these policies where some bodies stand and others join, with policies on both.
 fn what_enters<S: BuildHasher + Copy>(
     known: &OrderedMap<PolicyID, Policy, S>,
@@ -82,10 +99,10 @@ fn what_enters<S: BuildHasher + Copy>(
     bodies: Vec<Arc<Template>>,
     policies: Vec<Policy>,
 ) -> Entering<S> {
-    let grown = ids_by_template(stand, known, &policies);
-    let links = policies_by_id(*known.hasher(), policies);
+    let hasher = *known.hasher();
+    let EnteringPolicies { links, grown } = policies_that_enter(known, stand, policies);
     let listed = ids_by_template(&bodies, &links, links.values());
-    let templates = bodies_by_id(*known.hasher(), bodies);
+    let templates = bodies_by_id(hasher, bodies);
     Entering {
         templates,
         links,
