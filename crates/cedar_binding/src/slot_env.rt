@@ -2,8 +2,7 @@
 ghost use Rattle.std.specs.Prelude.{◌≡◌, ◌&&◌, true, Some, IfOk};
 ghost use Rattle.std.specs.Fmt.{WritesOnOk};
 ghost use Rattle.std.specs.List.{list_all};
-ghost use Rattle.std.specs.Option.{option_copied, option_map, option_eq};
-ghost use Rattle.cedar_ids.specs.Uid.{uid_eq};
+ghost use Rattle.std.specs.Option.{option_copied, option_map};
 ghost use Rattle.cedar_ids.specs.UidOf.{uid_parts};
 ghost use Rattle.cedar_binding.specs.Bindings.{binds, no_env, bound_to};
 ghost use Rattle.cedar_binding.specs.BindingTexts.{after_others, bindings_text, bound_before, bound_text, env_output};
@@ -59,20 +58,7 @@ pub fn fitted_bindings(values: SlotEnv) -> SlotEnv
 pub fn same_bindings(one: &SlotEnv, other: &SlotEnv) -> bool
     ensures { result ≡ same_env (env_of one.now) (env_of other.now) }
 {
-    SlotId::ALL.iter().all(|id| same_at(one, other, *id))
-}
-
-// Whether both leave a slot unbound, or bind it to equal uids.
-fn same_at(one: &SlotEnv, other: &SlotEnv, id: SlotId) -> bool
-    ensures { result ≡ option_eq uid_eq (bound_to (env_of one.now) id) (bound_to (env_of other.now) id) }
-{
-    match bound_to(one, id) {
-        None => bound_to(other, id).is_none(),
-        Some(uid) => match bound_to(other, id) {
-            None => false,
-            Some(value) => uid == value,
-        },
-    }
+    one == other
 }
 
 /// Bindings as a link writes them: `?slot -> uid`, in the order of slots, joined by commas with no blank.
