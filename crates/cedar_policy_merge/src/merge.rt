@@ -1,5 +1,6 @@
 //! Merging other maps into these: what the two bind, under ids that do not conflict.
-ghost use Rattle.std.specs.Prelude.{◌≡◌, ◌↔◌, ◌&&◌, ◌++◌, ◌+◌, ◌∷◌, [], true, false, not, length, if◌then◌else◌, IfOk};
+ghost use Rattle.std.specs.Prelude.{◌≡◌, ◌↔◌, ◌&&◌, ◌||◌, ◌++◌, ◌+◌, ◌∷◌, [], true, false, not, length, is_some};
+ghost use Rattle.std.specs.Prelude.{if◌then◌else◌, IfOk};
 ghost use Rattle.std.specs.Prelude.{OnErr, OnOk, IsTrue, List, ℕ};
 ghost use Rattle.std.specs.List.{list_any};
 ghost use Rattle.std.specs.Map.{values_of};
@@ -9,15 +10,18 @@ ghost use Rattle.cedar_policy.specs.Policies.{policy_id, with_policy_id};
 ghost use Rattle.cedar_ids.specs.Texts.{same_text};
 ghost use Rattle.cedar_policy_maps.specs.PolicySets.{AreOnce, bound_at};
 ghost use Rattle.cedar_policy_merge.specs.Fresh.{is_bound_in_either};
-ghost use Rattle.cedar_policy_merge.specs.Merge.{has_body, body_ids, policy_ids, is_same_at, conflicting, gathered};
+ghost use Rattle.cedar_policy_merge.specs.Merge.{has_body, has_policy, body_ids, policy_ids, is_same_at, conflicting};
+ghost use Rattle.cedar_policy_merge.specs.Merge.{gathered};
 ghost use Rattle.cedar_policy_merge.specs.Merge.{conflicts, Differ, renamed_body, renamed_policy, joined_bodies};
 ghost use Rattle.cedar_policy_merge.specs.Merge.{joined_policies, merged, new_id, IsRenaming, MergesSets};
 ghost use Rattle.cedar_policy_merge.specs.laws.GatherLaws.{in_groups, looked_at};
+ghost use Rattle.cedar_policy_merge.specs.laws.LookedAtLaws.{agree};
 ghost use Rattle.cedar_policy_merge.specs.laws.MergeTakesIn.{standing_bodies};
 ghost use Rattle.cedar_policy_merge.specs.laws.MergeSteps.{Refuses, with_template_renamed};
 ghost use Rattle.cedar_policy_maps.specs.Views.{bodies_of};
 
 use crate::fresh::fresh_ids;
+use crate::places::are_placed_as;
 use cedar_ids::policy_id::PolicyID;
 use cedar_policy::{Policy, Template};
 use cedar_policy_maps::{Parted, PolicyMaps, is_link};
@@ -35,9 +39,9 @@ use std::rc::Rc;
 /// maps bind goes last, in their orders, under its new ids; what both bind alike takes the other's value. The merging
 /// of policy sets is this call, and its comment says the rest: the order of the conflicts, and what the call costs.
 ///
-/// Takes memory for a copy of what the other maps bind, for room in the maps and in the lists of links that grow, for
-/// what is renamed and for the answer. A refused call, for memory too, leaves both orders as they were: all that can be
-/// refused is done first.
+/// Takes memory for a copy of what joins and of policies here that take other locations, for room in the maps and in the
+/// lists of links that grow, for what is renamed and for the answer. A refused call, for memory too, leaves both orders
+/// as they were: all that can be refused is done first.
 #[tactic(auto, using(crate::specs::laws::RenamingLaws::once_free, crate::specs::laws::RenamingLaws::none_bound_of, crate::specs::laws::RenamingLaws::numbers_below))]
 pub fn merge_maps<S: BuildHasher + Copy>(
     alloc: Global,
@@ -189,24 +193,79 @@ fn is_conflicting<S: BuildHasher + Copy>(
 ) -> bool
     ensures { result ≡ (looked_at group here.now other.now id.now && not (is_same_at here.now other.now id.now)) }
 {
-    is_looked_at(here, other, id, group) && !is_same_at(here, other, id)
+    match group {
+        Group::Bodies => is_other_body(here, other, id),
+        Group::Policies => is_other_policy(here, other, id),
+        Group::Links => {
+            !here.has_body(id) && here.has_policy(id) && !is_same_at(here, other, id)
+        }
+        Group::Templates => {
+            !here.has_policy(id) && here.has_body(id) && !is_same_at(here, other, id)
+        }
+    }
 }
 
-// Whether an id is looked at in this group.
-fn is_looked_at<S: BuildHasher + Copy>(
+// Whether an id is that of a body here and not bound alike in both sets. Of two policies on equal bodies of one id both
+// are static, and equal.
+fn is_other_body<S: BuildHasher + Copy>(
     here: &PolicyMaps<S>,
     other: &PolicyMaps<S>,
     id: &PolicyID,
-    group: Group,
 ) -> bool
-    ensures { result ≡ looked_at group here.now other.now id.now }
+    ensures { result ≡ (has_body here.now id.now && not (is_same_at here.now other.now id.now)) }
 {
-    match group {
-        Group::Bodies => here.has_body(id),
-        Group::Policies => !have_bodies(here, other, id) && here.has_policy(id),
-        Group::Links => !here.has_body(id) && here.has_policy(id),
-        Group::Templates => !here.has_policy(id) && here.has_body(id),
+    // No effect at run time: these calls say that both are those of a policy set.
+    let _policy_sets = (here.is_empty(), other.is_empty());
+    match here.template_at(id) {
+        None => false,
+        Some(stands) => match other.template_at(id) {
+            None => true,
+            Some(template) => stands != template || !have_policies_alike(here, other, id),
+        },
     }
+}
+
+// Whether a policy here and one there have an id, or neither does.
+fn have_policies_alike<S: BuildHasher + Copy>(
+    here: &PolicyMaps<S>,
+    other: &PolicyMaps<S>,
+    id: &PolicyID,
+) -> bool
+    ensures { result ≡ agree (has_policy here.now id.now) (has_policy other.now id.now) }
+{
+    if here.has_policy(id) {
+        other.has_policy(id)
+    } else {
+        !other.has_policy(id)
+    }
+}
+
+// Whether an id is that of a policy here and not bound alike in both sets, but where both sets have a body with it: a
+// static policy has its own there, and a link none.
+fn is_other_policy<S: BuildHasher + Copy>(
+    here: &PolicyMaps<S>,
+    other: &PolicyMaps<S>,
+    id: &PolicyID,
+) -> bool
+    ensures { result ≡ (looked_at Group.Policies here.now other.now id.now
+        && not (is_same_at here.now other.now id.now)) }
+{
+    // No effect at run time: these calls say that both are those of a policy set.
+    let _policy_sets = (here.is_empty(), other.is_empty());
+    match here.policy_at(id) {
+        None => false,
+        Some(stands) => match other.policy_at(id) {
+            None => !have_bodies(here, other, id),
+            Some(policy) => has_link(stands, policy) && stands != policy,
+        },
+    }
+}
+
+// Whether one of two policies is a link.
+fn has_link(stands: &Policy, policy: &Policy) -> bool
+    ensures { result ≡ (is_some stands.now.link || is_some policy.now.link) }
+{
+    is_link(stands) || is_link(policy)
 }
 
 // Whether a body here and one there have an id.
@@ -344,7 +403,7 @@ fn parted_policies<S: BuildHasher + Copy>(
     Ok(parted)
 }
 
-// Puts policies of the other set, under their new ids, last among those that stand here or those that join.
+// Puts policies of the other set, under their new ids, last among those that join, or those that stand here.
 fn part_policies<S: BuildHasher + Copy>(
     alloc: Global,
     parted: &mut Parted<Policy>,
@@ -361,7 +420,8 @@ fn part_policies<S: BuildHasher + Copy>(
     Ok(())
 }
 
-// Puts a policy of the other set, under its new id, last among those that stand here or those that join.
+// Puts a policy of the other set, under its new id, last among those that join, or among those that stand here, where
+// it has other locations.
 fn part_policy<S: BuildHasher + Copy>(
     alloc: Global,
     parted: &mut Parted<Policy>,
@@ -373,12 +433,38 @@ fn part_policy<S: BuildHasher + Copy>(
         ++ joined_policies here.now (new_id renaming.now.entries) (policy.now ∷ [])) }
 {
     let new = renaming.get(policy.id());
-    let stands = here.is_bound(new_or(new, policy.id()));
-    part(
-        parted,
-        stands,
-        renamed_policy(alloc, policy, new, renaming)?,
-    )
+    if here.is_bound(new_or(new, policy.id())) {
+        keep(&mut parted.stand, here, policy)?;
+        return Ok(());
+    }
+    parted
+        .join
+        .push(renamed_policy(alloc, policy, new, renaming)?)?;
+    Ok(())
+}
+
+// Puts a copy of a policy last among those that stand here, unless it is the one here in its locations too.
+fn keep<S: BuildHasher + Copy>(
+    stand: &mut Vec<Policy>,
+    here: &PolicyMaps<S>,
+    policy: &Policy,
+) -> Result<(), AllocError> {
+    if is_placed_as(here.policy_at(policy.id()), policy) {
+        return Ok(());
+    }
+    stand.push(policy.clone()?)?;
+    Ok(())
+}
+
+// Whether a policy shares its template with another and binds no uid with another location.
+fn is_placed_as(stands: Option<&Policy>, policy: &Policy) -> bool {
+    match stands {
+        None => false,
+        Some(stands) => {
+            Rc::ptr_eq(stands.template_arc(), policy.template_arc())
+                && are_placed_as(stands.env(), policy.env())
+        }
+    }
 }
 
 // A policy under its new id, if it gets one, a link with its template under its own.

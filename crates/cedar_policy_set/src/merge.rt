@@ -22,11 +22,11 @@ impl<S: BuildHasher + Copy> PolicySet<S> {
     /// slots for an equal static policy. What both bind alike takes the other's value, which differs in locations
     /// alone.
     ///
-    /// Takes memory for a copy of what the other set binds, for room in the maps and in the lists of links that grow,
-    /// for what is renamed and for the answer. A refused call, for memory too, leaves both orders as they were: all
-    /// that can be refused is done first. It costs what the other set costs: look-ups for each of its ids, in both
-    /// sets, the copies, and a look at each of the ids `policyN` that are bound. What this set binds is neither walked
-    /// nor copied; a map that is full moves to one of twice its places.
+    /// Takes memory for a copy of what joins and of policies here that take other locations, for room in the maps and in
+    /// the lists of links that grow, for what is renamed and for the answer. A refused call, for memory too, leaves both
+    /// orders as they were: all that can be refused is done first. It costs what the other set costs: look-ups for each
+    /// of its ids, in both sets, the copies, and a look at each of the ids `policyN` that are bound. What this set binds
+    /// is neither walked nor copied; a map that is full moves to one of twice its places.
     pub fn merge_policyset(
         &mut self,
         alloc: Global,

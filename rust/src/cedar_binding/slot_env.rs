@@ -35,18 +35,7 @@ pub fn fitted_bindings(values: SlotEnv) -> SlotEnv {
 
 /// Whether both bind the same slots to equal uids, in whatever order the maps give them. It looks at no location.
 pub fn same_bindings(one: &SlotEnv, other: &SlotEnv) -> bool {
-    SlotId::ALL.iter().all(|id| same_at(one, other, *id))
-}
-
-// Whether both leave a slot unbound, or bind it to equal uids.
-fn same_at(one: &SlotEnv, other: &SlotEnv, id: SlotId) -> bool {
-    match bound_to(one, id) {
-        None => bound_to(other, id).is_none(),
-        Some(uid) => match bound_to(other, id) {
-            None => false,
-            Some(value) => uid == value,
-        },
-    }
+    one == other
 }
 
 /// Bindings as a link writes them: `?slot -> uid`, in the order of slots, joined by commas with no blank.

@@ -6,6 +6,7 @@ use crate::cedar_ids::policy_id::PolicyID;
 use crate::cedar_policy::{Policy, Template};
 use crate::cedar_policy_maps::{Parted, PolicyMaps, is_link};
 use crate::cedar_policy_merge::fresh::fresh_ids;
+use crate::cedar_policy_merge::places::are_placed_as;
 use crate::cedar_policy_set_errors::err::PolicySetError;
 use crate::ordered_map::{OrderedMap, OrderedSet};
 use std::hash::BuildHasher;
@@ -126,22 +127,50 @@ fn is_conflicting<S: BuildHasher + Copy>(
     id: &PolicyID,
     group: Group,
 ) -> bool {
-    is_looked_at(here, other, id, group) && !is_same_at(here, other, id)
+    match group {
+        Group::Bodies => is_other_body(here, other, id),
+        Group::Policies => is_other_policy(here, other, id),
+        Group::Links => !here.has_body(id) && here.has_policy(id) && !is_same_at(here, other, id),
+        Group::Templates => !here.has_policy(id) && here.has_body(id) && !is_same_at(here, other, id),
+    }
 }
 
-// Whether an id is looked at in this group.
-fn is_looked_at<S: BuildHasher + Copy>(
-    here: &PolicyMaps<S>,
-    other: &PolicyMaps<S>,
-    id: &PolicyID,
-    group: Group,
-) -> bool {
-    match group {
-        Group::Bodies => here.has_body(id),
-        Group::Policies => !have_bodies(here, other, id) && here.has_policy(id),
-        Group::Links => !here.has_body(id) && here.has_policy(id),
-        Group::Templates => !here.has_policy(id) && here.has_body(id),
+// Whether an id is that of a body here and not bound alike in both sets. Of two policies on equal bodies of one id both
+// are static, and equal.
+fn is_other_body<S: BuildHasher + Copy>(here: &PolicyMaps<S>, other: &PolicyMaps<S>, id: &PolicyID) -> bool {
+    match here.template_at(id) {
+        None => false,
+        Some(stands) => match other.template_at(id) {
+            None => true,
+            Some(template) => stands != template || !have_policies_alike(here, other, id),
+        },
     }
+}
+
+// Whether a policy here and one there have an id, or neither does.
+fn have_policies_alike<S: BuildHasher + Copy>(here: &PolicyMaps<S>, other: &PolicyMaps<S>, id: &PolicyID) -> bool {
+    if here.has_policy(id) {
+        other.has_policy(id)
+    } else {
+        !other.has_policy(id)
+    }
+}
+
+// Whether an id is that of a policy here and not bound alike in both sets, but where both sets have a body with it: a
+// static policy has its own there, and a link none.
+fn is_other_policy<S: BuildHasher + Copy>(here: &PolicyMaps<S>, other: &PolicyMaps<S>, id: &PolicyID) -> bool {
+    match here.policy_at(id) {
+        None => false,
+        Some(stands) => match other.policy_at(id) {
+            None => !have_bodies(here, other, id),
+            Some(policy) => has_link(stands, policy) && stands != policy,
+        },
+    }
+}
+
+// Whether one of two policies is a link.
+fn has_link(stands: &Policy, policy: &Policy) -> bool {
+    is_link(stands) || is_link(policy)
 }
 
 // Whether a body here and one there have an id.
@@ -225,7 +254,7 @@ fn parted_policies<S: BuildHasher + Copy>(
     parted
 }
 
-// Puts policies of the other set, under their new ids, last among those that stand here or those that join.
+// Puts policies of the other set, under their new ids, last among those that join, or those that stand here.
 fn part_policies<S: BuildHasher + Copy>(
     parted: &mut Parted<Policy>,
     here: &PolicyMaps<S>,
@@ -237,7 +266,8 @@ fn part_policies<S: BuildHasher + Copy>(
     }
 }
 
-// Puts a policy of the other set, under its new id, last among those that stand here or those that join.
+// Puts a policy of the other set, under its new id, last among those that join, or among those that stand here, where
+// it has other locations.
 fn part_policy<S: BuildHasher + Copy>(
     parted: &mut Parted<Policy>,
     here: &PolicyMaps<S>,
@@ -245,8 +275,29 @@ fn part_policy<S: BuildHasher + Copy>(
     renaming: &OrderedMap<PolicyID, PolicyID, S>,
 ) {
     let new = renaming.get(policy.id());
-    let stands = here.is_bound(new_or(new, policy.id()));
-    part(parted, stands, renamed_policy(policy, new, renaming));
+    if here.is_bound(new_or(new, policy.id())) {
+        keep(&mut parted.stand, here, policy);
+        return;
+    }
+    parted.join.push(renamed_policy(policy, new, renaming));
+}
+
+// Puts a copy of a policy last among those that stand here, unless it is the one here in its locations too.
+fn keep<S: BuildHasher + Copy>(stand: &mut Vec<Policy>, here: &PolicyMaps<S>, policy: &Policy) {
+    if is_placed_as(here.policy_at(policy.id()), policy) {
+        return;
+    }
+    stand.push(policy.clone());
+}
+
+// Whether a policy shares its template with another and binds no uid with another location.
+fn is_placed_as(stands: Option<&Policy>, policy: &Policy) -> bool {
+    match stands {
+        None => false,
+        Some(stands) => {
+            Arc::ptr_eq(stands.template_arc(), policy.template_arc()) && are_placed_as(stands.env(), policy.env())
+        }
+    }
 }
 
 // A policy under its new id, if it gets one, a link with its template under its own.

@@ -4,5 +4,6 @@
 
 mod fresh;
 mod merge;
+mod places;
 
 pub use merge::merge_maps;

@@ -29,7 +29,7 @@ use Rattle.cedar_policy_merge.specs.laws.RenamingLaws.{second_of}
 -- ---- what stands in the two orders at a bound id
 
 -- a static policy and its body, a link and no body, or a template's body alone
-abbrev Shape : Option PolicyParts → Option BodyParts → Binding → Type 0
+abbrev pub Shape : Option PolicyParts → Option BodyParts → Binding → Type 0
 Shape p t x =
     ((u : BodyParts) × (p ≡ Some (static_policy u)) × (t ≡ Some u) × (x ≡ Static u))
     ⊎ (((l : List ℕ) × (u : BodyParts) × (e : EnvParts) × (p ≡ Some (record { template = u; link = Some l; env = e }))
@@ -69,7 +69,7 @@ shape_held (Some k) b i x p t l s r h e =
       told e,
     ))
 
-shape_by : (b : SetParts) (i : List ℕ) (x : Binding) (p : Option PolicyParts) (t : Option BodyParts) → IsPolicySet b
+pub shape_by : (b : SetParts) (i : List ℕ) (x : Binding) (p : Option PolicyParts) (t : Option BodyParts) → IsPolicySet b
     → find (is_policy_at i) b.policies ≡ p → find (is_body_at i) b.bodies ≡ t → bound_among p t ≡ Some x → Shape p t x
 shape_by b i x (Some p) t h f r e =
     shape_held p.link b i x p t refl ((same_text_decides i (policy_id p)).0
@@ -83,7 +83,7 @@ shape b i x h e = shape_by b i x (find (is_policy_at i) b.policies) (find (is_bo
 
 -- ---- alike in both orders, alike as bindings
 
-twice : (v : Bool) → ((v && true) && v) ≡ v
+pub twice : (v : Bool) → ((v && true) && v) ≡ v
 twice true = refl
 twice false = refl
 
@@ -91,7 +91,7 @@ never : (v w : Bool) → ((v && false) && w) ≡ false
 never true w = refl
 never false w = refl
 
-whole : (v : Bool) → (v && true) ≡ v
+pub whole : (v : Bool) → (v && true) ≡ v
 whole true = refl
 whole false = refl
 

@@ -1,0 +1,198 @@
+-- What tells that an id conflicts where bodies, or policies, of both policy sets have it.
+use Rattle.std.specs.Prelude.{◌≡◌, ℕ, List, [], ◌∷◌, Bool, true, false, not, ◌||◌, ◌&&◌, Option, Some, None, is_some}
+use Rattle.std.specs.Prelude.{refl}
+use Rattle.std.proofs.Common.{sym, ap, ◌∙◌, inl, inr, arith}
+use Rattle.std.proofs.lemmas.Grind.{common_steps}
+use Rattle.std.specs.List.{find, list_any}
+use Rattle.std.specs.Option.{option_eq}
+use Rattle.cedar_body.specs.Bodies.{BodyParts}
+use Rattle.cedar_body.specs.BodyEquality.{same_body}
+use Rattle.cedar_policy.specs.Policies.{PolicyParts}
+use Rattle.cedar_policy.specs.PolicyEquality.{same_policy}
+use Rattle.cedar_policy_maps.specs.PolicySets.{SetParts, Binding, Template, bound_among, policy_binding, is_body_at}
+use Rattle.cedar_policy_maps.specs.PolicySets.{is_policy_at, IsPolicySet}
+use Rattle.cedar_policy_merge.specs.Merge.{has_body, has_policy, is_same_at}
+use Rattle.cedar_policy_merge.specs.laws.ConflictLaws.{Shape, shape_by, twice, whole}
+use Rattle.cedar_policy_merge.specs.laws.GatherLaws.{looked_at}
+use Rattle.cedar_policy_merge.specs.declared.merge.Group.TheVariants.{Policies}
+
+-- whether both hold, or neither does
+abbrev pub agree : Bool → Bool → Bool
+agree true w = w
+agree false w = not w
+
+-- ---- truths
+
+none : (v : Bool) → (v && false) ≡ false
+none true = refl
+none false = refl
+
+unlike : (v : Bool) → not ((v && false) && false) ≡ not (v && false)
+unlike true = refl
+unlike false = refl
+
+denied : (v w : Bool) → not (v && w) ≡ (not v || not w)
+denied true w = refl
+denied false w = refl
+
+-- something has an id exactly where it is found under it
+found_any : {X : Type 0} (t : X → Bool) (xs : List X) → list_any t xs ≡ is_some (find t xs)
+found_any t [] = refl
+found_any t (x ∷ xs) = grind (arith, common_steps, found_any t xs)
+
+-- ---- bodies of both
+
+-- whether bindings are alike in both orders
+abbrev alike_at : Option PolicyParts → Option PolicyParts → Option BodyParts → Option BodyParts → Bool
+alike_at p q t u = option_eq same_policy p q && option_eq same_body t u
+
+-- by equal bodies, and policies of both or of none
+abbrev by_bodies : Option PolicyParts → Option PolicyParts → BodyParts → BodyParts → Bool
+by_bodies p q t u = same_body t u && agree (is_some p) (is_some q)
+
+at_bodies : {p r q s : Option PolicyParts} {t v u w : BodyParts} → p ≡ r → q ≡ s → t ≡ v → u ≡ w
+    → alike_at r s (Some v) (Some w) ≡ by_bodies r s v w → alike_at p q (Some t) (Some u) ≡ by_bodies p q t u
+at_bodies p q t u h = (λ i. alike_at (p i) (q i) (Some (t i)) (Some (u i))) ∙ h
+    ∙ sym (λ i. by_bodies (p i) (q i) (t i) (u i))
+
+only : {t u : BodyParts} → Some t ≡ Some u → t ≡ u
+only e = cc
+
+bodies_alike : (p q : Option PolicyParts) (t u : BodyParts) (x y : Binding) → Shape p (Some t) x → Shape q (Some u) y
+    → alike_at p q (Some t) (Some u) ≡ by_bodies p q t u
+bodies_alike p q t u x y (inl a) (inl b) = at_bodies a.1 b.1 (only a.2) (only b.2) (twice (same_body a.0 b.0)
+    ∙ sym (whole (same_body a.0 b.0)))
+bodies_alike p q t u x y (inl a) (inr (inl b)) = absurd (cc (b.4))
+bodies_alike p q t u x y (inl a) (inr (inr b)) = at_bodies a.1 b.1 (only a.2) (only b.2)
+    (sym (none (same_body a.0 b.0)))
+bodies_alike p q t u x y (inr (inl a)) b = absurd (cc (a.4))
+bodies_alike p q t u x y (inr (inr a)) (inl b) = at_bodies a.1 b.1 (only a.2) (only b.2)
+    (sym (none (same_body a.0 b.0)))
+bodies_alike p q t u x y (inr (inr a)) (inr (inl b)) = absurd (cc (b.4))
+bodies_alike p q t u x y (inr (inr a)) (inr (inr b)) = at_bodies a.1 b.1 (only a.2) (only b.2)
+    (sym (whole (same_body a.0 b.0)))
+
+-- what is bound where a body was found
+binding_with : Option PolicyParts → BodyParts → Binding
+binding_with (Some p) t = policy_binding p
+binding_with None t = Template t
+
+bound_with : (p : Option PolicyParts) (t : BodyParts) → bound_among p (Some t) ≡ Some (binding_with p t)
+unfolding binding_with
+bound_with (Some p) t = refl
+bound_with None t = refl
+
+shape_with : (b : SetParts) (i : List ℕ) (t : BodyParts) → IsPolicySet b → find (is_body_at i) b.bodies ≡ Some t
+    → Shape (find (is_policy_at i) b.policies) (Some t) (binding_with (find (is_policy_at i) b.policies) t)
+shape_with b i t h f = shape_by b i _ (find (is_policy_at i) b.policies) (Some t) h refl f
+    (bound_with (find (is_policy_at i) b.policies) t)
+
+-- where bodies of both policy sets have an id it conflicts unless they are equal and policies of both have it, or of
+-- neither
+pub bodies_differ : (h o : SetParts) (i : List ℕ) (t u : BodyParts) → IsPolicySet h → IsPolicySet o
+    → find (is_body_at i) h.bodies ≡ Some t → find (is_body_at i) o.bodies ≡ Some u →
+    (has_body h i && not (is_same_at h o i)) ≡ (not (same_body t u) || not (agree (has_policy h i) (has_policy o i)))
+bodies_differ h o i t u x y f g =
+    let p = find (is_policy_at i) h.policies in
+    let q = find (is_policy_at i) o.policies in
+    (λ j. (found_any (is_body_at i) h.bodies ∙ ap is_some f) j && not (alike_at p q (f j) (g j)))
+    ∙ ap not (bodies_alike p q t u (binding_with p t) (binding_with q u) (shape_with h i t x f) (shape_with o i u y g))
+    ∙ denied (same_body t u) (agree (is_some p) (is_some q))
+    ∙ (λ j. not (same_body t u) || not (agree (sym (found_any (is_policy_at i) h.policies) j)
+    (sym (found_any (is_policy_at i) o.policies) j)))
+
+-- ---- policies of both
+
+-- whether an id is looked at and bound to things that differ, by what was found
+abbrev differs_at : PolicyParts → PolicyParts → Option BodyParts → Option BodyParts → Bool
+differs_at p q t u = not (is_some t && is_some u) && not (alike_at (Some p) (Some q) t u)
+
+-- by a link among two policies that differ
+abbrev by_policies : PolicyParts → PolicyParts → Bool
+by_policies p q = (is_some p.link || is_some q.link) && not (same_policy p q)
+
+at_policies : {p r q s : PolicyParts} {t v u w : Option BodyParts} → p ≡ r → q ≡ s → t ≡ v → u ≡ w
+    → differs_at r s v w ≡ by_policies r s → differs_at p q t u ≡ by_policies p q
+at_policies p q t u h = (λ i. differs_at (p i) (q i) (t i) (u i)) ∙ h ∙ sym (λ i. by_policies (p i) (q i))
+
+this : {p q : PolicyParts} → Some p ≡ Some q → p ≡ q
+this e = cc
+
+policies_unlike : (p q : PolicyParts) (t u : Option BodyParts) (x y : Binding) → Shape (Some p) t x
+    → Shape (Some q) u y → differs_at p q t u ≡ by_policies p q
+policies_unlike p q t u x y (inl a) (inl b) = at_policies (this a.1) (this b.1) a.2 b.2 refl
+policies_unlike p q t u x y (inl a) (inr (inl b)) = at_policies (this a.1) (this b.3) a.2 b.4
+    (unlike (same_body a.0 b.1))
+policies_unlike p q t u x y (inl a) (inr (inr b)) = absurd (cc (b.1))
+policies_unlike p q t u x y (inr (inl a)) (inl b) = at_policies (this a.3) (this b.1) a.4 b.2
+    (unlike (same_body a.1 b.0))
+policies_unlike p q t u x y (inr (inl a)) (inr (inl b)) = at_policies (this a.3) (this b.3) a.4 b.4
+    (ap not (whole (same_policy (record { template = a.1; link = Some a.0; env = a.2 })
+    (record { template = b.1; link = Some b.0; env = b.2 }))))
+policies_unlike p q t u x y (inr (inl a)) (inr (inr b)) = absurd (cc (b.1))
+policies_unlike p q t u x y (inr (inr a)) b = absurd (cc (a.1))
+
+shape_of : (b : SetParts) (i : List ℕ) (p : PolicyParts) → IsPolicySet b → find (is_policy_at i) b.policies ≡ Some p
+    → Shape (Some p) (find (is_body_at i) b.bodies) (policy_binding p)
+shape_of b i p h f = shape_by b i (policy_binding p) (Some p) (find (is_body_at i) b.bodies) h f refl refl
+
+-- where policies of both have an id, and bodies of one at most, it conflicts unless they are equal; one of them is a
+-- link then
+pub policies_differ : (h o : SetParts) (i : List ℕ) (p q : PolicyParts) → IsPolicySet h → IsPolicySet o
+    → find (is_policy_at i) h.policies ≡ Some p → find (is_policy_at i) o.policies ≡ Some q →
+    (looked_at Policies h o i && not (is_same_at h o i))
+    ≡ ((is_some p.link || is_some q.link) && not (same_policy p q))
+policies_differ h o i p q x y f g =
+    let t = find (is_body_at i) h.bodies in
+    let u = find (is_body_at i) o.bodies in
+    (λ j. (not (found_any (is_body_at i) h.bodies j && found_any (is_body_at i) o.bodies j)
+    && (found_any (is_policy_at i) h.policies ∙ ap is_some f) j) && not (alike_at (f j) (g j) t u))
+    ∙ ap (λ v. v && not (alike_at (Some p) (Some q) t u)) (whole (not (is_some t && is_some u)))
+    ∙ policies_unlike p q t u (policy_binding p) (policy_binding q) (shape_of h i p x f) (shape_of o i q y g)
+
+-- ---- what was told, where one of both tells it
+
+-- no body here has the id
+pub no_body_looked : (h o : SetParts) (i : List ℕ) → None ≡ find (is_body_at i) h.bodies
+    → false ≡ (has_body h i && not (is_same_at h o i))
+no_body_looked h o i f = λ j. (sym (found_any (is_body_at i) h.bodies ∙ ap is_some (sym f)) j) && not (is_same_at h o i)
+
+-- a body here has the id, and none there
+pub body_here_alone : (h o : SetParts) (i : List ℕ) (t : BodyParts) → Some t ≡ find (is_body_at i) h.bodies
+    → None ≡ find (is_body_at i) o.bodies → true ≡ (has_body h i && not (is_same_at h o i))
+body_here_alone h o i t f g =
+    sym (ap not (none (option_eq same_policy (find (is_policy_at i) h.policies) (find (is_policy_at i) o.policies))))
+    ∙ sym (λ j. (found_any (is_body_at i) h.bodies ∙ ap is_some (sym f)) j
+    && not (alike_at (find (is_policy_at i) h.policies) (find (is_policy_at i) o.policies) (sym f j) (sym g j)))
+
+-- no policy here has the id
+pub no_policy_looked : (h o : SetParts) (i : List ℕ) → None ≡ find (is_policy_at i) h.policies
+    → false ≡ (looked_at Policies h o i && not (is_same_at h o i))
+no_policy_looked h o i f =
+    sym (ap (λ v. v && not (is_same_at h o i)) (none (not (has_body h i && has_body o i))))
+    ∙ (λ j. (not (has_body h i && has_body o i)
+    && sym (found_any (is_policy_at i) h.policies ∙ ap is_some (sym f)) j) && not (is_same_at h o i))
+
+-- a policy here has the id, and none there
+pub policy_here_alone : (h o : SetParts) (i : List ℕ) (p : PolicyParts) → Some p ≡ find (is_policy_at i) h.policies
+    → None ≡ find (is_policy_at i) o.policies →
+    not (has_body h i && has_body o i) ≡ (looked_at Policies h o i && not (is_same_at h o i))
+policy_here_alone h o i p f g =
+    let v = not (has_body h i && has_body o i) in
+    sym (whole v) ∙ sym (whole (v && true))
+    ∙ (λ j. (v && sym (found_any (is_policy_at i) h.policies ∙ ap is_some (sym f)) j)
+    && not (alike_at (f j) (g j) (find (is_body_at i) h.bodies) (find (is_body_at i) o.bodies)))
+
+-- the first of two tells it, or the second
+pub told_first : (n v a : Bool) → n ≡ not v → n ≡ true → n ≡ (not v || not a)
+told_first n v a e t = t ∙ sym (ap (λ w. w || not a) (sym e ∙ t))
+
+pub told_second : (n v a r : Bool) → n ≡ not v → n ≡ false → r ≡ a → not r ≡ (not v || not a)
+told_second n v a r e t q = ap not q ∙ sym (ap (λ w. w || not a) (sym e ∙ t))
+
+-- both do, or the first says no
+pub told_both : (n r a v : Bool) → r ≡ a → r ≡ true → n ≡ not v → n ≡ (a && not v)
+told_both n r a v e t q = q ∙ sym (ap (λ w. w && not v) (sym e ∙ t))
+
+pub told_none : (r a v : Bool) → r ≡ a → r ≡ false → r ≡ (a && not v)
+told_none r a v e t = t ∙ sym (ap (λ w. w && not v) (sym e ∙ t))
