@@ -7,3 +7,4 @@ pub mod MergeSteps
 pub mod MergeTakesIn
 pub mod Numerals
 pub mod RenamingLaws
+pub mod Trials

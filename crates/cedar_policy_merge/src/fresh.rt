@@ -1,9 +1,12 @@
 //! New ids for a merge: policy0, policy1 and so on, as far as neither set binds them.
-ghost use Rattle.std.specs.Prelude.{◌≡◌, ◌+◌, ◌^◌, ◌<◌, IfOk, List, ℕ, length};
+ghost use Rattle.std.specs.Prelude.{◌≡◌, ◌+◌, ◌++◌, ◌∷◌, [], ◌^◌, ◌<◌, IfOk, OnOk, List, ℕ, length, codes};
+ghost use Rattle.std.specs.String.{string_bytes};
 ghost use Rattle.std.specs.Map.{keys_of, values_of};
 ghost use Rattle.cedar_policy_maps.specs.PolicySets.{AreOnce};
-ghost use Rattle.cedar_policy_merge.specs.Fresh.{numbered, is_bound_in_either, free_below, IsFree, AreFree};
+ghost use Rattle.cedar_policy_merge.specs.Fresh.{numeral, numbered, is_bound_in_either, free_below, IsFree};
+ghost use Rattle.cedar_policy_merge.specs.Fresh.{AreFree};
 ghost use Rattle.cedar_policy_merge.specs.laws.FreshLaws.{count};
+ghost use Rattle.cedar_policy_merge.specs.laws.Trials.{number_of, IsAt};
 
 use cedar_ids::policy_id::PolicyID;
 use cedar_policy_maps::PolicyMaps;
@@ -11,12 +14,95 @@ use indexmap::{IndexMap, IndexSet};
 use std::alloc::{AllocError, Global};
 use std::hash::BuildHasher;
 
-// The id of a number.
-fn numbered(alloc: Global, number: u128) -> Result<PolicyID, AllocError>
-    ensures { IfOk result (λ i. i ≡ numbered number) }
+// What a new id has room for: more digits than most have.
+const ROOM: usize = 16;
+
+// A number that is tried: its tens and its last digit, with the digits of the tens as they are written, none of them
+// where there are no tens. So most numbers are written without a division.
+#[derive(Drop)]
+struct Trial {
+    tens: u128,
+    digit: u8,
+    stem: String,
+}
+
+// The first number. It takes no memory.
+fn first(alloc: Global) -> Trial
+    ensures at { IsAt result }
+    ensures number { number_of result ≡ 0 }
 {
-    let text = format!(in alloc; "policy{number}")?;
+    Trial {
+        tens: 0,
+        digit: 0,
+        stem: String::new(alloc),
+    }
+}
+
+// The digits of a number.
+fn digits_of(alloc: Global, number: u128) -> Result<String, AllocError>
+    ensures { IfOk result (λ s. string_bytes s ≡ numeral number) }
+{
+    let text = format!(in alloc; "{number}")?;
+    Ok(text)
+}
+
+// Goes on to the next number.
+#[tactic(auto, using(crate::specs::laws::Trials::stem_more))]
+fn go_on(alloc: Global, trial: &mut Trial) -> Result<(), AllocError>
+    requires at { IsAt trial.old }
+    requires small { number_of trial.old < 2 ^ 100 }
+    ensures at { OnOk result (IsAt trial.new) }
+    ensures number { OnOk result (number_of trial.new ≡ number_of trial.old + 1) }
+{
+    if trial.digit < 9 {
+        trial.digit += 1;
+        return Ok(());
+    }
+    trial.tens += 1;
+    trial.digit = 0;
+    trial.stem = digits_of(alloc, trial.tens)?;
+    Ok(())
+}
+
+// A digit as it is written.
+fn digit_text(digit: u8) -> &'static str
+    requires { digit < 10 }
+    ensures { result.now ≡ (48 + digit) ∷ [] }
+{
+    match digit {
+        0 => "0",
+        1 => "1",
+        2 => "2",
+        3 => "3",
+        4 => "4",
+        5 => "5",
+        6 => "6",
+        7 => "7",
+        8 => "8",
+        _ => "9",
+    }
+}
+
+// The id of a number by the digits of its tens and its last, in the place of another id.
+fn id_of(stem: &str, digit: u8, id: PolicyID) -> Result<PolicyID, AllocError>
+    requires { digit < 10 }
+    ensures { IfOk result (λ i. i ≡ codes "policy" ++ (stem.now ++ (48 + digit) ∷ [])) }
+{
+    let mut text = id.into_smolstr();
+    text.clear();
+    text.push_str("policy")?;
+    text.push_str(stem)?;
+    text.push_str(digit_text(digit))?;
     Ok(PolicyID::from_smolstr(text))
+}
+
+// The id of the number that is tried, in the place of another id.
+fn numbered(trial: &Trial, id: PolicyID) -> Result<PolicyID, AllocError>
+    requires { IsAt trial.now }
+    ensures { IfOk result (λ i. i ≡ numbered (number_of trial.now)) }
+{
+    let id = id_of(trial.stem.as_str(), trial.digit, id)?;
+    Ok(id)
 }
 
 // Whether one of two sets binds an id.
@@ -30,26 +116,29 @@ fn is_bound_in_either<S: BuildHasher + Copy>(
     here.is_bound(id) || other.is_bound(id)
 }
 
-// The first free id from this number on, with its number.
+// The first free id from this number on, to whose number it goes.
 fn next_free<S: BuildHasher + Copy>(
     alloc: Global,
     here: &PolicyMaps<S>,
     other: &PolicyMaps<S>,
-    start: u128,
-) -> Result<(PolicyID, u128), AllocError>
-    requires { free_below (is_bound_in_either here.now other.now) start + count here.now other.now < 2 ^ 100 }
-    ensures named { IfOk result (λ r. r.0 ≡ numbered r.1) }
-    ensures free { IfOk result (λ r. IsFree (is_bound_in_either here.now other.now)
-        (free_below (is_bound_in_either here.now other.now) start) r.1) }
-    ensures small { IfOk result (λ r. r.1 < 2 ^ 100) }
+    trial: &mut Trial,
+) -> Result<PolicyID, AllocError>
+    requires at { IsAt trial.old }
+    requires small { free_below (is_bound_in_either here.now other.now) (number_of trial.old) + count here.now other.now
+        < 2 ^ 100 }
+    ensures at { OnOk result (IsAt trial.new) }
+    ensures named { IfOk result (λ i. i ≡ numbered (number_of trial.new)) }
+    ensures free { OnOk result (IsFree (is_bound_in_either here.now other.now)
+        (free_below (is_bound_in_either here.now other.now) (number_of trial.old)) (number_of trial.new)) }
+    ensures small { OnOk result (number_of trial.new < 2 ^ 100) }
 {
-    let mut number = start;
+    let mut id = PolicyID::from_smolstr(String::with_capacity(alloc, ROOM)?);
     loop {
-        let id = numbered(alloc, number)?;
+        id = numbered(trial, id)?;
         if !is_bound_in_either(here, other, &id) {
-            return Ok((id, number));
+            return Ok(id);
         }
-        number += 1;
+        go_on(alloc, trial)?;
     }
 }
 
@@ -82,12 +171,12 @@ pub(crate) fn fresh_ids<S: BuildHasher + Copy>(
 {
     // No effect on the answer: this count says that numbers do not run out.
     let _count = count_ids(here, other);
-    let mut renaming = IndexMap::with_hasher(alloc, *ids.hasher());
-    let mut start: u128 = 0;
+    let mut renaming = IndexMap::with_capacity_and_hasher(alloc, ids.len(), *ids.hasher())?;
+    let mut trial = first(alloc);
     for id in ids {
-        let (fresh, number) = next_free(alloc, here, other, start)?;
+        let fresh = next_free(alloc, here, other, &mut trial)?;
         renaming.insert(id, fresh)?;
-        start = number + 1;
+        go_on(alloc, &mut trial)?;
     }
     Ok(renaming)
 }

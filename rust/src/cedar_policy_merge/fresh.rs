@@ -7,10 +7,71 @@ use crate::cedar_policy_maps::PolicyMaps;
 use crate::ordered_map::{OrderedMap, OrderedSet};
 use std::hash::BuildHasher;
 
-// The id of a number.
-fn numbered(number: u128) -> PolicyID {
-    let text = format!("policy{number}");
+// What a new id has room for: more digits than most have.
+const ROOM: usize = 16;
+
+// A number that is tried: its tens and its last digit, with the digits of the tens as they are written, none of them
+// where there are no tens. So most numbers are written without a division.
+struct Trial {
+    tens: u128,
+    digit: u8,
+    stem: String,
+}
+
+// The first number.
+fn first() -> Trial {
+    Trial {
+        tens: 0,
+        digit: 0,
+        stem: String::new(),
+    }
+}
+
+// The digits of a number.
+fn digits_of(number: u128) -> String {
+    format!("{number}")
+}
+
+// Goes on to the next number.
+fn go_on(trial: &mut Trial) {
+    if trial.digit < 9 {
+        trial.digit += 1;
+        return;
+    }
+    trial.tens += 1;
+    trial.digit = 0;
+    trial.stem = digits_of(trial.tens);
+}
+
+// A digit as it is written.
+fn digit_text(digit: u8) -> &'static str {
+    match digit {
+        0 => "0",
+        1 => "1",
+        2 => "2",
+        3 => "3",
+        4 => "4",
+        5 => "5",
+        6 => "6",
+        7 => "7",
+        8 => "8",
+        _ => "9",
+    }
+}
+
+// The id of a number by the digits of its tens and its last, in the place of another id.
+fn id_of(stem: &str, digit: u8, id: PolicyID) -> PolicyID {
+    let mut text = id.into_smolstr();
+    text.clear();
+    text.push_str("policy");
+    text.push_str(stem);
+    text.push_str(digit_text(digit));
     PolicyID::from_smolstr(text)
+}
+
+// The id of the number that is tried, in the place of another id.
+fn numbered(trial: &Trial, id: PolicyID) -> PolicyID {
+    id_of(trial.stem.as_str(), trial.digit, id)
 }
 
 // Whether one of two sets binds an id.
@@ -18,15 +79,15 @@ fn is_bound_in_either<S: BuildHasher + Copy>(here: &PolicyMaps<S>, other: &Polic
     here.is_bound(id) || other.is_bound(id)
 }
 
-// The first free id from this number on, with its number.
-fn next_free<S: BuildHasher + Copy>(here: &PolicyMaps<S>, other: &PolicyMaps<S>, start: u128) -> (PolicyID, u128) {
-    let mut number = start;
+// The first free id from this number on, to whose number it goes.
+fn next_free<S: BuildHasher + Copy>(here: &PolicyMaps<S>, other: &PolicyMaps<S>, trial: &mut Trial) -> PolicyID {
+    let mut id = PolicyID::from_smolstr(String::with_capacity(ROOM));
     loop {
-        let id = numbered(number);
+        id = numbered(trial, id);
         if !is_bound_in_either(here, other, &id) {
-            return (id, number);
+            return id;
         }
-        number += 1;
+        go_on(trial);
     }
 }
 
@@ -36,12 +97,12 @@ pub(crate) fn fresh_ids<S: BuildHasher + Copy>(
     here: &PolicyMaps<S>,
     other: &PolicyMaps<S>,
 ) -> OrderedMap<PolicyID, PolicyID, S> {
-    let mut renaming = OrderedMap::with_hasher(*ids.hasher());
-    let mut start: u128 = 0;
+    let mut renaming = OrderedMap::with_capacity_and_hasher(ids.len(), *ids.hasher());
+    let mut trial = first();
     for id in ids {
-        let (fresh, number) = next_free(here, other, start);
+        let fresh = next_free(here, other, &mut trial);
         renaming.insert(id, fresh);
-        start = number + 1;
+        go_on(&mut trial);
     }
     renaming
 }

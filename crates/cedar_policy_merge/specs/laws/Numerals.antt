@@ -7,11 +7,11 @@ use Rattle.std.proofs.lemmas.List.{append_cancel_left}
 use Rattle.cedar_policy_merge.specs.Fresh.{numeral, numbered}
 
 -- a number has no more digits than this many and one
-abbrev Fits : ℕ → ℕ → Type 0
+abbrev pub Fits : ℕ → ℕ → Type 0
 Fits zero n = n < 10
 Fits (suc k) n = Fits k (n / 10)
 
-fits_itself : (k n : ℕ) → n ≤ k → Fits k n
+pub fits_itself : (k n : ℕ) → n ≤ k → Fits k n
 fits_itself zero n h = omega arith
 fits_itself (suc k) n h = fits_itself k (n / 10) (omega arith)
 
@@ -20,21 +20,21 @@ fits_below zero n h = h
 fits_below (suc k) n h = fits_below k (n / 10) (let p = pow-suc 10 (suc k) in omega (arith, p))
 
 -- one digit more, or the last
-last_digit : (k n : ℕ) (acc : List ℕ) → n / 10 ≡ 0 → digits_onto (suc k) 10 false n acc
+pub last_digit : (k n : ℕ) (acc : List ℕ) → n / 10 ≡ 0 → digits_onto (suc k) 10 false n acc
     ≡ digit_glyph false (n % 10) ∷ acc
 last_digit k n acc e = ap (λ (b : Bool). cond b (digit_glyph false (n % 10) ∷ acc)
     (digits_onto k 10 false (n / 10) (digit_glyph false (n % 10) ∷ acc))) (eq-eqb (n / 10) 0 e)
 
-more_digits : (k n : ℕ) (acc : List ℕ) → (n / 10 ≡ 0 → ⊥)
+pub more_digits : (k n : ℕ) (acc : List ℕ) → (n / 10 ≡ 0 → ⊥)
     → digits_onto (suc k) 10 false n acc ≡ digits_onto k 10 false (n / 10) (digit_glyph false (n % 10) ∷ acc)
 more_digits k n acc e = ap (λ (b : Bool). cond b (digit_glyph false (n % 10) ∷ acc)
     (digits_onto k 10 false (n / 10) (digit_glyph false (n % 10) ∷ acc))) (ne_eqb (n / 10) 0 e)
 
-data IsZero (n : ℕ) : Type 0 where
+pub data IsZero (n : ℕ) : Type 0 where
   yes : n ≡ 0 → IsZero n
   no : (n ≡ 0 → ⊥) → IsZero n
 
-is_zero : (n : ℕ) → IsZero n
+pub is_zero : (n : ℕ) → IsZero n
 is_zero zero = yes refl
 is_zero (suc n) = no (λ e. omega arith)
 
@@ -46,7 +46,7 @@ same_by : (j k n : ℕ) (acc : List ℕ) → Fits j (n / 10) → Fits k (n / 10)
 same_by j k n acc f g e (yes z) = last_digit (suc j) n acc z ∙ sym (last_digit (suc k) n acc z)
 same_by j k n acc f g e (no z) = more_digits (suc j) n acc z ∙ e ∙ sym (more_digits (suc k) n acc z)
 
-same_digits : (j k n : ℕ) (acc : List ℕ) → Fits j n → Fits k n
+pub same_digits : (j k n : ℕ) (acc : List ℕ) → Fits j n → Fits k n
     → digits_onto (suc j) 10 false n acc ≡ digits_onto (suc k) 10 false n acc
 same_digits zero k n acc f g = let z : n / 10 ≡ 0 = omega arith in last_digit zero n acc z ∙ sym (last_digit k n acc z)
 same_digits (suc j) zero n acc f g = let z : n / 10 ≡ 0 = omega arith in
@@ -64,7 +64,7 @@ abbrev value_after : ℕ → List ℕ → ℕ
 value_after a [] = a
 value_after a (c ∷ cs) = value_after (a * 10 + (c - 48)) cs
 
-glyph_is : (d : ℕ) → d < 10 → digit_glyph false d ≡ 48 + d
+pub glyph_is : (d : ℕ) → d < 10 → digit_glyph false d ≡ 48 + d
 glyph_is d h = ap (λ (b : Bool). cond b (48 + d) (87 + d)) (lt-ltb d 10 h)
 
 read_digit : (a n : ℕ) (acc : List ℕ) → value_after a (digit_glyph false (n % 10) ∷ acc)
