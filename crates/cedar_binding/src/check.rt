@@ -61,7 +61,7 @@ fn unbound(alloc: Global, slots: &[Slot], values: &SlotEnv) -> Result<Vec<SlotId
 fn is_extra(slots: &[Slot], values: &SlotEnv, id: SlotId) -> bool
     ensures { result ≡ (binds (env_of values.now) id && not (is_among slots.now id)) }
 {
-    is_bound(values, id) && !has_slot(slots, id)
+    !has_slot(slots, id) && is_bound(values, id)
 }
 
 // The bound ids that are no slots.

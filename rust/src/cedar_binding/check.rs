@@ -46,7 +46,7 @@ fn unbound(slots: &[Slot], values: &SlotEnv) -> Vec<SlotId> {
 
 // Whether an id is bound and no slot.
 fn is_extra(slots: &[Slot], values: &SlotEnv, id: SlotId) -> bool {
-    is_bound(values, id) && !has_slot(slots, id)
+    !has_slot(slots, id) && is_bound(values, id)
 }
 
 // The bound ids that are no slots.
