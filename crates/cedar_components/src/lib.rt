@@ -6,9 +6,10 @@
 //! [`reach`] does all. A depth-first search gives the order in which the numbers finish; searches
 //! against the arcs, in that order from its end, give each number its strong component; each
 //! component gets one list of what its members reach, those below it first, and each list is put in
-//! order as it is made: one that has many of the numbers by a walk over all of them, any other by
-//! sorting it. The searches keep stacks of their own, so that none of them recurses, whatever the
-//! graph is.
+//! order as it is made: that of one number with one arc is copied of the list that stands for the
+//! arc's target, which is put in at its place; one that has many of the numbers is put in order by a
+//! walk over all of them, any other by sorting it. The searches keep stacks of their own, so that none
+//! of them recurses, whatever the graph is.
 #![tactic(auto)]
 
 ghost use Rattle.std.specs.Prelude.{◌≡◌, ℕ, IfOk};
@@ -51,7 +52,8 @@ pub struct Reached {
 /// refused only where that is. Looks at each arc a few times, goes through the list of a component
 /// once for each arc that leads to it from another, and puts each list in order once: a list that
 /// has more than 16 numbers, and at least one for each whole 16 of all, by one walk over `order`, any
-/// other by comparing its numbers' places there, in its length times the logarithm of that. The arcs
+/// other by comparing its numbers' places there, in its length times the logarithm of that. A number
+/// that lies on no cycle and has one arc alone gets its list by a copy, and a search for one place. The arcs
 /// of a number are taken up from the last, and one to what was reached by then costs a look: so give
 /// last those that reach the others. Recurses nowhere but where a list is sorted, in the logarithm of
 /// its length.

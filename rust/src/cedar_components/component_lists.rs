@@ -3,7 +3,7 @@
 //! What the members of each component reach.
 
 use crate::cedar_components::links::{Arcs, make_links};
-use crate::cedar_components::list_order::{Order, SHORT, put_in_order, ranks};
+use crate::cedar_components::list_order::{Order, SHORT, append_with, put_in_order, ranks};
 
 struct Marks {
     list: Vec<usize>,
@@ -81,12 +81,38 @@ fn add_component(s: &mut Marks, p: usize, members: &Members, r: &Lists, arcs: &A
     }
 }
 
-// Makes the list of component p.
-fn add_list(r: &mut Lists, s: &mut Marks, order: &Order, p: usize, members: &Members, arcs: &Arcs) {
+// The one number that arcs of component p lead to, if the component has one member and that has one arc, to a lower
+// component.
+fn only_target(p: usize, members: &Members, arcs: &Arcs) -> Option<usize> {
+    let m = members.head[p];
+    if m == 0 || members.link[m - 1] != 0 {
+        return None;
+    }
+    let e = arcs.head[m - 1];
+    if e == 0 || arcs.link[e - 1] != 0 {
+        return None;
+    }
+    let w = arcs.to[e - 1];
+    if members.component[w] < p { Some(w) } else { None }
+}
+
+// Puts what the members of component p reach last, in the order. Where they have one arc alone, to a lower component,
+// that is the number that it leads to and the list of that component, which is in the order.
+fn append_list(r: &mut Lists, s: &mut Marks, order: &Order, p: usize, members: &Members, arcs: &Arcs) {
+    if let Some(w) = only_target(p, members, arcs) {
+        let below = members.component[w];
+        append_with(&mut r.lists, r.start[below], r.start[below + 1], order, w);
+        return;
+    }
     s.list.clear();
     add_component(s, p, members, r, arcs);
     put_in_order(&mut s.list, &s.stamp, order, p, members.numbers);
     r.lists.extend_from_slice(&s.list);
+}
+
+// Makes the list of component p.
+fn add_list(r: &mut Lists, s: &mut Marks, order: &Order, p: usize, members: &Members, arcs: &Arcs) {
+    append_list(r, s, order, p, members, arcs);
     r.start.push(r.lists.len());
 }
 

@@ -34,8 +34,9 @@ pub struct Reached {
 /// Looks at each arc a few times, goes through the list of a component once for each arc that leads to it from another,
 /// and puts each list in order once: a list that has more than 16 numbers, and at least one for each whole 16 of all,
 /// by one walk over `order`, any other by comparing its numbers' places there, in its length times the logarithm of
-/// that. The arcs of a number are taken up from the last, and one to what was reached by then costs a look: so give
-/// last those that reach the others. Recurses nowhere but where a list is sorted, in the logarithm of its length.
+/// that. A number that lies on no cycle and has one arc alone gets its list by a copy, and a search for one place. The
+/// arcs of a number are taken up from the last, and one to what was reached by then costs a look: so give last those
+/// that reach the others. Recurses nowhere but where a list is sorted, in the logarithm of its length.
 pub fn reach(from: &[usize], to: &[usize], count: usize, order: &[usize]) -> Reached {
     let links = make_links(from, count);
     let forward = Arcs {
