@@ -9,7 +9,7 @@ use Rattle.std.specs.Cmp.{ranks, first_so, second_so}
 use Rattle.std.specs.Cmp.Lexicographic.{slice_cmp, pointwise, nat_list_cmp_total}
 use Rattle.std.specs.List.{AllByRecursion, list_all, list_any}
 use Rattle.std.specs.Set.{is_member}
-use Rattle.std.specs.Ordering.{nat_cmp, ordering_then, ordering_reverse, MatchOrdering}
+use Rattle.std.specs.Ordering.{nat_cmp, is_lt, ordering_then, ordering_reverse, MatchOrdering}
 use Rattle.std.specs.declared.cmp.Ordering.{Ordering}
 use Rattle.std.specs.declared.cmp.Ordering.TheVariants.{Less, Equal, Greater}
 use Rattle.cedar_ids.specs.Name.{NameParts, is_unqualified, name_cmp, name_eq}
@@ -285,6 +285,15 @@ module _ (k l f g : ℕ) (x y : EntityUID) (a : Abbreviate k f x) (b : Abbreviat
       (λ i. nat_cmp (a.of_eid i) (b.of_eid i))
       ∙ fronts_decide (uid_parts x).eid (uid_parts y).eid a.bytes b.bytes (λ d. differ (a.of_eid ∙ d ∙ sym b.of_eid))
       ∙ by_eids e
+
+  -- a lesser front tells
+  pub by_lesser_front : k ≡ l → f < g → true ≡ is_lt (uid_order x y)
+  by_lesser_front e h = by (nat_cmp f g) (ranks f g) ∙ ap is_lt (by_fronts e (λ d. omega (arith, h, d)))
+    where
+      by : (o : Ordering) → MatchOrdering o (f < g) (f ≡ g) (g < f) → true ≡ is_lt o
+      by Less m = refl
+      by Equal m = absurd (omega (arith, h, m))
+      by Greater m = absurd (omega (arith, h, m))
 
   -- uids of one kind are the same where their eids are
   pub same_by_eids : k ≡ l → pointwise nat_eq (uid_parts x).eid (uid_parts y).eid ≡ same_uid x y

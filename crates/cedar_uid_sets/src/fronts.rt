@@ -1,6 +1,6 @@
 //! The numbers that abbreviate uids, and comparisons by them.
 ghost use Rattle.std.specs.Prelude.{◌≡◌, ◌<◌, ◌+◌, ◌*◌, nat_eq, slice_index};
-ghost use Rattle.std.specs.Ordering.{nat_cmp};
+ghost use Rattle.std.specs.Ordering.{is_lt, nat_cmp};
 ghost use Rattle.std.specs.Cmp.Lexicographic.{pointwise, slice_cmp};
 ghost use Rattle.cedar_ids.specs.UidOf.{same_uid, uid_order, uid_parts};
 ghost use Rattle.cedar_uid_sets.specs.laws.Fronts.{AreDigits, front, kind, is_short, number, same_numbers};
@@ -206,6 +206,17 @@ pub(crate) fn order_of(one: &Key<'_>, other: &Key<'_>) -> Ordering
         return one.front.cmp(&other.front);
     }
     order_of_eids(one.uid, other.uid)
+}
+
+// Whether the first is less than the other. The numbers tell where those of the names are the same and that of the first
+// eid is the lesser.
+pub(crate) fn is_less(one: &Key<'_>, other: &Key<'_>) -> bool
+    ensures { result ≡ is_lt (uid_order one.now other.now) }
+{
+    if one.kind != 0 && one.kind == other.kind && one.front < other.front {
+        return true;
+    }
+    order_of(one, other).is_lt()
 }
 
 // Whether two uids have one eid, whose first eight bytes are the same: where one has no more, the lengths tell.

@@ -7,7 +7,7 @@ ghost use Rattle.cedar_uid_sets.specs.UidSets.{Ascend};
 ghost use Rattle.cedar_uid_sets.specs.laws.Fronts.{same_numbers};
 ghost use Rattle.cedar_uid_sets.specs.laws.Places.{IsPlaceOf, IsGapFor};
 
-use crate::fronts::{Key, are_same, have_same_numbers, order_of};
+use crate::fronts::{Key, are_same, have_same_numbers, is_less, order_of};
 use crate::shared_uid::SharedUid;
 use cedar_ids::entity::EntityUID;
 use std::cmp::Ordering;
@@ -126,5 +126,5 @@ pub(crate) fn has(uids: &[SharedUid], uid: &EntityUID) -> bool
 pub(crate) fn ascend(uids: &[SharedUid]) -> bool
     ensures { IsTrue result ↔ Ascend uids.now }
 {
-    uids.is_sorted_by(|one, next| order(one, &next.key()).is_lt())
+    uids.is_sorted_by(|one, next| is_less(&one.key(), &next.key()))
 }

@@ -141,6 +141,16 @@ pub(crate) fn order_of(one: &Key<'_>, other: &Key<'_>) -> Ordering {
     order_of_eids(one.uid, other.uid)
 }
 
+// Whether the first is less than the other. The numbers tell where those of the names are the same and that of the first
+// eid is the lesser.
+#[inline]
+pub(crate) fn is_less(one: &Key<'_>, other: &Key<'_>) -> bool {
+    if one.kind != 0 && one.kind == other.kind && one.front < other.front {
+        return true;
+    }
+    order_of(one, other).is_lt()
+}
+
 // Whether two uids have one eid, whose first eight bytes are the same: where one has no more, the lengths tell.
 #[inline]
 fn have_one_eid(one: &EntityUID, other: &EntityUID) -> bool {
