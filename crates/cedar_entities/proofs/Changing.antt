@@ -1,5 +1,5 @@
 -- What a call that changes a store answered, from what it did; and want of memory, of which each call says nothing.
-use Rattle.std.specs.Prelude.{◌≡◌, List, map, Result, Ok, Err, OnOk, IfOk, IfErr}
+use Rattle.std.specs.Prelude.{◌≡◌, List, map, Result, Ok, Err, IfOk}
 use Rattle.std.specs.Result.{IsErrAnd}
 use Rattle.std.proofs.Common.{refl, subst, sym, take}
 use Rattle.std.specs.Bool.{OnTrue}
