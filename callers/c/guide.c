@@ -1,4 +1,4 @@
-/* Ten tasks of who writes an authorizer or an administration service: the functions that docs/GUIDE.md quotes. */
+/* Ten tasks of who writes an authorizer or an administration service: docs/GUIDE.md quotes most of these functions. */
 #include "cedar.h"
 #include <assert.h>
 #include <stdio.h>
