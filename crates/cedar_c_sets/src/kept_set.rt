@@ -93,7 +93,7 @@ fn link<S: BuildHasher + Copy>(
 ) -> Result<(), LinkingError>
     ensures { Steps told_by_linking result set.old set.new (link_step set.old template id (env_of values)) }
 {
-    let _link = set.link(alloc, template, id, values)?;
+    set.link(alloc, template, id, values)?;
     Ok(())
 }
 

@@ -51,7 +51,7 @@ impl<S: BuildHasher + Clone> Children<S> {
         ensures { (p q : EntityUID) → is_child self.new p q
             ≡ (not (same_uid parent.now p) && is_child self.old p q) }
     {
-        let _children = self.sets.remove(parent);
+        self.sets.remove(parent);
     }
 
     // Takes a child from under a parent, and the parent with the last of its children.

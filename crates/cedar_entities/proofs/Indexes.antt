@@ -12,7 +12,6 @@ use Rattle.std.specs.Set.{is_member}
 use Rattle.std.specs.FinSet as set
 use Rattle.std.specs.FinMap as finmap
 use Rattle.cedar_graph.specs.Graph.{Reach}
-use Rattle.cedar_graph.specs.laws.Reaches.{reach_trans}
 use Rattle.cedar_ids.specs.UidOf.{same_uid}
 use Rattle.cedar_ids.specs.laws.UidOfLaws.{same_uid_decides, same_uid_equiv}
 use Rattle.cedar_ids.specs.declared.entity.EntityUID.{EntityUID}
@@ -29,7 +28,6 @@ use Rattle.cedar_entities.specs.declared.settling.Row.{Row}
 use Rattle.cedar_entities.specs.World.{World, added, deleted, graph, is_parent_in, overwritten}
 use Rattle.cedar_entities.specs.laws.Held.{held, held_map, shared}
 use Rattle.cedar_entities.specs.laws.Indexes.{HasChildren, IsPlainHeld, is_parent_at, parentage}
-use Rattle.cedar_entities.specs.laws.Losses.{AreTransitive}
 use Rattle.cedar_entities.specs.laws.Rows.{where_asked}
 use Rattle.cedar_entities.specs.laws.PlainAncestors.{ancestry_plain}
 use Rattle.cedar_entities.proofs.Adds.{stored}
@@ -66,16 +64,6 @@ forgotten_more false k x = refl
 pub parent_held : (o : Option EntityView) (p : EntityUID) → is_parent_in (option_map parts_of o) p ≡ is_parent_at o p
 parent_held None p = refl
 parent_held (Some e) p = refl
-
--- ancestors in a plain store are transitive
-pub plain_transitive : {S : Type 0} (m : HashMap EntityUID SharedEntity S) → IsPlainHeld (held_map m)
-    → AreTransitive (held m)
-plain_transitive m plain =
-    subst AreTransitive (sym (stored m (held_map m) refl))
-    (λ a b c p q. (reached a c).1 (reach_trans (graph plain.0) a b c ((reached a b).0 p) ((reached b c).0 q)))
-  where
-    reached : (a b : EntityUID) → (ancestry (held_map m) a b ≡ true) ↔ Reach (graph plain.0) a b
-    reached = ancestry_plain plain.0 (record { held = held_map m; partial = plain.0.partial }) plain.1
 
 -- over the entities of a plain store what lies below some uids is what an edit of these touches
 pub below_touched : (D : Held) → IsPlainHeld D → (child : EntityUID → EntityUID → Bool)

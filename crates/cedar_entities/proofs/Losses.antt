@@ -1,16 +1,15 @@
 -- What is read of the store once for all uids of an edit, and what that comes to.
-use Rattle.std.specs.Prelude.{◌≡◌, ◌+◌, Bool, true, false, not, ◌&&◌, ◌||◌, List, [], ◌∷◌, ◌++◌, Option, Some, None}
+use Rattle.std.specs.Prelude.{◌≡◌, ◌+◌, Bool, true, false, not, ◌&&◌, ◌||◌, List, [], ◌∷◌, Option, Some, None}
 use Rattle.std.specs.Prelude.{length}
-use Rattle.std.proofs.Common.{ap, arith, sym, refl, subst, inl, inr, ◌∙◌, get_or, take_all}
-use Rattle.std.proofs.lemmas.Bool.{and_parts, and_from, or_cases, or_right}
-use Rattle.std.proofs.lemmas.List.Folds.{list_any-append}
+use Rattle.std.proofs.Common.{ap, arith, sym, refl, ◌∙◌, get_or, take_all}
+use Rattle.std.proofs.lemmas.Bool.{and_parts, and_from}
 use Rattle.std.specs.Option.{option_map, is_some}
 use Rattle.std.specs.List.{AllByRecursion, list_any}
 use Rattle.std.specs.Set.{is_member}
 use Rattle.std.specs.FinSet as set
 use Rattle.std.specs.FinMap as finmap
 use Rattle.cedar_ids.specs.UidOf.{same_uid, uid_order}
-use Rattle.cedar_ids.specs.laws.UidOfLaws.{uid_order_total, same_uid_decides, same_uid_equiv}
+use Rattle.cedar_ids.specs.laws.UidOfLaws.{uid_order_total, same_uid_decides}
 use Rattle.cedar_ids.specs.declared.entity.EntityUID.{EntityUID}
 use Rattle.cedar_uid_sets.specs.UidSets.{UidValues}
 use Rattle.cedar_uid_sets.specs.laws.Sets.{one_equal}
@@ -19,10 +18,9 @@ use Rattle.cedar_entity.specs.View.{EntityView, has_ancestor}
 use Rattle.cedar_entities.specs.Edits.{goes_with, lessened}
 use Rattle.cedar_entities.specs.Modes.{ancestry, is_ancestor_in}
 use Rattle.cedar_entities.specs.Plain.{Held}
-use Rattle.cedar_entities.specs.declared.touching.Counted.{Counted}
 use Rattle.cedar_entities.specs.declared.touching.Loss.{Loss}
 use Rattle.cedar_entities.specs.laws.Edits.{stripped}
-use Rattle.cedar_entities.specs.laws.Losses.{AreTransitive, IsLossOf, counts, is_lost, is_stripped, loses, loses_uid}
+use Rattle.cedar_entities.specs.laws.Losses.{IsLossOf, is_lost, is_stripped, loses, loses_uid}
 use Rattle.cedar_entities.specs.laws.Losses.{takes}
 use Rattle.cedar_entities.proofs.Editing.{any_more}
 use Rattle.cedar_entities.proofs.AnyOf.{and_turn, any_alike, any_found, any_member, none_retained, same_bool}
@@ -61,38 +59,6 @@ any_hit h T hits A is = same_bool (list_any T hits) (list_any (λ u. h u && T u)
     any_member (λ u. h u && T u) A r.0 p.0 (and_from (h r.0) (T r.0) p.1 r.2))
     (λ t. let r = any_found (λ u. h u && T u) A t in let p = and_parts (h r.0) (T r.0) r.2 in
     any_member T hits r.0 (is r.0 ∙ and_from (is_member same_uid A r.0) (h r.0) r.1 p.0) p.1)
-
--- where ancestors are transitive, what goes with a uid that goes with another goes with that too
-takes_on : (f : EntityUID → Option EntityView) → AreTransitive f → (h u w : EntityUID) → takes f h u ≡ true
-    → takes f u w ≡ true → takes f h w ≡ true
-takes_on f further h u w t v =
-    let p = and_parts (is_some (f h)) (same_uid h u || is_ancestor_in (f h) u) t in
-    let r = and_parts (is_some (f u)) (same_uid u w || is_ancestor_in (f u) w) v in
-    elim (or_cases (same_uid h u) (is_ancestor_in (f h) u) p.1) [
-      | inl same ↦ subst (λ x. takes f x w ≡ true) (sym ((same_uid_decides h u).0 same)) v
-      | inr above ↦ and_from (is_some (f h)) (same_uid h w || is_ancestor_in (f h) w) p.0
-          (or_right (same_uid h w) (is_ancestor_in (f h) w)
-          (elim (or_cases (same_uid u w) (is_ancestor_in (f u) w) r.1) [
-            | inl same ↦ subst (λ x. is_ancestor_in (f h) x ≡ true) ((same_uid_decides u w).0 same) above
-            | inr more ↦ further h u w above more
-          ]))
-    ]
-
--- so one that has gone with some takes nothing more with it
-pub covered : (f : EntityUID → Option EntityView) → AreTransitive f → (A : List EntityUID) (u w : EntityUID)
-    → list_any (λ h. takes f h u) A ≡ true → takes f u w ≡ true → list_any (λ h. takes f h w) A ≡ true
-covered f further A u w t v = let r = any_found (λ h. takes f h u) A t in
-    any_member (λ h. takes f h w) A r.0 r.1 (takes_on f further r.0 u w r.2 v)
-
-pub counts_push : (done : List Counted) (a : Counted) (q : EntityUID)
-    → counts (done ++ a ∷ []) q ≡ (counts done q || same_uid a.uid q)
-counts_push done a q =
-    list_any-append (λ (x : Counted). same_uid q x.uid) done (a ∷ [])
-    ∙ ap (λ b. counts done q || b) (last (same_uid q a.uid) ∙ sym (same_uid_equiv.symm a.uid q))
-  where
-    last : (b : Bool) → (b || false) ≡ b
-    last true = refl
-    last false = refl
 
 -- what a test says of a list of one
 pub any_one : (T : EntityUID → Bool) (xs : List EntityUID) (k : EntityUID) → length xs ≡ 1 → k ≡ get_or xs 0 k

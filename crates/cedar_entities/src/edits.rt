@@ -94,7 +94,7 @@ fn read<S: BuildHasher + Clone>(
     note_all(&mut applied, uids)?;
     list_if_it_pays(alloc, entities, index);
     let touched = touched_by(alloc, entities, index, &applied)?;
-    let losses = losses_by(alloc, entities, &applied, &touched, index.plain, anew)?;
+    let losses = losses_by(alloc, entities, &applied, &touched, anew)?;
     let uids = listed(alloc, &applied)?;
     Ok(Reading {
         uids,
@@ -141,7 +141,7 @@ fn take_at<S: BuildHasher>(entities: &mut HashMap<SharedUid, SharedEntity, S>, u
     ensures { (q : EntityUID) → held entities.new q
         ≡ cond (same_uid uid.now q) None (held entities.old q) }
 {
-    let _gone = entities.remove(uid);
+    entities.remove(uid);
 }
 
 // Takes out the entities with these uids.

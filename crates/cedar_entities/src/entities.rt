@@ -364,10 +364,9 @@ impl<S: BuildHasher + Clone> Entities<S> {
     /// back. An indirect ancestor that one of these entities was given with counts as one that it has. It takes memory.
     /// It finds what is touched, as [`Entities`] says, once for the whole list. For an entity that is touched and none
     /// of the list it gathers what goes with the uids that this has as ancestors, in memory for a pointer each, and
-    /// takes that out at once; where the store is known to be plain it reads the ancestors of those uids alone that go
-    /// with no other. Then it closes what is touched, or checks the whole. Where the store is known to be plain and the
-    /// mode computes, it takes out all indirect ancestors of these entities instead, reads their parents alone, and
-    /// writes the ancestors anew: then an edit costs about what it costs to build what it touches.
+    /// takes that out at once. Then it closes what is touched, or checks the whole. Where the store is known to be plain
+    /// and the mode computes, it takes out all indirect ancestors of these entities instead, reads their parents alone,
+    /// and writes the ancestors anew: then an edit costs about what it costs to build what it touches.
     ///
     /// Unlike the original it takes neither a schema nor extensions.
     pub fn upsert_entities(

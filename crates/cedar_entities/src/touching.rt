@@ -1,6 +1,6 @@
 //! What goes from each entity by the uids that an edit applies, how it is stripped of that, and which entities are
 //! touched.
-ghost use Rattle.std.specs.Prelude.{◌≡◌, Some, true, cond, ◌&&◌, ◌||◌, not, is_some, IfOk, IfErr, IsTrue, OnOk};
+ghost use Rattle.std.specs.Prelude.{◌≡◌, Some, true, cond, ◌&&◌, ◌||◌, not, is_some, IfOk, IfErr, OnOk};
 ghost use Rattle.std.specs.FinSet as set;
 ghost use Rattle.std.specs.HashSet.{contains};
 ghost use Rattle.std.specs.List.{AllByRecursion, filter, list_any};
@@ -14,7 +14,7 @@ ghost use Rattle.cedar_entities.specs.Modes.{is_ancestor_in};
 ghost use Rattle.cedar_entities.specs.Touching.{is_touched};
 ghost use Rattle.cedar_entities.specs.laws.Edits.{bared, stripped};
 ghost use Rattle.cedar_entities.specs.laws.Held.{held, held_map, UidsMatch};
-ghost use Rattle.cedar_entities.specs.laws.Losses.{AreLossesOf, AreTransitive, IsLossOf, IsWhole, counts, is_lost};
+ghost use Rattle.cedar_entities.specs.laws.Losses.{AreLossesOf, IsLossOf, IsWhole, is_lost};
 ghost use Rattle.cedar_entities.specs.laws.Losses.{is_stripped, loses, loses_uid, takes};
 
 use crate::sought::{Sought, listed};
@@ -177,113 +177,35 @@ pub(crate) fn touched_by_any<S: BuildHasher>(
     Ok(copies)
 }
 
-// How many ancestors there are at a uid, what is a parent and an indirect one counted twice.
-fn count_at<S: BuildHasher>(
-    entities: &HashMap<SharedUid, SharedEntity, S>,
-    uid: &SharedUid,
-) -> usize {
-    match entities.get(uid) {
-        Some(node) => node.0.shared_ancestors().size_hint().0,
-        None => 0,
-    }
-}
-
-// A uid with the number of its ancestors.
-#[derive(Drop)]
-struct Counted {
-    count: usize,
-    uid: SharedUid,
-}
-
-// Some uids with the numbers of their ancestors.
-fn with_counts<S: BuildHasher>(
-    alloc: Global,
-    entities: &HashMap<SharedUid, SharedEntity, S>,
-    uids: &[SharedUid],
-) -> Result<Vec<Counted>, AllocError>
-    ensures { IfOk result (λ v. (q : EntityUID) → counts v.items q ≡ is_member same_uid uids.now q) }
-{
-    let mut all = Vec::new(alloc);
-    for uid in uids {
-        all.push(Counted {
-            count: count_at(entities, uid),
-            uid: uid.clone()?,
-        })?;
-    }
-    Ok(all)
-}
-
-// Some uids, those first that have most ancestors.
-fn by_most<S: BuildHasher>(
-    alloc: Global,
-    entities: &HashMap<SharedUid, SharedEntity, S>,
-    uids: &[SharedUid],
-) -> Result<Vec<SharedUid>, AllocError>
-    ensures { IfOk result (λ v. (q : EntityUID) → is_member same_uid v.items q ≡ is_member same_uid uids.now q) }
-{
-    let mut all = with_counts(alloc, entities, uids)?;
-    all.sort_unstable_by(|one, other| other.count.cmp(&one.count));
-    let mut sorted = Vec::with_capacity(alloc, all.len())?;
-    for entry in all {
-        sorted.push(entry.uid)?;
-    }
-    Ok(sorted)
-}
-
-// Adds what goes with a uid. Where ancestors are transitive, one that has gone already takes nothing more with it.
-fn insert_with_ancestors<S: BuildHasher>(
-    alloc: Global,
-    entities: &HashMap<SharedUid, SharedEntity, S>,
-    lost: &mut HashSet<SharedUid, S>,
-    uid: &SharedUid,
-    transitive: bool,
-) -> Result<(), AllocError>
-    requires { IsTrue transitive → contains same_uid lost.old uid.now ≡ true
-        → (w : EntityUID) → takes (held entities.now) uid.now w ≡ true → contains same_uid lost.old w ≡ true }
-    ensures { OnOk result ((w : EntityUID) → contains same_uid lost.new w
-        ≡ (contains same_uid lost.old w || takes (held entities.now) uid.now w)) }
-{
-    if transitive && lost.contains(uid) {
-        return Ok(());
-    }
-    insert_all(lost, with_ancestors_at(alloc, entities, uid)?)
-}
-
 // What goes with some uids.
 fn all_with_ancestors<S: BuildHasher + Clone>(
     alloc: Global,
     entities: &HashMap<SharedUid, SharedEntity, S>,
     uids: &[SharedUid],
-    transitive: bool,
 ) -> Result<HashSet<SharedUid, S>, AllocError>
-    requires { IsTrue transitive → AreTransitive (held entities.now) }
     ensures { IfOk result (λ s. (w : EntityUID) → contains same_uid s w
         ≡ list_any (λ u. takes (held entities.now) u w) uids.now) }
 {
     let mut lost = HashSet::with_hasher(alloc, entities.hasher().clone()?);
     for uid in uids {
-        insert_with_ancestors(alloc, entities, &mut lost, uid, transitive)?;
+        insert_all(&mut lost, with_ancestors_at(alloc, entities, uid)?)?;
     }
     Ok(lost)
 }
 
-// What goes with some uids, as a set. What most go with is read first, so that where ancestors are transitive the
-// others are mostly passed over.
+// What goes with some uids, as a set.
 fn uid_set_with_ancestors<S: BuildHasher + Clone>(
     alloc: Global,
     entities: &HashMap<SharedUid, SharedEntity, S>,
     uids: &[SharedUid],
-    transitive: bool,
 ) -> Result<UidSet, AllocError>
-    requires { IsTrue transitive → AreTransitive (held entities.now) }
     ensures { IfOk result (λ s. (w : EntityUID) → set.contains s w
         ≡ list_any (λ u. takes (held entities.now) u w) uids.now) }
 {
     if uids.len() == 1 {
         return UidSet::from_pointers(with_ancestors_at(alloc, entities, &uids[0])?);
     }
-    let sorted = by_most(alloc, entities, uids)?;
-    let lost = all_with_ancestors(alloc, entities, &sorted, transitive)?;
+    let lost = all_with_ancestors(alloc, entities, uids)?;
     UidSet::from_pointers(listed(alloc, &lost)?)
 }
 
@@ -294,15 +216,13 @@ fn loss_of<S: BuildHasher + Clone>(
     key: &SharedUid,
     entity: &Entity,
     uids: &Sought<'_, S>,
-    transitive: bool,
 ) -> Result<Loss, AllocError>
-    requires { IsTrue transitive → AreTransitive (held entities.now) }
     ensures uid { IfOk result (λ a. a.uid ≡ key.now) }
     ensures lost { IfOk result (λ a. (w : EntityUID) → is_lost a.lost w
         ≡ list_any (λ u. has_ancestor entity.now u && takes (held entities.now) u w) uids.now) }
 {
     let hits = uids.hits(alloc, entity)?;
-    let lost = uid_set_with_ancestors(alloc, entities, &hits, transitive)?;
+    let lost = uid_set_with_ancestors(alloc, entities, &hits)?;
     let uid = key.clone()?;
     Ok(Loss {
         uid,
@@ -317,9 +237,7 @@ fn push_loss<S: BuildHasher + Clone>(
     entity: &Entity,
     uids: &Sought<'_, S>,
     losses: &mut Vec<Loss>,
-    transitive: bool,
 ) -> Result<(), AllocError>
-    requires { IsTrue transitive → AreTransitive (held entities.now) }
     ensures who { OnOk result ((q : EntityUID) → loses losses.new.items q
         ≡ (loses losses.old.items q || (same_uid key.now q
         && is_stripped uids.now key.now (has_ancestor entity.now)))) }
@@ -331,7 +249,7 @@ fn push_loss<S: BuildHasher + Clone>(
         return Ok(());
     }
     let alloc = *losses.allocator();
-    losses.push(loss_of(alloc, entities, key, entity, uids, transitive)?)?;
+    losses.push(loss_of(alloc, entities, key, entity, uids)?)?;
     Ok(())
 }
 
@@ -341,9 +259,7 @@ fn push_loss_at<S: BuildHasher + Clone>(
     key: &SharedUid,
     uids: &Sought<'_, S>,
     losses: &mut Vec<Loss>,
-    transitive: bool,
 ) -> Result<(), AllocError>
-    requires { IsTrue transitive → AreTransitive (held entities.now) }
     ensures who { OnOk result ((q : EntityUID) → loses losses.new.items q
         ≡ (loses losses.old.items q || (same_uid key.now q
         && is_stripped uids.now key.now (is_ancestor_in (held entities.now key.now))))) }
@@ -351,7 +267,7 @@ fn push_loss_at<S: BuildHasher + Clone>(
         → AllByRecursion (IsLossOf (held entities.now) uids.now) losses.new.items) }
 {
     match entities.get(key) {
-        Some(node) => push_loss(entities, key, &node.0, uids, losses, transitive),
+        Some(node) => push_loss(entities, key, &node.0, uids, losses),
         None => Ok(()),
     }
 }
@@ -363,9 +279,7 @@ fn losses_among<S: BuildHasher + Clone>(
     entities: &HashMap<SharedUid, SharedEntity, S>,
     uids: &HashSet<SharedUid, S>,
     touched: &HashSet<SharedUid, S>,
-    transitive: bool,
 ) -> Result<Vec<Loss>, AllocError>
-    requires transitive { IsTrue transitive → AreTransitive (held entities.now) }
     requires touched { (q : EntityUID) → contains same_uid touched.now q
         ≡ is_touched (held_map entities.now) uids.now.keys q }
     ensures who { IfOk result (λ v. (q : EntityUID) → loses v.items q
@@ -375,7 +289,7 @@ fn losses_among<S: BuildHasher + Clone>(
     let sought = Sought::of(alloc, uids)?;
     let mut losses = Vec::new(alloc);
     for key in touched {
-        push_loss_at(entities, key, &sought, &mut losses, transitive)?;
+        push_loss_at(entities, key, &sought, &mut losses)?;
     }
     Ok(losses)
 }
@@ -424,10 +338,8 @@ pub(crate) fn losses_by<S: BuildHasher + Clone>(
     entities: &HashMap<SharedUid, SharedEntity, S>,
     uids: &HashSet<SharedUid, S>,
     touched: &HashSet<SharedUid, S>,
-    transitive: bool,
     anew: bool,
 ) -> Result<Vec<Loss>, AllocError>
-    requires transitive { IsTrue transitive → AreTransitive (held entities.now) }
     requires touched { (q : EntityUID) → contains same_uid touched.now q
         ≡ is_touched (held_map entities.now) uids.now.keys q }
     ensures who { IfOk result (λ v. (q : EntityUID) → loses v.items q
@@ -437,7 +349,7 @@ pub(crate) fn losses_by<S: BuildHasher + Clone>(
     if anew {
         return whole_losses(alloc, uids, touched);
     }
-    losses_among(alloc, entities, uids, touched, transitive)
+    losses_among(alloc, entities, uids, touched)
 }
 
 // Takes what goes out of the indirect ancestors of an entity.

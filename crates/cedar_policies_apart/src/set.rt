@@ -18,7 +18,7 @@ fn link<S: BuildHasher + Copy>(
     id: PolicyID,
     values: SlotEnv,
 ) -> Result<(), LinkingError> {
-    let _link = set.link(alloc, template, id, values)?;
+    set.link(alloc, template, id, values)?;
     Ok(())
 }
 

@@ -23,7 +23,7 @@ fn link<S: BuildHasher + Copy>(
 ) -> Result<(), LinkingError>
     ensures { Steps told_by_linking result set.old set.new (link_step set.old template_id new_id (env_of values)) }
 {
-    let _link = set.link(alloc, template_id, new_id, values)?;
+    set.link(alloc, template_id, new_id, values)?;
     Ok(())
 }
 

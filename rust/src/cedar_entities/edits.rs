@@ -63,7 +63,7 @@ fn read<S: BuildHasher + Clone>(
     note_all(&mut applied, uids);
     list_if_it_pays(entities, index);
     let touched = touched_by(entities, index, &applied);
-    let losses = losses_by(entities, &applied, &touched, index.plain, anew);
+    let losses = losses_by(entities, &applied, &touched, anew);
     let uids = listed(&applied);
     Reading { uids, touched, losses }
 }

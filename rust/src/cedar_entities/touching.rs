@@ -8,7 +8,6 @@ use crate::cedar_entity::entity::Entity;
 use crate::cedar_entity::node::SharedEntity;
 use crate::cedar_ids::entity::EntityUID;
 use crate::cedar_uid_sets::{SharedUid, UidSet};
-use std::cmp::Reverse;
 use std::collections::{HashMap, HashSet};
 use std::hash::BuildHasher;
 use std::sync::Arc;
@@ -115,79 +114,27 @@ pub(crate) fn touched_by_any<S: BuildHasher>(
     copies
 }
 
-// How many ancestors there are at a uid, what is a parent and an indirect one counted twice.
-fn count_at<S: BuildHasher>(entities: &HashMap<SharedUid, SharedEntity, S>, uid: &SharedUid) -> usize {
-    match entities.get(uid) {
-        Some(node) => node.0.shared_ancestors().size_hint().0,
-        None => 0,
-    }
-}
-
-// A uid with the number of its ancestors.
-struct Counted {
-    count: usize,
-    uid: SharedUid,
-}
-
-// Some uids with the numbers of their ancestors.
-fn with_counts<S: BuildHasher>(entities: &HashMap<SharedUid, SharedEntity, S>, uids: &[SharedUid]) -> Vec<Counted> {
-    uids.iter()
-        .map(|uid| Counted {
-            count: count_at(entities, uid),
-            uid: uid.clone(),
-        })
-        .collect()
-}
-
-// Some uids, those first that have most ancestors.
-fn by_most<S: BuildHasher>(entities: &HashMap<SharedUid, SharedEntity, S>, uids: &[SharedUid]) -> Vec<SharedUid> {
-    let mut all = with_counts(entities, uids);
-    all.sort_unstable_by_key(|entry| Reverse(entry.count));
-    let mut sorted = Vec::with_capacity(all.len());
-    for entry in all {
-        sorted.push(entry.uid);
-    }
-    sorted
-}
-
-// Adds what goes with a uid. Where ancestors are transitive, one that has gone already takes nothing more with it.
-fn insert_with_ancestors<S: BuildHasher>(
-    entities: &HashMap<SharedUid, SharedEntity, S>,
-    lost: &mut HashSet<SharedUid, S>,
-    uid: &SharedUid,
-    transitive: bool,
-) {
-    if transitive && lost.contains(uid) {
-        return;
-    }
-    insert_all(lost, with_ancestors_at(entities, uid));
-}
-
 // What goes with some uids.
 fn all_with_ancestors<S: BuildHasher + Clone>(
     entities: &HashMap<SharedUid, SharedEntity, S>,
     uids: &[SharedUid],
-    transitive: bool,
 ) -> HashSet<SharedUid, S> {
     let mut lost = HashSet::with_hasher(entities.hasher().clone());
     for uid in uids {
-        insert_with_ancestors(entities, &mut lost, uid, transitive);
+        insert_all(&mut lost, with_ancestors_at(entities, uid));
     }
     lost
 }
 
-// What goes with some uids, as a set. What most go with is read first, so that where ancestors are transitive the
-// others are mostly passed over.
+// What goes with some uids, as a set.
 fn uid_set_with_ancestors<S: BuildHasher + Clone>(
     entities: &HashMap<SharedUid, SharedEntity, S>,
     uids: &[SharedUid],
-    transitive: bool,
 ) -> UidSet {
     if uids.len() == 1 {
         return UidSet::from_pointers(with_ancestors_at(entities, &uids[0]));
     }
-    let sorted = by_most(entities, uids);
-    let lost = all_with_ancestors(entities, &sorted, transitive);
+    let lost = all_with_ancestors(entities, uids);
     UidSet::from_pointers(listed(&lost))
 }
 
@@ -197,10 +144,9 @@ fn loss_of<S: BuildHasher + Clone>(
     key: &SharedUid,
     entity: &Entity,
     uids: &Sought<'_, S>,
-    transitive: bool,
 ) -> Loss {
     let hits = uids.hits(entity);
-    let lost = uid_set_with_ancestors(entities, &hits, transitive);
+    let lost = uid_set_with_ancestors(entities, &hits);
     let uid = key.clone();
     Loss {
         uid,
@@ -215,12 +161,11 @@ fn push_loss<S: BuildHasher + Clone>(
     entity: &Entity,
     uids: &Sought<'_, S>,
     losses: &mut Vec<Loss>,
-    transitive: bool,
 ) {
     if !uids.is_hit(key, entity) {
         return;
     }
-    losses.push(loss_of(entities, key, entity, uids, transitive));
+    losses.push(loss_of(entities, key, entity, uids));
 }
 
 // Notes what goes from the entity at a uid by some uids, where there is one and something does.
@@ -229,10 +174,9 @@ fn push_loss_at<S: BuildHasher + Clone>(
     key: &SharedUid,
     uids: &Sought<'_, S>,
     losses: &mut Vec<Loss>,
-    transitive: bool,
 ) {
     if let Some(node) = entities.get(key) {
-        push_loss(entities, key, &node.0, uids, losses, transitive);
+        push_loss(entities, key, &node.0, uids, losses);
     }
 }
 
@@ -242,12 +186,11 @@ fn losses_among<S: BuildHasher + Clone>(
     entities: &HashMap<SharedUid, SharedEntity, S>,
     uids: &HashSet<SharedUid, S>,
     touched: &HashSet<SharedUid, S>,
-    transitive: bool,
 ) -> Vec<Loss> {
     let sought = Sought::of(uids);
     let mut losses = Vec::new();
     for key in touched {
-        push_loss_at(entities, key, &sought, &mut losses, transitive);
+        push_loss_at(entities, key, &sought, &mut losses);
     }
     losses
 }
@@ -278,13 +221,12 @@ pub(crate) fn losses_by<S: BuildHasher + Clone>(
     entities: &HashMap<SharedUid, SharedEntity, S>,
     uids: &HashSet<SharedUid, S>,
     touched: &HashSet<SharedUid, S>,
-    transitive: bool,
     anew: bool,
 ) -> Vec<Loss> {
     if anew {
         return whole_losses(uids, touched);
     }
-    losses_among(entities, uids, touched, transitive)
+    losses_among(entities, uids, touched)
 }
 
 // Takes what goes out of the indirect ancestors of an entity.

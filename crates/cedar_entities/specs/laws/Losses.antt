@@ -13,7 +13,6 @@ use Rattle.cedar_entities.specs.Modes.{ancestry, is_ancestor_in}
 use Rattle.cedar_entities.specs.Plain.{Held}
 use Rattle.cedar_entities.specs.Touching.{is_touched}
 use Rattle.cedar_entities.specs.declared.edits.Reading.{Reading}
-use Rattle.cedar_entities.specs.declared.touching.Counted.{Counted}
 use Rattle.cedar_entities.specs.declared.touching.Loss.{Loss}
 use Rattle.cedar_entities.specs.declared.touching.Lost.{Lost}
 use Rattle.cedar_entities.specs.declared.touching.Lost.TheVariants as lost
@@ -21,11 +20,6 @@ use Rattle.cedar_entities.specs.declared.touching.Lost.TheVariants as lost
 -- whether w goes with u: u is held, and w is u or an ancestor of u
 abbrev pub takes : (EntityUID → Option EntityView) → EntityUID → EntityUID → Bool
 takes f u w = is_some (f u) && (same_uid u w || is_ancestor_in (f u) w)
-
--- an ancestor of an ancestor is an ancestor
-abbrev pub AreTransitive : (EntityUID → Option EntityView) → Type 0
-AreTransitive f = (a b c : EntityUID) → is_ancestor_in (f a) b ≡ true → is_ancestor_in (f b) c ≡ true
-    → is_ancestor_in (f a) c ≡ true
 
 -- whether an edit by these uids strips q, of which f says what is an ancestor: it is none of them, and has one of them
 abbrev pub is_stripped : List EntityUID → EntityUID → (EntityUID → Bool) → Bool
@@ -56,10 +50,6 @@ loses R q = list_any (λ a. same_uid q a.uid) R
 -- whether w goes from q by the list
 abbrev pub loses_uid : List Loss → EntityUID → EntityUID → Bool
 loses_uid R q w = list_any (λ a. same_uid q a.uid && is_lost a.lost w) R
-
--- whether the list has q with the number of its ancestors
-abbrev pub counts : List Counted → EntityUID → Bool
-counts L q = list_any (λ a. same_uid q a.uid) L
 
 -- what an edit of some uids reads of what D holds: it lists these uids, what they touch, and what goes from that, which
 -- is all where it is to be written anew

@@ -3,12 +3,7 @@ use Rattle.std.specs.Set.{is_member}
 use Rattle.cedar_ids.specs.UidOf.{same_uid}
 use Rattle.cedar_entities.specs.laws.Held.{held_map}
 use Rattle.cedar_entities.proofs.Edited.{reading_of}
-use Rattle.cedar_entities.proofs.Indexes.{plain_transitive}
 use Rattle.cedar_entities.proofs.edits.read.Goals as goal
-
-pub losses_by-requires-clause-transitive : goal.losses_by-requires-clause-transitive
-losses_by-requires-clause-transitive g c is =
-    plain_transitive c.args.entities.now (c.list_if_it_pays.ensures.index.plain is)
 
 pub returns-clause-ok : goal.returns-clause-ok
 returns-clause-ok g c =

@@ -1,14 +1,12 @@
 use Rattle.std.proofs.Common.{◌≡◌, ◌∙◌, ap, arith, length}
 use Rattle.std.proofs.lemmas.Result.{IfOk-weaker}
 use Rattle.std.specs.FinSet as set
-use Rattle.std.specs.List.{list_any}
 use Rattle.std.specs.Set.{is_member}
 use Rattle.cedar_ids.specs.UidOf.{same_uid}
 use Rattle.cedar_ids.specs.declared.entity.EntityUID.{EntityUID}
 use Rattle.cedar_uid_sets.specs.laws.Sets.{contains_listed}
 use Rattle.cedar_entities.specs.laws.Held.{held}
 use Rattle.cedar_entities.specs.laws.Losses.{takes}
-use Rattle.cedar_entities.proofs.AnyOf.{any_alike}
 use Rattle.cedar_entities.proofs.Losses.{any_one}
 use Rattle.cedar_entities.proofs.touching.uid_set_with_ancestors.Goals as goal
 
@@ -26,6 +24,4 @@ returns g c =
     let T = λ (w u : EntityUID). takes (held c.args.entities.now) u w in
     IfOk-weaker c.from_pointers-2.result _ _ (λ s is w.
     ap (λ t. set.contains t w) is ∙ contains_listed c.in_ok-listed.field-0.items w
-    ∙ ap (λ l. is_member same_uid l w) c.in_ok-listed.ensures ∙ c.in_ok-lost.ensures w
-    ∙ ap (list_any (T w)) c.deref.ensures.value
-    ∙ any_alike (T w) c.in_ok-sorted.sorted.items c.args.uids.now c.in_ok-sorted.ensures) c.from_pointers-2.ensures
+    ∙ ap (λ l. is_member same_uid l w) c.in_ok-listed.ensures ∙ c.in_ok-lost.ensures w) c.from_pointers-2.ensures
