@@ -30,7 +30,13 @@ pub fn no_bindings(alloc: Global) -> SlotEnv
 pub fn bound_to(values: &SlotEnv, id: SlotId) -> Option<&EntityUID>
     ensures { option_map uid_parts (option_copied result) ≡ bound_to (env_of values.now) id }
 {
-    values.get(&id)
+    // Three are bound at most, and to go through them costs less than to hash one.
+    for (slot, uid) in values {
+        if id == *slot {
+            return Some(uid);
+        }
+    }
+    None
 }
 
 /// The same bindings once more, with the locations of their uids. Takes memory for the map and the eids, and
@@ -123,7 +129,7 @@ fn is_bound_before(values: &SlotEnv, id: SlotId) -> bool
 pub(crate) fn is_bound(values: &SlotEnv, id: SlotId) -> bool
     ensures { result ≡ binds (env_of values.now) id }
 {
-    values.contains_key(&id)
+    bound_to(values, id).is_some()
 }
 
 // Writes one binding, after a comma where there are others before it.

@@ -1,6 +1,6 @@
 //! Locations of uids that are bound: whether two equal policies have the same.
 
-use cedar_binding::SlotEnv;
+use cedar_binding::{SlotEnv, bound_to};
 use cedar_ids::entity::EntityUID;
 use cedar_ids::loc::Loc;
 use std::rc::RcStr;
@@ -8,7 +8,7 @@ use std::rc::RcStr;
 // Whether two bindings that are equal have their uids at the same locations.
 pub(crate) fn are_placed_as(stands: &SlotEnv, values: &SlotEnv) -> bool {
     for (slot, uid) in values {
-        if !is_placed_as(stands.get(slot), uid) {
+        if !is_placed_as(bound_to(stands, *slot), uid) {
             return false;
         }
     }

@@ -17,7 +17,13 @@ pub fn no_bindings() -> SlotEnv {
 
 /// The uid that a slot is bound to, if it is bound.
 pub fn bound_to(values: &SlotEnv, id: SlotId) -> Option<&EntityUID> {
-    values.get(&id)
+    // Three are bound at most, and to go through them costs less than to hash one.
+    for (slot, uid) in values {
+        if id == *slot {
+            return Some(uid);
+        }
+    }
+    None
 }
 
 /// The same bindings once more, with the locations of their uids.
@@ -76,7 +82,7 @@ fn is_bound_before(values: &SlotEnv, id: SlotId) -> bool {
 
 // Whether a slot is bound.
 pub(crate) fn is_bound(values: &SlotEnv, id: SlotId) -> bool {
-    values.contains_key(&id)
+    bound_to(values, id).is_some()
 }
 
 // Writes one binding, after a comma where there are others before it.

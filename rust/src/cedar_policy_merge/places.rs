@@ -2,7 +2,7 @@
 
 //! Locations of uids that are bound: whether two equal policies have the same.
 
-use crate::cedar_binding::SlotEnv;
+use crate::cedar_binding::{SlotEnv, bound_to};
 use crate::cedar_ids::entity::EntityUID;
 use crate::cedar_ids::loc::Loc;
 use std::sync::Arc;
@@ -10,7 +10,7 @@ use std::sync::Arc;
 // Whether two bindings that are equal have their uids at the same locations.
 pub(crate) fn are_placed_as(stands: &SlotEnv, values: &SlotEnv) -> bool {
     for (slot, uid) in values {
-        if !is_placed_as(stands.get(slot), uid) {
+        if !is_placed_as(bound_to(stands, *slot), uid) {
             return false;
         }
     }
