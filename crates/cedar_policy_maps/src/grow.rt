@@ -331,6 +331,10 @@ fn keep_body<S: BuildHasher + Copy>(
 fn take_body(stands: &mut Rc<Template>, template: Rc<Template>)
     ensures { stands.new.value ≡ stands.old.value }
 {
+    if Rc::ptr_eq(stands, &template) {
+        drop(template);
+        return;
+    }
     if is_body(&template, stands) {
         *stands = template;
     } else {

@@ -205,6 +205,9 @@ fn keep_body<S: BuildHasher + Copy>(templates: &mut OrderedMap<PolicyID, Arc<Tem
 
 // Puts a body in the place of another, if it is equal to it.
 fn take_body(stands: &mut Arc<Template>, template: Arc<Template>) {
+    if Arc::ptr_eq(stands, &template) {
+        return;
+    }
     if is_body(&template, stands) {
         *stands = template;
     }
