@@ -211,8 +211,8 @@ impl<S: BuildHasher + Copy> PolicySet<S> {
         ensures { Steps told_by_linking result self.old self.new
             (link_onto template.value self.old new_id (env_of values)) }
     {
-        let occupied = self.maps.is_bound(&new_id);
         let policy = Template::link(alloc, template, new_id, values)?;
+        let occupied = self.maps.is_bound(policy.id());
         if occupied {
             return Err(LinkingError::PolicyIdConflict {
                 id: own_id_of(policy),

@@ -267,8 +267,8 @@ impl<S: BuildHasher + Copy> PolicySet<S> {
         new_id: PolicyID,
         values: SlotEnv,
     ) -> Result<(), LinkingError> {
-        let occupied = self.maps.is_bound(&new_id);
         let policy = Template::link(template, new_id, values)?;
+        let occupied = self.maps.is_bound(policy.id());
         if occupied {
             return Err(LinkingError::PolicyIdConflict { id: own_id_of(policy) });
         }

@@ -3,7 +3,7 @@ use Rattle.std.specs.Option.{option_map_or}
 use Rattle.std.proofs.lemmas.Result.{err_from_is_err_and}
 use Rattle.cedar_body.specs.Bodies.{body_slots}
 use Rattle.cedar_binding.specs.Views.{env_of}
-use Rattle.cedar_policy.specs.Policies.{PolicyParts}
+use Rattle.cedar_policy.specs.Policies.{PolicyParts, policy_id}
 use Rattle.cedar_policy_maps.specs.PolicySets.{SetParts, is_bound, with_policy}
 use Rattle.cedar_policy_set.specs.Steps.{id_conflict}
 use Rattle.cedar_policy_set.specs.laws.StepLaws.{unfit_is_refused, fit_goes_on}
@@ -23,6 +23,7 @@ returns-then-occupied g c =
     let kept =
     with_policy c.args.self.now
     (record { template = c.args.template.value; link = Some c.args.new_id; env = env_of c.args.values }) in
+    let own : c.id.result.now ≡ c.args.new_id = c.id.ensures ∙ ap policy_id c.in_ok-policy.ensures.1 in
     let same : c.own_id_of.result ≡ c.args.new_id =
     ap (λ o. option_map_or (λ x. x) o []) (c.own_id_of.ensures
     ∙ ap (λ (q : PolicyParts). q.link) c.in_ok-policy.ensures.1) in (
@@ -30,6 +31,7 @@ returns-then-occupied g c =
       fit_goes_on (body_slots c.args.template.value) (env_of c.args.values) _ c.in_ok-policy.ensures.0
           ∙ ap (λ (b : SetParts). if is_bound b c.args.new_id then Err (id_conflict c.args.new_id) else Ok kept)
           (sym c.self.view_is)
+          ∙ ap (λ i. if is_bound c.self.inside.maps i then Err (id_conflict c.args.new_id) else Ok kept) (sym own)
           ∙ ap (λ b. if b then Err (id_conflict c.args.new_id) else Ok kept) (sym c.if-occupied.ensures)
           ∙ ap (λ i. Err (id_conflict i)) (sym same),
     )
@@ -42,9 +44,11 @@ returns g c =
       env = env_of c.args.values;
     } in
     let kept = with_policy c.args.self.now link in
+    let own : c.id.result.now ≡ c.args.new_id = c.id.ensures ∙ ap policy_id c.in_ok-policy.ensures.1 in
     fit_goes_on (body_slots c.args.template.value) (env_of c.args.values) _ c.in_ok-policy.ensures.0
     ∙ ap (λ (b : SetParts). if is_bound b c.args.new_id then Err (id_conflict c.args.new_id) else Ok kept)
     (sym c.self.view_is)
+    ∙ ap (λ i. if is_bound c.self.inside.maps i then Err (id_conflict c.args.new_id) else Ok kept) (sym own)
     ∙ ap (λ b. if b then Err (id_conflict c.args.new_id) else Ok kept) (sym c.if-occupied.ensures)
     ∙ ap Ok (ap (λ b. with_policy b link) (sym c.self.view_is)
     ∙ ap (with_policy c.self.inside.maps) (sym c.in_ok-policy.ensures.1) ∙ sym c.in_ok-put_policy.ensures.ok)
