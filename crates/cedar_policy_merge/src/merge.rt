@@ -1,14 +1,14 @@
 //! Merging other maps into these: what the two bind, under ids that do not conflict.
 ghost use Rattle.std.specs.Prelude.{◌≡◌, ◌↔◌, ◌&&◌, ◌||◌, ◌++◌, ◌+◌, ◌∷◌, [], true, false, not, length, is_some};
 ghost use Rattle.std.specs.Prelude.{if◌then◌else◌, IfOk};
-ghost use Rattle.std.specs.Prelude.{OnErr, OnOk, IsTrue, List, ℕ};
+ghost use Rattle.std.specs.Prelude.{OnErr, OnOk, IfSome, IsTrue, List, ℕ};
 ghost use Rattle.std.specs.List.{list_any};
-ghost use Rattle.std.specs.Map.{values_of};
+ghost use Rattle.std.specs.Map.{lookup, values_of};
 ghost use Rattle.std.specs.Option.{option_copied, unwrap_or};
 ghost use Rattle.cedar_body.specs.Bodies.{with_id};
 ghost use Rattle.cedar_policy.specs.Policies.{policy_id, with_policy_id};
 ghost use Rattle.cedar_ids.specs.Texts.{same_text};
-ghost use Rattle.cedar_policy_maps.specs.PolicySets.{AreOnce, bound_at};
+ghost use Rattle.cedar_policy_maps.specs.PolicySets.{AreOnce, bound_at, is_bound};
 ghost use Rattle.cedar_policy_merge.specs.Fresh.{is_bound_in_either};
 ghost use Rattle.cedar_policy_merge.specs.Merge.{has_body, has_policy, body_ids, policy_ids, is_same_at, conflicting};
 ghost use Rattle.cedar_policy_merge.specs.Merge.{gathered};
@@ -18,6 +18,7 @@ ghost use Rattle.cedar_policy_merge.specs.laws.GatherLaws.{in_groups, looked_at}
 ghost use Rattle.cedar_policy_merge.specs.laws.LookedAtLaws.{agree};
 ghost use Rattle.cedar_policy_merge.specs.laws.MergeTakesIn.{standing_bodies};
 ghost use Rattle.cedar_policy_merge.specs.laws.MergeSteps.{Refuses, with_template_renamed};
+ghost use Rattle.cedar_policy_merge.specs.laws.RenamingLaws.{AreFreeHere};
 ghost use Rattle.cedar_policy_maps.specs.Views.{bodies_of};
 
 use crate::fresh::fresh_ids;
@@ -290,13 +291,31 @@ fn is_same_at<S: BuildHasher + Copy>(
     here.policy_at(id) == other.policy_at(id) && here.template_at(id) == other.template_at(id)
 }
 
-// The id that was found for an id, else the id itself.
-fn new_or<'a>(new: Option<&'a PolicyID>, id: &'a PolicyID) -> &'a PolicyID
-    ensures { result.now ≡ unwrap_or (option_copied new.entry) id.now }
+// The new id of an id there, if it gets one. Where none does no id is hashed.
+fn new_of<'a, S: BuildHasher + Copy>(
+    renaming: &'a IndexMap<PolicyID, PolicyID, S>,
+    id: &PolicyID,
+) -> Option<&'a PolicyID>
+    ensures { option_copied result ≡ lookup (same_text id.now) renaming.now.entries }
+{
+    if renaming.is_empty() {
+        return None;
+    }
+    renaming.get(id)
+}
+
+// Whether an id there is bound here once it is the new one, if there is one: no new id is.
+fn stands_here<S: BuildHasher + Copy>(
+    here: &PolicyMaps<S>,
+    new: Option<&PolicyID>,
+    id: &PolicyID,
+) -> bool
+    requires { IfSome (option_copied new) (λ v. is_bound here.now v ≡ false) }
+    ensures { result ≡ is_bound here.now (unwrap_or (option_copied new.entry) id.now) }
 {
     match new {
-        Some(new) => new,
-        None => id,
+        Some(_new) => false,
+        None => here.is_bound(id),
     }
 }
 
@@ -322,6 +341,7 @@ fn parted_bodies<S: BuildHasher + Copy>(
     other: &PolicyMaps<S>,
     renaming: &IndexMap<PolicyID, PolicyID, S>,
 ) -> Result<Parted<Rc<Template>>, AllocError>
+    requires { AreFreeHere here.now renaming.now.entries }
     ensures stand { IfOk result (λ p. bodies_of p.stand.items
         ≡ standing_bodies here.now (new_id renaming.now.entries) other.now.bodies) }
     ensures join { IfOk result (λ p. bodies_of p.join.items
@@ -340,6 +360,7 @@ fn part_bodies<S: BuildHasher + Copy>(
     theirs: &[Rc<Template>],
     renaming: &IndexMap<PolicyID, PolicyID, S>,
 ) -> Result<(), AllocError>
+    requires { AreFreeHere here.now renaming.now.entries }
     ensures stand { OnOk result (bodies_of parted.new.stand.items
         ≡ bodies_of parted.old.stand.items ++ standing_bodies here.now (new_id renaming.now.entries)
         (bodies_of theirs.now)) }
@@ -361,6 +382,7 @@ fn part_body<S: BuildHasher + Copy>(
     template: &Rc<Template>,
     renaming: &IndexMap<PolicyID, PolicyID, S>,
 ) -> Result<(), AllocError>
+    requires { AreFreeHere here.now renaming.now.entries }
     ensures stand { OnOk result (bodies_of parted.new.stand.items
         ≡ bodies_of parted.old.stand.items ++ standing_bodies here.now (new_id renaming.now.entries)
         (template.now.value ∷ [])) }
@@ -368,8 +390,8 @@ fn part_body<S: BuildHasher + Copy>(
         ≡ bodies_of parted.old.join.items ++ joined_bodies here.now (new_id renaming.now.entries)
         (template.now.value ∷ [])) }
 {
-    let new = renaming.get(template.id());
-    let stands = here.is_bound(new_or(new, template.id()));
+    let new = new_of(renaming, template.id());
+    let stands = stands_here(here, new, template.id());
     part(parted, stands, renamed_body(alloc, template, new)?)
 }
 
@@ -395,6 +417,7 @@ fn parted_policies<S: BuildHasher + Copy>(
     other: &PolicyMaps<S>,
     renaming: &IndexMap<PolicyID, PolicyID, S>,
 ) -> Result<Parted<Policy>, AllocError>
+    requires { AreFreeHere here.now renaming.now.entries }
     ensures { IfOk result (λ p. p.join.items ≡ joined_policies here.now
         (new_id renaming.now.entries) other.now.policies) }
 {
@@ -411,6 +434,7 @@ fn part_policies<S: BuildHasher + Copy>(
     theirs: &[Policy],
     renaming: &IndexMap<PolicyID, PolicyID, S>,
 ) -> Result<(), AllocError>
+    requires { AreFreeHere here.now renaming.now.entries }
     ensures { OnOk result (parted.new.join.items ≡ parted.old.join.items
         ++ joined_policies here.now (new_id renaming.now.entries) theirs.now) }
 {
@@ -429,11 +453,12 @@ fn part_policy<S: BuildHasher + Copy>(
     policy: &Policy,
     renaming: &IndexMap<PolicyID, PolicyID, S>,
 ) -> Result<(), AllocError>
+    requires { AreFreeHere here.now renaming.now.entries }
     ensures { OnOk result (parted.new.join.items ≡ parted.old.join.items
         ++ joined_policies here.now (new_id renaming.now.entries) (policy.now ∷ [])) }
 {
-    let new = renaming.get(policy.id());
-    if here.is_bound(new_or(new, policy.id())) {
+    let new = new_of(renaming, policy.id());
+    if stands_here(here, new, policy.id()) {
         keep(&mut parted.stand, here, policy)?;
         return Ok(());
     }
@@ -513,7 +538,7 @@ fn on_renamed_template<S: BuildHasher + Copy>(
     if !is_link(policy) {
         return Ok(None);
     }
-    match renaming.get(policy.template().id()) {
+    match new_of(renaming, policy.template().id()) {
         None => Ok(None),
         Some(id) => {
             let id = id.clone()?;

@@ -183,11 +183,22 @@ fn is_same_at<S: BuildHasher + Copy>(here: &PolicyMaps<S>, other: &PolicyMaps<S>
     here.policy_at(id) == other.policy_at(id) && here.template_at(id) == other.template_at(id)
 }
 
-// The id that was found for an id, else the id itself.
-fn new_or<'a>(new: Option<&'a PolicyID>, id: &'a PolicyID) -> &'a PolicyID {
+// The new id of an id there, if it gets one. Where none does no id is hashed.
+fn new_of<'a, S: BuildHasher + Copy>(
+    renaming: &'a OrderedMap<PolicyID, PolicyID, S>,
+    id: &PolicyID,
+) -> Option<&'a PolicyID> {
+    if renaming.is_empty() {
+        return None;
+    }
+    renaming.get(id)
+}
+
+// Whether an id there is bound here once it is the new one, if there is one: no new id is.
+fn stands_here<S: BuildHasher + Copy>(here: &PolicyMaps<S>, new: Option<&PolicyID>, id: &PolicyID) -> bool {
     match new {
-        Some(new) => new,
-        None => id,
+        Some(_) => false,
+        None => here.is_bound(id),
     }
 }
 
@@ -230,8 +241,8 @@ fn part_body<S: BuildHasher + Copy>(
     template: &Arc<Template>,
     renaming: &OrderedMap<PolicyID, PolicyID, S>,
 ) {
-    let new = renaming.get(template.id());
-    let stands = here.is_bound(new_or(new, template.id()));
+    let new = new_of(renaming, template.id());
+    let stands = stands_here(here, new, template.id());
     part(parted, stands, renamed_body(template, new));
 }
 
@@ -274,8 +285,8 @@ fn part_policy<S: BuildHasher + Copy>(
     policy: &Policy,
     renaming: &OrderedMap<PolicyID, PolicyID, S>,
 ) {
-    let new = renaming.get(policy.id());
-    if here.is_bound(new_or(new, policy.id())) {
+    let new = new_of(renaming, policy.id());
+    if stands_here(here, new, policy.id()) {
         keep(&mut parted.stand, here, policy);
         return;
     }
@@ -328,7 +339,7 @@ fn on_renamed_template<S: BuildHasher + Copy>(
     if !is_link(policy) {
         return None;
     }
-    let id = renaming.get(policy.template().id())?;
+    let id = new_of(renaming, policy.template().id())?;
     let id = id.clone();
     policy.clone().new_template_id(id)
 }

@@ -1,6 +1,6 @@
 -- That the renaming of a merge keeps ids apart, and leaves what is bound alike.
 use Rattle.std.specs.Prelude.{◌≡◌, ℕ, ◌+◌, ◌<◌, length, List, [], ◌∷◌, ◌++◌, Bool, true, false, not, ◌||◌, ◌&&◌, Option}
-use Rattle.std.specs.Prelude.{Some, None, refl, if◌then◌else◌}
+use Rattle.std.specs.Prelude.{Some, None, refl, if◌then◌else◌, IfSome}
 use Rattle.std.proofs.Common.{◌≤◌, ◌⊎◌, inl, inr, sym, ap, ◌∙◌, cond, arith}
 use Rattle.std.specs.List.{filter, list_any}
 use Rattle.std.specs.Map.{lookup, keys_of, values_of}
@@ -192,6 +192,19 @@ not_bound_new h o r i v a e =
     let f = found_free (is_bound_in_either h o) 0 r i v a e in
     let b : is_bound_in_either h o v ≡ false = ap (is_bound_in_either h o) f.2 ∙ f.3.0 in
     or_parts _ _ b
+
+-- no new id is bound here
+abbrev pub AreFreeHere : SetParts → List (List ℕ × List ℕ) → Type 0
+AreFreeHere here r = (i : List ℕ) → IfSome (lookup (same_text i) r) (λ v. is_bound here v ≡ false)
+
+free_at : (h o : SetParts) (r : List (List ℕ × List ℕ)) (i : List ℕ) (a : Option (List ℕ))
+    → AreFree (is_bound_in_either h o) 0 (values_of r) → lookup (same_text i) r ≡ a
+    → IfSome a (λ v. is_bound h v ≡ false)
+free_at h o r i None f e = tt
+free_at h o r i (Some v) f e = (not_bound_new h o r i v f e).0
+
+pub new_are_free : (h o : SetParts) (r : List (List ℕ × List ℕ)) → IsRenaming h o r → AreFreeHere h r
+new_are_free h o r n i = free_at h o r i (lookup (same_text i) r) n.1 refl
 
 -- ---- what the renaming of a merge keeps
 

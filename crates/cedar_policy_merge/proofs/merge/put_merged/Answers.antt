@@ -1,7 +1,13 @@
 use Rattle.cedar_policy_merge.specs.Merge.{new_id}
 use Rattle.cedar_policy_merge.specs.laws.MergeTakesIn.{takes_in}
-use Rattle.cedar_policy_merge.specs.laws.RenamingLaws.{renames}
+use Rattle.cedar_policy_merge.specs.laws.RenamingLaws.{renames, new_are_free}
 use Rattle.cedar_policy_merge.proofs.merge.put_merged.Goals as goal
+
+pub parted_bodies-requires : goal.parted_bodies-requires
+parted_bodies-requires g c = new_are_free c.args.here.now c.args.other.now c.args.renaming.now.entries c.requires
+
+pub parted_policies-requires : goal.parted_policies-requires
+parted_policies-requires g c = new_are_free c.args.here.now c.args.other.now c.args.renaming.now.entries c.requires
 
 pub take_in-requires : goal.take_in-requires
 take_in-requires g c =
