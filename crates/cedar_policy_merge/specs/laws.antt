@@ -1,6 +1,7 @@
 pub mod ConflictLaws
 pub mod FreshLaws
 pub mod GatherLaws
+pub mod GatherSteps
 pub mod LookedAtLaws
 pub mod MergeLaws
 pub mod MergeSteps

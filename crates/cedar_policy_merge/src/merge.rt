@@ -1,21 +1,23 @@
 //! Merging other maps into these: what the two bind, under ids that do not conflict.
 ghost use Rattle.std.specs.Prelude.{◌≡◌, ◌↔◌, ◌&&◌, ◌||◌, ◌++◌, ◌+◌, ◌∷◌, [], true, false, not, length, is_some};
 ghost use Rattle.std.specs.Prelude.{if◌then◌else◌, IfOk};
-ghost use Rattle.std.specs.Prelude.{OnErr, OnOk, IfSome, IsTrue, List, ℕ};
-ghost use Rattle.std.specs.List.{list_any};
+ghost use Rattle.std.specs.Prelude.{OnErr, OnOk, IfSome, IsTrue, List, ℕ, Some};
+ghost use Rattle.std.specs.List.{find, list_any};
 ghost use Rattle.std.specs.Map.{lookup, values_of};
 ghost use Rattle.std.specs.Option.{option_copied, unwrap_or};
-ghost use Rattle.cedar_body.specs.Bodies.{with_id};
+ghost use Rattle.cedar_body.specs.Bodies.{BodyParts, with_id};
+ghost use Rattle.cedar_body.specs.BodyEquality.{same_body};
 ghost use Rattle.cedar_policy.specs.Policies.{policy_id, with_policy_id};
+ghost use Rattle.cedar_policy.specs.PolicyEquality.{same_policy};
 ghost use Rattle.cedar_ids.specs.Texts.{same_text};
-ghost use Rattle.cedar_policy_maps.specs.PolicySets.{AreOnce, bound_at, is_bound};
+ghost use Rattle.cedar_policy_maps.specs.PolicySets.{AreOnce, bound_at, is_bound, is_body_at};
 ghost use Rattle.cedar_policy_merge.specs.Fresh.{is_bound_in_either};
-ghost use Rattle.cedar_policy_merge.specs.Merge.{has_body, has_policy, body_ids, policy_ids, is_same_at, conflicting};
-ghost use Rattle.cedar_policy_merge.specs.Merge.{gathered};
+ghost use Rattle.cedar_policy_merge.specs.Merge.{has_policy, gathered};
 ghost use Rattle.cedar_policy_merge.specs.Merge.{conflicts, Differ, renamed_body, renamed_policy, joined_bodies};
 ghost use Rattle.cedar_policy_merge.specs.Merge.{joined_policies, merged, new_id, IsRenaming, MergesSets};
-ghost use Rattle.cedar_policy_merge.specs.laws.GatherLaws.{in_groups, looked_at};
-ghost use Rattle.cedar_policy_merge.specs.laws.LookedAtLaws.{agree};
+ghost use Rattle.cedar_policy_merge.specs.laws.GatherLaws.{Bodies, Policies, Links, Templates, in_groups};
+ghost use Rattle.cedar_policy_merge.specs.laws.GatherLaws.{conflicting_bodies, conflicting_policies};
+ghost use Rattle.cedar_policy_merge.specs.laws.LookedAtLaws.{agree, clashes, lies_over};
 ghost use Rattle.cedar_policy_merge.specs.laws.MergeTakesIn.{standing_bodies};
 ghost use Rattle.cedar_policy_merge.specs.laws.MergeSteps.{Refuses, with_template_renamed};
 ghost use Rattle.cedar_policy_merge.specs.laws.RenamingLaws.{AreFreeHere};
@@ -94,20 +96,6 @@ fn refused<'a, S: BuildHasher + Copy>(
     ids.iter().next()
 }
 
-// Which ids of the other set are looked at: those of one of its orders that stand in an order here. What an earlier
-// group looked at is left out.
-#[derive(Clone, Copy, Debug)]
-pub(crate) enum Group {
-    // Of bodies there: bodies here.
-    Bodies,
-    // Of policies there: policies here, but not where both sets have a body with the id.
-    Policies,
-    // Of bodies there: policies here, but not where there is a body here.
-    Links,
-    // Of policies there: bodies here, but not where there is a policy here.
-    Templates,
-}
-
 // The ids that conflict.
 #[tactic(auto, using(crate::specs::laws::GatherLaws::conflicts_in_groups))]
 fn conflicting_ids<S: BuildHasher + Copy>(
@@ -118,112 +106,159 @@ fn conflicting_ids<S: BuildHasher + Copy>(
     ensures { IfOk result (λ ids. ids.keys ≡ conflicts here.now other.now) }
 {
     let mut ids = IndexSet::with_hasher(alloc, *here.hasher());
-    gather_all(&mut ids, here, other)?;
+    gather_all(alloc, &mut ids, here, other)?;
     Ok(ids)
 }
 
-// Gathers the ids that conflict, group after group.
+// Gathers the ids that conflict, group after group. Bodies and policies there are walked once each: what a walk finds
+// for a later group is gathered once that group's turn comes.
 fn gather_all<S: BuildHasher + Copy>(
+    alloc: Global,
     ids: &mut IndexSet<PolicyID, S>,
     here: &PolicyMaps<S>,
     other: &PolicyMaps<S>,
 ) -> Result<(), AllocError>
     ensures { OnOk result (ids.new.keys ≡ in_groups ids.old.keys here.now other.now) }
 {
-    gather_bodies(ids, here, other, Group::Bodies)?;
-    gather_policies(ids, here, other, Group::Policies)?;
-    gather_bodies(ids, here, other, Group::Links)?;
-    gather_policies(ids, here, other, Group::Templates)
+    let mut links = Vec::new(alloc);
+    let mut templates = Vec::new(alloc);
+    gather_bodies(ids, &mut links, here, other)?;
+    gather_policies(ids, &mut templates, here, other)?;
+    gather_listed(ids, links)?;
+    gather_listed(ids, templates)
 }
 
-// Gathers the ids of bodies there that conflict and are looked at in this group.
+// Gathers ids that were listed.
+fn gather_listed<S: BuildHasher + Copy>(
+    ids: &mut IndexSet<PolicyID, S>,
+    listed: Vec<PolicyID>,
+) -> Result<(), AllocError>
+    ensures { OnOk result (ids.new.keys ≡ gathered ids.old.keys listed.items) }
+{
+    for id in listed {
+        ids.insert(id)?;
+    }
+    Ok(())
+}
+
+// Gathers the ids of bodies there that conflict with bodies here, and lists those that conflict with links here.
 fn gather_bodies<S: BuildHasher + Copy>(
     ids: &mut IndexSet<PolicyID, S>,
+    links: &mut Vec<PolicyID>,
     here: &PolicyMaps<S>,
     other: &PolicyMaps<S>,
-    group: Group,
 ) -> Result<(), AllocError>
-    ensures { OnOk result (ids.new.keys ≡ gathered ids.old.keys
-        (conflicting here.now other.now (looked_at group here.now other.now) (body_ids other.now))) }
+    ensures ids { OnOk result (ids.new.keys ≡ gathered ids.old.keys
+        (conflicting_bodies Bodies here.now other.now other.now.bodies)) }
+    ensures links { OnOk result (links.new.items ≡ links.old.items
+        ++ conflicting_bodies Links here.now other.now other.now.bodies) }
 {
-    for template in other.all_templates() {
-        gather_one(ids, here, other, template.id(), group)?;
+    // No effect at run time: this call says that the other is that of a policy set.
+    let _policy_set = other.is_empty();
+    for template in other.shared_bodies() {
+        gather_body(ids, links, here, other, template)?;
     }
     Ok(())
 }
 
-// Gathers the ids of policies there that conflict and are looked at in this group.
+// Gathers the id of a body there, if it conflicts with a body here, or lists it, if it conflicts with a link here.
+fn gather_body<S: BuildHasher + Copy>(
+    ids: &mut IndexSet<PolicyID, S>,
+    links: &mut Vec<PolicyID>,
+    here: &PolicyMaps<S>,
+    other: &PolicyMaps<S>,
+    template: &Template,
+) -> Result<(), AllocError>
+    requires { find (is_body_at template.now.id) other.now.bodies ≡ Some template.now }
+    ensures ids { OnOk result (ids.new.keys ≡ gathered ids.old.keys
+        (conflicting_bodies Bodies here.now other.now (template.now ∷ []))) }
+    ensures links { OnOk result (links.new.items ≡ links.old.items
+        ++ conflicting_bodies Links here.now other.now (template.now ∷ [])) }
+{
+    // No effect at run time: these calls say that both are those of a policy set.
+    let _policy_sets = (here.is_empty(), other.is_empty());
+    let own = template.id();
+    match here.template_at(own) {
+        None => list_id(links, own, here.has_policy(own)),
+        Some(stands) => gather_id(ids, own, is_other_body(here, other, stands, template)),
+    }
+}
+
+// Gathers the ids of policies there that conflict with policies here, and lists those that conflict with bodies here.
 fn gather_policies<S: BuildHasher + Copy>(
     ids: &mut IndexSet<PolicyID, S>,
+    templates: &mut Vec<PolicyID>,
     here: &PolicyMaps<S>,
     other: &PolicyMaps<S>,
-    group: Group,
 ) -> Result<(), AllocError>
-    ensures { OnOk result (ids.new.keys ≡ gathered ids.old.keys
-        (conflicting here.now other.now (looked_at group here.now other.now) (policy_ids other.now))) }
+    ensures ids { OnOk result (ids.new.keys ≡ gathered ids.old.keys
+        (conflicting_policies Policies here.now other.now other.now.policies)) }
+    ensures templates { OnOk result (templates.new.items ≡ templates.old.items
+        ++ conflicting_policies Templates here.now other.now other.now.policies) }
 {
-    for policy in other.policies() {
-        gather_one(ids, here, other, policy.id(), group)?;
+    // No effect at run time: these calls say that both are those of a policy set.
+    let _policy_sets = (here.is_empty(), other.is_empty());
+    for policy in other.all_policies() {
+        gather_policy(ids, templates, here, policy)?;
     }
     Ok(())
 }
 
-// Gathers an id, if it conflicts and is looked at in this group.
-fn gather_one<S: BuildHasher + Copy>(
+// Gathers the id of a policy there, if it conflicts with a policy here, or lists it, if it conflicts with a body here.
+fn gather_policy<S: BuildHasher + Copy>(
     ids: &mut IndexSet<PolicyID, S>,
+    templates: &mut Vec<PolicyID>,
     here: &PolicyMaps<S>,
-    other: &PolicyMaps<S>,
-    id: &PolicyID,
-    group: Group,
+    policy: &Policy,
 ) -> Result<(), AllocError>
-    ensures { OnOk result (ids.new.keys ≡ gathered ids.old.keys
-        (conflicting here.now other.now (looked_at group here.now other.now) (id.now ∷ []))) }
+    ensures ids { OnOk result (ids.new.keys ≡ gathered ids.old.keys
+        (if clashes here.now policy.now then policy_id policy.now ∷ [] else [])) }
+    ensures templates { OnOk result (templates.new.items ≡ templates.old.items
+        ++ (if lies_over here.now policy.now then policy_id policy.now ∷ [] else [])) }
 {
-    if is_conflicting(here, other, id, group) {
+    let own = policy.id();
+    match here.policy_at(own) {
+        None => list_id(templates, own, here.has_body(own)),
+        Some(stands) => gather_id(ids, own, is_other_policy(stands, policy)),
+    }
+}
+
+// Gathers an id, if it conflicts.
+fn gather_id<S: BuildHasher + Copy>(
+    ids: &mut IndexSet<PolicyID, S>,
+    id: &PolicyID,
+    clashes: bool,
+) -> Result<(), AllocError>
+    ensures { OnOk result (ids.new.keys ≡ gathered ids.old.keys (if clashes then id.now ∷ [] else [])) }
+{
+    if clashes {
         ids.insert(id.clone()?)?;
     }
     Ok(())
 }
 
-// Whether an id is looked at in this group and is not bound alike in both sets.
-fn is_conflicting<S: BuildHasher + Copy>(
-    here: &PolicyMaps<S>,
-    other: &PolicyMaps<S>,
-    id: &PolicyID,
-    group: Group,
-) -> bool
-    ensures { result ≡ (looked_at group here.now other.now id.now && not (is_same_at here.now other.now id.now)) }
+// Lists an id, if it conflicts.
+fn list_id(ids: &mut Vec<PolicyID>, id: &PolicyID, clashes: bool) -> Result<(), AllocError>
+    ensures { OnOk result (ids.new.items ≡ ids.old.items ++ (if clashes then id.now ∷ [] else [])) }
 {
-    match group {
-        Group::Bodies => is_other_body(here, other, id),
-        Group::Policies => is_other_policy(here, other, id),
-        Group::Links => {
-            !here.has_body(id) && here.has_policy(id) && !is_same_at(here, other, id)
-        }
-        Group::Templates => {
-            !here.has_policy(id) && here.has_body(id) && !is_same_at(here, other, id)
-        }
+    if clashes {
+        ids.push(id.clone()?)?;
     }
+    Ok(())
 }
 
-// Whether an id is that of a body here and not bound alike in both sets. Of two policies on equal bodies of one id both
-// are static, and equal.
+// Whether two bodies with one id are not bound alike. Of two policies on equal bodies of one id both are static, and
+// equal.
 fn is_other_body<S: BuildHasher + Copy>(
     here: &PolicyMaps<S>,
     other: &PolicyMaps<S>,
-    id: &PolicyID,
+    stands: &Template,
+    template: &Template,
 ) -> bool
-    ensures { result ≡ (has_body here.now id.now && not (is_same_at here.now other.now id.now)) }
+    ensures { result ≡ (not (same_body stands.now template.now)
+        || not (agree (has_policy here.now template.now.id) (has_policy other.now template.now.id))) }
 {
-    // No effect at run time: these calls say that both are those of a policy set.
-    let _policy_sets = (here.is_empty(), other.is_empty());
-    match here.template_at(id) {
-        None => false,
-        Some(stands) => match other.template_at(id) {
-            None => true,
-            Some(template) => stands != template || !have_policies_alike(here, other, id),
-        },
-    }
+    stands != template || !have_policies_alike(here, other, template.id())
 }
 
 // Whether a policy here and one there have an id, or neither does.
@@ -241,25 +276,12 @@ fn have_policies_alike<S: BuildHasher + Copy>(
     }
 }
 
-// Whether an id is that of a policy here and not bound alike in both sets, but where both sets have a body with it: a
-// static policy has its own there, and a link none.
-fn is_other_policy<S: BuildHasher + Copy>(
-    here: &PolicyMaps<S>,
-    other: &PolicyMaps<S>,
-    id: &PolicyID,
-) -> bool
-    ensures { result ≡ (looked_at Group.Policies here.now other.now id.now
-        && not (is_same_at here.now other.now id.now)) }
+// Whether two policies with one id are not bound alike, but for static ones: these conflict by their bodies.
+fn is_other_policy(stands: &Policy, policy: &Policy) -> bool
+    ensures { result ≡ ((is_some stands.now.link || is_some policy.now.link)
+        && not (same_policy stands.now policy.now)) }
 {
-    // No effect at run time: these calls say that both are those of a policy set.
-    let _policy_sets = (here.is_empty(), other.is_empty());
-    match here.policy_at(id) {
-        None => false,
-        Some(stands) => match other.policy_at(id) {
-            None => !have_bodies(here, other, id),
-            Some(policy) => has_link(stands, policy) && stands != policy,
-        },
-    }
+    has_link(stands, policy) && stands != policy
 }
 
 // Whether one of two policies is a link.
@@ -267,28 +289,6 @@ fn has_link(stands: &Policy, policy: &Policy) -> bool
     ensures { result ≡ (is_some stands.now.link || is_some policy.now.link) }
 {
     is_link(stands) || is_link(policy)
-}
-
-// Whether a body here and one there have an id.
-fn have_bodies<S: BuildHasher + Copy>(
-    here: &PolicyMaps<S>,
-    other: &PolicyMaps<S>,
-    id: &PolicyID,
-) -> bool
-    ensures { result ≡ (has_body here.now id.now && has_body other.now id.now) }
-{
-    here.has_body(id) && other.has_body(id)
-}
-
-// Whether an id is bound alike in both sets.
-fn is_same_at<S: BuildHasher + Copy>(
-    here: &PolicyMaps<S>,
-    other: &PolicyMaps<S>,
-    id: &PolicyID,
-) -> bool
-    ensures { result ≡ is_same_at here.now other.now id.now }
-{
-    here.policy_at(id) == other.policy_at(id) && here.template_at(id) == other.template_at(id)
 }
 
 // The new id of an id there, if it gets one. Where none does no id is hashed.

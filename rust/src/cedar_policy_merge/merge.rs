@@ -54,20 +54,6 @@ fn refused<S: BuildHasher + Copy>(ids: &OrderedSet<PolicyID, S>, rename: bool) -
     ids.iter().next()
 }
 
-// Which ids of the other set are looked at: those of one of its orders that stand in an order here. What an earlier
-// group looked at is left out.
-#[derive(Clone, Copy, Debug)]
-pub(crate) enum Group {
-    // Of bodies there: bodies here.
-    Bodies,
-    // Of policies there: policies here, but not where both sets have a body with the id.
-    Policies,
-    // Of bodies there: policies here, but not where there is a body here.
-    Links,
-    // Of policies there: bodies here, but not where there is a policy here.
-    Templates,
-}
-
 // The ids that conflict.
 fn conflicting_ids<S: BuildHasher + Copy>(here: &PolicyMaps<S>, other: &PolicyMaps<S>) -> OrderedSet<PolicyID, S> {
     let mut ids = OrderedSet::with_hasher(*here.hasher());
@@ -75,76 +61,100 @@ fn conflicting_ids<S: BuildHasher + Copy>(here: &PolicyMaps<S>, other: &PolicyMa
     ids
 }
 
-// Gathers the ids that conflict, group after group.
+// Gathers the ids that conflict, group after group. Bodies and policies there are walked once each: what a walk finds
+// for a later group is gathered once that group's turn comes.
 fn gather_all<S: BuildHasher + Copy>(ids: &mut OrderedSet<PolicyID, S>, here: &PolicyMaps<S>, other: &PolicyMaps<S>) {
-    gather_bodies(ids, here, other, Group::Bodies);
-    gather_policies(ids, here, other, Group::Policies);
-    gather_bodies(ids, here, other, Group::Links);
-    gather_policies(ids, here, other, Group::Templates);
+    let mut links = Vec::new();
+    let mut templates = Vec::new();
+    gather_bodies(ids, &mut links, here, other);
+    gather_policies(ids, &mut templates, here, other);
+    gather_listed(ids, links);
+    gather_listed(ids, templates);
 }
 
-// Gathers the ids of bodies there that conflict and are looked at in this group.
+// Gathers ids that were listed.
+fn gather_listed<S: BuildHasher + Copy>(ids: &mut OrderedSet<PolicyID, S>, listed: Vec<PolicyID>) {
+    for id in listed {
+        ids.insert(id);
+    }
+}
+
+// Gathers the ids of bodies there that conflict with bodies here, and lists those that conflict with links here.
 fn gather_bodies<S: BuildHasher + Copy>(
     ids: &mut OrderedSet<PolicyID, S>,
+    links: &mut Vec<PolicyID>,
     here: &PolicyMaps<S>,
     other: &PolicyMaps<S>,
-    group: Group,
 ) {
-    for template in other.all_templates() {
-        gather_one(ids, here, other, template.id(), group);
+    for template in other.shared_bodies() {
+        gather_body(ids, links, here, other, template);
     }
 }
 
-// Gathers the ids of policies there that conflict and are looked at in this group.
+// Gathers the id of a body there, if it conflicts with a body here, or lists it, if it conflicts with a link here.
+fn gather_body<S: BuildHasher + Copy>(
+    ids: &mut OrderedSet<PolicyID, S>,
+    links: &mut Vec<PolicyID>,
+    here: &PolicyMaps<S>,
+    other: &PolicyMaps<S>,
+    template: &Template,
+) {
+    let own = template.id();
+    match here.template_at(own) {
+        None => list_id(links, own, here.has_policy(own)),
+        Some(stands) => gather_id(ids, own, is_other_body(here, other, stands, template)),
+    }
+}
+
+// Gathers the ids of policies there that conflict with policies here, and lists those that conflict with bodies here.
 fn gather_policies<S: BuildHasher + Copy>(
     ids: &mut OrderedSet<PolicyID, S>,
+    templates: &mut Vec<PolicyID>,
     here: &PolicyMaps<S>,
     other: &PolicyMaps<S>,
-    group: Group,
 ) {
-    for policy in other.policies() {
-        gather_one(ids, here, other, policy.id(), group);
+    for policy in other.all_policies() {
+        gather_policy(ids, templates, here, policy);
     }
 }
 
-// Gathers an id, if it conflicts and is looked at in this group.
-fn gather_one<S: BuildHasher + Copy>(
+// Gathers the id of a policy there, if it conflicts with a policy here, or lists it, if it conflicts with a body here.
+fn gather_policy<S: BuildHasher + Copy>(
     ids: &mut OrderedSet<PolicyID, S>,
+    templates: &mut Vec<PolicyID>,
     here: &PolicyMaps<S>,
-    other: &PolicyMaps<S>,
-    id: &PolicyID,
-    group: Group,
+    policy: &Policy,
 ) {
-    if is_conflicting(here, other, id, group) {
+    let own = policy.id();
+    match here.policy_at(own) {
+        None => list_id(templates, own, here.has_body(own)),
+        Some(stands) => gather_id(ids, own, is_other_policy(stands, policy)),
+    }
+}
+
+// Gathers an id, if it conflicts.
+fn gather_id<S: BuildHasher + Copy>(ids: &mut OrderedSet<PolicyID, S>, id: &PolicyID, clashes: bool) {
+    if clashes {
         ids.insert(id.clone());
     }
 }
 
-// Whether an id is looked at in this group and is not bound alike in both sets.
-fn is_conflicting<S: BuildHasher + Copy>(
-    here: &PolicyMaps<S>,
-    other: &PolicyMaps<S>,
-    id: &PolicyID,
-    group: Group,
-) -> bool {
-    match group {
-        Group::Bodies => is_other_body(here, other, id),
-        Group::Policies => is_other_policy(here, other, id),
-        Group::Links => !here.has_body(id) && here.has_policy(id) && !is_same_at(here, other, id),
-        Group::Templates => !here.has_policy(id) && here.has_body(id) && !is_same_at(here, other, id),
+// Lists an id, if it conflicts.
+fn list_id(ids: &mut Vec<PolicyID>, id: &PolicyID, clashes: bool) {
+    if clashes {
+        ids.push(id.clone());
     }
 }
 
-// Whether an id is that of a body here and not bound alike in both sets. Of two policies on equal bodies of one id both
-// are static, and equal.
-fn is_other_body<S: BuildHasher + Copy>(here: &PolicyMaps<S>, other: &PolicyMaps<S>, id: &PolicyID) -> bool {
-    match here.template_at(id) {
-        None => false,
-        Some(stands) => match other.template_at(id) {
-            None => true,
-            Some(template) => stands != template || !have_policies_alike(here, other, id),
-        },
-    }
+// Whether two bodies with one id are not bound alike. Of two policies on equal bodies of one id both are static, and
+// equal.
+fn is_other_body<S: BuildHasher + Copy>(
+    here: &PolicyMaps<S>,
+    other: &PolicyMaps<S>,
+    stands: &Template,
+    template: &Template,
+) -> bool {
+    stands != template || !have_policies_alike(here, other, template.id())
 }
 
 // Whether a policy here and one there have an id, or neither does.
@@ -156,31 +166,14 @@ fn have_policies_alike<S: BuildHasher + Copy>(here: &PolicyMaps<S>, other: &Poli
     }
 }
 
-// Whether an id is that of a policy here and not bound alike in both sets, but where both sets have a body with it: a
-// static policy has its own there, and a link none.
-fn is_other_policy<S: BuildHasher + Copy>(here: &PolicyMaps<S>, other: &PolicyMaps<S>, id: &PolicyID) -> bool {
-    match here.policy_at(id) {
-        None => false,
-        Some(stands) => match other.policy_at(id) {
-            None => !have_bodies(here, other, id),
-            Some(policy) => has_link(stands, policy) && stands != policy,
-        },
-    }
+// Whether two policies with one id are not bound alike, but for static ones: these conflict by their bodies.
+fn is_other_policy(stands: &Policy, policy: &Policy) -> bool {
+    has_link(stands, policy) && stands != policy
 }
 
 // Whether one of two policies is a link.
 fn has_link(stands: &Policy, policy: &Policy) -> bool {
     is_link(stands) || is_link(policy)
-}
-
-// Whether a body here and one there have an id.
-fn have_bodies<S: BuildHasher + Copy>(here: &PolicyMaps<S>, other: &PolicyMaps<S>, id: &PolicyID) -> bool {
-    here.has_body(id) && other.has_body(id)
-}
-
-// Whether an id is bound alike in both sets.
-fn is_same_at<S: BuildHasher + Copy>(here: &PolicyMaps<S>, other: &PolicyMaps<S>, id: &PolicyID) -> bool {
-    here.policy_at(id) == other.policy_at(id) && here.template_at(id) == other.template_at(id)
 }
 
 // The new id of an id there, if it gets one. Where none does no id is hashed.

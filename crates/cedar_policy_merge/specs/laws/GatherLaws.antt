@@ -1,21 +1,28 @@
 -- The ids that conflict are found in four groups, of which a later one leaves out what an earlier one looked at.
-use Rattle.std.specs.Prelude.{◌≡◌, ℕ, List, [], ◌∷◌, ◌++◌, Bool, true, false, not, ◌&&◌, refl, if◌then◌else◌}
+use Rattle.std.specs.Prelude.{◌≡◌, ℕ, List, [], ◌∷◌, ◌++◌, Bool, true, false, not, ◌&&◌, refl, if◌then◌else◌, map}
 use Rattle.std.proofs.Common.{sym, ap, ◌∙◌, cond}
 use Rattle.std.specs.List.{filter}
 use Rattle.std.proofs.lemmas.Bool.{false≢true}
 use Rattle.cedar_ids.specs.Texts.{same_text}
 use Rattle.cedar_body.specs.Bodies.{BodyParts}
+use Rattle.cedar_policy.specs.Policies.{PolicyParts, policy_id}
 use Rattle.cedar_policy_maps.specs.PolicySets.{SetParts}
 use Rattle.cedar_policy_merge.specs.Merge.{has_body, has_policy, body_ids, policy_ids, is_same_at, conflicting}
 use Rattle.cedar_policy_merge.specs.Merge.{gathered}
 use Rattle.cedar_policy_merge.specs.Merge.{conflicts}
-use Rattle.cedar_policy_merge.specs.declared.merge.Group.{Group}
-use Rattle.cedar_policy_merge.specs.declared.merge.Group.TheVariants.{Bodies, Policies, Links, Templates}
 use Rattle.cedar_policy_merge.specs.laws.MergeSteps.{gathered_all}
 use Rattle.cedar_policy_maps.specs.laws.OnceLaws.{any-map}
 use Rattle.cedar_policy_merge.specs.laws.RenamingLaws.{itself, first_of, second_of, is_in, in_step, still_there}
 use Rattle.cedar_policy_merge.specs.laws.RenamingLaws.{gathers}
 use Rattle.cedar_policy_merge.specs.laws.RenamingLaws.{in_conflicting}
+
+-- the groups: of ids of bodies there, of policies there, of bodies there that are links here, and of policies there that
+-- are templates here
+pub data Group : Type 0 where
+  Bodies : Group
+  Policies : Group
+  Links : Group
+  Templates : Group
 
 -- which ids a group looks at: those of bodies here; of policies here, but where both policy sets have a body; of
 -- policies here that are no bodies; of bodies here that are no policies
@@ -24,6 +31,13 @@ looked_at Bodies here other i = has_body here i
 looked_at Policies here other i = not (has_body here i && has_body other i) && has_policy here i
 looked_at Links here other i = not (has_body here i) && has_policy here i
 looked_at Templates here other i = not (has_policy here i) && has_body here i
+
+-- the ids of some bodies there that a group looks at and that conflict, and those of some policies there
+abbrev pub conflicting_bodies : Group → SetParts → SetParts → List BodyParts → List (List ℕ)
+conflicting_bodies g here other ts = conflicting here other (looked_at g here other) (map (λ (t : BodyParts). t.id) ts)
+
+abbrev pub conflicting_policies : Group → SetParts → SetParts → List PolicyParts → List (List ℕ)
+conflicting_policies g here other ps = conflicting here other (looked_at g here other) (map policy_id ps)
 
 one_step : (v w : Bool) (p q : List ℕ → Bool) (x : List ℕ) (xs seen : List (List ℕ)) → (w ≡ true → v ≡ true)
     → (v ≡ true → w ≡ false → is_in x seen ≡ true) →

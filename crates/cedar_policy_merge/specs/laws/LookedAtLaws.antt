@@ -7,14 +7,13 @@ use Rattle.std.specs.List.{find, list_any}
 use Rattle.std.specs.Option.{option_eq}
 use Rattle.cedar_body.specs.Bodies.{BodyParts}
 use Rattle.cedar_body.specs.BodyEquality.{same_body}
-use Rattle.cedar_policy.specs.Policies.{PolicyParts}
+use Rattle.cedar_policy.specs.Policies.{PolicyParts, policy_id}
 use Rattle.cedar_policy.specs.PolicyEquality.{same_policy}
 use Rattle.cedar_policy_maps.specs.PolicySets.{SetParts, Binding, Template, bound_among, policy_binding, is_body_at}
 use Rattle.cedar_policy_maps.specs.PolicySets.{is_policy_at, IsPolicySet}
 use Rattle.cedar_policy_merge.specs.Merge.{has_body, has_policy, is_same_at}
 use Rattle.cedar_policy_merge.specs.laws.ConflictLaws.{Shape, shape_by, twice, whole}
-use Rattle.cedar_policy_merge.specs.laws.GatherLaws.{looked_at}
-use Rattle.cedar_policy_merge.specs.declared.merge.Group.TheVariants.{Policies}
+use Rattle.cedar_policy_merge.specs.laws.GatherLaws.{looked_at, Policies, Links, Templates}
 
 -- whether both hold, or neither does
 abbrev pub agree : Bool → Bool → Bool
@@ -138,7 +137,7 @@ shape_of b i p h f = shape_by b i (policy_binding p) (Some p) (find (is_body_at 
 
 -- where policies of both have an id, and bodies of one at most, it conflicts unless they are equal; one of them is a
 -- link then
-pub policies_differ : (h o : SetParts) (i : List ℕ) (p q : PolicyParts) → IsPolicySet h → IsPolicySet o
+policies_differ : (h o : SetParts) (i : List ℕ) (p q : PolicyParts) → IsPolicySet h → IsPolicySet o
     → find (is_policy_at i) h.policies ≡ Some p → find (is_policy_at i) o.policies ≡ Some q →
     (looked_at Policies h o i && not (is_same_at h o i))
     ≡ ((is_some p.link || is_some q.link) && not (same_policy p q))
@@ -157,42 +156,90 @@ pub no_body_looked : (h o : SetParts) (i : List ℕ) → None ≡ find (is_body_
     → false ≡ (has_body h i && not (is_same_at h o i))
 no_body_looked h o i f = λ j. (sym (found_any (is_body_at i) h.bodies ∙ ap is_some (sym f)) j) && not (is_same_at h o i)
 
--- a body here has the id, and none there
-pub body_here_alone : (h o : SetParts) (i : List ℕ) (t : BodyParts) → Some t ≡ find (is_body_at i) h.bodies
-    → None ≡ find (is_body_at i) o.bodies → true ≡ (has_body h i && not (is_same_at h o i))
-body_here_alone h o i t f g =
-    sym (ap not (none (option_eq same_policy (find (is_policy_at i) h.policies) (find (is_policy_at i) o.policies))))
-    ∙ sym (λ j. (found_any (is_body_at i) h.bodies ∙ ap is_some (sym f)) j
-    && not (alike_at (find (is_policy_at i) h.policies) (find (is_policy_at i) o.policies) (sym f j) (sym g j)))
+-- no body here has the id, and one there
+pub link_here : (h o : SetParts) (i : List ℕ) (t : BodyParts) → None ≡ find (is_body_at i) h.bodies
+    → find (is_body_at i) o.bodies ≡ Some t → has_policy h i ≡ (looked_at Links h o i && not (is_same_at h o i))
+link_here h o i t f g =
+    let p = find (is_policy_at i) h.policies in
+    let q = find (is_policy_at i) o.policies in
+    sym (whole (has_policy h i))
+    ∙ sym (ap (λ v. has_policy h i && not v) (none (option_eq same_policy p q)))
+    ∙ sym (λ j. (not ((found_any (is_body_at i) h.bodies ∙ ap is_some (sym f)) j) && has_policy h i)
+    && not (alike_at p q (sym f j) (g j)))
+
+-- a body here has the id
+pub no_link_looked : (h o : SetParts) (i : List ℕ) (t : BodyParts) → Some t ≡ find (is_body_at i) h.bodies
+    → false ≡ (looked_at Links h o i && not (is_same_at h o i))
+no_link_looked h o i t f =
+    sym (λ j. (not ((found_any (is_body_at i) h.bodies ∙ ap is_some (sym f)) j) && has_policy h i)
+    && not (is_same_at h o i))
 
 -- no policy here has the id
-pub no_policy_looked : (h o : SetParts) (i : List ℕ) → None ≡ find (is_policy_at i) h.policies
+no_policy_looked : (h o : SetParts) (i : List ℕ) → None ≡ find (is_policy_at i) h.policies
     → false ≡ (looked_at Policies h o i && not (is_same_at h o i))
 no_policy_looked h o i f =
     sym (ap (λ v. v && not (is_same_at h o i)) (none (not (has_body h i && has_body o i))))
     ∙ (λ j. (not (has_body h i && has_body o i)
     && sym (found_any (is_policy_at i) h.policies ∙ ap is_some (sym f)) j) && not (is_same_at h o i))
 
--- a policy here has the id, and none there
-pub policy_here_alone : (h o : SetParts) (i : List ℕ) (p : PolicyParts) → Some p ≡ find (is_policy_at i) h.policies
-    → None ≡ find (is_policy_at i) o.policies →
-    not (has_body h i && has_body o i) ≡ (looked_at Policies h o i && not (is_same_at h o i))
-policy_here_alone h o i p f g =
-    let v = not (has_body h i && has_body o i) in
-    sym (whole v) ∙ sym (whole (v && true))
-    ∙ (λ j. (v && sym (found_any (is_policy_at i) h.policies ∙ ap is_some (sym f)) j)
-    && not (alike_at (f j) (g j) (find (is_body_at i) h.bodies) (find (is_body_at i) o.bodies)))
+-- a policy here has the id
+no_template_looked : (h o : SetParts) (i : List ℕ) (p : PolicyParts) → Some p ≡ find (is_policy_at i) h.policies
+    → false ≡ (looked_at Templates h o i && not (is_same_at h o i))
+no_template_looked h o i p f =
+    sym (λ j. (not ((found_any (is_policy_at i) h.policies ∙ ap is_some (sym f)) j) && has_body h i)
+    && not (is_same_at h o i))
 
--- the first of two tells it, or the second
-pub told_first : (n v a : Bool) → n ≡ not v → n ≡ true → n ≡ (not v || not a)
-told_first n v a e t = t ∙ sym (ap (λ w. w || not a) (sym e ∙ t))
+-- ---- a policy there, by what is here
 
-pub told_second : (n v a r : Bool) → n ≡ not v → n ≡ false → r ≡ a → not r ≡ (not v || not a)
-told_second n v a r e t q = ap not q ∙ sym (ap (λ w. w || not a) (sym e ∙ t))
+-- whether it and the policy here that has its id are not alike, but for static ones, which conflict by their bodies
+abbrev pub clashes_with : Option PolicyParts → PolicyParts → Bool
+clashes_with None q = false
+clashes_with (Some p) q = (is_some p.link || is_some q.link) && not (same_policy p q)
 
--- both do, or the first says no
-pub told_both : (n r a v : Bool) → r ≡ a → r ≡ true → n ≡ not v → n ≡ (a && not v)
-told_both n r a v e t q = q ∙ sym (ap (λ w. w && not v) (sym e ∙ t))
+-- whether it conflicts so with a policy here
+abbrev pub clashes : SetParts → PolicyParts → Bool
+clashes here q = clashes_with (find (is_policy_at (policy_id q)) here.policies) q
 
-pub told_none : (r a v : Bool) → r ≡ a → r ≡ false → r ≡ (a && not v)
-told_none r a v e t = t ∙ sym (ap (λ w. w && not v) (sym e ∙ t))
+-- whether a body here has its id, and no policy here
+abbrev pub lies_over : SetParts → PolicyParts → Bool
+lies_over here q = not (has_policy here (policy_id q)) && has_body here (policy_id q)
+
+-- where no policy here has the id, a body tells it
+pub over_body : (h : SetParts) (q : PolicyParts) → None ≡ find (is_policy_at (policy_id q)) h.policies
+    → has_body h (policy_id q) ≡ lies_over h q
+over_body h q f =
+    sym (λ j. not ((found_any (is_policy_at (policy_id q)) h.policies ∙ ap is_some (sym f)) j)
+    && has_body h (policy_id q))
+
+-- and where one has it, none does
+pub not_over : (h : SetParts) (q p : PolicyParts) → Some p ≡ find (is_policy_at (policy_id q)) h.policies
+    → false ≡ lies_over h q
+not_over h q p f =
+    sym (λ j. not ((found_any (is_policy_at (policy_id q)) h.policies ∙ ap is_some (sym f)) j)
+    && has_body h (policy_id q))
+
+clashes_by : (h o : SetParts) (q : PolicyParts) (r : Option PolicyParts) → IsPolicySet h → IsPolicySet o
+    → find (is_policy_at (policy_id q)) o.policies ≡ Some q → find (is_policy_at (policy_id q)) h.policies ≡ r →
+    clashes_with r q ≡ (looked_at Policies h o (policy_id q) && not (is_same_at h o (policy_id q)))
+clashes_by h o q None x y g f = no_policy_looked h o (policy_id q) (sym f)
+clashes_by h o q (Some p) x y g f = sym (policies_differ h o (policy_id q) p q x y f g)
+
+-- so a policy there conflicts with one here
+pub clashes_is : (h o : SetParts) (q : PolicyParts) → IsPolicySet h → IsPolicySet o
+    → find (is_policy_at (policy_id q)) o.policies ≡ Some q →
+    clashes h q ≡ (looked_at Policies h o (policy_id q) && not (is_same_at h o (policy_id q)))
+clashes_is h o q x y g = clashes_by h o q (find (is_policy_at (policy_id q)) h.policies) x y g refl
+
+over_by : (h o : SetParts) (q : PolicyParts) (r : Option PolicyParts)
+    → find (is_policy_at (policy_id q)) o.policies ≡ Some q → find (is_policy_at (policy_id q)) h.policies ≡ r →
+    lies_over h q ≡ (looked_at Templates h o (policy_id q) && not (is_same_at h o (policy_id q)))
+over_by h o q None g f =
+    sym (whole (lies_over h q))
+    ∙ sym (λ j. lies_over h q && not (alike_at (f j) (g j) (find (is_body_at (policy_id q)) h.bodies)
+    (find (is_body_at (policy_id q)) o.bodies)))
+over_by h o q (Some p) g f = sym (not_over h q p (sym f)) ∙ no_template_looked h o (policy_id q) p (sym f)
+
+-- or with a template here
+pub lies_over_is : (h o : SetParts) (q : PolicyParts) → find (is_policy_at (policy_id q)) o.policies ≡ Some q →
+    lies_over h q ≡ (looked_at Templates h o (policy_id q) && not (is_same_at h o (policy_id q)))
+lies_over_is h o q g = over_by h o q (find (is_policy_at (policy_id q)) h.policies) g refl

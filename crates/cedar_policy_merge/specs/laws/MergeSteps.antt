@@ -1,5 +1,5 @@
 -- The steps of a merge, one id, body and policy after another.
-use Rattle.std.specs.Prelude.{◌≡◌, ℕ, ◌+◌, ◌<◌, length, List, [], ◌∷◌, ◌++◌, Bool, true, false, not, ◌&&◌, Option, Some}
+use Rattle.std.specs.Prelude.{◌≡◌, ℕ, ◌+◌, ◌<◌, length, List, [], ◌∷◌, ◌++◌, Bool, true, false, not, Option, Some}
 use Rattle.std.specs.Prelude.{None, refl, map, if◌then◌else◌}
 use Rattle.std.proofs.Common.{sym, ap, ◌∙◌, take, get_or}
 use Rattle.std.specs.declared.rc.Rc.{Rc}
@@ -13,7 +13,7 @@ use Rattle.cedar_body.specs.Bodies.{BodyParts, with_id}
 use Rattle.cedar_policy.specs.Policies.{PolicyParts, policy_id, renamed, with_policy_id}
 use Rattle.cedar_policy_maps.specs.PolicySets.{SetParts, AreOnce, is_bound}
 use Rattle.cedar_policy_merge.specs.Merge.{has_body, has_policy, body_ids, policy_ids, conflicting, conflicts, gathered}
-use Rattle.cedar_policy_merge.specs.Merge.{is_same_at, renamed_body, renamed_policy, joined_bodies, joined_policies}
+use Rattle.cedar_policy_merge.specs.Merge.{renamed_body, renamed_policy, joined_bodies, joined_policies}
 use Rattle.cedar_policy_maps.specs.Views.{bodies_of}
 use Rattle.cedar_policy_maps.specs.laws.OnceLaws.{once-push}
 use Rattle.cedar_policy_maps.specs.laws.Walks.{bodies_more, policies_more}
@@ -35,14 +35,6 @@ with_template_renamed c p = template_renamed_by p.link c p
 pub gathered-append : (seen xs ys : List (List ℕ)) → gathered seen (xs ++ ys) ≡ gathered (gathered seen xs) ys
 gathered-append seen [] ys = refl
 gathered-append seen (x ∷ xs) ys = gathered-append (if list_any (same_text x) seen then seen else seen ++ x ∷ []) xs ys
-
--- the first of some ids
-pub gathered_first : (h o : SetParts) (stands : List ℕ → Bool) (seen xs : List (List ℕ)) (x : List ℕ) →
-    gathered (gathered seen (conflicting h o stands (x ∷ []))) (conflicting h o stands xs)
-    ≡ gathered seen (conflicting h o stands (x ∷ xs))
-gathered_first h o stands seen xs x =
-    sym (ap (gathered seen) (filter-append (λ i. stands i && not (is_same_at h o i)) (x ∷ []) xs)
-    ∙ gathered-append seen (conflicting h o stands (x ∷ [])) (conflicting h o stands xs))
 
 once_step : (x : List ℕ) (seen : List (List ℕ)) (v : Bool) → list_any (same_text x) seen ≡ v
     → AreOnce (λ (i : List ℕ). i) seen → AreOnce (λ (i : List ℕ). i) (if v then seen else seen ++ x ∷ [])

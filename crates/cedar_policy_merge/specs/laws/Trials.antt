@@ -1,6 +1,6 @@
 -- Numbers that are tried, by their tens and their last digit, and how their ids are written.
 use Rattle.std.specs.Prelude.{◌≡◌, ℕ, ◌+◌, ◌-◌, ◌*◌, ◌/◌, ◌%◌, ◌<◌, List, [], ◌∷◌, ◌++◌, codes, refl, suc, zero, false}
-use Rattle.std.proofs.Common.{◌≤◌, sym, ap, ◌∙◌, arith}
+use Rattle.std.proofs.Common.{sym, ap, ◌∙◌, arith}
 use Rattle.std.specs.Fmt.{digit_glyph, digits_onto}
 use Rattle.std.specs.String.{string_bytes}
 use Rattle.cedar_policy_merge.specs.Fresh.{numeral, numbered}

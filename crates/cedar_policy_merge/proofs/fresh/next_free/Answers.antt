@@ -1,6 +1,6 @@
-use Rattle.std.proofs.Common.{◌+◌, ◌≤◌, arith, refl, ap, sym, ◌∙◌}
+use Rattle.std.proofs.Common.{arith, refl, ap, sym, ◌∙◌}
 use Rattle.cedar_policy_merge.specs.Fresh.{is_bound_in_either, free_below}
-use Rattle.cedar_policy_merge.specs.laws.FreshLaws.{count, one_on, number_within}
+use Rattle.cedar_policy_merge.specs.laws.FreshLaws.{one_on, number_within}
 use Rattle.cedar_policy_merge.specs.laws.Trials.{number_of}
 use Rattle.cedar_policy_merge.proofs.fresh.next_free.Goals as goal
 
