@@ -3,9 +3,9 @@
 mod common;
 
 use cedar_store::ast::{
-    ActionConstraint, Annotation, Annotations, AnyId, Effect, EntityReference, EntityUID, Expr, LinkingError, Policy,
-    PolicySet, PrincipalConstraint, PrincipalOrResourceConstraint, ResourceConstraint, SlotEnv, SlotId, StaticPolicy,
-    Template, TemplateBody, TemplateValidationError, UnexpectedSlotError,
+    ActionConstraint, Annotation, Annotations, AnyId, Effect, EntityReference, EntityUID, Expr, LinkingError, Name,
+    Policy, PolicySet, PrincipalConstraint, PrincipalOrResourceConstraint, ResourceConstraint, SlotEnv, SlotId,
+    StaticPolicy, Template, TemplateBody, TemplateValidationError, UnexpectedSlotError,
 };
 use cedar_store::parser::Loc;
 use common::{id, shared, uid};
@@ -328,4 +328,26 @@ fn merging_takes_the_others_places() {
         assert_eq!(starts(&set), held.map(|is| is.then_some(7)));
         assert_eq!(starts(&other), held.map(|is| is.then_some(7)));
     }
+}
+
+/// Where a place begins and ends, and in which text.
+fn span(loc: Option<&Loc>) -> Option<(usize, usize, String)> {
+    loc.map(|loc| (loc.start, loc.end, loc.src.to_string()))
+}
+
+#[test]
+fn a_uid_that_is_read_stands_in_its_whole_text_and_its_type_before_the_eid() {
+    let text = r#"Photos::User::"é""#;
+    let read = uid(text);
+    assert_eq!(span(read.loc()), Some((0, text.len(), text.to_string())));
+    assert_eq!(span(read.entity_type().loc()), Some((0, 12, text.to_string())));
+}
+
+#[test]
+fn a_name_that_is_qualified_stays_where_it_stands() {
+    let user = Name::from_normalized_str("User").unwrap();
+    let photos = Name::from_normalized_str("Photos").unwrap();
+    let qualified = user.qualify_with_name(Some(&photos));
+    assert_eq!(qualified.to_string(), "Photos::User");
+    assert_eq!(span(qualified.loc()), Some((0, 4, "User".to_string())));
 }

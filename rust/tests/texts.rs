@@ -3,7 +3,7 @@
 mod common;
 
 use cedar_store::ast::{
-    ActionConstraint, Annotation, Annotations, AnyId, Effect, EntityType, Expr, Policy, PrincipalConstraint,
+    ActionConstraint, Annotation, Annotations, AnyId, Effect, EntityType, EntityUID, Expr, Policy, PrincipalConstraint,
     ResourceConstraint, SlotEnv, SlotId, StaticPolicy, StaticType, Template, TemplateBody, Unknown,
 };
 use common::{id, shared, uid};
@@ -260,4 +260,14 @@ fn unknowns_name_entities() {
         ])
         .is_empty()
     );
+}
+
+#[test]
+fn long_escapes_are_written_and_read() {
+    for eid in ["\u{10ffff}", "\u{e0001}", "\u{fffff}"] {
+        let made = EntityUID::with_eid_and_type("A", eid).unwrap();
+        let text = made.to_string();
+        assert_eq!(text, format!("A::\"{}\"", eid.escape_unicode()));
+        assert_eq!(EntityUID::from_normalized_str(&text).unwrap(), made);
+    }
 }
