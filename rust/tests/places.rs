@@ -351,3 +351,50 @@ fn a_name_that_is_qualified_stays_where_it_stands() {
     assert_eq!(qualified.to_string(), "Photos::User");
     assert_eq!(span(qualified.loc()), Some((0, 4, "User".to_string())));
 }
+
+/// Equal links of one template that both sets share: the uid that is bound takes the other's place, whatever it differs in.
+#[test]
+fn merging_takes_the_others_place_of_a_uid_that_is_bound() {
+    let text: std::sync::Arc<str> = r#"User::"x" in more"#.into();
+    let places = [
+        Loc::new(0, 9, text.clone()),
+        Loc::new(0, 8, text.clone()),
+        Loc::new(1, 9, text),
+        Loc::new(0, 9, r#"User::"x" elsewhere"#.into()),
+    ];
+    let mut base = PolicySet::new();
+    let principal = PrincipalConstraint::new(slot(3));
+    let (action, resource) = (ActionConstraint::any(), ResourceConstraint::any());
+    let one = Template::new(
+        id("t"),
+        None,
+        Annotations::new(),
+        Effect::Permit,
+        principal,
+        action,
+        resource,
+        None,
+    );
+    base.add_template(one).unwrap();
+    let user = uid(r#"User::"x""#);
+    let linked = |place: &Loc| {
+        let (ty, eid) = user.clone().components();
+        let mut values = SlotEnv::new();
+        values.insert(
+            SlotId::principal(),
+            EntityUID::from_components(ty, eid, Some(place.clone())),
+        );
+        let mut set = base.clone();
+        set.link(id("t"), id("l"), values).unwrap();
+        set
+    };
+    for (here, there) in places
+        .iter()
+        .flat_map(|here| places.iter().map(move |there| (here, there)))
+    {
+        let mut set = linked(here);
+        assert!(set.merge_policyset(&linked(there), false).unwrap().is_empty());
+        let link = set.get(&id("l")).unwrap();
+        assert_eq!(span(link.env()[&SlotId::principal()].loc()), span(Some(there)));
+    }
+}
