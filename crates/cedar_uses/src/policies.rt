@@ -35,7 +35,7 @@ pub fn grant(
 {
     let mut values = no_bindings(alloc);
     values.insert(SlotId::Principal, user)?;
-    policies.link(alloc, template, id, values)?;
+    let _link = policies.link(alloc, template, id, values)?;
     Ok(())
 }
 
