@@ -352,15 +352,17 @@ fn a_name_that_is_qualified_stays_where_it_stands() {
     assert_eq!(span(qualified.loc()), Some((0, 4, "User".to_string())));
 }
 
-/// Equal links of one template that both sets share: the uid that is bound takes the other's place, whatever it differs in.
+/// Equal links of one template that both sets share: the uid that is bound and its type take the other's places, whatever
+/// these differ in.
 #[test]
 fn merging_takes_the_others_place_of_a_uid_that_is_bound() {
     let text: std::sync::Arc<str> = r#"User::"x" in more"#.into();
     let places = [
-        Loc::new(0, 9, text.clone()),
-        Loc::new(0, 8, text.clone()),
-        Loc::new(1, 9, text),
-        Loc::new(0, 9, r#"User::"x" elsewhere"#.into()),
+        None,
+        Some(Loc::new(0, 9, text.clone())),
+        Some(Loc::new(0, 8, text.clone())),
+        Some(Loc::new(1, 9, text)),
+        Some(Loc::new(0, 9, r#"User::"x" elsewhere"#.into())),
     ];
     let mut base = PolicySet::new();
     let principal = PrincipalConstraint::new(slot(3));
@@ -377,12 +379,12 @@ fn merging_takes_the_others_place_of_a_uid_that_is_bound() {
     );
     base.add_template(one).unwrap();
     let user = uid(r#"User::"x""#);
-    let linked = |place: &Loc| {
+    let linked = |place: &Option<Loc>, of_type: &Option<Loc>| {
         let (ty, eid) = user.clone().components();
         let mut values = SlotEnv::new();
         values.insert(
             SlotId::principal(),
-            EntityUID::from_components(ty, eid, Some(place.clone())),
+            EntityUID::from_components(ty.with_loc(of_type.as_ref()), eid, place.clone()),
         );
         let mut set = base.clone();
         set.link(id("t"), id("l"), values).unwrap();
@@ -392,9 +394,13 @@ fn merging_takes_the_others_place_of_a_uid_that_is_bound() {
         .iter()
         .flat_map(|here| places.iter().map(move |there| (here, there)))
     {
-        let mut set = linked(here);
-        assert!(set.merge_policyset(&linked(there), false).unwrap().is_empty());
-        let link = set.get(&id("l")).unwrap();
-        assert_eq!(span(link.env()[&SlotId::principal()].loc()), span(Some(there)));
+        let mut set = linked(here, &None);
+        assert!(set.merge_policyset(&linked(there, &None), false).unwrap().is_empty());
+        let bound = &set.get(&id("l")).unwrap().env()[&SlotId::principal()];
+        assert_eq!(span(bound.loc()), span(there.as_ref()));
+        let mut set = linked(&None, here);
+        assert!(set.merge_policyset(&linked(&None, there), false).unwrap().is_empty());
+        let bound = &set.get(&id("l")).unwrap().env()[&SlotId::principal()];
+        assert_eq!(span(bound.entity_type().loc()), span(there.as_ref()));
     }
 }
