@@ -330,6 +330,35 @@ fn merging_takes_the_others_places() {
     }
 }
 
+/// Of several policies each takes the place of the one with its id, in whatever order the sets have them.
+#[test]
+fn each_policy_takes_the_others_place_for_its_own_id() {
+    fn set_of(ids: [&str; 3], first: usize) -> PolicySet {
+        let mut set = PolicySet::new();
+        for name in ids {
+            let start = first + name.len();
+            let thing = Template::new(
+                id(name),
+                at(start),
+                Annotations::new(),
+                Effect::Permit,
+                PrincipalConstraint::any(),
+                ActionConstraint::any(),
+                ResourceConstraint::any(),
+                None,
+            );
+            set.add(Template::try_as_policy(shared(thing)).unwrap()).unwrap();
+        }
+        set
+    }
+    let mut set = set_of(["a", "bb", "ccc"], 0);
+    let other = set_of(["ccc", "a", "bb"], 4);
+    assert!(set.merge_policyset(&other, false).expect("they are equal").is_empty());
+    for name in ["a", "bb", "ccc"] {
+        assert_eq!(start(set.get(&id(name)).and_then(Policy::loc)), Some(4 + name.len()));
+    }
+}
+
 /// Where a place begins and ends, and in which text.
 fn span(loc: Option<&Loc>) -> Option<(usize, usize, String)> {
     loc.map(|loc| (loc.start, loc.end, loc.src.to_string()))

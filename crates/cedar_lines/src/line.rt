@@ -1,16 +1,43 @@
 //! The fields of a line.
-ghost use Rattle.std.specs.Prelude.{◌≡◌, IfOk, OnOk, IsTrue, map, ◌==◌};
+ghost use Rattle.std.specs.Prelude.{◌≡◌, ◌==◌, ◌<◌, ◌∷◌, IfOk, OnOk, IfSome, IsTrue, MatchOption, length, map};
 ghost use Rattle.std.specs.List.{list_all, slice_split};
+ghost use Rattle.std.specs.Option.{option_copied};
 ghost use Rattle.cedar_lines.specs.Lines.{is_line_byte};
+ghost use Rattle.cedar_lines.specs.laws.Fields.{fields_left, HasNoTab, IsFirstTab};
 
 use std::alloc::AllocError;
+
+// The place of the first tab, if there is one.
+fn first_tab(line: &[u8]) -> Option<usize>
+    ensures { MatchOption result (HasNoTab line.now) (IsFirstTab line.now) }
+{
+    line.iter().position(|b| *b == b'\t')
+}
+
+// What stands before the first tab, and what stands behind it, if there is one. Most fields are short, so it goes from
+// byte to byte.
+fn first_field(line: &str) -> (&str, Option<&str>)
+    ensures fields { slice_split (λ b. b == 9) line.now ≡ result.0.now ∷ fields_left (option_copied result.1) }
+    ensures shorter { IfSome result.1 (λ rest. length rest.now < length line.now) }
+{
+    match first_tab(line.as_bytes()) {
+        None => (line, None),
+        Some(i) => (&line[..i], Some(&line[i + 1..])),
+    }
+}
 
 // Puts the fields between the tabs of a line in the place of those before.
 fn set_fields<'a>(fields: &mut Vec<&'a str>, line: &'a str) -> Result<(), AllocError>
     ensures { OnOk result (map (λ x. x.now) fields.new.items ≡ slice_split (λ b. b == 9) line.now) }
 {
     fields.clear();
-    fields.extend(line.split('\t'))
+    let mut left = Some(line);
+    while let Some(rest) = left {
+        let (field, behind) = first_field(rest);
+        fields.push(field)?;
+        left = behind;
+    }
+    Ok(())
 }
 
 // Whether a byte is a tab or printable ASCII.

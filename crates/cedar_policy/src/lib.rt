@@ -21,7 +21,7 @@ pub mod validate;
 pub use cedar_binding::{LinkingError, SlotEnv};
 pub use cedar_body::{Effect, TemplateBody, TemplateBodyImpl};
 pub use err::{TemplateValidationError, UnexpectedSlotError};
-pub use policy::Policy;
+pub use policy::{Policy, share_template};
 pub use slots::Slots;
 pub use static_policy::StaticPolicy;
 pub use template::Template;

@@ -307,11 +307,12 @@ impl Policy {
     pub fn new_id(&self, alloc: Global, id: PolicyID) -> Result<Policy, AllocError>
         ensures { IfOk result (λ p. p ≡ with_policy_id id self.now) }
     {
+        // No effect at run time: this call says that a policy that is no link binds nothing.
+        let _whole = self.is_static();
         match &self.parts.link {
             None => {
                 let template = Rc::new(alloc, self.parts.template.new_id(id)?)?;
-                let values = copy_of_bindings(&self.parts.values)?;
-                Policy::of(alloc, template, None, values)
+                Policy::unlinked(alloc, template)
             }
             Some(_) => {
                 let template = self.parts.template.clone()?;
@@ -394,12 +395,34 @@ impl Policy {
     }
 }
 
+/// Lets a policy share another template, where that is equal to its own: so it has that one's locations. It takes no
+/// memory. The merging of sets is made with it.
+pub fn share_template(policy: &mut Policy, template: Rc<Template>)
+    ensures { policy.new ≡ policy.old }
+{
+    if is_template(&template, policy.template()) {
+        policy.parts.template = template;
+    } else {
+        drop(template);
+    }
+}
+
+// Whether a template is another.
+fn is_template(template: &Template, other: &Template) -> bool
+    ensures { IsTrue result → (template.now ≡ other.now) }
+{
+    template == other
+}
+
 impl Clone for Policy {
     ghost is_clone = { λ x y. y ≡ x };
 
     fn clone(&self) -> Result<Policy, AllocError> {
         let alloc = *Box::allocator(&self.parts);
         let template = self.parts.template.clone()?;
+        if self.is_static() {
+            return Policy::unlinked(alloc, template);
+        }
         let link = self.parts.link.clone()?;
         let values = copy_of_bindings(&self.parts.values)?;
         Policy::of(alloc, template, link, values)

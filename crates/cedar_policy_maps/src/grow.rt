@@ -17,7 +17,7 @@ ghost use Rattle.indexmap.specs.IndexSet as sets;
 use crate::maps::{bodies_by_id, ids_by_template, policies_by_id};
 use crate::policy_maps::PolicyMaps;
 use cedar_ids::policy_id::PolicyID;
-use cedar_policy::{Policy, Template};
+use cedar_policy::{Policy, Template, share_template};
 use indexmap::{IndexMap, IndexSet};
 use std::alloc::{AllocError, Global};
 use std::hash::BuildHasher;
@@ -77,6 +77,14 @@ impl<S: BuildHasher + Copy> PolicyMaps<S> {
         } = policies;
         let entering = what_enters(alloc, &self.links, &stand, join, policies)?;
         self.put_in(entering, stand, alike)
+    }
+
+    /// Lets policies at some places share other templates, each where that is equal to its own. It takes no memory, and
+    /// the maps state what they did.
+    pub fn share_templates(&mut self, templates: Vec<(usize, Rc<Template>)>)
+        ensures { self.new ≡ self.old }
+    {
+        share_all(&mut self.links, templates);
     }
 
     // Makes room for what enters, and puts it in.
@@ -348,6 +356,32 @@ fn is_body(template: &Template, other: &Template) -> bool
     ensures { IsTrue result → (template.now ≡ other.now) }
 {
     template == other
+}
+
+// Lets policies at some places share other templates, each where that is equal to its own.
+fn share_all<S: BuildHasher + Copy>(
+    links: &mut IndexMap<PolicyID, Policy, S>,
+    templates: Vec<(usize, Rc<Template>)>,
+)
+    ensures { links.new.entries ≡ links.old.entries }
+{
+    for (place, template) in templates {
+        share_at(links, place, template);
+    }
+}
+
+// Lets the policy at a place share another template, where that is equal to its own.
+fn share_at<S: BuildHasher + Copy>(
+    links: &mut IndexMap<PolicyID, Policy, S>,
+    place: usize,
+    template: Rc<Template>,
+)
+    ensures { links.new.entries ≡ links.old.entries }
+{
+    match links.get_index_mut(place) {
+        None => drop(template),
+        Some(policy) => share_template(policy, template),
+    }
 }
 
 // Puts policies in the place of those with their ids that they are equal to.

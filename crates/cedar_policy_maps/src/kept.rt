@@ -1,5 +1,5 @@
 //! What reads and changes the three maps.
-ghost use Rattle.std.specs.Prelude.{◌≡◌, OnOk, OnErr, None, Some, false, length, ◌<◌};
+ghost use Rattle.std.specs.Prelude.{◌≡◌, OnOk, OnErr, IfSome, None, Some, false, length, ◌<◌, is_some, slice_get};
 ghost use Rattle.std.specs.List.{find, list_any};
 ghost use Rattle.std.specs.Option.{option_copied, option_map};
 ghost use Rattle.cedar_policy_maps.specs.PolicySets.{bound_at, is_bound, is_body_at, is_policy_at, has_links};
@@ -63,6 +63,16 @@ impl<S: BuildHasher + Copy> PolicyMaps<S> {
         ensures { option_copied result ≡ find (is_policy_at id.now) self.now.policies }
     {
         self.links.get(id)
+    }
+
+    /// The place of the policy with this id in its order, if there is one. It takes no memory.
+    pub fn place_of_policy(&self, id: &PolicyID) -> Option<usize>
+        ensures within { IfSome result (λ k. k < length self.now.policies) }
+        ensures found { is_some result ≡ is_some (find (is_policy_at id.now) self.now.policies) }
+        ensures policy { IfSome result (λ k. slice_get self.now.policies k
+            ≡ find (is_policy_at id.now) self.now.policies) }
+    {
+        self.links.get_index_of(id)
     }
 
     /// Whether a body has this id.

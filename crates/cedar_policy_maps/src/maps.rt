@@ -377,13 +377,16 @@ fn put_no_ids<S: BuildHasher + Copy>(
     insert_new(map, template.id().clone()?, ids)
 }
 
-// Lists policies, each last under its body's id.
+// Lists policies, each last under its body's id. Where there is no list no id is hashed.
 fn list_policies<S: BuildHasher + Copy>(
     map: &mut IndexMap<PolicyID, IndexSet<PolicyID, S>, S>,
     policies: &[Policy],
 ) -> Result<(), AllocError>
     ensures { OnOk result (lists_of map.new.entries ≡ all_listed (lists_of map.old.entries) policies.now) }
 {
+    if map.is_empty() {
+        return Ok(());
+    }
     for policy in policies {
         list_link_copy(map, policy.template().id(), policy.id())?;
     }

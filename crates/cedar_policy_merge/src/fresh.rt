@@ -38,10 +38,15 @@ fn first(alloc: Global) -> Trial
     }
 }
 
-// The digits of a number.
+// The digits of a number. Those of one that half the bits hold cost less to write.
 fn digits_of(alloc: Global, number: u128) -> Result<String, AllocError>
     ensures { IfOk result (λ s. string_bytes s ≡ numeral number) }
 {
+    if number < 0x1_0000_0000_0000_0000 {
+        let small = number as u64;
+        let text = format!(in alloc; "{small}")?;
+        return Ok(text);
+    }
     let text = format!(in alloc; "{number}")?;
     Ok(text)
 }

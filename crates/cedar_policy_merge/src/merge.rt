@@ -79,8 +79,11 @@ fn put_merged<S: BuildHasher + Copy>(
     // No effect at run time: these calls say that both are those of a policy set.
     let _policy_sets = (here.is_empty(), other.is_empty());
     let bodies = parted_bodies(alloc, here, other, renaming)?;
-    let policies = parted_policies(alloc, here, other, renaming)?;
-    here.take_in(alloc, bodies, policies)
+    let parted = parted_policies(alloc, here, other, renaming)?;
+    let (policies, shares) = parted;
+    here.take_in(alloc, bodies, policies)?;
+    here.share_templates(shares);
+    Ok(())
 }
 
 // The first of some ids, where none may be renamed.
@@ -416,20 +419,29 @@ fn parted_policies<S: BuildHasher + Copy>(
     here: &PolicyMaps<S>,
     other: &PolicyMaps<S>,
     renaming: &IndexMap<PolicyID, PolicyID, S>,
-) -> Result<Parted<Policy>, AllocError>
+) -> Result<(Parted<Policy>, Vec<(usize, Rc<Template>)>), AllocError>
     requires { AreFreeHere here.now renaming.now.entries }
-    ensures { IfOk result (λ p. p.join.items ≡ joined_policies here.now
+    ensures { IfOk result (λ p. p.0.join.items ≡ joined_policies here.now
         (new_id renaming.now.entries) other.now.policies) }
 {
     let mut parted = Parted::new(alloc);
-    part_policies(alloc, &mut parted, here, other.all_policies(), renaming)?;
-    Ok(parted)
+    let mut shares = Vec::new(alloc);
+    part_policies(
+        alloc,
+        &mut parted,
+        &mut shares,
+        here,
+        other.all_policies(),
+        renaming,
+    )?;
+    Ok((parted, shares))
 }
 
 // Puts policies of the other set, under their new ids, last among those that join, or those that stand here.
 fn part_policies<S: BuildHasher + Copy>(
     alloc: Global,
     parted: &mut Parted<Policy>,
+    shares: &mut Vec<(usize, Rc<Template>)>,
     here: &PolicyMaps<S>,
     theirs: &[Policy],
     renaming: &IndexMap<PolicyID, PolicyID, S>,
@@ -439,7 +451,7 @@ fn part_policies<S: BuildHasher + Copy>(
         ++ joined_policies here.now (new_id renaming.now.entries) theirs.now) }
 {
     for policy in theirs {
-        part_policy(alloc, parted, here, policy, renaming)?;
+        part_policy(alloc, parted, shares, here, policy, renaming)?;
     }
     Ok(())
 }
@@ -449,6 +461,7 @@ fn part_policies<S: BuildHasher + Copy>(
 fn part_policy<S: BuildHasher + Copy>(
     alloc: Global,
     parted: &mut Parted<Policy>,
+    shares: &mut Vec<(usize, Rc<Template>)>,
     here: &PolicyMaps<S>,
     policy: &Policy,
     renaming: &IndexMap<PolicyID, PolicyID, S>,
@@ -459,7 +472,7 @@ fn part_policy<S: BuildHasher + Copy>(
 {
     let new = new_of(renaming, policy.id());
     if stands_here(here, new, policy.id()) {
-        keep(&mut parted.stand, here, policy)?;
+        keep(&mut parted.stand, shares, here, policy)?;
         return Ok(());
     }
     parted
@@ -468,28 +481,36 @@ fn part_policy<S: BuildHasher + Copy>(
     Ok(())
 }
 
-// Puts a copy of a policy last among those that stand here, unless it is the one here in its locations too.
+// Lets a policy here that is bound alike there have the locations of that one.
 fn keep<S: BuildHasher + Copy>(
     stand: &mut Vec<Policy>,
+    shares: &mut Vec<(usize, Rc<Template>)>,
     here: &PolicyMaps<S>,
     policy: &Policy,
 ) -> Result<(), AllocError> {
-    if is_placed_as(here.policy_at(policy.id()), policy) {
-        return Ok(());
+    match here.place_of_policy(policy.id()) {
+        None => Ok(()),
+        Some(place) => keep_at(stand, shares, place, &here.all_policies()[place], policy),
     }
-    stand.push(policy.clone()?)?;
-    Ok(())
 }
 
-// Whether a policy shares its template with another and binds no uid with another location.
-fn is_placed_as(stands: Option<&Policy>, policy: &Policy) -> bool {
-    match stands {
-        None => false,
-        Some(stands) => {
-            Rc::ptr_eq(stands.template_arc(), policy.template_arc())
-                && are_placed_as(stands.env(), policy.env())
-        }
+// Lists a policy that is bound alike in both: a copy of the one there, where it binds uids with other locations, else
+// its template, unless they share it.
+fn keep_at(
+    stand: &mut Vec<Policy>,
+    shares: &mut Vec<(usize, Rc<Template>)>,
+    place: usize,
+    stands: &Policy,
+    policy: &Policy,
+) -> Result<(), AllocError> {
+    if !are_placed_as(stands.env(), policy.env()) {
+        stand.push(policy.clone()?)?;
+        return Ok(());
     }
+    if !Rc::ptr_eq(stands.template_arc(), policy.template_arc()) {
+        shares.push((place, policy.template_arc().clone()?))?;
+    }
+    Ok(())
 }
 
 // A policy under its new id, if it gets one, a link with its template under its own.

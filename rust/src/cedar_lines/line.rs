@@ -2,10 +2,29 @@
 
 //! The fields of a line.
 
+// The place of the first tab, if there is one.
+fn first_tab(line: &[u8]) -> Option<usize> {
+    line.iter().position(|b| *b == b'\t')
+}
+
+// What stands before the first tab, and what stands behind it, if there is one. Most fields are short, so it goes from
+// byte to byte.
+fn first_field(line: &str) -> (&str, Option<&str>) {
+    match first_tab(line.as_bytes()) {
+        None => (line, None),
+        Some(i) => (&line[..i], Some(&line[i + 1..])),
+    }
+}
+
 // Puts the fields between the tabs of a line in the place of those before.
 fn set_fields<'a>(fields: &mut Vec<&'a str>, line: &'a str) {
     fields.clear();
-    fields.extend(line.split('\t'));
+    let mut left = Some(line);
+    while let Some(rest) = left {
+        let (field, behind) = first_field(rest);
+        fields.push(field);
+        left = behind;
+    }
 }
 
 // Whether a byte is a tab or printable ASCII.

@@ -16,7 +16,7 @@ pub use crate::cedar_body::{Effect, TemplateBody, TemplateBodyImpl};
 
 pub use err::{TemplateValidationError, UnexpectedSlotError};
 
-pub use policy::Policy;
+pub use policy::{Policy, share_template};
 
 pub use slots::Slots;
 

@@ -719,8 +719,7 @@ impl Policy {
         match &self.parts.link {
             None => {
                 let template = Arc::new(self.parts.template.new_id(id));
-                let values = copy_of_bindings(&self.parts.values);
-                Self::of(template, None, values)
+                Self::unlinked(template)
             }
             Some(_) => {
                 let template = self.parts.template.clone();
@@ -950,9 +949,25 @@ impl Policy {
     }
 }
 
+/// Lets a policy share another template, where that is equal to its own: so it has that one's locations. The merging of
+/// sets is made with it.
+pub fn share_template(policy: &mut Policy, template: Arc<Template>) {
+    if is_template(&template, policy.template()) {
+        policy.parts.template = template;
+    }
+}
+
+// Whether a template is another.
+fn is_template(template: &Template, other: &Template) -> bool {
+    template == other
+}
+
 impl Clone for Policy {
     fn clone(&self) -> Self {
         let template = self.parts.template.clone();
+        if self.is_static() {
+            return Self::unlinked(template);
+        }
         let link = self.parts.link.clone();
         let values = copy_of_bindings(&self.parts.values);
         Self::of(template, link, values)

@@ -3,7 +3,7 @@
 //! How maps take in bodies and policies beside what stands there: room first, and then steps that cannot fail.
 
 use crate::cedar_ids::policy_id::PolicyID;
-use crate::cedar_policy::{Policy, Template};
+use crate::cedar_policy::{Policy, Template, share_template};
 use crate::cedar_policy_maps::maps::{bodies_by_id, ids_by_template, policies_by_id};
 use crate::cedar_policy_maps::policy_maps::PolicyMaps;
 use crate::ordered_map::{OrderedMap, OrderedSet};
@@ -50,6 +50,12 @@ impl<S: BuildHasher + Copy> PolicyMaps<S> {
         } = policies;
         let entering = what_enters(&self.links, &stand, join, policies);
         self.put_in(entering, stand, alike);
+    }
+
+    /// Lets policies at some places share other templates, each where that is equal to its own. It the maps state what
+    /// they did.
+    pub fn share_templates(&mut self, templates: Vec<(usize, Arc<Template>)>) {
+        share_all(&mut self.links, templates);
     }
 
     // Makes room for what enters, and puts it in.
@@ -216,6 +222,23 @@ fn take_body(stands: &mut Arc<Template>, template: Arc<Template>) {
 // Whether a template is another.
 fn is_body(template: &Template, other: &Template) -> bool {
     template == other
+}
+
+// Lets policies at some places share other templates, each where that is equal to its own.
+fn share_all<S: BuildHasher + Copy>(
+    links: &mut OrderedMap<PolicyID, Policy, S>,
+    templates: Vec<(usize, Arc<Template>)>,
+) {
+    for (place, template) in templates {
+        share_at(links, place, template);
+    }
+}
+
+// Lets the policy at a place share another template, where that is equal to its own.
+fn share_at<S: BuildHasher + Copy>(links: &mut OrderedMap<PolicyID, Policy, S>, place: usize, template: Arc<Template>) {
+    if let Some(policy) = links.get_index_mut(place) {
+        share_template(policy, template);
+    }
 }
 
 // Puts policies in the place of those with their ids that they are equal to.

@@ -42,6 +42,11 @@ impl<S: BuildHasher + Copy> PolicyMaps<S> {
         self.links.get(id)
     }
 
+    /// The place of the policy with this id in its order, if there is one.
+    pub fn place_of_policy(&self, id: &PolicyID) -> Option<usize> {
+        self.links.get_index_of(id)
+    }
+
     /// Whether a body has this id.
     pub fn has_body(&self, id: &PolicyID) -> bool {
         self.templates.contains_key(id)

@@ -237,11 +237,14 @@ fn put_no_ids<S: BuildHasher + Copy>(
     insert_new(map, template.id().clone(), ids);
 }
 
-// Lists policies, each last under its body's id.
+// Lists policies, each last under its body's id. Where there is no list no id is hashed.
 fn list_policies<S: BuildHasher + Copy>(
     map: &mut OrderedMap<PolicyID, OrderedSet<PolicyID, S>, S>,
     policies: &[Policy],
 ) {
+    if map.is_empty() {
+        return;
+    }
     for policy in policies {
         list_link_copy(map, policy.template().id(), policy.id());
     }

@@ -27,8 +27,13 @@ fn first() -> Trial {
     }
 }
 
-// The digits of a number.
+// The digits of a number. Those of one that half the bits hold cost less to write.
 fn digits_of(number: u128) -> String {
+    if number < 0x1_0000_0000_0000_0000 {
+        let small = number as u64;
+        let text = format!("{small}");
+        return text;
+    }
     format!("{number}")
 }
 

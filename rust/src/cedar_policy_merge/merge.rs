@@ -42,8 +42,10 @@ fn put_merged<S: BuildHasher + Copy>(
     renaming: &OrderedMap<PolicyID, PolicyID, S>,
 ) {
     let bodies = parted_bodies(here, other, renaming);
-    let policies = parted_policies(here, other, renaming);
+    let parted = parted_policies(here, other, renaming);
+    let (policies, shares) = parted;
     here.take_in(bodies, policies);
+    here.share_templates(shares);
 }
 
 // The first of some ids, where none may be renamed.
@@ -252,21 +254,23 @@ fn parted_policies<S: BuildHasher + Copy>(
     here: &PolicyMaps<S>,
     other: &PolicyMaps<S>,
     renaming: &OrderedMap<PolicyID, PolicyID, S>,
-) -> Parted<Policy> {
+) -> (Parted<Policy>, Vec<(usize, Arc<Template>)>) {
     let mut parted = Parted::new();
-    part_policies(&mut parted, here, other.all_policies(), renaming);
-    parted
+    let mut shares = Vec::new();
+    part_policies(&mut parted, &mut shares, here, other.all_policies(), renaming);
+    (parted, shares)
 }
 
 // Puts policies of the other set, under their new ids, last among those that join, or those that stand here.
 fn part_policies<S: BuildHasher + Copy>(
     parted: &mut Parted<Policy>,
+    shares: &mut Vec<(usize, Arc<Template>)>,
     here: &PolicyMaps<S>,
     theirs: &[Policy],
     renaming: &OrderedMap<PolicyID, PolicyID, S>,
 ) {
     for policy in theirs {
-        part_policy(parted, here, policy, renaming);
+        part_policy(parted, shares, here, policy, renaming);
     }
 }
 
@@ -274,33 +278,46 @@ fn part_policies<S: BuildHasher + Copy>(
 // it has other locations.
 fn part_policy<S: BuildHasher + Copy>(
     parted: &mut Parted<Policy>,
+    shares: &mut Vec<(usize, Arc<Template>)>,
     here: &PolicyMaps<S>,
     policy: &Policy,
     renaming: &OrderedMap<PolicyID, PolicyID, S>,
 ) {
     let new = new_of(renaming, policy.id());
     if stands_here(here, new, policy.id()) {
-        keep(&mut parted.stand, here, policy);
+        keep(&mut parted.stand, shares, here, policy);
         return;
     }
     parted.join.push(renamed_policy(policy, new, renaming));
 }
 
-// Puts a copy of a policy last among those that stand here, unless it is the one here in its locations too.
-fn keep<S: BuildHasher + Copy>(stand: &mut Vec<Policy>, here: &PolicyMaps<S>, policy: &Policy) {
-    if is_placed_as(here.policy_at(policy.id()), policy) {
-        return;
+// Lets a policy here that is bound alike there have the locations of that one.
+fn keep<S: BuildHasher + Copy>(
+    stand: &mut Vec<Policy>,
+    shares: &mut Vec<(usize, Arc<Template>)>,
+    here: &PolicyMaps<S>,
+    policy: &Policy,
+) {
+    if let Some(place) = here.place_of_policy(policy.id()) {
+        keep_at(stand, shares, place, &here.all_policies()[place], policy);
     }
-    stand.push(policy.clone());
 }
 
-// Whether a policy shares its template with another and binds no uid with another location.
-fn is_placed_as(stands: Option<&Policy>, policy: &Policy) -> bool {
-    match stands {
-        None => false,
-        Some(stands) => {
-            Arc::ptr_eq(stands.template_arc(), policy.template_arc()) && are_placed_as(stands.env(), policy.env())
-        }
+// Lists a policy that is bound alike in both: a copy of the one there, where it binds uids with other locations, else
+// its template, unless they share it.
+fn keep_at(
+    stand: &mut Vec<Policy>,
+    shares: &mut Vec<(usize, Arc<Template>)>,
+    place: usize,
+    stands: &Policy,
+    policy: &Policy,
+) {
+    if !are_placed_as(stands.env(), policy.env()) {
+        stand.push(policy.clone());
+        return;
+    }
+    if !Arc::ptr_eq(stands.template_arc(), policy.template_arc()) {
+        shares.push((place, policy.template_arc().clone()));
     }
 }
 

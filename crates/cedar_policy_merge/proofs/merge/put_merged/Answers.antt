@@ -16,4 +16,4 @@ take_in-requires g c =
     let r = c.args.renaming.now.entries in
     let k = takes_in h o (new_id r) (renames h o r c.requires) c.is_empty.ensures.policy_set
     c.is_empty-2.ensures.policy_set in
-    rw (c.in_ok-bodies.ensures.stand, c.in_ok-bodies.ensures.join, c.in_ok-policies.ensures) k
+    rw (c.in_ok-bodies.ensures.stand, c.in_ok-bodies.ensures.join, c.in_ok-parted.ensures) k
