@@ -45,6 +45,7 @@ mod cedar_components;
 mod cedar_entities;
 mod cedar_entity;
 mod cedar_entity_lines;
+mod cedar_entity_maps;
 mod cedar_graph;
 mod cedar_ids;
 mod cedar_keyed_hash;

@@ -2,8 +2,8 @@
 
 # The crates of the layer, lowest first.
 CRATES = '''cedar_ids cedar_keyed_hash cedar_components cedar_uid_sets cedar_graph cedar_terms cedar_entity cedar_children
-cedar_entities cedar_slice cedar_annotation cedar_scope cedar_binding cedar_action cedar_body cedar_policy
-cedar_policy_maps cedar_policy_set_errors cedar_policy_merge cedar_policy_set cedar_replay cedar_lines
+cedar_entity_maps cedar_entities cedar_slice cedar_annotation cedar_scope cedar_binding cedar_action cedar_body
+cedar_policy cedar_policy_maps cedar_policy_set_errors cedar_policy_merge cedar_policy_set cedar_replay cedar_lines
 cedar_entity_lines cedar_policy_lines cedar_store cedar_talk'''.split()
 
 # Calls that several functions of one name could be: (crate, file, name) and what is answered there.

@@ -5,8 +5,8 @@ use Rattle.std.specs.List.{concat}
 use Rattle.std.specs.Option.{IsSomeAnd}
 use Rattle.std.specs.FinMap as finmap
 use Rattle.cedar_entities.specs.Answers.{AreDeepEqual}
-use Rattle.cedar_entities.specs.Plain.{StoreView, IsPlainStore}
-use Rattle.cedar_entities.specs.World.{World}
+use Rattle.cedar_entity_maps.specs.Plain.{StoreView, IsPlainStore}
+use Rattle.cedar_entity_maps.specs.World.{World}
 use Rattle.cedar_c_lists.specs.Answers.{spans_from}
 use Rattle.cedar_c_lists.specs.Reasons.{status_of, Tells}
 use Rattle.cedar_c_stores.specs.Stores.{IsUntold}

@@ -1,6 +1,6 @@
 -- What the calls that read a store tell, by what those of `cedar_c_stores` do with what a handle holds.
 use Rattle.std.specs.Prelude.{◌≡◌, ℕ, Bool, Option, Some, None, Result}
-use Rattle.cedar_entities.specs.Plain.{StoreView}
+use Rattle.cedar_entity_maps.specs.Plain.{StoreView}
 use Rattle.cedar_c_lists.specs.Reasons.{Tells}
 use Rattle.cedar_c_lists.specs.StatusTexts.{TellsValue}
 use Rattle.cedar_c_lists.specs.declared.reason.Reason.{Reason}

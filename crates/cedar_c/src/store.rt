@@ -1,7 +1,7 @@
 //! Calls on handles of stores of entities.
 ghost use Rattle.std.specs.Prelude.{◌≡◌, ◌≢◌, Option, Some, None};
 ghost use Rattle.std.specs.Option.{is_some, option_map};
-ghost use Rattle.cedar_entities.specs.World.{empty_world};
+ghost use Rattle.cedar_entity_maps.specs.World.{empty_world};
 ghost use Rattle.cedar_entity.specs.View.{has_ancestor};
 ghost use Rattle.cedar_c_stores.specs.Stores.{AddsListed, Asks, AsksFor, BuildsListed, Copies, IsAbove, IsParent};
 ghost use Rattle.cedar_c_stores.specs.Stores.{Listing, RemovesListed, SlicesAt, UpsertsListed, Validates, has_parent};

@@ -5,8 +5,8 @@ use Rattle.std.specs.Option.{option_map, IfSome}
 use Rattle.std.specs.FinMap as finmap
 use Rattle.std.specs.FinSet as set
 use Rattle.cedar_entity.specs.View.{EntityView, has_ancestor}
-use Rattle.cedar_entities.specs.Plain.{StoreView, IsApart, IsPlainStore, parts_of}
-use Rattle.cedar_entities.specs.World.{World, graph, is_parent_in}
+use Rattle.cedar_entity_maps.specs.Plain.{StoreView, IsApart, IsPlainStore, parts_of}
+use Rattle.cedar_entity_maps.specs.World.{World, graph, is_parent_in}
 use Rattle.cedar_graph.specs.Graph.{Reach}
 use Rattle.cedar_ids.specs.declared.entity.EntityUID.{EntityUID}
 use Rattle.cedar_c_stores.specs.Reads.{IsFarAbove, has_indirect}

@@ -15,10 +15,10 @@ use Rattle.cedar_entity.specs.View.{EntityView, has_ancestor}
 use Rattle.cedar_entity.specs.declared.err.EntitiesError.{EntitiesError}
 use Rattle.cedar_entity.specs.declared.err.EntitiesError.TheVariants as errors
 use Rattle.cedar_entities.specs.Calls as calls
-use Rattle.cedar_entities.specs.Plain.{StoreView, IsPlainStore, IsApart, AreBare, entities_in, given_of, parts_of}
-use Rattle.cedar_entities.specs.World.{World, graph, is_parent_in, empty_world, added, overwritten, deleted}
-use Rattle.cedar_entities.specs.declared.entities.TCComputation.{TCComputation}
-use Rattle.cedar_entities.specs.declared.entities.TCComputation.TheVariants as modes
+use Rattle.cedar_entity_maps.specs.Plain.{StoreView, IsPlainStore, IsApart, AreBare, entities_in, given_of, parts_of}
+use Rattle.cedar_entity_maps.specs.World.{World, graph, is_parent_in, empty_world, added, overwritten, deleted}
+use Rattle.cedar_entity_maps.specs.declared.modes.TCComputation.{TCComputation}
+use Rattle.cedar_entity_maps.specs.declared.modes.TCComputation.TheVariants as modes
 use Rattle.cedar_trial_edits.specs.Trials.{IsAddRefusal, IsUpsertRefusal, Tries}
 use Rattle.cedar_trial_edits.specs.laws.OnlyMemory.{adding_passes, overwriting_passes}
 use Rattle.cedar_c_lists.specs.declared.reason.Reason.{Reason}

@@ -11,7 +11,7 @@ use Rattle.std.specs.List.{cons_option, slice_get}
 use Rattle.cedar_ids.specs.UidOf.{uid_order}
 use Rattle.cedar_ids.specs.declared.entity.EntityUID.{EntityUID}
 use Rattle.cedar_entity.specs.View.{EntityView}
-use Rattle.cedar_entities.specs.Plain.{AreBare}
+use Rattle.cedar_entity_maps.specs.Plain.{AreBare}
 use Rattle.cedar_c_lists.specs.Texts.{AreReadAt, IsInside}
 use Rattle.cedar_c_lists.specs.declared.layout.Span.{Span}
 use Rattle.cedar_c_stores.specs.Lists.{AreEdgesOf, AreListed, IsEdgeOf, IsUnlisted, entities_by, entities_from}

@@ -11,7 +11,7 @@ use Rattle.std.proofs.lemmas.Slice.Zip.{all_zipped_more}
 use Rattle.std.specs.List.{AllByRecursion, AllZip, cons_option, slice_get}
 use Rattle.std.specs.declared.alloc.Global.{Global}
 use Rattle.std.specs.declared.rc.Rc.{Rc}
-use Rattle.cedar_entities.specs.Plain.{entities_in}
+use Rattle.cedar_entity_maps.specs.Plain.{entities_in}
 use Rattle.cedar_ids.specs.declared.entity.EntityUID.{EntityUID}
 use Rattle.cedar_terms.specs.declared.partial_value.PartialValue.{PartialValue}
 use Rattle.cedar_entity.specs.Fields.{Fields}

@@ -7,7 +7,7 @@ use Rattle.cedar_ids.specs.declared.entity.EntityUID.{EntityUID}
 use Rattle.cedar_terms.specs.declared.partial_value.PartialValue.{PartialValue}
 use Rattle.cedar_entity.specs.Fields.{AreFieldsOf, Fields}
 use Rattle.cedar_entity.specs.View.{EntityView}
-use Rattle.cedar_entities.specs.declared.entities.TCComputation.{TCComputation}
+use Rattle.cedar_entity_maps.specs.declared.modes.TCComputation.{TCComputation}
 use Rattle.cedar_c_lists.specs.Stops.{IsStopped}
 use Rattle.cedar_c_lists.specs.Texts.{AreReadAt, IsInside, IsOneUnread}
 use Rattle.cedar_c_lists.specs.declared.layout.Edge.{Edge}

@@ -2,9 +2,9 @@
 use Rattle.std.specs.Prelude.{◌≡◌, ◌⊎◌, Result, Ok, Err}
 use Rattle.cedar_entity.specs.declared.err.EntitiesError.{EntitiesError}
 use Rattle.cedar_entity.specs.declared.err.EntitiesError.TheVariants.{Memory}
-use Rattle.cedar_entities.specs.Plain.{StoreView, AreBare, entities_in}
-use Rattle.cedar_entities.specs.declared.entities.TCComputation.{TCComputation}
-use Rattle.cedar_entities.specs.declared.entities.TCComputation.TheVariants.{ComputeNow}
+use Rattle.cedar_entity_maps.specs.Plain.{StoreView, AreBare, entities_in}
+use Rattle.cedar_entity_maps.specs.declared.modes.TCComputation.{TCComputation}
+use Rattle.cedar_entity_maps.specs.declared.modes.TCComputation.TheVariants.{ComputeNow}
 use Rattle.cedar_c_lists.specs.declared.reason.Reason.{Reason}
 use Rattle.cedar_c_stores.specs.Stores.{AddGives, UpsertGives, RemoveGives, KeepsGiven, empty_store}
 use Rattle.cedar_c_stores.specs.declared.edits.Edit.{Edit}

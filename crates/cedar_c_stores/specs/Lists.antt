@@ -4,10 +4,10 @@ use Rattle.std.specs.Prelude.{if◌then◌else◌, length, slice_get, take}
 use Rattle.std.specs.FinSet as set
 use Rattle.cedar_ids.specs.declared.entity.EntityUID.{EntityUID}
 use Rattle.cedar_entity.specs.View.{EntityView}
-use Rattle.cedar_entities.specs.Plain.{AreBare}
-use Rattle.cedar_entities.specs.declared.entities.TCComputation.{TCComputation}
-use Rattle.cedar_entities.specs.declared.entities.TCComputation.TheVariants.{AssumeAlreadyComputed}
-use Rattle.cedar_entities.specs.declared.entities.TCComputation.TheVariants.{EnforceAlreadyComputed, ComputeNow}
+use Rattle.cedar_entity_maps.specs.Plain.{AreBare}
+use Rattle.cedar_entity_maps.specs.declared.modes.TCComputation.{TCComputation}
+use Rattle.cedar_entity_maps.specs.declared.modes.TCComputation.TheVariants.{AssumeAlreadyComputed}
+use Rattle.cedar_entity_maps.specs.declared.modes.TCComputation.TheVariants.{EnforceAlreadyComputed, ComputeNow}
 use Rattle.cedar_c_lists.specs.Texts.{AreReadAt, IsInside, IsOneUnread}
 use Rattle.cedar_c_lists.specs.declared.layout.Edge.{Edge}
 use Rattle.cedar_c_lists.specs.declared.layout.Span.{Span}

@@ -8,8 +8,8 @@ use Rattle.cedar_graph.specs.Graph.{Reach}
 use Rattle.cedar_entity.specs.Fields.{Fields, KeysAscend, field_keys}
 use Rattle.cedar_entity.specs.View.{EntityView, IsDeepEqual}
 use Rattle.cedar_entities.specs.Answers.{ListsHeld}
-use Rattle.cedar_entities.specs.Plain.{StoreView}
-use Rattle.cedar_entities.specs.World.{World, graph}
+use Rattle.cedar_entity_maps.specs.Plain.{StoreView}
+use Rattle.cedar_entity_maps.specs.World.{World, graph}
 use Rattle.cedar_c_lists.specs.Texts.{AreTextsOf, IsReadOf, IsUnread}
 use Rattle.cedar_c_lists.specs.declared.reason.Reason.{Reason}
 use Rattle.cedar_c_lists.specs.declared.reason.Reason.TheVariants as reasons

@@ -20,10 +20,10 @@ use Rattle.cedar_entity.specs.declared.err.EntitiesError.{EntitiesError}
 use Rattle.cedar_entity.specs.declared.err.EntitiesError.TheVariants as errors
 use Rattle.cedar_entities.specs.Changes.{AddsEntities, AddsPlain, RemovesEntities, RemovesPlain}
 use Rattle.cedar_entities.specs.Changes.{UpsertsEntities, UpsertsPlain}
-use Rattle.cedar_entities.specs.Plain.{StoreView, no_entities, given_of, AreBare, IsPlainStore}
+use Rattle.cedar_entity_maps.specs.Plain.{StoreView, no_entities, given_of, AreBare, IsPlainStore}
 use Rattle.cedar_entities.specs.StoreFaults.{IsStoreFault, IsValidStore}
-use Rattle.cedar_entities.specs.World.{World, graph}
-use Rattle.cedar_entities.specs.declared.entities.TCComputation.{TCComputation}
+use Rattle.cedar_entity_maps.specs.World.{World, graph}
+use Rattle.cedar_entity_maps.specs.declared.modes.TCComputation.{TCComputation}
 use Rattle.cedar_slice.specs.Slices.{sliced, IsPlainSlice}
 use Rattle.cedar_c_stores.specs.Lists.{AreListed, IsMode, IsNoMode, IsUnlisted}
 use Rattle.cedar_c_lists.specs.Reasons.{words_of}

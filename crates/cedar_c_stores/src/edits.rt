@@ -5,8 +5,8 @@
 //! only want of memory refuses the edit. Elsewhere the store is copied first, and a refusal puts the copy back.
 ghost use Rattle.std.specs.Prelude.{◌≡◌, IfErr, IfOk, IsTrue, OnOk, Result, Err};
 ghost use Rattle.cedar_entity.specs.declared.err.EntitiesError.{EntitiesError};
-ghost use Rattle.cedar_entities.specs.Plain.{StoreView, entities_in};
-ghost use Rattle.cedar_entities.specs.declared.entities.TCComputation.TheVariants.{ComputeNow};
+ghost use Rattle.cedar_entity_maps.specs.Plain.{StoreView, entities_in};
+ghost use Rattle.cedar_entity_maps.specs.declared.modes.TCComputation.TheVariants.{ComputeNow};
 ghost use Rattle.cedar_c_stores.specs.Edits.{EditGives, Edits, EditsKept, IsSure, KeepsPlain, StandsOrEmpties};
 ghost use Rattle.cedar_c_stores.specs.SomePlain.{IsSomePlain};
 ghost use Rattle.cedar_c_stores.specs.Stores.{Adds, Builds, KeepsTexts, Removes, Upserts};

@@ -1,8 +1,8 @@
 //! A store of entities with what its caller was answered last, and the calls on it.
 ghost use Rattle.std.specs.Prelude.{◌≡◌, [], ◌∷◌, ◌++◌, ◌↔◌, IfOk, MatchResult, IsTrue, List, ℕ, true};
 ghost use Rattle.cedar_entities.specs.Answers.{AreDeepEqual};
-ghost use Rattle.cedar_entities.specs.Plain.{IsPlainStore};
-ghost use Rattle.cedar_entities.specs.World.{World, empty_world};
+ghost use Rattle.cedar_entity_maps.specs.Plain.{IsPlainStore};
+ghost use Rattle.cedar_entity_maps.specs.World.{World, empty_world};
 ghost use Rattle.cedar_entity.specs.View.{has_ancestor};
 ghost use Rattle.cedar_c_stores.specs.Stores.{Asks, AsksFor, Copies, IsAbove, IsParent, IsSlice, IsToldBy};
 ghost use Rattle.cedar_c_stores.specs.Stores.{IsUntold, Listing, SlicesAt, Validates, empty_store, has_parent};

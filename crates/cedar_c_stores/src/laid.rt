@@ -1,6 +1,6 @@
 //! Entities from the lists and the content of a caller.
 ghost use Rattle.std.specs.Prelude.{MatchResult};
-ghost use Rattle.cedar_entities.specs.Plain.{entities_in};
+ghost use Rattle.cedar_entity_maps.specs.Plain.{entities_in};
 ghost use Rattle.cedar_c_stores.specs.Contents.{AreLaid, IsUnlaid, laid_by};
 ghost use Rattle.cedar_c_stores.specs.laws.Rows.{AreSaid, IsUnsaid};
 

@@ -2,7 +2,7 @@
 ghost use Rattle.std.specs.Prelude.{◌≡◌, ◌<◌, ◌≤◌, ◌⊎◌, List, [], ◌∷◌, ◌++◌, IfOk, IfErr, MatchResult, OnOk, Some};
 ghost use Rattle.std.specs.Prelude.{length, map, slice_get, take};
 ghost use Rattle.cedar_ids.specs.declared.entity.EntityUID.{EntityUID};
-ghost use Rattle.cedar_entities.specs.Plain.{entities_in};
+ghost use Rattle.cedar_entity_maps.specs.Plain.{entities_in};
 ghost use Rattle.cedar_c_stores.specs.Lists.{AreEdgesOf, AreListed, IsMode, IsNoMode, IsUnlisted, with_parents};
 ghost use Rattle.cedar_c_stores.specs.laws.Listed.{IsGathered, IsSomeEdgeOut, IsUngathered, listed_from, with_edge};
 ghost use Rattle.cedar_c_lists.specs.declared.reason.Reason.TheVariants.{BadArgument, NoMemory};

@@ -2,7 +2,7 @@
 ghost use Rattle.std.specs.Prelude.{◌≡◌, ◌<◌, ◌≤◌, ◌⊎◌, IfErr, IfOk, length, map, MatchResult, OnOk, string_bytes};
 ghost use Rattle.std.specs.FinSet as set;
 ghost use Rattle.std.specs.List.{AllZip};
-ghost use Rattle.cedar_entities.specs.Plain.{entities_in};
+ghost use Rattle.cedar_entity_maps.specs.Plain.{entities_in};
 ghost use Rattle.cedar_entity.specs.Fields.{fields_of};
 ghost use Rattle.cedar_c_stores.specs.Contents.{IsEntityOf, nodes_of};
 ghost use Rattle.cedar_c_stores.specs.laws.Listed.{IsSomeEdgeOut, IsUngathered};

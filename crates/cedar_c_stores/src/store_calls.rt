@@ -1,6 +1,6 @@
 //! The calls on a store that take lists of a caller.
 ghost use Rattle.std.specs.Prelude.{◌≡◌, MatchResult};
-ghost use Rattle.cedar_entities.specs.Plain.{entities_in};
+ghost use Rattle.cedar_entity_maps.specs.Plain.{entities_in};
 ghost use Rattle.cedar_c_stores.specs.Lists.{AreListed, IsUnlisted};
 ghost use Rattle.cedar_c_stores.specs.Stores.{AddsListed, BuildsListed, RemovesListed, UpsertsListed};
 

@@ -4,9 +4,9 @@ ghost use Rattle.std.specs.FinMap as finmap;
 ghost use Rattle.std.specs.Option.{option_map};
 ghost use Rattle.cedar_entity.specs.declared.err.EntitiesError.TheVariants.{Memory};
 ghost use Rattle.cedar_entities.specs.Answers.{AreDeepEqual, Finds, ListsHeld};
-ghost use Rattle.cedar_entities.specs.Plain.{IsKeyed, IsPlainStore, entities_in};
+ghost use Rattle.cedar_entity_maps.specs.Plain.{IsKeyed, IsPlainStore, entities_in};
 ghost use Rattle.cedar_entities.specs.StoreFaults.{IsStoreFault, IsValidStore};
-ghost use Rattle.cedar_entities.specs.World.{World, empty_world};
+ghost use Rattle.cedar_entity_maps.specs.World.{World, empty_world};
 ghost use Rattle.cedar_slice.specs.Slices.{IsPlainSlice, sliced};
 ghost use Rattle.cedar_c_stores.specs.Edits.{Edits};
 ghost use Rattle.cedar_c_stores.specs.Stores.{AddGives, empty_store};
@@ -32,7 +32,7 @@ pub struct Watched<S: BuildHasher> {
 impl<S: BuildHasher> Model for Watched<S> {
     ghost use Rattle.std.specs.Prelude.{IsTrue};
     ghost use Rattle.cedar_entities.specs.Codes.{store_code};
-    ghost use Rattle.cedar_entities.specs.Plain.{StoreView};
+    ghost use Rattle.cedar_entity_maps.specs.Plain.{StoreView};
     ghost use Rattle.cedar_c_stores.specs.SomePlain.{IsSomePlain};
 
     ghost Value = { StoreView };

@@ -1,6 +1,7 @@
 -- What adding makes of the map of a store.
 use Rattle.std.specs.Prelude.{◌≡◌, ◌&&◌, not, true, List, map, Option, None, ⊤}
 use Rattle.std.proofs.Common.{ap, refl, sym, subst, ◌∙◌}
+use Rattle.std.proofs.Math.Bool.{and-true}
 use Rattle.std.proofs.lemmas.Bool.{or_left}
 use Rattle.std.specs.List.{list_any}
 use Rattle.std.specs.Set.{is_member}
@@ -11,26 +12,23 @@ use Rattle.cedar_graph.specs.declared.err.TcError.{TcError}
 use Rattle.cedar_ids.specs.UidOf.{same_uid}
 use Rattle.cedar_ids.specs.declared.entity.EntityUID.{EntityUID}
 use Rattle.cedar_entity.specs.declared.node.SharedEntity.{SharedEntity}
-use Rattle.cedar_entities.specs.declared.entities.TCComputation.{TCComputation}
+use Rattle.cedar_entity_maps.specs.declared.modes.TCComputation.{TCComputation}
 use Rattle.cedar_entity.specs.declared.err.EntitiesError.{EntitiesError}
 use Rattle.cedar_entity.specs.declared.err.EntitiesError.TheVariants as errors
-use Rattle.cedar_entities.specs.laws.Held.{held, held_map}
-use Rattle.cedar_entities.specs.Modes.{ancestry, computes, row_of, WhereComputed}
-use Rattle.cedar_entities.specs.Plain.{StoreView, Held, IsPlainStore, AreBare, given_of}
+use Rattle.cedar_entity_maps.specs.laws.Held.{held, held_map}
+use Rattle.cedar_entity_maps.specs.Modes.{ancestry, computes, row_of, WhereComputed}
+use Rattle.cedar_entity_maps.specs.Plain.{StoreView, Held, IsPlainStore, AreBare, given_of}
 use Rattle.cedar_entities.specs.Present.{first_entity, with_first, AllMatch, FirstMismatch}
-use Rattle.cedar_entities.specs.Refusals.{MatchRefusal, NamesCycle, IsAddingRefused}
-use Rattle.cedar_entities.specs.laws.Rows.{where_map, where_so}
-use Rattle.cedar_entities.specs.laws.Refusals.{refusal_cases}
-use Rattle.cedar_entities.specs.Edits.{uids_of}
-use Rattle.cedar_entities.specs.Touching.{inserted_in, is_touched, IsSettleRefused}
-use Rattle.cedar_entities.specs.World.{World, added, FirstDiffers}
+use Rattle.cedar_entity_maps.specs.Refusals.{MatchRefusal, NamesCycle, IsAddingRefused}
+use Rattle.cedar_entity_maps.specs.laws.Rows.{where_map, where_so}
+use Rattle.cedar_entity_maps.specs.laws.Refusals.{refusal_cases}
+use Rattle.cedar_entity_maps.specs.Edits.{uids_of}
+use Rattle.cedar_entity_maps.specs.Touching.{inserted_in, is_touched, IsSettleRefused}
+use Rattle.cedar_entity_maps.specs.World.{World, added, FirstDiffers}
 use Rattle.cedar_entity.specs.View.{EntityView}
-use Rattle.cedar_entities.proofs.Adding.{all_agree, and_on, first_differs, first_some, inserted_members, refused_plain}
-use Rattle.cedar_entities.proofs.StoreMaps.{get_seen, seen_as, get_with_first}
-
--- what the map of a store has, as what the store holds
-pub stored : {S : Type 0} (m : HashMap EntityUID SharedEntity S) (D : Held) → held_map m ≡ D → held m ≡ finmap.get D
-stored m D is = (λ i q. sym (get_seen m q) i) ∙ ap (λ (E : Held). finmap.get E) is
+use Rattle.cedar_entities.proofs.Adding.{all_agree, first_differs, first_some, inserted_members, refused_plain}
+use Rattle.cedar_entities.proofs.StoreMaps.{get_with_first}
+use Rattle.cedar_entity_maps.specs.laws.Seen.{seen_as, stored}
 
 pub put_in : {S : Type 0} (m n : HashMap EntityUID SharedEntity S) (D : Held) (L : List EntityView) → held_map m ≡ D
     → ((q : EntityUID) → held n q ≡ option_or (held m q) (first_entity L q)) → held_map n ≡ with_first D L
@@ -49,7 +47,7 @@ all_inserted l m L none put q there =
     (inserted_members (held_map l) L q
     ∙ ap (λ o. is_member same_uid (uids_of L) q && not (is_some o)) (sym (ap (λ f. f q) (stored l (held_map l) refl))
     ∙ none q)
-    ∙ sym (and_on (is_member same_uid (uids_of L) q))
+    ∙ and-true (is_member same_uid (uids_of L) q)
     ∙ sym (first_some L q)
     ∙ sym (ap is_some (put q ∙ ap (λ o. option_or o (first_entity L q)) (none q)))
     ∙ there)
@@ -62,11 +60,10 @@ mismatch_at f g L C is e h =
     (λ u m. subst (λ k. FirstMismatch k L u) is m) (λ t n. absurd n) tt e h
 
 -- a refusal of the closure, where all matched before it
-pub closure_at : (C F : TcError EntityUID → Type 0) (P : EntityUID → Type 0) (A : Type 0)
-    → ((t : TcError EntityUID) → C t → F t) → A → (e : EntitiesError) → MatchRefusal e (λ _. ⊥) C
-    → MatchRefusal e P (λ t. A × F t)
-closure_at C F P A so a e h =
-    refusal_cases (λ _. ⊥) C (λ r. MatchRefusal r P (λ t. A × F t)) (λ u n. absurd n) (λ t k. (a, so t k)) tt e h
+pub closure_at : (C : TcError EntityUID → Type 0) (P : EntityUID → Type 0) (A : Type 0) → A → (e : EntitiesError)
+    → MatchRefusal e (λ _. ⊥) C → MatchRefusal e P (λ t. A × C t)
+closure_at C P A a e h =
+    refusal_cases (λ _. ⊥) C (λ r. MatchRefusal r P (λ t. A × C t)) (λ u n. absurd n) (λ t k. (a, k)) tt e h
 
 -- over the plain store of a world a refusal is that of the world
 pub refused_over_plain : (W : World) (S : StoreView) (L : List EntityView) → IsPlainStore W S → AreBare L

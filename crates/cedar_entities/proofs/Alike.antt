@@ -11,16 +11,14 @@ use Rattle.std.specs.FinMap as finmap
 use Rattle.cedar_ids.specs.UidOf.{same_uid}
 use Rattle.cedar_ids.specs.laws.UidOfLaws.{same_uid_decides}
 use Rattle.cedar_ids.specs.declared.entity.EntityUID.{EntityUID}
-use Rattle.cedar_ids.specs.declared.entity.EntityUID.TheVariants as uids
 use Rattle.cedar_entity.specs.declared.node.SharedEntity.{SharedEntity}
 use Rattle.cedar_entities.specs.Answers.{HasDeepEqual, AreDeepEqual}
-use Rattle.cedar_entities.specs.laws.Held.{held, held_map, shared, UidsMatch}
-use Rattle.cedar_entities.specs.Plain.{StoreView, Held}
+use Rattle.cedar_entity_maps.specs.laws.Held.{held, held_map, shared, UidsMatch}
+use Rattle.cedar_entity_maps.specs.Plain.{StoreView, Held}
 use Rattle.cedar_entity.specs.View.{EntityView, IsEquivalenceRelation}
 use Rattle.cedar_entity.specs.laws.Views.{deep_equality}
-use Rattle.cedar_entities.proofs.Adds.{stored}
-use Rattle.cedar_entities.proofs.Editing.{left_match}
-use Rattle.cedar_entities.proofs.StoreMaps.{get_seen}
+use Rattle.cedar_entity_maps.specs.laws.Seen.{stored, get_seen}
+use Rattle.cedar_entity_maps.specs.laws.Keyed.{left_match}
 
 module _ (o : EntityUID → Option EntityView) (q : EntityUID) where
   alike_at : (b : Bool) (e : EntityUID × SharedEntity) (rest : Option SharedEntity) → same_uid q e.0 ≡ b
@@ -125,10 +123,6 @@ deep_stores = record {
 }
 
 -- copies
-pub uid_copied : (u v : EntityUID) → Rattle.cedar_ids.specs.contracts.entity.EntityUIDClone.TheImpl.by_variants u v
-    → v ≡ u
-uid_copied (uids.EntityUID x) (uids.EntityUID y) h = ap uids.EntityUID h
-
 abbrev pub pair_seen : EntityUID × SharedEntity → EntityUID × EntityView
 pair_seen e = (e.0, shared e.1)
 

@@ -13,24 +13,25 @@ use Rattle.cedar_entity.specs.declared.err.EntitiesError.TheVariants.{Memory}
 use Rattle.cedar_entity.specs.declared.node.SharedEntity.{SharedEntity}
 use Rattle.cedar_entities.specs.Changes.{AddsEntities, AddsPlain, EditsStore, RemovesEntities, RemovesPlain}
 use Rattle.cedar_entities.specs.Changes.{StripsPlain, UpsertsEntities, UpsertsPlain}
-use Rattle.cedar_entities.specs.Edits.{uids_of}
-use Rattle.cedar_entities.specs.Modes.{computes, row_of, WhereComputed}
-use Rattle.cedar_entities.specs.Plain.{StoreView, Held, IsPlainStore, AreBare, given_of}
+use Rattle.cedar_entity_maps.specs.Edits.{uids_of}
+use Rattle.cedar_entity_maps.specs.Modes.{computes, row_of, WhereComputed}
+use Rattle.cedar_entity_maps.specs.Plain.{StoreView, Held, IsPlainStore, AreBare, given_of}
 use Rattle.cedar_entities.specs.Present.{first_entity, with_first, AllMatch, FirstMismatch}
-use Rattle.cedar_entities.specs.Refusals.{MatchRefusal, NamesOneOf}
-use Rattle.cedar_entities.specs.Touching.{inserted_in, is_touched, IsEndRefused, IsSettled, IsSettleRefused}
-use Rattle.cedar_entities.specs.Touching.{StaysUntouched}
-use Rattle.cedar_entities.specs.World.{World}
-use Rattle.cedar_entities.specs.declared.entities.TCComputation.{TCComputation}
-use Rattle.cedar_entities.specs.declared.settling.Row.{Row}
-use Rattle.cedar_entities.specs.laws.Ends.{Ends}
-use Rattle.cedar_entities.specs.laws.Held.{held, held_map}
-use Rattle.cedar_entities.specs.laws.Rows.{where_so}
-use Rattle.cedar_entities.proofs.Adding.{add_untouched, all_agree, settled_plain}
-use Rattle.cedar_entities.proofs.Adds.{closure_at, mismatch_at, put_in, refused_over_plain, stored}
-use Rattle.cedar_entities.proofs.Closures.{none_named}
+use Rattle.cedar_entity_maps.specs.Refusals.{MatchRefusal, NamesOneOf}
+use Rattle.cedar_entity_maps.specs.Touching.{inserted_in, is_touched, IsEndRefused, IsSettleRefused, StaysUntouched}
+use Rattle.cedar_entity_maps.specs.World.{World}
+use Rattle.cedar_entity_maps.specs.declared.modes.TCComputation.{TCComputation}
+use Rattle.cedar_entity_maps.specs.declared.modes.Row.{Row}
+use Rattle.cedar_entity_maps.specs.laws.Ends.{Ends}
+use Rattle.cedar_entity_maps.specs.laws.Held.{held, held_map}
+use Rattle.cedar_entity_maps.specs.laws.Rows.{where_so}
+use Rattle.cedar_entities.proofs.Adding.{add_edit, all_agree, settled_plain}
+use Rattle.cedar_entities.proofs.Adds.{closure_at, mismatch_at, put_in, refused_over_plain}
+use Rattle.cedar_entity_maps.specs.laws.Seen.{stored}
+use Rattle.cedar_entity_maps.specs.laws.Refusals.{none_named}
 use Rattle.cedar_entities.proofs.Ending.{ended_untouched}
 use Rattle.cedar_entities.proofs.Overwriting.{so_far, over_between, over_plain, over_refused}
+use Rattle.cedar_entities.proofs.PlainEdits.{edit_untouched}
 use Rattle.cedar_entities.proofs.Removing.{left_refused, mended_plain}
 
 -- where something was refused, nothing is said of what came
@@ -55,6 +56,22 @@ module _ {A : Type 0} (mode : TCComputation) (D : Held) (L : List EntityView) (h
       → AddsEntities mode D L answer held_of
   adds_nothing answer h = adds_refused answer Memory h tt (where_so (computes (row_of mode)) _ tt)
 
+adds_ended : {A : Type 0} (mode : TCComputation) (D : Held) (L : List EntityView) (N : Held)
+    (answer : Result A EntitiesError) → AllMatch (finmap.get D) L
+    → Ends (row_of mode) (is_touched D (inserted_in D L)) (with_first D L) N answer
+    → AddsEntities mode D L answer (λ _. N)
+adds_ended mode D L N (Ok a) agree ends = record {
+  agree = agree;
+  ok = ends.ok;
+  untouched = ended_untouched (row_of mode) (inserted_in D L) D (with_first D L) N (edit_untouched (add_edit D L))
+      ends.ok;
+  err = tt;
+  named = tt;
+}
+adds_ended mode D L N (Err e) agree ends = adds_refused mode D L (λ _. N) (Err e) e refl
+    (closure_at (IsSettleRefused mode (is_touched D (inserted_in D L)) (with_first D L))
+    (FirstMismatch (finmap.get D) L) (AllMatch (finmap.get D) L) agree e ends.err) ends.named
+
 module _ {S A : Type 0} (m : HashMap EntityUID SharedEntity S) (mode : TCComputation) (L : List EntityView) where
   -- one of the list did not match
   pub adds_unmatched : (answer : Result A EntitiesError) (held_of : A → Held) (e : EntitiesError)
@@ -72,31 +89,10 @@ module _ {S A : Type 0} (m : HashMap EntityUID SharedEntity S) (mode : TCComputa
       → Ends (row_of mode) (is_touched (held_map m) (inserted_in (held_map m) L)) (held_map n) N
       answer
       → AddsEntities mode (held_map m) L answer (λ _. N)
-  adds_settled n N (Ok a) agree put ends =
+  adds_settled n N answer agree put ends =
       let D = held_map m in
-      let settled = subst (λ E. IsSettled mode (is_touched D (inserted_in D L)) E N) (put_in m n D L refl put)
-      ends.ok in
-      record {
-        agree = subst (λ f. AllMatch f L) (stored m D refl) agree;
-        ok = settled;
-        untouched = ended_untouched (row_of mode) (inserted_in D L) D (with_first D L) N
-            (add_untouched D L) settled;
-        err = tt;
-        named = tt;
-      }
-  adds_settled n N (Err e) agree put ends =
-      let D = held_map m in
-      record {
-        agree = tt;
-        ok = tt;
-        untouched = tt;
-        err = closure_at (IsSettleRefused mode (is_touched D (inserted_in D L)) (held_map n))
-            (IsSettleRefused mode (is_touched D (inserted_in D L)) (with_first D L)) (FirstMismatch (finmap.get D) L)
-            (AllMatch (finmap.get D) L)
-            (λ t. subst (λ E. IsSettleRefused mode (is_touched D (inserted_in D L)) E t) (put_in m n D L refl put))
-            (subst (λ f. AllMatch f L) (stored m D refl) agree) e ends.err;
-        named = ends.named;
-      }
+      adds_ended mode D L N answer (subst (λ f. AllMatch f L) (stored m D refl) agree)
+      (subst (λ E. Ends (row_of mode) (is_touched D (inserted_in D L)) E N answer) (put_in m n D L refl put) ends)
 
 -- what is said of one list over one map is said of what these are
 pub adds_same : {A : Type 0} (mode : TCComputation) (D E : Held) (L M : List EntityView)

@@ -17,33 +17,29 @@ use Rattle.cedar_uid_sets.specs.laws.Sets.{contains_listed, one_equal}
 use Rattle.cedar_entity.specs.laws.UidSets.{kept_in}
 use Rattle.cedar_entity.specs.View.{EntityView}
 use Rattle.cedar_entity.specs.declared.node.SharedEntity.{SharedEntity}
-use Rattle.cedar_entities.specs.Edits.{goes_with, leaves, parted, put_over, taken_out, uids_of}
-use Rattle.cedar_entities.specs.laws.Edits.{edited_at, last_entity, remains, stripped, IsEdit}
-use Rattle.cedar_entities.specs.Modes.{ancestry, is_ancestor_in}
-use Rattle.cedar_entities.specs.Plain.{Held}
+use Rattle.cedar_entity_maps.specs.Edits.{goes_with, leaves, parted, put_over, taken_out, uids_of}
+use Rattle.cedar_entity_maps.specs.laws.Edits.{edited_at, last_entity, remains, stripped, IsEdit}
+use Rattle.cedar_entity_maps.specs.Modes.{ancestry, is_ancestor_in}
+use Rattle.cedar_entity_maps.specs.Plain.{Held}
 use Rattle.cedar_entities.specs.Present.{with_first}
-use Rattle.cedar_entities.specs.Touching.{inserted_in, is_touched, removed_from}
+use Rattle.cedar_entity_maps.specs.Touching.{inserted_in, is_touched, removed_from}
 use Rattle.cedar_entities.specs.declared.edits.Reading.{Reading}
-use Rattle.cedar_entities.specs.declared.touching.Loss.{Loss}
-use Rattle.cedar_entities.specs.laws.Held.{held, held_map}
-use Rattle.cedar_entities.specs.laws.Indexes.{is_parent_at}
-use Rattle.cedar_entities.specs.laws.Losses.{AreLossesOf, IsLossOf, IsReadingOf, is_stripped, loses, loses_uid}
-use Rattle.cedar_entities.proofs.Adding.{touched_alike}
-use Rattle.cedar_entities.proofs.Adds.{stored}
-use Rattle.cedar_entities.proofs.AnyOf.{any_alike, any_member, is_none}
-use Rattle.cedar_entities.proofs.Losses.{and_both, and_off, goes_by_loss, loses_below, within}
+use Rattle.cedar_entity_maps.specs.declared.touching.Loss.{Loss}
+use Rattle.cedar_entity_maps.specs.laws.Held.{held, held_map}
+use Rattle.cedar_entity_maps.specs.laws.Indexes.{is_parent_at}
+use Rattle.cedar_entity_maps.specs.laws.Losses.{left_by, AreLossesOf, IsLossOf, is_stripped, loses, loses_uid}
+use Rattle.cedar_entities.specs.laws.Readings.{IsReadingOf}
+use Rattle.cedar_entities.proofs.Adding.{added_same}
+use Rattle.cedar_entity_maps.specs.laws.Seen.{stored, get_seen}
+use Rattle.cedar_entity_maps.specs.laws.AnyOf.{any_alike, any_member, is_none}
+use Rattle.cedar_entity_maps.specs.laws.LossLaws.{and_both, and_off, goes_by_loss, loses_below, within}
 use Rattle.cedar_entities.proofs.Overwriting.{last_some, over_edit}
 use Rattle.cedar_entities.proofs.Removing.{out_edit, removed_members}
-use Rattle.cedar_entities.proofs.StoreMaps.{get_seen}
 
--- outside the uids of an edit entities remain
-pub made_outside : (D M : Held) (gone : EntityUID → Bool) (put : EntityUID → Option EntityView) (A : List EntityUID)
-    → IsEdit D M gone put A → (q : EntityUID) → is_member same_uid A q ≡ false
-    → finmap.get M q ≡ option_map (remains D gone A) (finmap.get D q)
-made_outside D M gone put A x q out =
-    let p = or_parts (is_some (put q)) (gone q) (sym (x.applied q) ∙ out) in
-    x.made q
-    ∙ (λ i. option_or (is_none (put q) p.0 i) (cond (p.1 i) None (option_map (remains D gone A) (finmap.get D q))))
+-- what they leave of what was held
+abbrev pub IsWritten : UidValues → List EntityView → List Loss → (was now : EntityUID → Option EntityView) → Type 0
+IsWritten gone L R was now = (q : EntityUID)
+    → now q ≡ option_or (last_entity L q) (cond (set.contains gone q) None (option_map (left_by gone R q) (was q)))
 
 covered : (o x y : Option EntityView) → is_some o ≡ true → option_or o x ≡ option_or o y
 covered None x y h = absurd (false≢true h)
@@ -103,11 +99,8 @@ module _ (D : Held) (gone : UidValues) (L : List EntityView) (K : List EntityUID
     (all : (q : EntityUID) → is_member same_uid K q ≡ (is_member same_uid (uids_of L) q || set.contains gone q))
     (who : (q : EntityUID) → loses R q ≡ is_stripped K q (ancestry D q))
     (lost : AllByRecursion (IsLossOf (finmap.get D) K) R) (q : EntityUID) where
-  abbrev left : EntityView → EntityView
-  left = stripped (λ p. loses R q && set.contains gone p) (loses_uid R q)
-
   left_at : is_member same_uid K q ≡ false → (o : Option EntityView) → finmap.get D q ≡ o
-      → option_map left o ≡ option_map (remains D (set.contains gone) K) o
+      → option_map (left_by gone R q) o ≡ option_map (remains D (set.contains gone) K) o
   left_at out None is = refl
   left_at out (Some e) is = λ i. Some (record e {
     parents = parents_gone D gone L K R all who q out e is i;
@@ -115,39 +108,35 @@ module _ (D : Held) (gone : UidValues) (L : List EntityView) (K : List EntityUID
   })
 
   written_at : (b : Bool) → is_member same_uid K q ≡ b
-      → option_or (last_entity L q) (cond (set.contains gone q) None (option_map left (finmap.get D q)))
+      → option_or (last_entity L q) (cond (set.contains gone q) None (option_map (left_by gone R q) (finmap.get D q)))
       ≡ edited_at D (set.contains gone) K (last_entity L) q
   written_at false out = ap (λ o. option_or (last_entity L q) (cond (set.contains gone q) None o))
       (left_at out (finmap.get D q) refl)
-  written_at true t = at_applied D gone L K R all who q t (option_map left (finmap.get D q))
+  written_at true t = at_applied D gone L K R all who q t (option_map (left_by gone R q) (finmap.get D q))
       (option_map (remains D (set.contains gone) K) (finmap.get D q))
 
 -- what the steps of an edit leave of the map, of what is held
 pub seen_written : {S : Type 0} (m n : HashMap EntityUID SharedEntity S) (gone : UidValues) (L : List EntityView)
     (R : List Loss)
-    → ((q : EntityUID) → held n q ≡ option_or (last_entity L q) (cond (set.contains gone q) None
-    (option_map (stripped (λ p. loses R q && set.contains gone p) (loses_uid R q)) (held m q)))) → (q : EntityUID)
-    → finmap.get (held_map n) q ≡ option_or (last_entity L q) (cond (set.contains gone q) None
-    (option_map (stripped (λ p. loses R q && set.contains gone p) (loses_uid R q)) (finmap.get (held_map m) q)))
+    → IsWritten gone L R (held m) (held n)
+    → IsWritten gone L R (finmap.get (held_map m)) (finmap.get (held_map n))
 seen_written m n gone L R is q =
     get_seen n q ∙ is q ∙ ap (λ f. option_or (last_entity L q) (cond (set.contains gone q) None
-    (option_map (stripped (λ p. loses R q && set.contains gone p) (loses_uid R q)) (f q))))
-    (stored m (held_map m) refl)
+    (option_map (left_by gone R q) (f q)))) (stored m (held_map m) refl)
 
 -- and of parents
 pub parents_written : {S : Type 0} (m n : HashMap EntityUID SharedEntity S) (gone : UidValues) (L : List EntityView)
     (K : List EntityUID) (R : List Loss)
     → ((q : EntityUID) → is_member same_uid K q ≡ (is_member same_uid (uids_of L) q || set.contains gone q))
     → ((q : EntityUID) → loses R q ≡ is_stripped K q (ancestry (held_map m) q))
-    → ((q : EntityUID) → held n q ≡ option_or (last_entity L q) (cond (set.contains gone q) None
-    (option_map (stripped (λ p. loses R q && set.contains gone p) (loses_uid R q)) (held m q)))) → (p q : EntityUID)
+    → IsWritten gone L R (held m) (held n) → (p q : EntityUID)
     → is_member same_uid K q ≡ false → is_parent_at (finmap.get (held_map n) q) p
     ≡ (not (set.contains gone p) && is_parent_at (finmap.get (held_map m) q) p)
 parents_written m n gone L K R all who is p q out =
     let D = held_map m in
     ap (λ o. is_parent_at o p) (seen_written m n gone L R is q
     ∙ at_others D gone L K R all who q out
-    (option_map (stripped (λ x. loses R q && set.contains gone x) (loses_uid R q)) (finmap.get D q)))
+    (option_map (left_by gone R q) (finmap.get D q)))
     ∙ parents_left D gone L K R all who q out (loses_uid R q) p (finmap.get D q) refl
 
 -- what the steps of an edit leave is what it leaves
@@ -156,8 +145,7 @@ pub written_edit : {S : Type 0} (m n : HashMap EntityUID SharedEntity S) (gone :
     → ((q : EntityUID) → is_member same_uid K q ≡ (is_member same_uid (uids_of L) q || set.contains gone q))
     → ((q : EntityUID) → loses R q ≡ is_stripped K q (ancestry (held_map m) q))
     → AllByRecursion (IsLossOf (finmap.get (held_map m)) K) R
-    → ((q : EntityUID) → held n q ≡ option_or (last_entity L q) (cond (set.contains gone q) None
-    (option_map (stripped (λ p. loses R q && set.contains gone p) (loses_uid R q)) (held m q))))
+    → IsWritten gone L R (held m) (held n)
     → IsEdit (held_map m) (held_map n) (set.contains gone) (last_entity L) K
 written_edit m n gone L K R all who lost is = record {
   applied = λ q. all q ∙ ap (λ b. b || set.contains gone q) (sym (last_some L q));
@@ -219,14 +207,13 @@ pub added_alike : {S : Type 0} (m : HashMap EntityUID SharedEntity S) (D : Held)
     (A : List EntityUID) → held_map m ≡ with_first D L
     → ((q : EntityUID) → is_member same_uid A q ≡ is_member same_uid (inserted_in D L) q) → (q : EntityUID)
     → is_touched (held_map m) A q ≡ is_touched D A q
-added_alike m D L A put same q =
-    ap (λ M. is_touched M A q) put
-    ∙ ap (λ b. b || list_any (ancestry (with_first D L) q) A) (same q)
-    ∙ ap (λ b. is_member same_uid (inserted_in D L) q || b)
-    (any_alike (ancestry (with_first D L) q) A (inserted_in D L) same)
-    ∙ touched_alike D L q
-    ∙ ap (λ b. b || list_any (ancestry D q) (inserted_in D L)) (sym (same q))
-    ∙ ap (λ b. is_member same_uid A q || b) (sym (any_alike (ancestry D q) A (inserted_in D L) same))
+added_alike m D L A put same q = at (is_member same_uid A q) refl
+  where
+    at : (b : Bool) → is_member same_uid A q ≡ b → is_touched (held_map m) A q ≡ is_touched D A q
+    at true t = or_left (is_member same_uid A q) (list_any (ancestry (held_map m) q) A) t
+        ∙ sym (or_left (is_member same_uid A q) (list_any (ancestry D q) A) t)
+    at false t = ap (λ o. is_member same_uid A q || list_any (is_ancestor_in o) A)
+        (ap (λ (M : Held). finmap.get M q) put ∙ added_same D L q (sym (same q) ∙ t))
 
 -- overwriting and removing are edits
 pub over_made : (D : Held) (L : List EntityView) (gone : UidValues) → gone ≡ set.empty

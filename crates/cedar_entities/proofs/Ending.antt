@@ -1,104 +1,29 @@
--- How an edit ends, by the row of its mode, and what follows of that.
-use Rattle.std.specs.Prelude.{◌≡◌, Bool, true, false, not, ◌&&◌, List, Result, Ok, Err, OnOk, IfErr}
-use Rattle.std.proofs.Common.{ap, refl, subst, sym, inl, inr, ◌∙◌}
-use Rattle.std.proofs.lemmas.Bool.{false≢true}
+-- What follows of how an edit ends, by the row of its mode.
+use Rattle.std.specs.Prelude.{◌≡◌, Bool, true, false, not, ◌&&◌, List, Result, Ok, Err}
+use Rattle.std.proofs.Common.{ap, subst, sym, ◌∙◌}
 use Rattle.std.specs.Bool.{OnFalse, OnTrue}
 use Rattle.std.specs.FinMap as finmap
-use Rattle.std.specs.HashMap.{HashMap}
 use Rattle.std.specs.Option.{option_map}
 use Rattle.std.specs.Result.{IsErrAnd}
-use Rattle.cedar_graph.specs.Faults.{NamesCycleAt}
-use Rattle.cedar_graph.specs.Graph.{graph_of}
 use Rattle.cedar_graph.specs.declared.err.TcError.{TcError}
-use Rattle.cedar_ids.specs.UidOf.{same_uid}
 use Rattle.cedar_ids.specs.declared.entity.EntityUID.{EntityUID}
-use Rattle.cedar_entity.specs.ClosureRefusals.{refusal_of, Tells}
 use Rattle.cedar_entity.specs.View.{kept}
 use Rattle.cedar_entity.specs.declared.err.EntitiesError.{EntitiesError}
 use Rattle.cedar_entity.specs.declared.err.EntitiesError.TheVariants.{Memory}
-use Rattle.cedar_entity.specs.declared.node.SharedEntity.{SharedEntity}
-use Rattle.cedar_entities.specs.Modes.{computes, mending, Also, IsSound, OneOf, TellsCycle, TellsUnsound}
-use Rattle.cedar_entities.specs.Plain.{Held}
-use Rattle.cedar_entities.specs.Refusals.{MatchRefusal, NamesOneOf}
-use Rattle.cedar_entities.specs.Touching.{is_touched, IsAcyclicAt, IsEnded, IsEndRefused, IsMadeOf, IsRepairOf}
-use Rattle.cedar_entities.specs.Touching.{SomeMade, StaysUntouched}
-use Rattle.cedar_entities.specs.declared.settling.Row.{Row}
-use Rattle.cedar_entities.specs.laws.Ends.{repairing, Ends}
-use Rattle.cedar_entities.specs.laws.Held.{held_map}
-use Rattle.cedar_entities.specs.laws.Rows.{also, also_first, one_cases, one_first, one_more, one_second, where_so}
-use Rattle.cedar_entities.specs.laws.Refusals.{refusal_cases}
-use Rattle.cedar_entities.proofs.Closures.{cycle_named, cycle_told, named_for, node_edges, none_named}
+use Rattle.cedar_entity_maps.specs.Modes.{computes, mending, Also, IsSound, OneOf, TellsCycle, TellsUnsound}
+use Rattle.cedar_entity_maps.specs.Plain.{Held}
+use Rattle.cedar_entity_maps.specs.Touching.{is_touched, IsAcyclicAt, IsEnded, IsEndRefused, IsMadeOf, IsRepairOf}
+use Rattle.cedar_entity_maps.specs.Touching.{SomeMade, StaysUntouched}
+use Rattle.cedar_entity_maps.specs.declared.modes.Row.{Row}
+use Rattle.cedar_entity_maps.specs.laws.Ends.{Ends}
+use Rattle.cedar_entity_maps.specs.laws.Rows.{also_first, one_cases, where_so}
 
--- a refusal of the closure for one reason is one for another that follows
-pub refused_for : (C F : TcError EntityUID → Type 0) → ((t : TcError EntityUID) → C t → F t) → (e : EntitiesError)
-    → MatchRefusal e (λ _. ⊥) C → MatchRefusal e (λ _. ⊥) F
-refused_for C F f e h = refusal_cases (λ _. ⊥) C (λ r. MatchRefusal r (λ _. ⊥) F) (λ u n. absurd n) f tt e h
-
-some_made : (repairs : Bool) (touched : EntityUID → Bool) (D N : Held) (P : Held → Type 0)
-    → IsMadeOf repairs touched D N → P N → SomeMade repairs touched D P
-some_made true touched D N P made p = (N, made, p)
-some_made false touched D N P made p = subst P made p
-
-module _ (row : Row) (touched : EntityUID → Bool) (D N : Held) where
-  -- what comes of D before anything is checked, where it is repaired or not
-  abbrev RepairedBy : Bool → Type 0
-  RepairedBy repairs = Also (repairs && row.refuses_cycles) (IsMadeOf repairs touched D N) (IsAcyclicAt touched D)
-
-  pub ended_made : IsEnded row touched D N → IsMadeOf row.repairs touched D N
-  ended_made h = also_first (row.repairs && row.refuses_cycles) (IsMadeOf row.repairs touched D N)
-      (IsAcyclicAt touched D) (also_first row.checks (RepairedBy row.repairs) (IsSound N) h)
-
-  named_so : (a c : Bool) (e : EntitiesError) → MatchRefusal e (λ _. ⊥) (λ t. (c ≡ true) × TellsUnsound N t)
-      → OnTrue (a && not c) (NamesOneOf touched e)
-  named_so true true e h = tt
-  named_so false c e h = tt
-  named_so true false e h = none_named (λ _. ⊥) touched e
-      (refused_for (λ t. (false ≡ true) × TellsUnsound N t) (λ _. ⊥) (λ t k. false≢true k.0) e h)
-
-  -- it ends as the check of what came says
-  ends_checked : {X : Type 0} (r : Result X EntitiesError) → RepairedBy row.repairs
-      → OnOk r (OnTrue row.checks (IsSound N))
-      → IfErr r (λ e. MatchRefusal e (λ _. ⊥) (λ t. (row.checks ≡ true) × TellsUnsound N t)) → Ends row touched D N r
-  ends_checked (Ok x) made ok err =
-      record { ok = also row.checks (RepairedBy row.repairs) (IsSound N) made ok; err = tt; named = tt }
-  ends_checked (Err e) made ok err = record {
-    ok = tt;
-    err = refused_for (λ t. (row.checks ≡ true) × TellsUnsound N t) (IsEndRefused row touched D)
-        (λ t k. one_second (row.repairs && row.refuses_cycles) row.checks (TellsCycle D t)
-        (SomeMade row.repairs touched D (λ M. TellsUnsound M t)) k.0
-        (some_made row.repairs touched D N (λ M. TellsUnsound M t)
-        (also_first (row.repairs && row.refuses_cycles) (IsMadeOf row.repairs touched D N) (IsAcyclicAt touched D) made)
-        k.1)) e err;
-    named = named_so (row.repairs && row.refuses_cycles) row.checks e err;
-  }
-
-  -- where a repair was made
-  pub ends_repaired : {X Y : Type 0} (r : Result X EntitiesError) (y : Y) → row.repairs ≡ true
-      → Ends {A = Y} (repairing row.refuses_cycles) touched D N (Ok y)
-      → OnOk r (OnTrue row.checks (IsSound N))
-      → IfErr r (λ e. MatchRefusal e (λ _. ⊥) (λ t. (row.checks ≡ true) × TellsUnsound N t)) → Ends row touched D N r
-  ends_repaired r y is ends = ends_checked r (subst RepairedBy (sym is) ends.ok)
-
-  -- or as its repair was refused
-  pub ends_refused : {X Y : Type 0} (M : Held) (r : Result X EntitiesError) (e : EntitiesError) → row.repairs ≡ true
-      → IsErrAnd r (λ x. x ≡ e) → Ends {A = Y} (repairing row.refuses_cycles) touched D M (Err e)
-      → Ends row touched D N r
-  ends_refused M (Ok x) e is h ends = absurd h
-  ends_refused {X} M (Err x) e is h ends = subst (λ f. Ends {A = X} row touched D N (Err f)) (sym h) (record {
-    ok = tt;
-    err = refused_for (IsEndRefused (repairing row.refuses_cycles) touched D) (IsEndRefused row touched D)
-        (λ t k. subst (λ b. OneOf (b && row.refuses_cycles) (TellsCycle D t) row.checks
-        (SomeMade b touched D (λ K. TellsUnsound K t))) (sym is)
-        (one_more row.refuses_cycles row.checks (TellsCycle D t) (SomeMade true touched D (λ K. TellsUnsound K t))
-        (SomeMade true touched D (λ K. TellsUnsound K t)) k)) e ends.err;
-    named = subst (λ b. OnTrue ((b && row.refuses_cycles) && not row.checks) (NamesOneOf touched e)) (sym is)
-        (on_more row.refuses_cycles (not row.checks) (NamesOneOf touched e) ends.named);
-  })
-    where
-      on_more : (a b : Bool) (P : Type 0) → OnTrue (a && true) P → OnTrue (a && b) P
-      on_more true true P h = h
-      on_more true false P h = tt
-      on_more false b P h = tt
+-- what it made of D
+pub ended_made : (row : Row) (touched : EntityUID → Bool) (D N : Held) → IsEnded row touched D N
+    → IsMadeOf row.repairs touched D N
+ended_made row touched D N h = also_first (row.repairs && row.refuses_cycles) (IsMadeOf row.repairs touched D N)
+    (IsAcyclicAt touched D) (also_first row.checks (Also (row.repairs && row.refuses_cycles)
+    (IsMadeOf row.repairs touched D N) (IsAcyclicAt touched D)) (IsSound N) h)
 
 -- or for want of memory
 pub ends_nothing : {X : Type 0} (row : Row) (touched : EntityUID → Bool) (D N : Held) (r : Result X EntitiesError)
@@ -106,34 +31,6 @@ pub ends_nothing : {X : Type 0} (row : Row) (touched : EntityUID → Bool) (D N 
 ends_nothing row touched D N (Ok x) e none h = absurd h
 ends_nothing {X} row touched D N (Err x) e none h = subst (λ f. Ends {A = X} row touched D N (Err f)) (sym (h ∙ none))
     (record { ok = tt; err = tt; named = where_so (computes row) _ tt })
-
--- where nothing is repaired
-pub ends_taken : {X : Type 0} (row : Row) (touched : EntityUID → Bool) (D : Held) (r : Result X EntitiesError)
-    → row.repairs ≡ false → OnOk r (OnTrue row.checks (IsSound D))
-    → IfErr r (λ e. MatchRefusal e (λ _. ⊥) (λ t. (row.checks ≡ true) × TellsUnsound D t)) → Ends row touched D D r
-ends_taken row touched D r is =
-    ends_checked row touched D D r (subst (RepairedBy row touched D D) (sym is) refl)
-
--- a repair that is refused for a cycle
-pub repair_told : {S X : Type 0} (m : HashMap EntityUID SharedEntity S) (asked : Bool) (touched : EntityUID → Bool)
-    (N : Held) (r : Result X EntitiesError) (t : TcError EntityUID) → IsErrAnd r (Tells t)
-    → NamesCycleAt asked touched (graph_of same_uid node_edges m) t
-    → Ends (repairing asked) touched (held_map m) N r
-repair_told m asked touched N (Ok x) t h k = absurd h
-repair_told {S} {X} m asked touched N (Err e) t (inl h) k =
-    subst (λ f. Ends {A = X} (repairing asked) touched (held_map m) N (Err f)) (sym h) (record {
-      ok = tt;
-      err = refused_for (λ u. (asked ≡ true) × TellsCycle (held_map m) u)
-          (IsEndRefused (repairing asked) touched (held_map m))
-          (λ u p. one_first asked false (TellsCycle (held_map m) u)
-          (SomeMade true touched (held_map m) (λ K. TellsUnsound K u)) p.0 p.1) (refusal_of t)
-          (cycle_told m asked touched t k);
-      named = where_so (asked && true) (NamesOneOf touched (refusal_of t))
-          (named_for touched (refusal_of t) (cycle_named m asked touched t k));
-    })
-repair_told {S} {X} m asked touched N (Err e) t (inr h) k =
-    subst (λ f. Ends {A = X} (repairing asked) touched (held_map m) N (Err f)) (sym h)
-    (record { ok = tt; err = tt; named = where_so (asked && true) _ tt })
 
 -- what is not touched stays as it was
 pub ended_untouched : (row : Row) (A : List EntityUID) (D M N : Held) → StaysUntouched A D M

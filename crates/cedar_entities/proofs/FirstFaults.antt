@@ -1,14 +1,14 @@
 -- The first entity of a store that is not valid.
-use Rattle.std.specs.Prelude.{◌≡◌, Bool, true, false, List, [], ◌∷◌, ◌++◌, cond, Option, Some, None, MatchOption, map}
+use Rattle.std.specs.Prelude.{◌≡◌, Bool, true, false, List, [], ◌∷◌, ◌++◌, Option, Some, None, MatchOption, map}
 use Rattle.std.specs.Prelude.{if◌then◌else◌}
 use Rattle.std.proofs.Common.{ap, sym, refl, subst, inl, inr, ◌∙◌}
 use Rattle.std.proofs.lemmas.Bool.{false≢true}
-use Rattle.std.proofs.lemmas.List.Elements.{All-push, All-weaker, All-map, All-same, recursion_from_All}
-use Rattle.std.specs.List.{All, AllByRecursion}
+use Rattle.std.proofs.lemmas.List.Elements.{All-push, All-weaker, All-map, All-same}
+use Rattle.std.proofs.lemmas.Map.Entries.{All-lookup}
+use Rattle.std.specs.List.{All}
 use Rattle.std.specs.Option.{IfSome, option_map}
 use Rattle.std.specs.Ordering.{is_lt}
 use Rattle.std.specs.HashMap.{HashMap, get}
-use Rattle.std.specs.Map.{lookup}
 use Rattle.std.specs.Map.Iter.{deref_pair}
 use Rattle.std.specs.Borrow.{Bor}
 use Rattle.std.specs.FinMap as finmap
@@ -17,16 +17,17 @@ use Rattle.cedar_ids.specs.UidOf.{same_uid, uid_order}
 use Rattle.cedar_ids.specs.laws.UidOfLaws.{uid_order_total}
 use Rattle.cedar_ids.specs.declared.entity.EntityUID.{EntityUID}
 use Rattle.cedar_entity.specs.declared.node.SharedEntity.{SharedEntity}
-use Rattle.cedar_entities.specs.laws.Held.{held, held_map, shared, UidsMatch}
+use Rattle.cedar_entity_maps.specs.laws.Held.{held, held_map, shared, UidsMatch}
 use Rattle.cedar_entities.specs.StoreFaults.{AreAllValid, IsFirstFaulty, IsFirstFault, IsStoreFault}
 use Rattle.cedar_entities.specs.laws.StoreFaults.{TakesFaulty, lesser_of, other_fault}
-use Rattle.cedar_entities.specs.Modes.{IsSound, TellsUnsound}
-use Rattle.cedar_entities.specs.Plain.{Held}
+use Rattle.cedar_entity_maps.specs.Modes.{IsSound, TellsUnsound}
+use Rattle.cedar_entity_maps.specs.Plain.{Held}
 use Rattle.cedar_entity.specs.Validity.{IsValid}
 use Rattle.cedar_entity.specs.declared.err.EntitiesError.{EntitiesError}
 use Rattle.cedar_entity.specs.View.{EntityView}
 use Rattle.cedar_entity.specs.laws.UidOrder.{irreflexive, less}
-use Rattle.cedar_entities.proofs.StoreMaps.{get_seen, seen_keyed}
+use Rattle.cedar_entities.proofs.StoreMaps.{seen_keyed}
+use Rattle.cedar_entity_maps.specs.laws.Seen.{get_seen}
 
 -- what may hold of each uid that stands before u
 abbrev ValidBefore : EntityUID → EntityView → Type 0
@@ -76,17 +77,10 @@ module _ {Y : Type 0} (o : EntityUID → Option EntityView) (entity : Y → Enti
   first_step r s at (inl t) h = subst (IsFirstOf o entity (ys ++ y ∷ [])) (sym t.1) (kept r t.0 h)
   first_step r s at (inr t) h = subst (IsFirstOf o entity (ys ++ y ∷ [])) (sym t.1) (lesser_faulty r at t.0 h)
 
-module _ (P : EntityView → Type 0) (q : EntityUID) where
-  found_in : (b : Bool) (e : SharedEntity) (rest : Option SharedEntity) → P (shared e)
-      → IfSome (option_map shared rest) P → IfSome (option_map shared (cond b (Some e) rest)) P
-  found_in true e rest h k = h
-  found_in false e rest h k = k
-
-  -- what is found in a list is as each of the list is
-  found_so : (es : List (EntityUID × SharedEntity)) → AllByRecursion (λ e. P (shared e.1)) es
-      → IfSome (option_map shared (lookup (same_uid q) es)) P
-  found_so [] h = tt
-  found_so (e ∷ es) h = found_in (same_uid q e.0) e.1 (lookup (same_uid q) es) h.0 (found_so es h.1)
+if_shared : (P : EntityView → Type 0) (o : Option SharedEntity) → IfSome o (λ n. P (shared n))
+    → IfSome (option_map shared o) P
+if_shared P None h = tt
+if_shared P (Some n) h = h
 
 before_at : (u q : EntityUID) (o : Option EntityView) → uid_order q u ≡ Less → IfSome o (λ e. e.uid ≡ q)
     → IfSome o (ValidBefore u) → IfSome o IsValid
@@ -107,7 +101,7 @@ module _ {S : Type 0} (m : HashMap EntityUID SharedEntity S) where
       → All (λ p. P (shared p.1.now)) ys → (q : EntityUID) → IfSome (held m q) P
   held_so P ys whole h q =
       let Q : EntityUID × SharedEntity → Type 0 = λ e. P (shared e.1) in
-      found_so P q m.entries (recursion_from_All Q m.entries
+      if_shared P (get same_uid m q) (All-lookup (λ n. P (shared n)) (same_uid q) m.entries
       (All-same Q m.entries (map deref_pair ys) (sym whole) (All-map Q deref_pair ys h)))
 
   seen_so : (P : EntityView → Type 0) → ((q : EntityUID) → IfSome (held m q) P) → (q : EntityUID)

@@ -1,6 +1,7 @@
 -- The entities of a store as a list.
-use Rattle.std.specs.Prelude.{◌≡◌, suc, true, List, [], ◌∷◌, Some, map, length}
+use Rattle.std.specs.Prelude.{◌≡◌, true, List, [], ◌∷◌, Some, map}
 use Rattle.std.proofs.Common.{ap, sym, refl, subst, ◌∙◌}
+use Rattle.std.proofs.lemmas.List.{length-map}
 use Rattle.std.specs.Option.{IfSome}
 use Rattle.std.specs.HashMap.{HashMap, get, keys}
 use Rattle.std.specs.List.{AllByRecursion, All, IsDistinct}
@@ -11,8 +12,8 @@ use Rattle.cedar_ids.specs.laws.UidOfLaws.{same_uid_decides}
 use Rattle.cedar_ids.specs.declared.entity.EntityUID.{EntityUID}
 use Rattle.cedar_entity.specs.declared.node.SharedEntity.{SharedEntity}
 use Rattle.cedar_entities.specs.Answers.{ListsHeld}
-use Rattle.cedar_entities.specs.laws.Held.{held_map, shared, UidsMatch}
-use Rattle.cedar_entities.specs.Present.{keyed}
+use Rattle.cedar_entity_maps.specs.laws.Held.{held_map, shared, UidsMatch}
+use Rattle.cedar_entity_maps.specs.Plain.{keyed}
 use Rattle.cedar_entity.specs.View.{EntityView}
 use Rattle.cedar_entities.proofs.StoreMaps.{len_seen}
 
@@ -25,10 +26,6 @@ listed_keyed m match (e ∷ es) h =
     subst (λ o. IfSome o (λ v. same_uid e.0 (shared v).uid ≡ true)) h.0 (match e.0) in
     λ i. (sym ((same_uid_decides e.0 (shared e.1).uid).0 same) i, shared e.1) ∷ listed_keyed m match es h.1 i
 
-length_listed : (es : List (EntityUID × SharedEntity)) → length {A = EntityView} (map (λ e. shared e.1) es) ≡ length es
-length_listed [] = refl
-length_listed (e ∷ es) = ap suc (length_listed es)
-
 -- the entities of the entries, each once
 pub lists_held : {S : Type 0} (m : HashMap EntityUID SharedEntity S) → UidsMatch m
     → All (λ e. get same_uid m e.0 ≡ Some e.1) m.entries → IsDistinct same_uid (keys m)
@@ -37,5 +34,5 @@ lists_held m match found distinct = record {
   held =
       ap (λ es. finmap.from_entries es)
       (listed_keyed m match m.entries (recursion_from_All (λ e. get same_uid m e.0 ≡ Some e.1) m.entries found));
-  once = length_listed m.entries ∙ len_seen m distinct;
+  once = length-map {B = EntityView} m.entries (λ e. shared e.1) ∙ len_seen m distinct;
 }

@@ -1,6 +1,8 @@
 -- How many entities the plain store of a world has.
 use Rattle.std.specs.Prelude.{◌≡◌, Option, Some, None, map}
 use Rattle.std.proofs.Common.{ap, sym, refl, subst, ◌∙◌}
+use Rattle.std.proofs.lemmas.List.{length-map}
+use Rattle.std.proofs.lemmas.Map.Made.{keys_of-map_values}
 use Rattle.std.specs.Option.{option_map}
 use Rattle.std.specs.HashMap.{HashMap, keys, hash_map_len}
 use Rattle.std.specs.List.{IsDistinct}
@@ -9,12 +11,12 @@ use Rattle.cedar_ids.specs.UidOf.{same_uid, uid_order}
 use Rattle.cedar_ids.specs.laws.UidOfLaws.{uid_order_total}
 use Rattle.cedar_ids.specs.declared.entity.EntityUID.{EntityUID}
 use Rattle.cedar_entity.specs.declared.node.SharedEntity.{SharedEntity}
-use Rattle.cedar_entities.specs.laws.Held.{held_map, shared}
-use Rattle.cedar_entities.specs.Plain.{StoreView, Held, IsPlainStore, parts_of}
+use Rattle.cedar_entity_maps.specs.laws.Held.{held_map, shared}
+use Rattle.cedar_entity_maps.specs.Plain.{StoreView, Held, IsPlainStore, parts_of}
 use Rattle.cedar_uid_sets.specs.laws.Sets.{one_equal}
-use Rattle.cedar_entities.specs.World.{World, Parts}
-use Rattle.cedar_entities.proofs.StoreMaps.{len_listed, keys_mapped, length_mapped}
-use Rattle.cedar_entities.specs.laws.Worlds.{find-mapped}
+use Rattle.cedar_entity_maps.specs.World.{World, Parts}
+use Rattle.cedar_entities.proofs.StoreMaps.{len_listed}
+use Rattle.cedar_entity_maps.specs.laws.Worlds.{find-mapped}
 
 node_parts : SharedEntity → Parts
 node_parts n = parts_of (shared n)
@@ -36,6 +38,6 @@ plain_len m W T is distinct plain =
     ∙ parts_at (finmap.find uid_order q m.entries)
     ∙ sym (find-mapped node_parts m.entries q)
     ∙ sym (finmap.get-from_entries uid_order_total (map (λ e. (e.0, node_parts e.1)) m.entries) q)) in
-    sym (length_mapped node_parts m.entries)
+    sym (length-map {B = EntityUID × Parts} m.entries (λ e. (e.0, node_parts e.1)))
     ∙ sym (len_listed (map (λ e. (e.0, node_parts e.1)) m.entries)
-    (subst (IsDistinct same_uid) (sym (keys_mapped node_parts m.entries)) distinct)) ∙ ap finmap.len (sym same)
+    (subst (IsDistinct same_uid) (sym (keys_of-map_values node_parts m.entries)) distinct)) ∙ ap finmap.len (sym same)

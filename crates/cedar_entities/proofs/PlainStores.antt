@@ -1,14 +1,16 @@
 -- When a store is the plain store of a world.
 use Rattle.std.specs.Prelude.{◌≡◌, ◌↔◌, Bool, true, false, cond, List, [], ◌∷◌, Option, Some, None, map, ⊤, ◌||◌, ◌&&◌}
 use Rattle.std.proofs.Common.{ap, sym, refl, subst, ◌∙◌}
+use Rattle.std.proofs.Math.Bool.{or-false}
+use Rattle.std.proofs.lemmas.Simd.{map-map}
 use Rattle.std.proofs.lemmas.Bool.{false≢true}
-use Rattle.std.specs.Option.{option_or, option_map, IfSome, MatchOption, unwrap_or}
+use Rattle.std.specs.Option.{option_or, option_map, is_some, IfSome, MatchOption, unwrap_or}
 use Rattle.std.specs.List.{AllByRecursion}
 use Rattle.std.specs.FinSet as set
 use Rattle.std.specs.FinMap as finmap
 use Rattle.std.specs.Ordering.{eq_by_cmp}
 use Rattle.cedar_graph.specs.Graph.{Reach, Path, KeepsEdges, AddsOnlyReached}
-use Rattle.cedar_graph.specs.laws.Reaches.{reach_between, reach_edge}
+use Rattle.cedar_graph.specs.laws.Reaches.{reach_between}
 use Rattle.cedar_graph.specs.declared.err.TcError.{TcError}
 use Rattle.cedar_graph.specs.declared.err.TcError.TheVariants as tc
 use Rattle.cedar_ids.specs.UidOf.{uid_order}
@@ -16,12 +18,15 @@ use Rattle.cedar_ids.specs.laws.UidOfLaws.{uid_order_total, same_uid_decides}
 use Rattle.cedar_ids.specs.declared.entity.EntityUID.{EntityUID}
 use Rattle.cedar_uid_sets.specs.laws.Sets.{same_tests}
 use Rattle.cedar_entity.specs.View.{EntityView, has_ancestor, Kept, kept, overlap}
-use Rattle.cedar_entities.specs.ClosureFaults.{IsClosureFault}
-use Rattle.cedar_entities.specs.Plain.{StoreView, Held, IsPlainStore, IsKeyed, IsBare, IsApart, parts_of, given_of}
-use Rattle.cedar_entities.specs.Modes.{ancestry, is_ancestor_in}
+use Rattle.cedar_entity_maps.specs.ClosureFaults.{IsClosureFault}
+use Rattle.cedar_entity_maps.specs.Plain.{StoreView, Held, IsPlainStore, IsKeyed, IsBare, IsApart, parts_of, given_of}
+use Rattle.cedar_entity_maps.specs.Plain.{keyed}
+use Rattle.cedar_entity_maps.specs.Modes.{ancestry, is_ancestor_in}
 use Rattle.cedar_entities.specs.laws.Closures.{IsClosureOf}
 use Rattle.cedar_entities.specs.Present.{first_entity}
-use Rattle.cedar_entities.specs.World.{World, Parts, graph, is_parent_in, empty_world, first}
+use Rattle.cedar_entity_maps.specs.World.{World, Parts, graph, is_parent_in, empty_world, entry_of, first}
+use Rattle.cedar_entity_maps.specs.laws.PlainAncestors.{first_key}
+use Rattle.cedar_entity_maps.specs.laws.Worlds.{find-mapped}
 
 parts_of_kept : Kept → Parts
 parts_of_kept k = record { attrs = k.1.0.0.0; tags = k.1.0.0.1; parents = k.1.0.1 }
@@ -30,6 +35,10 @@ kept_parts : (o : Option EntityView) → option_map parts_of o ≡ option_map pa
 unfolding parts_of_kept
 kept_parts None = refl
 kept_parts (Some e) = refl
+
+pub parts_alike : (o p : Option EntityView) → option_map kept o ≡ option_map kept p
+    → option_map parts_of o ≡ option_map parts_of p
+parts_alike o p e = kept_parts o ∙ ap (option_map parts_of_kept) e ∙ sym (kept_parts p)
 
 keyed_at : (q : EntityUID) (o p : Option EntityView) → option_map kept o ≡ option_map kept p → IfSome p (λ e. e.uid ≡ q)
     → IfSome o (λ e. e.uid ≡ q)
@@ -42,9 +51,9 @@ reached_at : (R : EntityUID → Type 0) (o : Option EntityView) → ((x : Entity
 reached_at R None h = tt
 reached_at R (Some e) h = h
 
-and_from : (p i : Bool) → (p ≡ true → i ≡ false) → (p && i) ≡ false
-and_from true i h = h refl
-and_from false i h = refl
+pub none_both : (p i : Bool) → (p ≡ true → i ≡ false) → (p && i) ≡ false
+none_both true i h = h refl
+none_both false i h = refl
 
 and_to : (p i : Bool) → (p && i) ≡ false → p ≡ true → i ≡ false
 and_to p i h k = ap (λ b. b && i) (sym k) ∙ h
@@ -57,9 +66,9 @@ apart_at (Some n) (Some v) e h = λ x t.
     and_to (set.contains n.parents x) (set.contains n.indirect x)
     (sym (set.contains-intersection uid_order_total n.parents n.indirect x) ∙ ap (λ s. set.contains s x) same
     ∙ set.contains-intersection uid_order_total v.parents v.indirect x
-    ∙ and_from (set.contains v.parents x) (set.contains v.indirect x) (h x)) t
+    ∙ none_both (set.contains v.parents x) (set.contains v.indirect x) (h x)) t
 
-parent_leads : (o : Option EntityView) (b : EntityUID) → is_parent_in (option_map parts_of o) b ≡ true
+pub parent_leads : (o : Option EntityView) (b : EntityUID) → is_parent_in (option_map parts_of o) b ≡ true
     → is_ancestor_in o b ≡ true
 parent_leads None b h = h
 parent_leads (Some e) b h = ap (λ p. p || set.contains e.indirect b) h
@@ -81,8 +90,7 @@ plain_from W D S partial holds keys apart only closed =
     let G = reach_between (graph W) (ancestry D) (parents_lead W D holds) only in
     record {
       partial = partial;
-      holds = λ q. kept_parts (finmap.get S.held q) ∙ ap (option_map parts_of_kept) (closed.parts q)
-          ∙ sym (kept_parts (finmap.get D q)) ∙ holds q;
+      holds = λ q. parts_alike (finmap.get S.held q) (finmap.get D q) (closed.parts q) ∙ holds q;
       keyed = λ q. keyed_at q (finmap.get S.held q) (finmap.get D q) (closed.parts q) (keys q);
       reached =
           λ q. reached_at (Reach (graph W) q) (finmap.get S.held q)
@@ -102,12 +110,9 @@ cycle_in W D holds only (tc.HasCycle x) h =
 cycle_in W D holds only tc.Memory h = h
 
 -- the store without entities
-no_edge : (a b : EntityUID) → graph empty_world a b ≡ true → ⊥
-no_edge a b e = false≢true (sym (ap (λ o. is_parent_in o b) (finmap.get-empty uid_order a)) ∙ e)
-
 no_path : (xs : List EntityUID) (a b : EntityUID) → Path (graph empty_world) a xs b → ⊥
-no_path [] a b p = no_edge a b p
-no_path (x ∷ xs) a b p = no_edge a x p.0
+no_path xs a b p =
+    false≢true (sym (ap is_some (finmap.get-empty {X = Parts} uid_order a)) ∙ first_key empty_world a b xs p)
 
 pub plain_empty : IsPlainStore empty_world (record { held = finmap.empty; partial = false })
 plain_empty =
@@ -126,14 +131,9 @@ plain_empty =
 -- adding
 pub found_parts : (L : List EntityView) (q : EntityUID)
     → first (map given_of L) q ≡ option_map parts_of (first_entity L q)
-found_parts [] q = refl
-found_parts (e ∷ L) q = ap (cond (eq_by_cmp uid_order q e.uid) (Some (parts_of e))) (found_parts L q)
-    ∙ push (eq_by_cmp uid_order q e.uid) (first_entity L q)
-  where
-    push : (b : Bool) (o : Option EntityView)
-        → cond b (Some (parts_of e)) (option_map parts_of o) ≡ option_map parts_of (cond b (Some e) o)
-    push true o = refl
-    push false o = refl
+found_parts L q =
+    ap (finmap.find uid_order q) (map-map entry_of given_of L ∙ sym (map-map (λ e. (e.0, parts_of e.1)) keyed L))
+    ∙ find-mapped parts_of (map keyed L) q
 
 pub map_or : (o p : Option EntityView) → option_map parts_of (option_or o p)
     ≡ option_or (option_map parts_of o) (option_map parts_of p)
@@ -166,36 +166,12 @@ pub bare_apart : (o : Option EntityView) → IfSome o IsBare → IfSome o IsApar
 bare_apart None h = tt
 bare_apart (Some e) h = λ x _. h x
 
-or_false : (x : Bool) → (x || false) ≡ x
-or_false true = refl
-or_false false = refl
-
 pub parents_alone : (e : EntityView) (b : EntityUID) → set.contains e.indirect b ≡ false
     → has_ancestor e b ≡ set.contains e.parents b
-parents_alone e b h = ap (λ x. set.contains e.parents b || x) h ∙ or_false (set.contains e.parents b)
-
-pub if_map : (P Q : EntityView → Type 0) (o : Option EntityView) → ((e : EntityView) → P e → Q e) → IfSome o P
-    → IfSome o Q
-if_map P Q None f h = tt
-if_map P Q (Some e) f h = f e h
+parents_alone e b h = ap (λ x. set.contains e.parents b || x) h ∙ or-false (set.contains e.parents b)
 
 -- the ancestors of an entity without indirect ones are its parents
 pub bare_leads : (o : Option EntityView) (b : EntityUID) → IfSome o IsBare
     → is_ancestor_in o b ≡ is_parent_in (option_map parts_of o) b
 bare_leads None b h = refl
 bare_leads (Some e) b h = parents_alone e b (h b)
-
--- each ancestor of an entity that was held, or else of one without indirect ancestors
-pub leads_or : (R : EntityUID → Type 0) (o p : Option EntityView) (b : EntityUID)
-    → IfSome o (λ e. (x : EntityUID) → has_ancestor e x ≡ true → R x)
-    → (o ≡ None → is_ancestor_in p b ≡ true → R b) → is_ancestor_in (option_or o p) b ≡ true → R b
-leads_or R None p b h k e = k refl e
-leads_or R (Some x) p b h k e = h b e
-
--- an entity without indirect ancestors leads to its parents alone
-pub bare_only : (W : World) (D : Held)
-    → ((q : EntityUID) → option_map parts_of (finmap.get D q) ≡ finmap.get W.entities q)
-    → ((q : EntityUID) → IfSome (finmap.get D q) IsBare) → AddsOnlyReached (graph W) (ancestry D)
-bare_only W D holds bares a b h =
-    reach_edge (graph W) a b (ap (λ o. is_parent_in o b) (sym (holds a)) ∙ sym (bare_leads (finmap.get D a) b (bares a))
-    ∙ h)

@@ -1,17 +1,8 @@
 -- What is reached after some rows of a graph have changed.
 use Rattle.std.specs.Prelude.{◌≡◌, Bool, true, false, List, [], ◌∷◌}
-use Rattle.std.proofs.Common.{refl}
 use Rattle.cedar_graph.specs.Graph.{Reach, Path}
 
 module _ {K : Type 0} where
-  -- what reaches anything has an edge
-  pub first_edge : (G : K → K → Bool) (a b : K) → Reach G a b → (c : K) × (G a c ≡ true)
-  first_edge G a b r = at r.0 r.1
-    where
-      at : (xs : List K) → Path G a xs b → (c : K) × (G a c ≡ true)
-      at [] p = (b, p)
-      at (x ∷ xs) p = (x, p.0)
-
   untouched_path : (G H : K → K → Bool) (A : K → Bool) → ((a b : K) → A a ≡ false → H a b ≡ true → G a b ≡ true)
       → (a b : K) → A a ≡ false → ((u : K) → Reach G a u → A u ≡ false) → (xs : List K) → Path H a xs b → Path G a xs b
   untouched_path G H A same a b out none [] p = same a b out p
@@ -42,15 +33,3 @@ module _ {K : Type 0} where
       → ((a : K) → A a ≡ false → B a ≡ false) → (a b : K) → A a ≡ false → B b ≡ false
       → ((u : K) → Reach G a u → Reach G u b → A u ≡ false) → Reach G a b → Reach H a b
   kept_past G H A B same off a b out end none r = (r.0, past_path G H A B same off a b out end none r.0 r.1)
-
-  -- where H keeps the edges but at keys of A, what is reached over none of A is reached over H
-  pub kept_over : (G H : K → K → Bool) (A : K → Bool) → ((a b : K) → A a ≡ false → G a b ≡ true → H a b ≡ true)
-      → (a b : K) → A a ≡ false → ((u : K) → Reach G a u → Reach G u b → A u ≡ false) → Reach G a b → Reach H a b
-  kept_over G H A same a b out none r =
-      kept_past G H A (λ _. false) (λ x y o _ h. same x y o h) (λ _ _. refl) a b out refl none r
-
-  -- the same where edges that lead to keys of A may go too
-  pub kept_between : (G H : K → K → Bool) (A : K → Bool)
-      → ((a b : K) → A a ≡ false → A b ≡ false → G a b ≡ true → H a b ≡ true) → (a b : K) → A a ≡ false → A b ≡ false
-      → ((u : K) → Reach G a u → Reach G u b → A u ≡ false) → Reach G a b → Reach H a b
-  kept_between G H A same a b out end none r = kept_past G H A A same (λ _ o. o) a b out end none r

@@ -1,13 +1,12 @@
 -- When two stores have the same uids and mode.
-use Rattle.std.specs.Prelude.{◌≡◌, ◌↔◌, Bool, true, false, ◌&&◌, Option, Some, None, is_some}
+use Rattle.std.specs.Prelude.{◌≡◌, ◌↔◌, Bool, true, is_some}
 use Rattle.std.proofs.Common.{ap, sym, refl, ◌∙◌}
-use Rattle.std.proofs.lemmas.Bool.{false≢true}
+use Rattle.std.proofs.lemmas.Bool.{and_from, and_parts}
 use Rattle.std.proofs.lemmas.Slice.Eq.{slice_eq-Decides}
 use Rattle.std.proofs.Math.Bool.{beq}
 use Rattle.std.specs.Bool.{Decides}
 use Rattle.std.specs.Cmp.{booleans_Decides}
 use Rattle.std.specs.Cmp.Lexicographic.{pointwise}
-use Rattle.std.specs.Option.{option_map}
 use Rattle.std.specs.HashMap.{HashMap, get}
 use Rattle.std.specs.List.{list_any}
 use Rattle.std.specs.Ordering.{eq_by_cmp}
@@ -17,26 +16,15 @@ use Rattle.cedar_ids.specs.UidOf.{same_uid, uid_order}
 use Rattle.cedar_ids.specs.laws.UidOfLaws.{same_uid_decides, uid_order_total}
 use Rattle.cedar_ids.specs.declared.entity.EntityUID.{EntityUID}
 use Rattle.cedar_entity.specs.declared.node.SharedEntity.{SharedEntity}
-use Rattle.cedar_entities.specs.laws.Held.{held_map, shared}
-use Rattle.cedar_entities.specs.Plain.{StoreView, Held}
+use Rattle.cedar_entity_maps.specs.laws.Held.{held_map}
+use Rattle.cedar_entity_maps.specs.Plain.{StoreView, Held}
 use Rattle.cedar_entities.specs.SameUids.{uids_held, uids_in, same_uids_and_mode, HaveSameUids}
 use Rattle.cedar_uid_sets.specs.laws.Sets.{one_equal}
 use Rattle.cedar_entities.proofs.Adding.{same_bool}
-use Rattle.cedar_entities.proofs.Adds.{stored}
+use Rattle.cedar_entity_maps.specs.laws.Seen.{stored, some_shared}
 
 contains_uid : (D : Held) (q : EntityUID) → set.contains (uids_held D) q ≡ finmap.contains_key D q
 contains_uid D q = set.contains-from_list uid_order_total (finmap.keys D) q ∙ sym (finmap.contains_key-keys D q)
-
-and_left : (x y : Bool) → (x && y) ≡ true → x ≡ true
-and_left true y h = refl
-and_left false y h = h
-
-and_right : (x y : Bool) → (x && y) ≡ true → y ≡ true
-and_right true y h = h
-and_right false y h = absurd (false≢true h)
-
-and_both : (x y : Bool) → x ≡ true → y ≡ true → (x && y) ≡ true
-and_both x y h k = ap (λ b. b && y) h ∙ k
 
 listed : (S T : StoreView) → Decides (pointwise same_uid (uids_in S) (uids_in T)) (uids_in S ≡ uids_in T)
 listed S T = slice_eq-Decides same_uid_decides (uids_in S) (uids_in T) (pointwise same_uid (uids_in S) (uids_in T)) refl
@@ -46,15 +34,15 @@ same_uids_told S T = (
   λ h. record {
     mode =
         (booleans_Decides S.partial T.partial).0
-        (and_left (beq S.partial T.partial) (pointwise same_uid (uids_in S) (uids_in T)) h);
+        (and_parts (beq S.partial T.partial) (pointwise same_uid (uids_in S) (uids_in T)) h).0;
     uids = λ q.
         let same : uids_in S ≡ uids_in T = (listed S T).0
-        (and_right (beq S.partial T.partial) (pointwise same_uid (uids_in S) (uids_in T)) h) in
+        (and_parts (beq S.partial T.partial) (pointwise same_uid (uids_in S) (uids_in T)) h).1 in
         sym (contains_uid S.held q) ∙ set.contains-items (uids_held S.held) q
         ∙ ap (list_any (eq_by_cmp uid_order q)) same
         ∙ sym (set.contains-items (uids_held T.held) q) ∙ contains_uid T.held q;
   },
-  λ k. and_both (beq S.partial T.partial) (pointwise same_uid (uids_in S) (uids_in T))
+  λ k. and_from (beq S.partial T.partial) (pointwise same_uid (uids_in S) (uids_in T))
       ((booleans_Decides S.partial T.partial).1 k.mode)
       ((listed S T).1
       (ap set.items (set.same_set uid_order_total one_equal (uids_held S.held) (uids_held T.held)
@@ -65,13 +53,9 @@ same_uids_told S T = (
 pub answers_same : (r : Bool) (S T : StoreView) → (r ≡ true) ↔ HaveSameUids S T → r ≡ same_uids_and_mode S T
 answers_same r S T h = same_bool r (same_uids_and_mode S T) h (same_uids_told S T)
 
-some_shared : (o : Option SharedEntity) → is_some (option_map shared o) ≡ is_some o
-some_shared None = refl
-some_shared (Some n) = refl
-
 key_held : {S : Type 0} (m : HashMap EntityUID SharedEntity S) (D : Held) → held_map m ≡ D → (q : EntityUID)
     → finmap.contains_key D q ≡ is_some (get same_uid m q)
-key_held m D is q = ap (λ f. is_some (f q)) (sym (stored m D is)) ∙ some_shared (get same_uid m q)
+key_held m D is q = ap (λ f. is_some (f q)) (sym (stored m D is)) ∙ sym (some_shared (get same_uid m q))
 
 module _ {S : Type 0} (m n : HashMap EntityUID SharedEntity S) (A B : StoreView) (is_m : held_map m ≡ A.held)
     (is_n : held_map n ≡ B.held) where

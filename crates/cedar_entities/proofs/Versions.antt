@@ -1,7 +1,7 @@
 -- What is held after one more entity.
 use Rattle.std.specs.Prelude.{◌≡◌, Bool, true, false, cond, List, [], ◌∷◌, ◌++◌, Option, Some, None, map}
 use Rattle.std.proofs.Common.{ap, sym, refl, subst, ◌∙◌}
-use Rattle.std.specs.Option.{option_or, option_map, unwrap_or, IfSome, is_some}
+use Rattle.std.specs.Option.{option_or, option_map, unwrap_or, IfSome}
 use Rattle.std.specs.FinMap as finmap
 use Rattle.std.specs.List.{AllByRecursion}
 use Rattle.std.specs.Ordering.{eq_by_cmp}
@@ -13,13 +13,16 @@ use Rattle.cedar_entity.specs.View.{EntityView, IsDeepEqual}
 use Rattle.cedar_entity.specs.laws.Views.{deep_equality}
 use Rattle.std.specs.HashMap.{HashMap, get}
 use Rattle.cedar_entity.specs.declared.node.SharedEntity.{SharedEntity}
-use Rattle.cedar_entities.specs.laws.Held.{held, shared, UidsMatch}
-use Rattle.cedar_entities.specs.Present.{first_entity, keyed, MatchesPresent, FirstMismatch, present}
-use Rattle.cedar_entities.specs.laws.Edits.{last_entity}
-use Rattle.cedar_entities.specs.Refusals.{MatchRefusal}
-use Rattle.cedar_entities.specs.laws.Refusals.{refusal_cases}
+use Rattle.cedar_entity_maps.specs.laws.Held.{held, shared, UidsMatch}
+use Rattle.cedar_entities.specs.Present.{first_entity, MatchesPresent, FirstMismatch, present}
+use Rattle.cedar_entity_maps.specs.Plain.{keyed}
+use Rattle.cedar_entity_maps.specs.laws.Edits.{last_entity}
+use Rattle.cedar_entity_maps.specs.Refusals.{MatchRefusal}
+use Rattle.cedar_entity_maps.specs.laws.Refusals.{refusal_cases}
+use Rattle.cedar_entity_maps.specs.laws.Worlds.{found_or}
 use Rattle.cedar_entity.specs.declared.err.EntitiesError.{EntitiesError}
-use Rattle.cedar_entities.specs.World.{reversed}
+use Rattle.cedar_entity_maps.specs.World.{reversed}
+use Rattle.cedar_entity_maps.specs.laws.Lists.{map_append_one}
 
 abbrev pub Fn : Type 0
 Fn = EntityUID → Option EntityView
@@ -31,21 +34,8 @@ pub or_none : {X : Type 0} (o : Option X) → o ≡ option_or o None
 or_none None = refl
 or_none (Some x) = refl
 
-or_some : {X : Type 0} (o p : Option X) (h : X) → o ≡ Some h → o ≡ option_or o p
-or_some None p h e = e ∙ sym e ∙ absurd (subst (λ (r : Option _). cond (is_some r) (Unit {0}) ⊥) (sym e) tt)
-or_some (Some x) p h e = refl
-
 or_from_none : {X : Type 0} (o p : Option X) → o ≡ None → p ≡ option_or o p
 or_from_none o p e = ap (λ r. option_or r p) (sym e)
-
-stays : (f : Fn) (x : EntityView) (h : EntityView) → f x.uid ≡ Some h → (q : EntityUID) (b : Bool)
-    → same_uid x.uid q ≡ b → f q ≡ option_or (f q) (cond b (Some x) None)
-stays f x h e q true s = or_some (f q) (Some x) h (ap f (sym ((same_uid_decides x.uid q).0 s)) ∙ e)
-stays f x h e q false s = or_none (f q)
-
-pub stays_held : (f : Fn) (x : EntityView) (h : EntityView) → f x.uid ≡ Some h → (q : EntityUID)
-    → f q ≡ option_or (f q) (just x q)
-stays_held f x h e q = stays f x h e q (same_uid x.uid q) refl
 
 grows : (f : Fn) (x : EntityView) → f x.uid ≡ None → (q : EntityUID) (b : Bool) → same_uid x.uid q ≡ b
     → cond b (Some x) (f q) ≡ option_or (f q) (cond b (Some x) None)
@@ -90,11 +80,6 @@ put_keys m n k v key step h q =
 or_assoc : {X : Type 0} (a b c : Option X) → option_or (option_or a b) c ≡ option_or a (option_or b c)
 or_assoc None b c = refl
 or_assoc (Some x) b c = refl
-
-found_or : (b : Bool) (x : EntityView) (o p : Option EntityView)
-    → cond b (Some x) (option_or o p) ≡ option_or (cond b (Some x) o) p
-found_or true x o p = refl
-found_or false x o p = refl
 
 pub first_entity-append : (xs ys : List EntityView) (q : EntityUID)
     → first_entity (xs ++ ys) q ≡ option_or (first_entity xs q) (first_entity ys q)
@@ -151,14 +136,6 @@ held_push f now new done e so step q =
     ∙ ap (λ o. option_or (f q) (option_or (first_entity done q) o)) (sym (first_one e q))
     ∙ ap (option_or (f q)) (sym (first_entity-append done (e ∷ []) q))
 
-pub append_one : {X : Type 0} (xs : List X) (x : X) (ys : List X) → xs ++ x ∷ ys ≡ (xs ++ x ∷ []) ++ ys
-append_one [] x ys = refl
-append_one (z ∷ xs) x ys = ap (λ l. z ∷ l) (append_one xs x ys)
-
-pub map_same : {X : Type 0} (xs : List X) → map (λ y. y) xs ≡ xs
-map_same [] = refl
-map_same (x ∷ xs) = ap (λ l. x ∷ l) (map_same xs)
-
 pub weaker_refusal : (f now : Fn) (done : List EntityView) (e : EntityView) (rest items : List EntityView)
     → items ≡ done ++ e ∷ rest → ((q : EntityUID) → now q ≡ option_or (f q) (first_entity done q))
     → AllByRecursion (MatchesPresent f items) done
@@ -178,39 +155,27 @@ weaker_refusal f now done e rest items is so agree r h =
       uid = sym k.0;
     }) (λ t n. absurd n) tt r h
 
-pushed : (b : Bool) (v : SharedEntity) (x : EntityView) (o : Option SharedEntity) → shared v ≡ x
-    → option_map shared (cond b (Some v) o) ≡ option_or (cond b (Some x) None) (option_map shared o)
-pushed true v x o h = ap Some h
-pushed false v x o h = refl
-
 -- overwrite
 pub put_over : {S : Type 0} (m n : HashMap EntityUID SharedEntity S) (k : EntityUID) (v : SharedEntity) (x : EntityView)
     → k ≡ x.uid → shared v ≡ x
     → ((q : EntityUID) → get same_uid n q ≡ cond (same_uid k q) (Some v) (get same_uid m q)) → (q : EntityUID)
     → held n q ≡ option_or (just x q) (held m q)
 put_over m n k v x key value step q =
-    ap (option_map shared) (step q) ∙ pushed (same_uid k q) v x (get same_uid m q) value
-    ∙ ap (λ u. option_or (cond (same_uid u q) (Some x) None) (held m q)) key
+    ap (option_map shared) (step q) ∙ map_cond shared (same_uid k q) v (get same_uid m q)
+    ∙ found_or (same_uid k q) (shared v) None (held m q)
+    ∙ (λ i. option_or (cond (same_uid (key i) q) (Some (value i)) None) (held m q))
 
 reversed_push : {X : Type 0} (xs : List X) (x : X) → reversed (xs ++ x ∷ []) ≡ x ∷ reversed xs
 reversed_push [] x = refl
 reversed_push (y ∷ xs) x = ap (λ l. l ++ y ∷ []) (reversed_push xs x)
 
-map_push : (xs : List EntityView) (x : EntityView) → map keyed (xs ++ x ∷ []) ≡ map keyed xs ++ keyed x ∷ []
-map_push [] x = refl
-map_push (y ∷ xs) x = ap (λ l. keyed y ∷ l) (map_push xs x)
-
-over_cond : (b : Bool) (x : EntityView) (o : Option EntityView) → cond b (Some x) o ≡ option_or (cond b (Some x) None) o
-over_cond true x o = refl
-over_cond false x o = refl
-
 last_push : (done : List EntityView) (e : EntityView) (q : EntityUID)
     → last_entity (done ++ e ∷ []) q ≡ option_or (just e q) (last_entity done q)
 last_push done e q =
-    ap (finmap.find uid_order q) (ap reversed (map_push done e) ∙ reversed_push (map keyed done) (keyed e))
+    ap (finmap.find uid_order q) (ap reversed (map_append_one keyed done e) ∙ reversed_push (map keyed done) (keyed e))
     ∙ ap (λ f. cond (f q e.uid) (Some e) (last_entity done q)) same_tests
     ∙ ap (λ b. cond b (Some e) (last_entity done q)) (sym (same_uid_equiv.symm e.uid q))
-    ∙ over_cond (same_uid e.uid q) e (last_entity done q)
+    ∙ found_or (same_uid e.uid q) e None (last_entity done q)
 
 pub over_push : (f now new : Fn) (done : List EntityView) (e : EntityView)
     → ((q : EntityUID) → now q ≡ option_or (last_entity done q) (f q))
@@ -219,12 +184,3 @@ pub over_push : (f now new : Fn) (done : List EntityView) (e : EntityView)
 over_push f now new done e so step q =
     step q ∙ ap (option_or (just e q)) (so q) ∙ sym (or_assoc (just e q) (last_entity done q) (f q))
     ∙ ap (λ o. option_or o (f q)) (sym (last_push done e q))
-
-pub map_append_one : {X Y : Type 0} (f : X → Y) (xs : List X) (x : X) → map f (xs ++ x ∷ []) ≡ map f xs ++ f x ∷ []
-map_append_one f [] x = refl
-map_append_one f (y ∷ xs) x = ap (λ l. f y ∷ l) (map_append_one f xs x)
-
-pub map_at : {X Y : Type 0} (f : X → Y) (xs : List X) (x : X) (ys : List X)
-    → map f (xs ++ x ∷ ys) ≡ map f xs ++ f x ∷ map f ys
-map_at f [] x ys = refl
-map_at f (y ∷ xs) x ys = ap (λ l. f y ∷ l) (map_at f xs x ys)

@@ -6,8 +6,7 @@ use Rattle.cedar_ids.specs.Printed.{uid_output}
 use Rattle.cedar_ids.specs.UidOf.{uid_parts}
 use Rattle.cedar_ids.specs.declared.entity.EntityUID.{EntityUID}
 use Rattle.cedar_terms.specs.ExprTree.{ExprTree, unknown_node}
-use Rattle.cedar_entities.specs.Plain.{StoreView, Held}
-use Rattle.cedar_entities.specs.Present.{keyed}
+use Rattle.cedar_entity_maps.specs.Plain.{StoreView, Held, keyed}
 use Rattle.cedar_entity.specs.View.{EntityView, IsDeepEqual}
 use Rattle.cedar_entities.specs.declared.dereference.Dereference.{Dereference}
 use Rattle.cedar_entities.specs.declared.dereference.Dereference.TheVariants as answers

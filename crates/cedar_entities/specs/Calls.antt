@@ -1,8 +1,8 @@
 -- A list of calls on a store, as steps from world to world.
 use Rattle.std.specs.Prelude.{◌≡◌, ℕ, List, [], ◌∷◌, ◌++◌, length, true}
 use Rattle.cedar_ids.specs.declared.entity.EntityUID.{EntityUID}
-use Rattle.cedar_entities.specs.Refusals.{IsAddingRefused, IsOverwritingRefused}
-use Rattle.cedar_entities.specs.World.{World, Given, empty_world, added, overwritten, deleted, AllAgree, IsCyclic}
+use Rattle.cedar_entity_maps.specs.Refusals.{IsAddingRefused, IsOverwritingRefused}
+use Rattle.cedar_entity_maps.specs.World.{World, Given, empty_world, added, overwritten, deleted, AllAgree, IsCyclic}
 use Rattle.cedar_entity.specs.declared.err.EntitiesError.{EntitiesError}
 use Rattle.cedar_entity.specs.declared.err.EntitiesError.TheVariants.{Memory}
 

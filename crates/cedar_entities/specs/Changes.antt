@@ -6,16 +6,16 @@ use Rattle.cedar_ids.specs.declared.entity.EntityUID.{EntityUID}
 use Rattle.cedar_entity.specs.View.{EntityView}
 use Rattle.cedar_entity.specs.declared.err.EntitiesError.{EntitiesError}
 use Rattle.cedar_entity.specs.declared.err.EntitiesError.TheVariants.{Memory}
-use Rattle.cedar_entities.specs.Edits.{put_over, taken_out, uids_of}
-use Rattle.cedar_entities.specs.Modes.{computes, mending, row_of, WhereComputed}
-use Rattle.cedar_entities.specs.Plain.{StoreView, Held, IsPlainStore}
+use Rattle.cedar_entity_maps.specs.Edits.{put_over, taken_out, uids_of}
+use Rattle.cedar_entity_maps.specs.Modes.{computes, mending, row_of, WhereComputed}
+use Rattle.cedar_entity_maps.specs.Plain.{StoreView, Held, IsPlainStore}
 use Rattle.cedar_entities.specs.Present.{with_first, AllMatch, FirstMismatch}
-use Rattle.cedar_entities.specs.Refusals.{MatchRefusal, NamesOneOf, IsAddingRefused, IsOverwritingRefused}
-use Rattle.cedar_entities.specs.Touching.{inserted_in, is_touched, removed_from, IsEnded, IsEndRefused, IsSettled}
-use Rattle.cedar_entities.specs.Touching.{IsSettleRefused, LosesBetween, StaysUntouched, StripsBetween, WhereTaken}
-use Rattle.cedar_entities.specs.World.{World, Given, added, overwritten, deleted, AllAgree}
-use Rattle.cedar_entities.specs.declared.entities.TCComputation.{TCComputation}
-use Rattle.cedar_entities.specs.declared.settling.Row.{Row}
+use Rattle.cedar_entity_maps.specs.Refusals.{MatchRefusal, NamesOneOf, IsAddingRefused, IsOverwritingRefused}
+use Rattle.cedar_entity_maps.specs.Touching.{inserted_in, is_touched, removed_from, IsEnded, IsEndRefused, IsSettled}
+use Rattle.cedar_entity_maps.specs.Touching.{IsSettleRefused, LosesBetween, StaysUntouched, StripsBetween, WhereTaken}
+use Rattle.cedar_entity_maps.specs.World.{World, Given, added, overwritten, deleted, AllAgree}
+use Rattle.cedar_entity_maps.specs.declared.modes.TCComputation.{TCComputation}
+use Rattle.cedar_entity_maps.specs.declared.modes.Row.{Row}
 
 -- the list is added to what D holds: each of it matches, and what is then held is D and the first of the list with
 -- each uid that D lacks. Refused for the first that does not match, else for the closure; where that is computed, for a

@@ -5,7 +5,7 @@ use Rattle.std.specs.Coded.{Coded, code_by, coded×, coded_bool}
 use Rattle.std.specs.FinMap as finmap
 use Rattle.cedar_ids.specs.Codes.{uid_code}
 use Rattle.cedar_entity.specs.Codes.{view_code}
-use Rattle.cedar_entities.specs.Plain.{StoreView, Held}
+use Rattle.cedar_entity_maps.specs.Plain.{StoreView, Held}
 
 -- a store: what it holds, and whether it is partial
 abbrev pub store_code : Coded StoreView

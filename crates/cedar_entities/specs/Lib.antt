@@ -1,15 +1,8 @@
 pub mod Answers
 pub mod Calls
 pub mod Changes
-pub mod ClosureFaults
 pub mod Codes
-pub mod Edits
-pub mod Modes
-pub mod Plain
 pub mod Present
-pub mod Refusals
 pub mod SameUids
 pub mod StoreFaults
-pub mod Touching
-pub mod World
 pub mod laws

@@ -6,11 +6,7 @@ use Rattle.std.specs.FinMap as finmap
 use Rattle.cedar_ids.specs.UidOf.{uid_order}
 use Rattle.cedar_ids.specs.declared.entity.EntityUID.{EntityUID}
 use Rattle.cedar_entity.specs.View.{EntityView, IsDeepEqual}
-use Rattle.cedar_entities.specs.Plain.{Held}
-
--- an entity as an entry of a map
-abbrev pub keyed : EntityView → EntityUID × EntityView
-keyed e = (e.uid, e)
+use Rattle.cedar_entity_maps.specs.Plain.{Held, keyed}
 
 -- the first of a list with the uid
 abbrev pub first_entity : List EntityView → EntityUID → Option EntityView

@@ -7,7 +7,7 @@ use Rattle.std.specs.FinSet as set
 use Rattle.std.specs.FinMap as finmap
 use Rattle.cedar_ids.specs.UidOf.{same_uid}
 use Rattle.cedar_ids.specs.declared.entity.EntityUID.{EntityUID}
-use Rattle.cedar_entities.specs.Plain.{StoreView, Held}
+use Rattle.cedar_entity_maps.specs.Plain.{StoreView, Held}
 use Rattle.cedar_uid_sets.specs.UidSets.{UidValues}
 
 -- the uids under which there are entities

@@ -6,8 +6,8 @@ use Rattle.std.specs.declared.cmp.Ordering.TheVariants.{Less}
 use Rattle.cedar_graph.specs.declared.err.TcError.{TcError}
 use Rattle.cedar_ids.specs.UidOf.{uid_order}
 use Rattle.cedar_ids.specs.declared.entity.EntityUID.{EntityUID}
-use Rattle.cedar_entities.specs.Modes.{IsSound, TellsUnsound}
-use Rattle.cedar_entities.specs.Plain.{Held}
+use Rattle.cedar_entity_maps.specs.Modes.{IsSound, TellsUnsound}
+use Rattle.cedar_entity_maps.specs.Plain.{Held}
 use Rattle.cedar_entity.specs.Validity.{IsValid, IsFault}
 use Rattle.cedar_entity.specs.View.{EntityView}
 use Rattle.cedar_entity.specs.declared.err.EntitiesError.{EntitiesError}

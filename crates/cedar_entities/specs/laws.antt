@@ -1,14 +1,5 @@
 pub mod Closures
-pub mod Edits
-pub mod Ends
-pub mod Held
-pub mod Indexes
-pub mod Lists
-pub mod Losses
-pub mod PlainAncestors
-pub mod Refusals
-pub mod Rows
+pub mod Readings
 pub mod SameUids
 pub mod Settled
 pub mod StoreFaults
-pub mod Worlds

@@ -2,12 +2,13 @@
 ghost use Rattle.std.specs.Prelude.{◌≡◌, false, map, IfOk};
 ghost use Rattle.std.specs.FinMap as finmap;
 ghost use Rattle.cedar_entities.specs.Changes.{AddsEntities, AddsPlain};
-ghost use Rattle.cedar_entities.specs.Plain.{IsPlainStore, AreBare, given_of, no_entities};
-ghost use Rattle.cedar_entities.specs.World.{empty_world};
+ghost use Rattle.cedar_entity_maps.specs.Plain.{IsPlainStore, AreBare, given_of, no_entities};
+ghost use Rattle.cedar_entity_maps.specs.World.{empty_world};
 
-use crate::entities::{Entities, TCComputation};
+use crate::entities::Entities;
 use cedar_entity::entity::Entity;
 use cedar_entity::err::EntitiesError;
+use cedar_entity_maps::TCComputation;
 use std::alloc::Global;
 use std::hash::BuildHasherDefault;
 

@@ -8,31 +8,33 @@ ghost use Rattle.cedar_entity.specs.View.{EntityView, IsDeepEqual, IsEquivalence
 ghost use Rattle.cedar_entities.specs.Answers.{AreDeepEqual, Finds, ListsHeld};
 ghost use Rattle.cedar_entities.specs.Changes.{AddsEntities, AddsPlain, RemovesEntities, RemovesPlain};
 ghost use Rattle.cedar_entities.specs.Changes.{StripsPlain, UpsertsEntities, UpsertsPlain};
-ghost use Rattle.cedar_entities.specs.Edits.{put_over, uids_of};
-ghost use Rattle.cedar_entities.specs.laws.Indexes.{HasChildren, IsIndexOf, parentage};
-ghost use Rattle.cedar_entities.specs.laws.Held.{held, held_map, shared, UidsMatch};
-ghost use Rattle.cedar_entities.specs.Plain.{StoreView, entities_in, IsPlainStore, IsKeyed, AreBare, given_of};
-ghost use Rattle.cedar_entities.specs.Plain.{no_entities};
+ghost use Rattle.cedar_entity_maps.specs.Edits.{put_over, uids_of};
+ghost use Rattle.cedar_entity_maps.specs.laws.Indexes.{HasChildren, IsIndexOf, parentage};
+ghost use Rattle.cedar_entity_maps.specs.laws.Held.{held, held_map, shared, UidsMatch};
+ghost use Rattle.cedar_entity_maps.specs.Plain.{StoreView, entities_in, IsPlainStore, IsKeyed, AreBare, given_of};
+ghost use Rattle.cedar_entity_maps.specs.Plain.{no_entities};
 ghost use Rattle.cedar_entities.specs.Present.{first_entity, AllMatch, FirstMismatch};
-ghost use Rattle.cedar_entities.specs.Refusals.{MatchRefusal};
+ghost use Rattle.cedar_entity_maps.specs.Refusals.{MatchRefusal};
 ghost use Rattle.cedar_entity.specs.declared.err.EntitiesError.TheVariants.{Memory};
 ghost use Rattle.cedar_entities.specs.SameUids.{HaveSameUids, same_uids_and_mode};
 ghost use Rattle.cedar_entities.specs.StoreFaults.{IsStoreFault, IsValidStore};
-ghost use Rattle.cedar_entities.specs.World.{World, empty_world, graph};
+ghost use Rattle.cedar_entity_maps.specs.World.{World, empty_world, graph};
 
 use crate::dereference::{Dereference, unknown_of};
 use crate::edits::{put_all_over, renews_adding, take_all_out};
 use crate::incoming::{Incoming, shared_all, stays_plain, uids_in, with_uids};
-use crate::index::{Index, join, list_if_it_pays, touched_by};
-use crate::settling::{check, row_of, settle_touched, settle_whole};
-use crate::sought::listed;
 use crate::store_iters::{IntoIter, Iter};
 use crate::store_same::{have_deep_equals, have_keys_of};
 use crate::store_valid::check_each;
-use crate::touching::{absent_uids, forget_each, note_all};
 use cedar_entity::entity::Entity;
 use cedar_entity::err::EntitiesError;
 use cedar_entity::node::SharedEntity;
+pub use cedar_entity_maps::TCComputation;
+use cedar_entity_maps::index::{Index, join, list_if_it_pays, touched_by};
+use cedar_entity_maps::modes::row_of;
+use cedar_entity_maps::settling::{check, settle_touched, settle_whole};
+use cedar_entity_maps::sought::listed;
+use cedar_entity_maps::touching::{absent_uids, forget_each, note_all};
 use cedar_ids::entity::EntityUID;
 use cedar_uid_sets::SharedUid;
 use std::alloc::{AllocError, Global};
@@ -41,23 +43,6 @@ use std::collections::{HashMap, HashSet};
 use std::hash::{BuildHasher, BuildHasherDefault, FoldHasher};
 use std::marker::Model;
 use std::rc::Rc;
-
-/// How a call sees to it that ancestors are closed.
-///
-/// What a call touches is what it puts in or takes out, and what has that among its ancestors. A removal repairs what
-/// it touched in each mode: that is given what it still reaches.
-#[derive(Clone, Copy, Debug, Drop, PartialEq, Eq, Hash)]
-pub enum TCComputation {
-    /// Entities that are put in are taken to have all their ancestors: nothing is computed for them or for what is
-    /// above or below. A removal repairs. Nothing is checked, and no cycle is refused.
-    AssumeAlreadyComputed,
-    /// Entities that are put in are taken as they are, and a removal repairs, as under `AssumeAlreadyComputed`. Then
-    /// the whole store is checked, and refused where an ancestor of an ancestor is missing or an entity is its own.
-    EnforceAlreadyComputed,
-    /// What is touched is given all that it reaches, in a removal too, and the store is refused where one of it reaches
-    /// itself. Nothing else is checked.
-    ComputeNow,
-}
 
 /// A store of entities under their uids, in one of two modes: in a partial store an absent entity is not
 /// known, in any other there is none.
@@ -82,9 +67,9 @@ pub struct Entities<S: BuildHasher = BuildHasherDefault<FoldHasher>> {
 }
 
 impl<S: BuildHasher> Model for Entities<S> {
-    ghost use Rattle.cedar_entities.specs.laws.Held.{held_map, UidsMatch};
-    ghost use Rattle.cedar_entities.specs.laws.Indexes.{IsIndexOf};
-    ghost use Rattle.cedar_entities.specs.Plain.{StoreView, entities_in};
+    ghost use Rattle.cedar_entity_maps.specs.laws.Held.{held_map, UidsMatch};
+    ghost use Rattle.cedar_entity_maps.specs.laws.Indexes.{IsIndexOf};
+    ghost use Rattle.cedar_entity_maps.specs.Plain.{StoreView, entities_in};
     ghost use Rattle.cedar_entities.specs.Codes.{store_code};
 
     ghost Value = { StoreView };

@@ -1,12 +1,12 @@
 //! Entities that a call puts in, each with its uid to be shared: one copy of the uid serves the map and all notes.
 ghost use Rattle.std.specs.Prelude.{◌≡◌, IfOk, IsTrue};
-ghost use Rattle.cedar_entities.specs.Edits.{uids_of};
-ghost use Rattle.cedar_entities.specs.Modes.{computes, row_of};
-ghost use Rattle.cedar_entities.specs.Plain.{AreBare, IsBare, entities_in};
+ghost use Rattle.cedar_entity_maps.specs.Edits.{uids_of};
+ghost use Rattle.cedar_entity_maps.specs.Modes.{computes, row_of};
+ghost use Rattle.cedar_entity_maps.specs.Plain.{AreBare, IsBare, entities_in};
 
-use crate::entities::TCComputation;
-use crate::settling::computes;
 use cedar_entity::entity::Entity;
+use cedar_entity_maps::TCComputation;
+use cedar_entity_maps::modes::computes;
 use cedar_uid_sets::SharedUid;
 use std::alloc::{AllocError, Global};
 use std::marker::Model;

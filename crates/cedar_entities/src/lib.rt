@@ -10,14 +10,10 @@ pub mod dereference;
 mod edits;
 pub mod entities;
 mod incoming;
-mod index;
-mod settling;
-mod sought;
 pub mod store_iters;
 mod store_same;
 mod store_text;
 mod store_valid;
-mod touching;
 
 pub use cedar_entity::{
     Ancestors, EntitiesError, Entity, Keys, Pairs, SharedEntity, SharedUid, SharedUids, UidSet,

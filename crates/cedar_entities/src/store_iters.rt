@@ -5,7 +5,7 @@ ghost use Rattle.std.specs.List.{IsDistinct};
 ghost use Rattle.std.specs.HashMap.{keys};
 ghost use Rattle.cedar_ids.specs.UidOf.{same_uid};
 ghost use Rattle.cedar_entities.specs.Answers.{ListsHeld};
-ghost use Rattle.cedar_entities.specs.laws.Held.{held_map, shared, UidsMatch};
+ghost use Rattle.cedar_entity_maps.specs.laws.Held.{held_map, shared, UidsMatch};
 
 use cedar_entity::entity::Entity;
 use cedar_entity::node::SharedEntity;
@@ -26,7 +26,7 @@ pub struct Iter<'a> {
 impl<'a> Model for Iter<'a> {
     ghost use Rattle.std.specs.Prelude.{List, map};
     ghost use Rattle.std.specs.Coded.{coded_list};
-    ghost use Rattle.cedar_entities.specs.laws.Held.{shared};
+    ghost use Rattle.cedar_entity_maps.specs.laws.Held.{shared};
     ghost use Rattle.cedar_entity.specs.View.{EntityView};
     ghost use Rattle.cedar_entity.specs.Codes.{view_code};
 
@@ -72,7 +72,7 @@ pub struct IntoIter {
 impl Model for IntoIter {
     ghost use Rattle.std.specs.Prelude.{List, map};
     ghost use Rattle.std.specs.Coded.{coded_list};
-    ghost use Rattle.cedar_entities.specs.laws.Held.{shared};
+    ghost use Rattle.cedar_entity_maps.specs.laws.Held.{shared};
     ghost use Rattle.cedar_entity.specs.View.{EntityView};
     ghost use Rattle.cedar_entity.specs.Codes.{view_code};
 

@@ -5,7 +5,7 @@ ghost use Rattle.std.specs.Option.{IfSome};
 ghost use Rattle.cedar_ids.specs.UidOf.{same_uid};
 ghost use Rattle.cedar_ids.specs.declared.entity.EntityUID.{EntityUID};
 ghost use Rattle.cedar_entities.specs.Answers.{HasDeepEqual};
-ghost use Rattle.cedar_entities.specs.laws.Held.{held};
+ghost use Rattle.cedar_entity_maps.specs.laws.Held.{held};
 
 use cedar_entity::entity::Entity;
 use cedar_entity::node::SharedEntity;

@@ -1,7 +1,7 @@
 //! Which entity of a store is not valid.
 ghost use Rattle.std.specs.Prelude.{MatchOption, OnOk, IfErr};
 ghost use Rattle.std.specs.Option.{option_copied};
-ghost use Rattle.cedar_entities.specs.laws.Held.{held_map, UidsMatch};
+ghost use Rattle.cedar_entity_maps.specs.laws.Held.{held_map, UidsMatch};
 ghost use Rattle.cedar_entities.specs.StoreFaults.{AreAllValid, IsFirstFaulty, IsFirstFault};
 ghost use Rattle.cedar_entities.specs.laws.StoreFaults.{TakesFaulty};
 

@@ -22,15 +22,15 @@ use Rattle.cedar_ids.specs.declared.entity.EntityUID.{EntityUID}
 use Rattle.cedar_entity.specs.Fields.{Fields, AreFieldsOf, field_at}
 use Rattle.cedar_uid_sets.specs.laws.Sets.{contains_listed}
 use Rattle.cedar_entities.specs.Changes.{AddsPlain, RemovesPlain, UpsertsPlain}
-use Rattle.cedar_entities.specs.Plain.{StoreView, IsPlainStore, parts_of, given_of, IsBare, AreBare}
+use Rattle.cedar_entity_maps.specs.Plain.{StoreView, IsPlainStore, parts_of, given_of, IsBare, AreBare}
 use Rattle.cedar_entity.specs.View.{EntityView, has_ancestor}
-use Rattle.cedar_entities.specs.Refusals.{IsAddingRefused, IsOverwritingRefused}
-use Rattle.cedar_entities.specs.World.{World, Parts, Given, given, graph, is_parent_in, entry_of, reversed, goes}
-use Rattle.cedar_entities.specs.World.{without, added, overwritten, deleted, empty_world}
+use Rattle.cedar_entity_maps.specs.Refusals.{IsAddingRefused, IsOverwritingRefused}
+use Rattle.cedar_entity_maps.specs.World.{World, Parts, Given, given, graph, is_parent_in, entry_of, reversed, goes}
+use Rattle.cedar_entity_maps.specs.World.{without, added, overwritten, deleted, empty_world}
 use Rattle.cedar_entity.specs.declared.err.EntitiesError.{EntitiesError}
 use Rattle.cedar_entity.specs.declared.err.EntitiesError.TheVariants as errors
-use Rattle.cedar_entities.specs.declared.entities.TCComputation.TheVariants.{ComputeNow}
-use Rattle.cedar_entities.specs.laws.Worlds.{get_added, get_overwritten, get_deleted}
+use Rattle.cedar_entity_maps.specs.declared.modes.TCComputation.TheVariants.{ComputeNow}
+use Rattle.cedar_entity_maps.specs.laws.Worlds.{get_added, get_overwritten, get_deleted}
 use Rattle.cedar_lines.specs.Lines.{written_line}
 use Rattle.cedar_slice.specs.Slices.{IsPlainSlice}
 use Rattle.cedar_slice.specs.laws.OneSlice.{slice_edges}
@@ -45,7 +45,7 @@ use mathlib.Core.List.{append-nil}
 use Rattle.std.proofs.lemmas.List.{map-append}
 use Rattle.std.proofs.Common.{append_assoc}
 use Rattle.cedar_entity.specs.laws.UidSets.{kept_in}
-use Rattle.cedar_entities.specs.laws.Lists.{all_push}
+use Rattle.cedar_entity_maps.specs.laws.Lists.{all_push}
 
 -- why adding was refused, as it is written
 pub refused_adds : (base : World) (L : List Given) (e : EntitiesError) (old new : List ℕ)

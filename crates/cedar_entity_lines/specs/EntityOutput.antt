@@ -11,7 +11,7 @@ use Rattle.cedar_ids.specs.Printed.{printed_uid}
 use Rattle.cedar_ids.specs.UidOf.{uid_parts, uid_order, same_uid}
 use Rattle.cedar_ids.specs.declared.entity.EntityUID.{EntityUID}
 use Rattle.cedar_lines.specs.Lines.{written_line}
-use Rattle.cedar_entities.specs.World.{World, Given, given, graph, empty_world, AllAgree, FirstDiffers, IsCyclic}
+use Rattle.cedar_entity_maps.specs.World.{World, Given, given, graph, empty_world, AllAgree, FirstDiffers, IsCyclic}
 use Rattle.cedar_entities.specs.Calls.{made, Passes}
 use Rattle.cedar_entities.specs.Calls as calls
 use Rattle.cedar_slice.specs.Slices.{IsSliceOf}

@@ -6,8 +6,8 @@ use Rattle.cedar_ids.specs.Escape.{is_ascii}
 use Rattle.cedar_ids.specs.UidOf.{uid_parts}
 use Rattle.cedar_ids.specs.declared.entity.EntityUID.{EntityUID}
 use Rattle.cedar_entity.specs.View.{EntityView}
-use Rattle.cedar_entities.specs.Plain.{StoreView, IsPlainStore, AreBare, given_of}
-use Rattle.cedar_entities.specs.World.{Given, World, graph}
+use Rattle.cedar_entity_maps.specs.Plain.{StoreView, IsPlainStore, AreBare, given_of}
+use Rattle.cedar_entity_maps.specs.World.{Given, World, graph}
 use Rattle.cedar_entity_lines.specs.EntityCommand.{EntityCommand, Ent, Build, Add, Upsert, Remove, Slice, Anc}
 use Rattle.cedar_entity_lines.specs.EntityCommand.{IsEntityCommand}
 use Rattle.cedar_entity_lines.specs.EntityOutput.{EntityState, EntityGives}

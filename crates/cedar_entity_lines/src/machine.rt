@@ -34,7 +34,7 @@ pub struct LineStore<S: BuildHasher = BuildHasherDefault<FoldHasher>> {
 }
 
 impl<S: BuildHasher> Model for LineStore<S> {
-    ghost use Rattle.cedar_entities.specs.Plain.{entities_in};
+    ghost use Rattle.cedar_entity_maps.specs.Plain.{entities_in};
     ghost use Rattle.cedar_entity_lines.specs.Codes.{waiting_code};
     ghost use Rattle.cedar_entity_lines.specs.Holding.{StoreAndWaiting};
 

@@ -5,10 +5,10 @@ use Rattle.cedar_ids.specs.declared.entity.EntityUID.{EntityUID}
 use Rattle.cedar_entity.specs.declared.err.EntitiesError.{EntitiesError}
 use Rattle.cedar_entity.specs.declared.err.EntitiesError.TheVariants.{Memory}
 use Rattle.cedar_entities.specs.Changes.{AddsPlain, RemovesPlain, UpsertsPlain}
-use Rattle.cedar_entities.specs.Plain.{StoreView, IsPlainStore}
-use Rattle.cedar_entities.specs.Refusals.{IsAddingRefused, IsOverwritingRefused}
-use Rattle.cedar_entities.specs.World.{World, Given, empty_world, added, deleted, overwritten, AllAgree, IsCyclic}
-use Rattle.cedar_entities.specs.declared.entities.TCComputation.TheVariants.{ComputeNow}
+use Rattle.cedar_entity_maps.specs.Plain.{StoreView, IsPlainStore}
+use Rattle.cedar_entity_maps.specs.Refusals.{IsAddingRefused, IsOverwritingRefused}
+use Rattle.cedar_entity_maps.specs.World.{World, Given, empty_world, added, deleted, overwritten, AllAgree, IsCyclic}
+use Rattle.cedar_entity_maps.specs.declared.modes.TCComputation.TheVariants.{ComputeNow}
 use Rattle.cedar_entities.specs.Calls.{Call, made, all_made, Passes, AllPass, IsRefusedAs, StopsAt}
 use Rattle.std.proofs.lemmas.List.{map-append}
 

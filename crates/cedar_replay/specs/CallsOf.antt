@@ -1,6 +1,6 @@
 -- What a call of a program holds, as the call on a world that it is.
 use Rattle.std.specs.Prelude.{map}
-use Rattle.cedar_entities.specs.Plain.{AreBare, entities_in, given_of}
+use Rattle.cedar_entity_maps.specs.Plain.{AreBare, entities_in, given_of}
 use Rattle.cedar_entities.specs.Calls.{Call, From, Add, Upsert, Remove, Partial}
 use Rattle.cedar_replay.specs.declared.entities.EntityCall.{EntityCall}
 use Rattle.cedar_replay.specs.declared.entities.EntityCall.TheVariants as calls

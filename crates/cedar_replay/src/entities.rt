@@ -1,8 +1,8 @@
 //! Lists of calls on a store of entities.
 ghost use Rattle.std.specs.Prelude.{◌≡◌, IfOk, IfErr, OnOk, map};
 ghost use Rattle.std.specs.List.{AllByRecursion};
-ghost use Rattle.cedar_entities.specs.Plain.{IsPlainStore};
-ghost use Rattle.cedar_entities.specs.World.{World, empty_world};
+ghost use Rattle.cedar_entity_maps.specs.Plain.{IsPlainStore};
+ghost use Rattle.cedar_entity_maps.specs.World.{World, empty_world};
 ghost use Rattle.cedar_entities.specs.Calls.{made, all_made, Passes, AllPass, IsRefusedAs, StopsAt};
 ghost use Rattle.cedar_replay.specs.CallsOf.{call_of, HasBareEntities};
 

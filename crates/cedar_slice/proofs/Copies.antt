@@ -12,10 +12,11 @@ use Rattle.cedar_ids.specs.declared.entity.EntityUID.{EntityUID}
 use Rattle.cedar_uid_sets.specs.laws.Sets.{one_equal, same_tests}
 use Rattle.cedar_entity.specs.View.{EntityView, IsDeepEqual}
 use Rattle.cedar_entity.specs.laws.Views.{deep_equality}
-use Rattle.cedar_entities.specs.Plain.{Held, no_entities}
-use Rattle.cedar_entities.specs.Present.{first_entity, keyed, present, with_first, AllMatch, MatchesPresent}
+use Rattle.cedar_entity_maps.specs.Plain.{Held, no_entities}
+use Rattle.cedar_entities.specs.Present.{first_entity, present, with_first, AllMatch, MatchesPresent}
+use Rattle.cedar_entity_maps.specs.Plain.{keyed}
 use Rattle.cedar_entities.specs.Present.{FirstMismatch}
-use Rattle.cedar_entities.specs.laws.Worlds.{get_joined}
+use Rattle.cedar_entity_maps.specs.laws.Worlds.{get_joined}
 
 absent_more : {X : Type 0} (b r : Bool) (x : Option X) → (b ≡ true → x ≡ None) → cond r x None ≡ cond (b || r) x None
 absent_more true true x h = refl

@@ -10,10 +10,10 @@ use Rattle.cedar_ids.specs.UidOf.{uid_order}
 use Rattle.cedar_ids.specs.declared.entity.EntityUID.{EntityUID}
 use Rattle.cedar_uid_sets.specs.laws.Sets.{one_equal}
 use Rattle.cedar_entity.specs.View.{has_ancestor}
-use Rattle.cedar_entities.specs.Modes.{ancestry}
-use Rattle.cedar_entities.specs.Plain.{StoreView, IsPlainStore, IsApart, parts_of}
-use Rattle.cedar_entities.specs.World.{World, graph, is_parent_in}
-use Rattle.cedar_entities.specs.laws.PlainAncestors.{ancestry_plain, first_key}
+use Rattle.cedar_entity_maps.specs.Modes.{ancestry}
+use Rattle.cedar_entity_maps.specs.Plain.{StoreView, IsPlainStore, IsApart, parts_of}
+use Rattle.cedar_entity_maps.specs.World.{World, graph, is_parent_in}
+use Rattle.cedar_entity_maps.specs.laws.PlainAncestors.{ancestry_plain, first_key}
 use Rattle.cedar_slice.specs.Slices.{is_wanted, sliced, part_of, IsWanted, IsPlainSlice, IsPartWith}
 use Rattle.cedar_slice.specs.laws.OneSlice.{part_edges, wanted_by}
 

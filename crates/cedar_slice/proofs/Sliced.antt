@@ -8,10 +8,10 @@ use Rattle.cedar_ids.specs.declared.entity.EntityUID.{EntityUID}
 use Rattle.cedar_entity.specs.View.{EntityView}
 use Rattle.cedar_entity.specs.declared.err.EntitiesError.{EntitiesError}
 use Rattle.cedar_entity.specs.declared.err.EntitiesError.TheVariants.{Memory}
-use Rattle.cedar_entities.specs.Plain.{StoreView, Held, no_entities}
+use Rattle.cedar_entity_maps.specs.Plain.{StoreView, Held, no_entities}
 use Rattle.cedar_entities.specs.Present.{with_first, AllMatch, FirstMismatch}
-use Rattle.cedar_entities.specs.Refusals.{MatchRefusal}
-use Rattle.cedar_entities.specs.laws.Refusals.{refusal_cases}
+use Rattle.cedar_entity_maps.specs.Refusals.{MatchRefusal}
+use Rattle.cedar_entity_maps.specs.laws.Refusals.{refusal_cases}
 use Rattle.cedar_slice.specs.Slices.{is_wanted, sliced}
 use Rattle.cedar_slice.specs.laws.OneSlice.{asked_is_wanted}
 use Rattle.cedar_slice.proofs.Copies.{AreKeyed, none_differs, store_of}

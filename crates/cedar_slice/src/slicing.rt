@@ -8,9 +8,9 @@ ghost use Rattle.std.specs.Set.{is_member};
 ghost use Rattle.cedar_ids.specs.UidOf.{same_uid};
 ghost use Rattle.cedar_ids.specs.declared.entity.EntityUID.{EntityUID};
 ghost use Rattle.cedar_entity.specs.declared.err.EntitiesError.TheVariants.{Memory};
-ghost use Rattle.cedar_entities.specs.Modes.{ancestry};
-ghost use Rattle.cedar_entities.specs.Plain.{IsKeyed, IsPlainStore};
-ghost use Rattle.cedar_entities.specs.World.{World};
+ghost use Rattle.cedar_entity_maps.specs.Modes.{ancestry};
+ghost use Rattle.cedar_entity_maps.specs.Plain.{IsKeyed, IsPlainStore};
+ghost use Rattle.cedar_entity_maps.specs.World.{World};
 ghost use Rattle.cedar_slice.specs.Slices.{IsPartWith, IsPlainSlice, is_wanted, sliced};
 
 use cedar_entities::{Entities, EntitiesError, Entity, SharedUid, SharedUids, TCComputation};

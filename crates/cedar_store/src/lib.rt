@@ -8,10 +8,12 @@
 //! written is the output of what was read, by `specs/Output.antt`, and that each input has exactly one; a [`Session`]
 //! takes such lines one by one.
 //!
-//! What the layers below are made with, and none of these names needs, stays below: of `cedar_policy_maps` and
-//! `cedar_policy_merge` the maps of a policy set and their merging (`PolicyMaps`, `Found`, `Parted`, `is_link`,
-//! `has_no_slots`, `merge_maps`), of `cedar_children` the index of children (`Children`), and of `cedar_ids` the test of
-//! a text that is its own escape (`is_own_escape`).
+//! What the layers below are made with, and none of these names needs, stays below: of `cedar_entity_maps` the steps of
+//! an edit over the map of a store (`Row`, `Loss`, `Lost`, `Index` and the calls beside them), of `cedar_policy_maps`
+//! and `cedar_policy_merge` the maps of a policy set and their merging (`PolicyMaps`, `Found`, `Parted`, `is_link`,
+//! `has_no_slots`, `merge_maps`), of `cedar_policy` that a policy shares an equal template (`share_template`), of
+//! `cedar_children` the index of children (`Children`), and of `cedar_ids` the test of a text that is its own escape
+//! (`is_own_escape`).
 #![tactic(auto, using(cedar_ids::specs::laws::UidOfLaws::same_uid_decides))]
 
 mod program;

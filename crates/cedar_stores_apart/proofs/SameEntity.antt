@@ -14,7 +14,7 @@ use Rattle.cedar_uid_sets.specs.UidSets.{UidValues}
 use Rattle.cedar_uid_sets.specs.laws.Sets.{contains_listed, one_equal, same_members}
 use Rattle.cedar_entity.specs.Listing.{Lists}
 use Rattle.cedar_entity.specs.View.{EntityView}
-use Rattle.cedar_entities.specs.Plain.{IsApart}
+use Rattle.cedar_entity_maps.specs.Plain.{IsApart}
 
 and_false : (b : Bool) → (b && false) ≡ false
 and_false true = refl

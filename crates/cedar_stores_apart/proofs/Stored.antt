@@ -8,9 +8,10 @@ use Rattle.cedar_ids.specs.laws.UidOfLaws.{uid_order_total}
 use Rattle.cedar_uid_sets.specs.laws.Sets.{one_equal}
 use Rattle.cedar_entity.specs.View.{EntityView}
 use Rattle.cedar_entities.specs.Answers.{ListsHeld}
-use Rattle.cedar_entities.specs.Plain.{Held, StoreView, no_entities}
-use Rattle.cedar_entities.specs.Present.{first_entity, keyed, with_first}
-use Rattle.cedar_entities.specs.laws.Worlds.{get_joined}
+use Rattle.cedar_entity_maps.specs.Plain.{Held, StoreView, no_entities}
+use Rattle.cedar_entities.specs.Present.{first_entity, with_first}
+use Rattle.cedar_entity_maps.specs.Plain.{keyed}
+use Rattle.cedar_entity_maps.specs.laws.Worlds.{get_joined}
 
 -- where nothing is held, what is held then is the list alone
 first_alone : (L : List EntityView) → with_first no_entities L ≡ finmap.from_entries (map keyed L)

@@ -1,7 +1,7 @@
 //! Copies of entities.
 ghost use Rattle.std.specs.Prelude.{◌≡◌, IfOk, OnOk, false};
 ghost use Rattle.std.specs.FinSet as set;
-ghost use Rattle.cedar_entities.specs.Plain.{IsApart};
+ghost use Rattle.cedar_entity_maps.specs.Plain.{IsApart};
 
 use crate::parts::{fields_apart, uids_apart};
 use crate::unshared::entity_of_own_sets;

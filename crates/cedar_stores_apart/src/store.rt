@@ -2,7 +2,7 @@
 ghost use Rattle.std.specs.Prelude.{◌≡◌, IfOk, false};
 ghost use Rattle.std.specs.Option.{IfSome};
 ghost use Rattle.cedar_entities.specs.Answers.{ListsHeld};
-ghost use Rattle.cedar_entities.specs.Plain.{StoreView};
+ghost use Rattle.cedar_entity_maps.specs.Plain.{StoreView};
 
 use crate::entity::entity_apart;
 use cedar_apart::OwnUids;

@@ -8,7 +8,7 @@ use Rattle.cedar_ids.specs.UidOf.{same_uid}
 use Rattle.cedar_ids.specs.laws.UidOfLaws.{same_uid_equiv}
 use Rattle.cedar_ids.specs.declared.entity.EntityUID.{EntityUID}
 use Rattle.cedar_entity.specs.View.{EntityView}
-use Rattle.cedar_entities.specs.laws.Lists.{all_push}
+use Rattle.cedar_entity_maps.specs.laws.Lists.{all_push}
 use Rattle.cedar_trial_edits.specs.laws.Asked.{AreAsked, IsAsked}
 use Rattle.cedar_trial_edits.proofs.Found.{all_along}
 

@@ -9,8 +9,8 @@ use Rattle.std.specs.FinMap as finmap
 use Rattle.cedar_ids.specs.UidOf.{uid_order}
 use Rattle.cedar_ids.specs.laws.UidOfLaws.{uid_order_ties, same_uid_decides}
 use Rattle.cedar_ids.specs.declared.entity.EntityUID.{EntityUID}
-use Rattle.cedar_entities.specs.World.{reversed}
-use Rattle.cedar_entities.specs.laws.Lists.{all_push}
+use Rattle.cedar_entity_maps.specs.World.{reversed}
+use Rattle.cedar_entity_maps.specs.laws.Lists.{all_push}
 
 found : {X : Type 0} (P : EntityUID → X → Type 0) (q : EntityUID) (e : EntityUID × X) (b : Bool) (o : Option X)
     → eq_by_cmp uid_order q e.0 ≡ b → P e.0 e.1 → IfSome o (P q) → IfSome (cond b (Some e.1) o) (P q)

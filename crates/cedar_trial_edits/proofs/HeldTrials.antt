@@ -18,15 +18,16 @@ use Rattle.cedar_uid_sets.specs.laws.Sets.{one_equal}
 use Rattle.cedar_entity.specs.View.{EntityView, IsDeepEqual, has_ancestor}
 use Rattle.cedar_entity.specs.declared.err.EntitiesError.{EntitiesError}
 use Rattle.cedar_entity.specs.declared.err.EntitiesError.TheVariants as errors
-use Rattle.cedar_entities.specs.Edits.{goes_with, lessened, put_over, uids_of}
-use Rattle.cedar_entities.specs.Modes.{ancestry, is_ancestor_in, TellsCycle}
-use Rattle.cedar_entities.specs.Plain.{Held}
-use Rattle.cedar_entities.specs.Present.{keyed, first_entity, present, with_first, AllMatch, FirstMismatch, MatchesPresent}
-use Rattle.cedar_entities.specs.Refusals.{MatchRefusal, NamesOneOf}
-use Rattle.cedar_entities.specs.Touching.{inserted_in, is_touched}
-use Rattle.cedar_entities.specs.World.{reversed}
-use Rattle.cedar_entities.specs.laws.Refusals.{refusal_cases}
-use Rattle.cedar_entities.specs.laws.Worlds.{get_joined, find-mapped}
+use Rattle.cedar_entity_maps.specs.Edits.{goes_with, lessened, put_over, uids_of}
+use Rattle.cedar_entity_maps.specs.Modes.{ancestry, is_ancestor_in, TellsCycle}
+use Rattle.cedar_entity_maps.specs.Plain.{Held}
+use Rattle.cedar_entities.specs.Present.{first_entity, present, with_first, AllMatch, FirstMismatch, MatchesPresent}
+use Rattle.cedar_entity_maps.specs.Plain.{keyed}
+use Rattle.cedar_entity_maps.specs.Refusals.{MatchRefusal, NamesOneOf}
+use Rattle.cedar_entity_maps.specs.Touching.{inserted_in, is_touched}
+use Rattle.cedar_entity_maps.specs.World.{reversed}
+use Rattle.cedar_entity_maps.specs.laws.Refusals.{refusal_cases}
+use Rattle.cedar_entity_maps.specs.laws.Worlds.{get_joined, find-mapped}
 use Rattle.cedar_slice.specs.Slices.{is_wanted, sliced}
 use Rattle.cedar_slice.specs.laws.OneSlice.{asked_is_wanted}
 use Rattle.cedar_trial_edits.specs.Trials.{IsAddRefusal, IsUpsertRefusal}

@@ -18,11 +18,11 @@ use Rattle.cedar_ids.specs.declared.entity.EntityUID.{EntityUID}
 use Rattle.cedar_uid_sets.specs.laws.Sets.{one_equal}
 use Rattle.cedar_entity.specs.declared.err.EntitiesError.{EntitiesError}
 use Rattle.cedar_entities.specs.Calls.{Add, Upsert}
-use Rattle.cedar_entities.specs.Refusals.{NamesCycle, IsAddingRefused, IsOverwritingRefused}
-use Rattle.cedar_entities.specs.World.{World, Parts, Given, graph, is_parent_in, entry_of, first, added, overwritten}
-use Rattle.cedar_entities.specs.World.{reversed, Agrees, AgreesWith, AllAgree, FirstDiffers, IsCyclic}
-use Rattle.cedar_entities.specs.laws.Refusals.{refusal_cases}
-use Rattle.cedar_entities.specs.laws.Worlds.{get_added, get_overwritten}
+use Rattle.cedar_entity_maps.specs.Refusals.{NamesCycle, IsAddingRefused, IsOverwritingRefused}
+use Rattle.cedar_entity_maps.specs.World.{World, Parts, Given, graph, is_parent_in, entry_of, first, added, overwritten}
+use Rattle.cedar_entity_maps.specs.World.{reversed, Agrees, AgreesWith, AllAgree, FirstDiffers, IsCyclic}
+use Rattle.cedar_entity_maps.specs.laws.Refusals.{refusal_cases}
+use Rattle.cedar_entity_maps.specs.laws.Worlds.{get_added, get_overwritten}
 use Rattle.cedar_slice.specs.Slices.{IsSliceOf}
 use Rattle.cedar_trial_edits.specs.Trials.{Tries}
 use Rattle.cedar_trial_edits.proofs.Found.{find_holds, all_mapped, all_reversed, all_both, all_before}

@@ -8,9 +8,9 @@ use Rattle.cedar_entity.specs.View.{EntityView}
 use Rattle.cedar_entity.specs.declared.err.EntitiesError.{EntitiesError}
 use Rattle.cedar_entities.specs.Calls.{Add, Upsert}
 use Rattle.cedar_entities.specs.Changes.{AddsPlain, UpsertsPlain}
-use Rattle.cedar_entities.specs.Plain.{StoreView, IsPlainStore, AreBare, given_of, parts_of}
-use Rattle.cedar_entities.specs.World.{World, Given}
-use Rattle.cedar_entities.specs.declared.entities.TCComputation.TheVariants.{ComputeNow}
+use Rattle.cedar_entity_maps.specs.Plain.{StoreView, IsPlainStore, AreBare, given_of, parts_of}
+use Rattle.cedar_entity_maps.specs.World.{World, Given}
+use Rattle.cedar_entity_maps.specs.declared.modes.TCComputation.TheVariants.{ComputeNow}
 use Rattle.cedar_slice.specs.Slices.{IsSliceOf}
 use Rattle.cedar_trial_edits.specs.Trials.{IsAddRefusal, IsUpsertRefusal, Tries}
 use Rattle.cedar_trial_edits.specs.laws.Asked.{AreAsked, IsAsked, IsPartFor}

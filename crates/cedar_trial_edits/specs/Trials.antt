@@ -4,9 +4,9 @@ use Rattle.cedar_entity.specs.View.{EntityView}
 use Rattle.cedar_entity.specs.declared.err.EntitiesError.{EntitiesError}
 use Rattle.cedar_entities.specs.Calls.{Call, Passes, IsRefusedAs}
 use Rattle.cedar_entities.specs.Changes.{AddsEntities, UpsertsEntities}
-use Rattle.cedar_entities.specs.Plain.{StoreView, Held}
-use Rattle.cedar_entities.specs.World.{World}
-use Rattle.cedar_entities.specs.declared.entities.TCComputation.TheVariants.{ComputeNow}
+use Rattle.cedar_entity_maps.specs.Plain.{StoreView, Held}
+use Rattle.cedar_entity_maps.specs.World.{World}
+use Rattle.cedar_entity_maps.specs.declared.modes.TCComputation.TheVariants.{ComputeNow}
 
 -- over the plain store of W a call is tried: nothing refuses it, or it is refused as the answer says
 abbrev pub Tries : {A : Type 0} → World → Call → Result A EntitiesError → Type 0

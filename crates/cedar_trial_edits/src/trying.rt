@@ -2,8 +2,8 @@
 ghost use Rattle.std.specs.Prelude.{◌≡◌, ◌↔◌, IfOk, IfErr, IsTrue, map};
 ghost use Rattle.cedar_entity.specs.declared.err.EntitiesError.TheVariants.{Memory};
 ghost use Rattle.cedar_entities.specs.Calls.{Add, Upsert};
-ghost use Rattle.cedar_entities.specs.Plain.{AreBare, IsBare, IsPlainStore, entities_in, given_of};
-ghost use Rattle.cedar_entities.specs.World.{World};
+ghost use Rattle.cedar_entity_maps.specs.Plain.{AreBare, IsBare, IsPlainStore, entities_in, given_of};
+ghost use Rattle.cedar_entity_maps.specs.World.{World};
 ghost use Rattle.cedar_trial_edits.specs.Trials.{IsAddRefusal, IsUpsertRefusal, Tries};
 ghost use Rattle.cedar_trial_edits.specs.laws.Asked.{IsPartFor};
 

@@ -5,10 +5,10 @@ use Rattle.std.specs.FinMap as finmap
 use Rattle.cedar_graph.specs.Graph.{Reach}
 use Rattle.cedar_ids.specs.declared.entity.EntityUID.{EntityUID}
 use Rattle.cedar_entity.specs.View.{EntityView}
-use Rattle.cedar_entities.specs.Modes.{is_ancestor_in}
-use Rattle.cedar_entities.specs.Plain.{StoreView, IsPlainStore}
-use Rattle.cedar_entities.specs.World.{World, graph}
-use Rattle.cedar_entities.specs.laws.PlainAncestors.{ancestry_plain}
+use Rattle.cedar_entity_maps.specs.Modes.{is_ancestor_in}
+use Rattle.cedar_entity_maps.specs.Plain.{StoreView, IsPlainStore}
+use Rattle.cedar_entity_maps.specs.World.{World, graph}
+use Rattle.cedar_entity_maps.specs.laws.PlainAncestors.{ancestry_plain}
 
 -- whether what is held of a uid has another among its ancestors is whether that is reached
 pub reached_where_held : (W : World) (S : StoreView) (a b : EntityUID) (o : Option EntityView)

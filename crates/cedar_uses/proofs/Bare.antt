@@ -5,9 +5,9 @@ use Rattle.std.specs.FinSet as set
 use Rattle.cedar_ids.specs.UidOf.{uid_order}
 use Rattle.cedar_ids.specs.declared.entity.EntityUID.{EntityUID}
 use Rattle.cedar_entity.specs.View.{EntityView}
-use Rattle.cedar_entities.specs.Plain.{AreBare, IsBare, given_of}
-use Rattle.cedar_entities.specs.World.{Given, given}
-use Rattle.cedar_entities.specs.laws.Lists.{all_push}
+use Rattle.cedar_entity_maps.specs.Plain.{AreBare, IsBare, given_of}
+use Rattle.cedar_entity_maps.specs.World.{Given, given}
+use Rattle.cedar_entity_maps.specs.laws.Lists.{all_push}
 
 -- the entity with these parents and nothing else
 abbrev pub child_of : EntityUID → List EntityUID → EntityView

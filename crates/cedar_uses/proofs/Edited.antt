@@ -3,9 +3,9 @@ use Rattle.std.specs.Prelude.{◌≡◌, List, [], ◌∷◌, Result, Ok, Err, I
 use Rattle.std.proofs.Common.{sym, subst}
 use Rattle.cedar_ids.specs.declared.entity.EntityUID.{EntityUID}
 use Rattle.cedar_entities.specs.Changes.{RemovesPlain}
-use Rattle.cedar_entities.specs.Plain.{StoreView, IsPlainStore}
-use Rattle.cedar_entities.specs.Refusals.{IsOverwritingRefused}
-use Rattle.cedar_entities.specs.World.{World, Given, deleted, overwritten}
+use Rattle.cedar_entity_maps.specs.Plain.{StoreView, IsPlainStore}
+use Rattle.cedar_entity_maps.specs.Refusals.{IsOverwritingRefused}
+use Rattle.cedar_entity_maps.specs.World.{World, Given, deleted, overwritten}
 use Rattle.cedar_entity.specs.declared.err.EntitiesError.{EntitiesError}
 
 module _ (S T : StoreView) (L : List Given)

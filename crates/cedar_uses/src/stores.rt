@@ -3,9 +3,9 @@ ghost use Rattle.std.specs.Prelude.{◌≡◌, ◌↔◌, ◌∷◌, [], IfOk, I
 ghost use Rattle.std.specs.List.{AllByRecursion};
 ghost use Rattle.cedar_graph.specs.Graph.{Reach};
 ghost use Rattle.cedar_entities.specs.Calls.{StopsAt, all_made};
-ghost use Rattle.cedar_entities.specs.Plain.{IsPlainStore};
-ghost use Rattle.cedar_entities.specs.Refusals.{IsAddingRefused, IsOverwritingRefused};
-ghost use Rattle.cedar_entities.specs.World.{World, added, deleted, empty_world, given, graph, overwritten};
+ghost use Rattle.cedar_entity_maps.specs.Plain.{IsPlainStore};
+ghost use Rattle.cedar_entity_maps.specs.Refusals.{IsAddingRefused, IsOverwritingRefused};
+ghost use Rattle.cedar_entity_maps.specs.World.{World, added, deleted, empty_world, given, graph, overwritten};
 ghost use Rattle.cedar_replay.specs.CallsOf.{HasBareEntities, call_of};
 
 use cedar_store::{

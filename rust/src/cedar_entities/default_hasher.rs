@@ -2,9 +2,10 @@
 
 //! The constructors of stores that hash by the default builder of hashers.
 
-use crate::cedar_entities::entities::{Entities, TCComputation};
+use crate::cedar_entities::entities::Entities;
 use crate::cedar_entity::entity::Entity;
 use crate::cedar_entity::err::EntitiesError;
+use crate::cedar_entity_maps::TCComputation;
 use crate::cedar_keyed_hash::KeyedState;
 
 impl Entities {

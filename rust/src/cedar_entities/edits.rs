@@ -3,14 +3,15 @@
 //! One edit of the entities of a store: some go, some come, and what had one of either among its ancestors is stripped
 //! of what goes with it. Overwriting is an edit by which none goes, removing one by which none comes.
 
-use crate::cedar_entities::entities::TCComputation;
 use crate::cedar_entities::incoming::{Incoming, uids_in};
-use crate::cedar_entities::index::{Index, join, list_if_it_pays, part, touched_by};
-use crate::cedar_entities::settling::{Row, finish, mending, row_computes, row_of};
-use crate::cedar_entities::sought::listed;
-use crate::cedar_entities::touching::{Loss, held_uids, losses_by, note_all, pointers_of, strip_each};
 use crate::cedar_entity::err::EntitiesError;
 use crate::cedar_entity::node::SharedEntity;
+use crate::cedar_entity_maps::TCComputation;
+use crate::cedar_entity_maps::index::{Index, join, list_if_it_pays, part, touched_by};
+use crate::cedar_entity_maps::modes::{Row, mending, row_computes, row_of};
+use crate::cedar_entity_maps::settling::finish;
+use crate::cedar_entity_maps::sought::listed;
+use crate::cedar_entity_maps::touching::{Loss, held_uids, losses_by, note_all, pointers_of, strip_each};
 use crate::cedar_ids::entity::EntityUID;
 use crate::cedar_uid_sets::{SharedUid, UidSet};
 use std::collections::{HashMap, HashSet};

@@ -5,16 +5,17 @@
 use crate::cedar_entities::dereference::{Dereference, unknown_of};
 use crate::cedar_entities::edits::{put_all_over, renews_adding, take_all_out};
 use crate::cedar_entities::incoming::{Incoming, shared_all, stays_plain, uids_in, with_uids};
-use crate::cedar_entities::index::{Index, join, list_if_it_pays, touched_by};
-use crate::cedar_entities::settling::{check, row_of, settle_touched, settle_whole};
-use crate::cedar_entities::sought::listed;
 use crate::cedar_entities::store_iters::{IntoIter, Iter};
 use crate::cedar_entities::store_same::{have_deep_equals, have_keys_of};
 use crate::cedar_entities::store_valid::check_each;
-use crate::cedar_entities::touching::{absent_uids, forget_each, note_all};
 use crate::cedar_entity::entity::Entity;
 use crate::cedar_entity::err::EntitiesError;
 use crate::cedar_entity::node::SharedEntity;
+use crate::cedar_entity_maps::index::{Index, join, list_if_it_pays, touched_by};
+use crate::cedar_entity_maps::modes::row_of;
+use crate::cedar_entity_maps::settling::{check, settle_touched, settle_whole};
+use crate::cedar_entity_maps::sought::listed;
+use crate::cedar_entity_maps::touching::{absent_uids, forget_each, note_all};
 use crate::cedar_ids::entity::EntityUID;
 use crate::cedar_keyed_hash::KeyedState;
 use crate::cedar_uid_sets::SharedUid;
@@ -23,23 +24,7 @@ use std::collections::{HashMap, HashSet};
 use std::hash::BuildHasher;
 use std::sync::Arc;
 
-/// How a call sees to it that ancestors are closed.
-///
-/// What a call touches is what it puts in or takes out, and what has that among its ancestors. A removal repairs what
-/// it touched in each mode: that is given what it still reaches.
-#[derive(Clone, Copy, Debug, PartialEq, Eq, Hash)]
-pub enum TCComputation {
-    /// Entities that are put in are taken to have all their ancestors: nothing is computed for them or for what is
-    /// above or below. A removal repairs. Nothing is checked, and no cycle is refused.
-    AssumeAlreadyComputed,
-    /// Entities that are put in are taken as they are, and a removal repairs, as under `AssumeAlreadyComputed`. Then
-    /// the whole store is checked, and refused where an ancestor of an ancestor is missing or an entity is its own.
-    EnforceAlreadyComputed,
-    /// What is touched is given all that it reaches, in a removal too, and the store is refused where one of it reaches
-    /// itself. Nothing else is checked.
-    ComputeNow,
-}
-
+pub use crate::cedar_entity_maps::TCComputation;
 /// A store of entities under their uids, in one of two modes: in a partial store an absent entity is not
 /// known, in any other there is none.
 ///

@@ -2,9 +2,9 @@
 
 //! Entities that a call puts in, each with its uid to be shared: one copy of the uid serves the map and all notes.
 
-use crate::cedar_entities::entities::TCComputation;
-use crate::cedar_entities::settling::computes;
 use crate::cedar_entity::entity::Entity;
+use crate::cedar_entity_maps::TCComputation;
+use crate::cedar_entity_maps::modes::computes;
 use crate::cedar_uid_sets::SharedUid;
 use std::sync::Arc;
 

@@ -332,6 +332,19 @@ impl<K: Hash + Eq, V, S: BuildHasher> OrderedMap<K, V, S> {
         self.keys.get_index_of(key).map(|place| &mut self.values[place])
     }
 
+    /// The place of a key.
+    pub fn get_index_of<Q: Hash + Eq + ?Sized>(&self, key: &Q) -> Option<usize>
+    where
+        K: Borrow<Q>,
+    {
+        self.keys.get_index_of(key)
+    }
+
+    /// The value at a place, to write.
+    pub fn get_index_mut(&mut self, place: usize) -> Option<&mut V> {
+        self.values.get_mut(place)
+    }
+
     /// Puts a value under a key: last, or in the place of what an equal key has, which comes back.
     pub fn insert(&mut self, key: K, value: V) -> Option<V> {
         match self.keys.insert_full(key) {

@@ -5,8 +5,8 @@ use Rattle.std.specs.FinMap as finmap
 use Rattle.cedar_graph.specs.Graph.{Reach}
 use Rattle.cedar_ids.specs.declared.entity.EntityUID.{EntityUID}
 use Rattle.cedar_entity.specs.View.{kept}
-use Rattle.cedar_entities.specs.Modes.{ancestry}
-use Rattle.cedar_entities.specs.Plain.{Held}
+use Rattle.cedar_entity_maps.specs.Modes.{ancestry}
+use Rattle.cedar_entity_maps.specs.Plain.{Held}
 
 -- N holds the entities of D with their attributes, tags and parents. The ancestors of each are what it reached
 -- over the ancestors in D, and none reached itself. A parent is an indirect ancestor too only where it was one

@@ -28,8 +28,8 @@ use Rattle.cedar_ids.specs.declared.entity.EntityUID.{EntityUID}
 use Rattle.cedar_entity.specs.Fields.{Fields}
 use Rattle.cedar_uid_sets.specs.UidSets.{UidValues}
 use Rattle.cedar_uid_sets.specs.laws.Sets.{same_tests, one_equal, contains_listed, is_member-append}
-use Rattle.cedar_entities.specs.World.{World, Parts, Given, graph, is_parent_in, IsCyclic, Agrees, AgreesWith}
-use Rattle.cedar_entities.specs.World.{AgreesWithFirst, AllAgree, FirstDiffers, first}
+use Rattle.cedar_entity_maps.specs.World.{World, Parts, Given, graph, is_parent_in, IsCyclic, Agrees, AgreesWith}
+use Rattle.cedar_entity_maps.specs.World.{AgreesWithFirst, AllAgree, FirstDiffers, first}
 use Rattle.cedar_entity.specs.laws.Fields.{field_eq, field_decides}
 
 abbrev Entry : Type 0

@@ -2,10 +2,10 @@
 use Rattle.std.specs.Prelude.{◌≡◌, ℕ, List, ◌++◌, codes, Result, Ok, Err}
 use Rattle.cedar_lines.specs.Lines.{written_line}
 use Rattle.cedar_graph.specs.declared.err.TcError.TheVariants.{HasCycle}
-use Rattle.cedar_entities.specs.ClosureFaults.{IsClosureFault}
-use Rattle.cedar_entities.specs.Refusals.{MatchRefusal}
-use Rattle.cedar_entities.specs.Plain.{StoreView, IsPlainStore}
-use Rattle.cedar_entities.specs.World.{World, empty_world}
+use Rattle.cedar_entity_maps.specs.ClosureFaults.{IsClosureFault}
+use Rattle.cedar_entity_maps.specs.Refusals.{MatchRefusal}
+use Rattle.cedar_entity_maps.specs.Plain.{StoreView, IsPlainStore}
+use Rattle.cedar_entity_maps.specs.World.{World, empty_world}
 use Rattle.cedar_entity.specs.declared.err.EntitiesError.{EntitiesError}
 use Rattle.cedar_entity.specs.declared.err.EntitiesError.TheVariants.{Duplicate, TransitiveClosureError}
 use Rattle.cedar_entity_lines.specs.EntityOutput.{count_line, uid_text}

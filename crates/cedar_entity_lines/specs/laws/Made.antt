@@ -2,8 +2,8 @@
 use Rattle.std.specs.Prelude.{◌≡◌, List}
 use Rattle.cedar_ids.specs.declared.entity.EntityUID.{EntityUID}
 use Rattle.cedar_entity.specs.View.{EntityView}
-use Rattle.cedar_entities.specs.Plain.{IsBare, given_of}
-use Rattle.cedar_entities.specs.World.{given}
+use Rattle.cedar_entity_maps.specs.Plain.{IsBare, given_of}
+use Rattle.cedar_entity_maps.specs.World.{given}
 
 -- the entity has this uid and these parents, and nothing else
 abbrev pub IsMade : EntityView → EntityUID → List EntityUID → Type 0

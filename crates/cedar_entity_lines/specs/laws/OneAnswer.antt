@@ -16,8 +16,8 @@ use Rattle.cedar_ids.specs.UidOf.{uid_order, same_uid}
 use Rattle.cedar_ids.specs.laws.UidOfLaws.{same_uid_decides, same_uid_equiv, uid_order_total}
 use Rattle.cedar_ids.specs.declared.entity.EntityUID.{EntityUID}
 use Rattle.cedar_lines.specs.Lines.{written_line}
-use Rattle.cedar_entities.specs.World.{World, Given, given, graph, IsCyclic, added, overwritten, deleted, empty_world}
-use Rattle.cedar_entities.specs.World.{AllAgree, Agrees, FirstDiffers}
+use Rattle.cedar_entity_maps.specs.World.{World, Given, given, graph, IsCyclic, added, overwritten, deleted, empty_world}
+use Rattle.cedar_entity_maps.specs.World.{AllAgree, Agrees, FirstDiffers}
 use Rattle.cedar_entities.specs.laws.Settled.{Settled, settled_by, world_keys, decides_world_cycle, reached_list}
 use Rattle.cedar_entities.specs.laws.Settled.{reached_ascend, reached_members, agree_or_differs}
 use Rattle.cedar_slice.specs.laws.OneSlice.{one_slice, slice_there}

@@ -2,7 +2,7 @@
 // calls are parted by semicolons: `from: a b, b c`, `add: c`, `upsert: a d`, `remove: b c`, `partial`.
 ghost use Rattle.std.specs.Prelude.{◌≡◌, ◌++◌, ◌∷◌, [], IfSome};
 ghost use Rattle.std.specs.List.{AllByRecursion};
-ghost use Rattle.cedar_entities.specs.Plain.{AreBare, IsBare, entities_in};
+ghost use Rattle.cedar_entity_maps.specs.Plain.{AreBare, IsBare, entities_in};
 ghost use Rattle.cedar_replay.specs.CallsOf.{HasBareEntities};
 
 use cedar_entities::{Entities, EntitiesError, Entity};

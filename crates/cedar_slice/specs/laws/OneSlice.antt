@@ -9,10 +9,10 @@ use Rattle.cedar_graph.specs.Graph.{Reach}
 use Rattle.cedar_ids.specs.UidOf.{same_uid}
 use Rattle.cedar_ids.specs.laws.UidOfLaws.{same_uid_decides, same_uid_equiv}
 use Rattle.cedar_ids.specs.declared.entity.EntityUID.{EntityUID}
-use Rattle.cedar_entities.specs.World.{World, Parts, graph, is_parent_in}
+use Rattle.cedar_entity_maps.specs.World.{World, Parts, graph, is_parent_in}
 use Rattle.cedar_uid_sets.specs.laws.Sets.{one_equal}
-use Rattle.cedar_entities.specs.Modes.{ancestry}
-use Rattle.cedar_entities.specs.Plain.{Held}
+use Rattle.cedar_entity_maps.specs.Modes.{ancestry}
+use Rattle.cedar_entity_maps.specs.Plain.{Held}
 use Rattle.cedar_entities.specs.laws.Settled.{reached_list, reached_members}
 use Rattle.cedar_slice.specs.Slices.{is_wanted, part_of, IsWanted, IsSliceOf}
 

@@ -6,8 +6,8 @@ use Rattle.std.specs.Set.{is_member}
 use Rattle.cedar_ids.specs.UidOf.{same_uid}
 use Rattle.cedar_ids.specs.declared.entity.EntityUID.{EntityUID}
 use Rattle.cedar_entity.specs.View.{EntityView}
-use Rattle.cedar_entities.specs.Plain.{StoreView, IsPlainStore}
-use Rattle.cedar_entities.specs.World.{World}
+use Rattle.cedar_entity_maps.specs.Plain.{StoreView, IsPlainStore}
+use Rattle.cedar_entity_maps.specs.World.{World}
 use Rattle.cedar_slice.specs.Slices.{sliced, IsPlainSlice}
 
 -- the list has the uid of an entity and those of its parents

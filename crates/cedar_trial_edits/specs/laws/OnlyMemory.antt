@@ -9,9 +9,9 @@ use Rattle.cedar_ids.specs.declared.entity.EntityUID.{EntityUID}
 use Rattle.cedar_entity.specs.declared.err.EntitiesError.{EntitiesError}
 use Rattle.cedar_entity.specs.declared.err.EntitiesError.TheVariants.{Memory}
 use Rattle.cedar_entities.specs.Calls.{Passes, Add, Upsert}
-use Rattle.cedar_entities.specs.Refusals.{NamesCycle, IsAddingRefused, IsOverwritingRefused}
-use Rattle.cedar_entities.specs.World.{World, Given, added, overwritten, Agrees, AllAgree, FirstDiffers, IsCyclic}
-use Rattle.cedar_entities.specs.laws.Refusals.{refusal_cases}
+use Rattle.cedar_entity_maps.specs.Refusals.{NamesCycle, IsAddingRefused, IsOverwritingRefused}
+use Rattle.cedar_entity_maps.specs.World.{World, Given, added, overwritten, Agrees, AllAgree, FirstDiffers, IsCyclic}
+use Rattle.cedar_entity_maps.specs.laws.Refusals.{refusal_cases}
 
 all_at : {X : Type 0} (P : X → Type 0) (xs : List X) (y : X) (ys : List X) → AllByRecursion P (xs ++ y ∷ ys) → P y
 all_at P [] y ys a = a.0

@@ -2,7 +2,7 @@
 // name; in a log a name behind `-` is taken out.
 ghost use Rattle.std.specs.Prelude.{IfOk};
 ghost use Rattle.std.specs.List.{AllByRecursion};
-ghost use Rattle.cedar_entities.specs.Plain.{IsBare};
+ghost use Rattle.cedar_entity_maps.specs.Plain.{IsBare};
 ghost use Rattle.cedar_replay.specs.CallsOf.{HasBareEntities};
 
 use super::uid_of;

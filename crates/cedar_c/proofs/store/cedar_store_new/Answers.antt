@@ -1,5 +1,5 @@
-use Rattle.cedar_entities.specs.Plain.{IsPlainStore}
-use Rattle.cedar_entities.specs.World.{empty_world}
+use Rattle.cedar_entity_maps.specs.Plain.{IsPlainStore}
+use Rattle.cedar_entity_maps.specs.World.{empty_world}
 use Rattle.cedar_c_stores.specs.Stores.{IsUntold}
 use Rattle.cedar_c.specs.StoreCalls.{Kept}
 use Rattle.cedar_c.proofs.StoreChanges.{holds}

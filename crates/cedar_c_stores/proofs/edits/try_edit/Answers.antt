@@ -1,5 +1,5 @@
 use Rattle.std.proofs.Common.{ap}
-use Rattle.cedar_entities.specs.Plain.{entities_in}
+use Rattle.cedar_entity_maps.specs.Plain.{entities_in}
 use Rattle.cedar_c_stores.proofs.Editing.{adding_passed, adding_refused, removing_passed, upserting_passed}
 use Rattle.cedar_c_stores.proofs.Editing.{upserting_refused}
 use Rattle.cedar_c_stores.proofs.edits.try_edit.Goals as goal

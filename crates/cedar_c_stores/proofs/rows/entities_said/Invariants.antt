@@ -1,5 +1,5 @@
 use Rattle.std.specs.List.{AllZip}
-use Rattle.cedar_entities.specs.Plain.{entities_in}
+use Rattle.cedar_entity_maps.specs.Plain.{entities_in}
 use Rattle.cedar_c_stores.specs.Contents.{IsEntityOf}
 use Rattle.cedar_c_stores.proofs.rows.entities_said.Given as goal
 

@@ -8,10 +8,10 @@ use Rattle.cedar_ids.specs.UidOf.{same_uid}
 use Rattle.cedar_ids.specs.declared.entity.EntityUID.{EntityUID}
 use Rattle.cedar_uid_sets.specs.UidSets.{UidValues}
 use Rattle.cedar_uid_sets.specs.laws.Sets.{contains_listed}
-use Rattle.cedar_entities.specs.Edits.{uids_of}
-use Rattle.cedar_entities.specs.Modes.{computes}
-use Rattle.cedar_entities.specs.laws.Held.{held, held_map}
-use Rattle.cedar_entities.proofs.Adds.{stored}
+use Rattle.cedar_entity_maps.specs.Edits.{uids_of}
+use Rattle.cedar_entity_maps.specs.Modes.{computes}
+use Rattle.cedar_entity_maps.specs.laws.Held.{held, held_map}
+use Rattle.cedar_entity_maps.specs.laws.Seen.{stored}
 use Rattle.cedar_entities.proofs.Edited.{known_touched, parents_written}
 use Rattle.cedar_entities.proofs.Ending.{ended_kept, ends_nothing}
 use Rattle.cedar_entities.proofs.Indexes.{children_back, children_edited, if_some}

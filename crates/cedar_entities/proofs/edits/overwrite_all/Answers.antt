@@ -2,9 +2,10 @@ use Rattle.std.proofs.Common.{ap, sym, ◌∙◌}
 use Rattle.std.specs.Option.{option_or}
 use Rattle.std.proofs.lemmas.Iterator.Consumers.{YieldsList-end}
 use Rattle.std.proofs.lemmas.Iterator.Adapters.{YieldsList-from_vec}
-use Rattle.cedar_entities.specs.laws.Edits.{last_entity}
-use Rattle.cedar_entities.specs.laws.Held.{held}
-use Rattle.cedar_entities.proofs.Versions.{over_push, map_same}
+use Rattle.cedar_entity_maps.specs.laws.Edits.{last_entity}
+use Rattle.cedar_entity_maps.specs.laws.Held.{held}
+use Rattle.cedar_entities.proofs.Versions.{over_push}
+use Rattle.cedar_entity_maps.specs.laws.Lists.{map_same}
 use Rattle.cedar_entities.proofs.edits.overwrite_all.Goals as goal
 
 pub loop-entity-preserved : goal.loop-entity-preserved

@@ -1,8 +1,8 @@
 use Rattle.std.specs.Prelude.{◌≡◌}
 use Rattle.std.specs.Option.{option_or}
 use Rattle.cedar_ids.specs.declared.entity.EntityUID.{EntityUID}
-use Rattle.cedar_entities.specs.laws.Edits.{last_entity}
-use Rattle.cedar_entities.specs.laws.Held.{held, UidsMatch}
+use Rattle.cedar_entity_maps.specs.laws.Edits.{last_entity}
+use Rattle.cedar_entity_maps.specs.laws.Held.{held, UidsMatch}
 use Rattle.cedar_entities.proofs.edits.overwrite_all.Given as goal
 
 abbrev pub invariant-loop-entity : goal.invariant-loop-entity

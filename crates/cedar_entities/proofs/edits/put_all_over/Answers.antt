@@ -3,12 +3,12 @@ use Rattle.std.proofs.lemmas.Bool.{both_ways}
 use Rattle.std.specs.FinSet as set
 use Rattle.std.specs.Set.{is_member}
 use Rattle.cedar_ids.specs.UidOf.{same_uid, uid_order}
-use Rattle.cedar_entities.specs.Edits.{put_over, uids_of}
-use Rattle.cedar_entities.specs.Touching.{is_touched}
-use Rattle.cedar_entities.specs.laws.Ends.{Ends}
-use Rattle.cedar_entities.specs.laws.Held.{held_map}
+use Rattle.cedar_entity_maps.specs.Edits.{put_over, uids_of}
+use Rattle.cedar_entity_maps.specs.Touching.{is_touched}
+use Rattle.cedar_entity_maps.specs.laws.Ends.{Ends}
+use Rattle.cedar_entity_maps.specs.laws.Held.{held_map}
 use Rattle.cedar_entities.proofs.Edited.{over_made}
-use Rattle.cedar_entities.proofs.Touched.{or_off}
+use Rattle.cedar_entity_maps.specs.laws.LossLaws.{or_off}
 use Rattle.cedar_entities.proofs.edits.put_all_over.Goals as goal
 
 pub edit-requires-clause-uids : goal.edit-requires-clause-uids

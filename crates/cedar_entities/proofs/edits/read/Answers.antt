@@ -1,7 +1,7 @@
 use Rattle.std.proofs.Common.{ap, refl, ◌∙◌, ◌||◌}
 use Rattle.std.specs.Set.{is_member}
 use Rattle.cedar_ids.specs.UidOf.{same_uid}
-use Rattle.cedar_entities.specs.laws.Held.{held_map}
+use Rattle.cedar_entity_maps.specs.laws.Held.{held_map}
 use Rattle.cedar_entities.proofs.Edited.{reading_of}
 use Rattle.cedar_entities.proofs.edits.read.Goals as goal
 

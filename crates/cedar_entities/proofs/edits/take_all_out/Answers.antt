@@ -4,11 +4,11 @@ use Rattle.std.specs.FinSet as set
 use Rattle.std.specs.FinMap as finmap
 use Rattle.std.specs.Set.{is_member}
 use Rattle.cedar_ids.specs.UidOf.{same_uid}
-use Rattle.cedar_entities.specs.Edits.{taken_out, uids_of}
-use Rattle.cedar_entities.specs.Modes.{mending}
-use Rattle.cedar_entities.specs.Touching.{is_touched, removed_from}
-use Rattle.cedar_entities.specs.laws.Ends.{Ends}
-use Rattle.cedar_entities.specs.laws.Held.{held_map}
+use Rattle.cedar_entity_maps.specs.Edits.{taken_out, uids_of}
+use Rattle.cedar_entity_maps.specs.Modes.{mending}
+use Rattle.cedar_entity_maps.specs.Touching.{is_touched, removed_from}
+use Rattle.cedar_entity_maps.specs.laws.Ends.{Ends}
+use Rattle.cedar_entity_maps.specs.laws.Held.{held_map}
 use Rattle.cedar_entities.proofs.Edited.{gone_leaves, out_made}
 use Rattle.cedar_entities.proofs.edits.take_all_out.Goals as goal
 

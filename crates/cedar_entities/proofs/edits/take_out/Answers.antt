@@ -3,9 +3,10 @@ use Rattle.std.specs.Set.{is_member}
 use Rattle.std.proofs.lemmas.Iterator.Consumers.{YieldsList-end}
 use Rattle.std.proofs.lemmas.Iterator.Adapters.{YieldsList-from_vec}
 use Rattle.cedar_ids.specs.UidOf.{same_uid}
-use Rattle.cedar_entities.specs.laws.Held.{held}
-use Rattle.cedar_entities.proofs.Versions.{map_same}
-use Rattle.cedar_entities.proofs.Editing.{out_push, left_match}
+use Rattle.cedar_entity_maps.specs.laws.Held.{held}
+use Rattle.cedar_entity_maps.specs.laws.Lists.{map_same}
+use Rattle.cedar_entities.proofs.Editing.{out_push}
+use Rattle.cedar_entity_maps.specs.laws.Keyed.{left_match}
 use Rattle.cedar_entities.proofs.edits.take_out.Goals as goal
 
 pub loop-uid-preserved : goal.loop-uid-preserved

@@ -4,10 +4,10 @@ use Rattle.std.specs.FinSet as set
 use Rattle.std.specs.Option.{option_or}
 use Rattle.cedar_uid_sets.specs.UidSets.{UidValues}
 use Rattle.cedar_uid_sets.specs.laws.Sets.{contains_listed}
-use Rattle.cedar_entities.specs.laws.Edits.{last_entity, stripped}
-use Rattle.cedar_entities.specs.laws.Held.{held}
-use Rattle.cedar_entities.specs.laws.Losses.{loses, loses_uid}
-use Rattle.cedar_entities.proofs.Editing.{changed_match}
+use Rattle.cedar_entity_maps.specs.laws.Edits.{last_entity, stripped}
+use Rattle.cedar_entity_maps.specs.laws.Held.{held}
+use Rattle.cedar_entity_maps.specs.laws.Losses.{loses, loses_uid}
+use Rattle.cedar_entity_maps.specs.laws.Keyed.{changed_match}
 use Rattle.cedar_entities.proofs.edits.write.Goals as goal
 
 pub take_out-requires : goal.take_out-requires

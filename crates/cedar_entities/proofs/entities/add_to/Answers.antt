@@ -8,13 +8,14 @@ use Rattle.std.specs.Set.{is_member}
 use Rattle.cedar_ids.specs.UidOf.{same_uid}
 use Rattle.cedar_ids.specs.declared.entity.EntityUID.{EntityUID}
 use Rattle.cedar_entity.specs.View.{kept}
-use Rattle.cedar_entities.specs.Edits.{uids_of}
-use Rattle.cedar_entities.specs.Modes.{computes, row_of}
+use Rattle.cedar_entity_maps.specs.Edits.{uids_of}
+use Rattle.cedar_entity_maps.specs.Modes.{computes, row_of}
 use Rattle.cedar_entities.specs.Present.{with_first}
-use Rattle.cedar_entities.specs.Touching.{inserted_in}
-use Rattle.cedar_entities.specs.laws.Held.{held, held_map}
-use Rattle.cedar_entities.specs.laws.Indexes.{is_parent_at, parentage}
-use Rattle.cedar_entities.proofs.Adds.{put_in, stored}
+use Rattle.cedar_entity_maps.specs.Touching.{inserted_in}
+use Rattle.cedar_entity_maps.specs.laws.Held.{held, held_map}
+use Rattle.cedar_entity_maps.specs.laws.Indexes.{is_parent_at, parentage}
+use Rattle.cedar_entities.proofs.Adds.{put_in}
+use Rattle.cedar_entity_maps.specs.laws.Seen.{stored}
 use Rattle.cedar_entities.proofs.Changing.{adds_settled, adds_unmatched}
 use Rattle.cedar_entities.proofs.Edited.{added_alike, known_touched}
 use Rattle.cedar_entities.proofs.Ending.{ended_kept}

@@ -2,9 +2,9 @@ use Rattle.std.proofs.Common.{◌≡◌, subst}
 use Rattle.std.specs.Option.{option_or}
 use Rattle.cedar_ids.specs.declared.entity.EntityUID.{EntityUID}
 use Rattle.cedar_entities.specs.Present.{AllMatch, FirstMismatch, first_entity}
-use Rattle.cedar_entities.specs.Refusals.{MatchRefusal}
-use Rattle.cedar_entities.specs.laws.Held.{held, held_map}
-use Rattle.cedar_entities.specs.Touching.{inserted_in, is_touched}
+use Rattle.cedar_entity_maps.specs.Refusals.{MatchRefusal}
+use Rattle.cedar_entity_maps.specs.laws.Held.{held, held_map}
+use Rattle.cedar_entity_maps.specs.Touching.{inserted_in, is_touched}
 use Rattle.cedar_entities.proofs.Adds.{all_inserted}
 use Rattle.cedar_entities.proofs.Changing.{adds_settled, adds_unmatched}
 use Rattle.cedar_entities.proofs.entities.fill.Goals as goal

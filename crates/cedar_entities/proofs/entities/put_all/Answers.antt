@@ -1,15 +1,15 @@
-use Rattle.std.proofs.Common.{ap, rules, sym, subst, ◌≡◌, ◌∙◌, ◌++◌}
+use Rattle.std.proofs.Common.{ap, append_assoc, rules, sym, subst, [], ◌≡◌, ◌∙◌, ◌++◌, ◌∷◌}
 use Rattle.cedar_entity.specs.View.{EntityView}
 use Rattle.cedar_entity.specs.declared.err.EntitiesError.TheVariants.{Duplicate}
 use Rattle.std.specs.List.{AllByRecursion}
 use Rattle.std.specs.Option.{option_or}
 use Rattle.std.proofs.lemmas.Iterator.Consumers.{YieldsList-end}
 use Rattle.std.proofs.lemmas.Iterator.Adapters.{YieldsList-from_vec}
-use Rattle.cedar_entities.specs.laws.Held.{held}
+use Rattle.cedar_entity_maps.specs.laws.Held.{held}
 use Rattle.cedar_entities.specs.Present.{first_entity, MatchesPresent}
-use Rattle.cedar_entities.proofs.Versions.{or_none, agrees_now, held_push, append_one, map_same, weaker_refusal}
+use Rattle.cedar_entities.proofs.Versions.{or_none, agrees_now, held_push, weaker_refusal}
+use Rattle.cedar_entity_maps.specs.laws.Lists.{map_same, all_push}
 use Rattle.cedar_entities.proofs.entities.put_all.Goals as goal
-use Rattle.cedar_entities.specs.laws.Lists.{all_push}
 
 pub loop-entity-init : goal.loop-entity-init
 loop-entity-init g c = record {
@@ -35,7 +35,7 @@ loop-entity-preserved g c =
       agree = all_push (MatchesPresent f c.args.list.items) done r i.agree
           (agrees_now f now done r _ c.args.list.items place i.holds (c.in_ok-other.ensures.agrees c.in_default.is));
       holds = held_push f now (held c.put_new.new.entities) done r i.holds (c.in_ok-other.ensures.ok c.in_default.is);
-      place = place ∙ append_one done r _;
+      place = place ∙ sym (append_assoc done (r ∷ []) _);
     }
 
 pub returns-in-Some-2-clause-err : goal.returns-in-Some-2-clause-err

@@ -3,7 +3,7 @@ use Rattle.std.specs.List.{AllByRecursion}
 use Rattle.std.specs.Option.{option_or}
 use Rattle.std.specs.Vec.Iter.{into_iter_items}
 use Rattle.cedar_ids.specs.declared.entity.EntityUID.{EntityUID}
-use Rattle.cedar_entities.specs.laws.Held.{held, UidsMatch}
+use Rattle.cedar_entity_maps.specs.laws.Held.{held, UidsMatch}
 use Rattle.cedar_entities.specs.Present.{first_entity, MatchesPresent}
 use Rattle.cedar_entities.proofs.entities.put_all.Given as goal
 

@@ -4,7 +4,7 @@ use Rattle.cedar_ids.specs.UidOf.{same_uid}
 use Rattle.cedar_entities.proofs.Versions.{put_key}
 use Rattle.std.specs.HashMap.Entry.{entry_value}
 use Rattle.std.proofs.lemmas.Bool.{false≢true}
-use Rattle.cedar_entities.specs.laws.Held.{held, shared}
+use Rattle.cedar_entity_maps.specs.laws.Held.{held, shared}
 use Rattle.cedar_entity.specs.View.{EntityView, IsDeepEqual}
 use Rattle.cedar_entities.proofs.entities.put_new.Goals as goal
 

@@ -8,7 +8,7 @@ use Rattle.cedar_ids.specs.laws.UidOfLaws.{same_uid_equiv}
 use Rattle.cedar_ids.specs.declared.entity.EntityUID.{EntityUID}
 use Rattle.cedar_entity.specs.declared.node.SharedEntity.{SharedEntity}
 use Rattle.cedar_entities.specs.Answers.{HasDeepEqual}
-use Rattle.cedar_entities.specs.laws.Held.{held, shared}
+use Rattle.cedar_entity_maps.specs.laws.Held.{held, shared}
 use Rattle.cedar_entities.proofs.Alike.{found_alike}
 use Rattle.cedar_entities.proofs.store_same.have_deep_equals.Goals as goal
 

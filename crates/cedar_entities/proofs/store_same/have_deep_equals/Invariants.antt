@@ -1,7 +1,7 @@
 use Rattle.std.proofs.Common.{Some}
 use Rattle.std.specs.List.{All}
 use Rattle.cedar_entities.specs.Answers.{HasDeepEqual}
-use Rattle.cedar_entities.specs.laws.Held.{held, shared}
+use Rattle.cedar_entity_maps.specs.laws.Held.{held, shared}
 use Rattle.cedar_entities.proofs.store_same.have_deep_equals.Given as goal
 
 abbrev pub invariant-loop-uid : goal.invariant-loop-uid

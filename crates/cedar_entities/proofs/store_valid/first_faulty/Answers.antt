@@ -3,7 +3,7 @@ use Rattle.std.specs.Map.Iter.{deref_pair}
 use Rattle.std.proofs.Common.{subst}
 use Rattle.std.proofs.lemmas.Map.Iter.{iter_end, hash_map_turn}
 use Rattle.cedar_ids.specs.laws.UidOfLaws.{same_uid_equiv}
-use Rattle.cedar_entities.specs.laws.Held.{held, shared}
+use Rattle.cedar_entity_maps.specs.laws.Held.{held, shared}
 use Rattle.cedar_entities.specs.laws.StoreFaults.{TakesFaulty}
 use Rattle.cedar_entities.proofs.FirstFaults.{at_own_uid, first_step, first_of_all}
 use Rattle.cedar_entities.proofs.store_valid.first_faulty.Goals as goal

@@ -1,5 +1,5 @@
 use Rattle.std.specs.Option.{option_copied}
-use Rattle.cedar_entities.specs.laws.Held.{held, shared}
+use Rattle.cedar_entity_maps.specs.laws.Held.{held, shared}
 use Rattle.cedar_entities.proofs.FirstFaults.{IsFirstOf}
 use Rattle.cedar_entities.proofs.store_valid.first_faulty.Given as goal
 

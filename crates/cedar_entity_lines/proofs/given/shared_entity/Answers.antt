@@ -2,7 +2,7 @@ use Rattle.std.proofs.Common.{[], ap, refl, subst, sym, ◌∙◌}
 use Rattle.std.specs.FinSet as set
 use Rattle.cedar_ids.specs.UidOf.{uid_order}
 use Rattle.cedar_entity.specs.View.{EntityView}
-use Rattle.cedar_entities.specs.Plain.{IsBare, given_of}
+use Rattle.cedar_entity_maps.specs.Plain.{IsBare, given_of}
 use Rattle.cedar_entity_lines.proofs.given.shared_entity.Goals as goal
 
 -- the entity is as it was made

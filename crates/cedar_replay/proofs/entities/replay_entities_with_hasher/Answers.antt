@@ -1,6 +1,6 @@
 use Rattle.std.proofs.Common.{[], ◌∷◌, ◌+◌, ap, sym, subst, ◌∙◌, ◌++◌, map}
-use Rattle.cedar_entities.specs.Plain.{IsPlainStore}
-use Rattle.cedar_entities.specs.World.{World, empty_world}
+use Rattle.cedar_entity_maps.specs.Plain.{IsPlainStore}
+use Rattle.cedar_entity_maps.specs.World.{World, empty_world}
 use Rattle.cedar_entities.specs.Calls.{all_made, AllPass}
 use Rattle.cedar_replay.specs.CallsOf.{call_of}
 use Rattle.cedar_replay.proofs.EntityReplays.{made_push, pass_push, longer, stops}

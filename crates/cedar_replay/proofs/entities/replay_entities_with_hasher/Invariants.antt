@@ -1,7 +1,7 @@
 use Rattle.std.specs.Prelude.{◌≡◌, ◌++◌, length, map}
 use Rattle.std.specs.Vec.Iter.{into_iter_items}
-use Rattle.cedar_entities.specs.Plain.{IsPlainStore}
-use Rattle.cedar_entities.specs.World.{empty_world}
+use Rattle.cedar_entity_maps.specs.Plain.{IsPlainStore}
+use Rattle.cedar_entity_maps.specs.World.{empty_world}
 use Rattle.cedar_entities.specs.Calls.{all_made, AllPass}
 use Rattle.cedar_replay.specs.CallsOf.{call_of}
 use Rattle.cedar_replay.proofs.entities.replay_entities_with_hasher.Given as goal

@@ -1,6 +1,6 @@
 use Rattle.std.specs.Prelude.{map}
-use Rattle.cedar_entities.specs.Plain.{entities_in, given_of}
-use Rattle.cedar_entities.specs.World.{empty_world}
+use Rattle.cedar_entity_maps.specs.Plain.{entities_in, given_of}
+use Rattle.cedar_entity_maps.specs.World.{empty_world}
 use Rattle.cedar_replay.proofs.EntityReplays.{add_makes, add_passes, add_refuses, remove_makes, remove_refuses}
 use Rattle.cedar_replay.proofs.EntityReplays.{upsert_makes, upsert_passes, upsert_refuses}
 use Rattle.cedar_replay.proofs.entities.replay_one.Goals as goal

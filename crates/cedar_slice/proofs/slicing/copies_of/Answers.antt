@@ -1,7 +1,7 @@
 use Rattle.std.proofs.Common.{ap, sym, subst, ◌≡◌, ◌∙◌, ◌++◌, map, filter_map, option_to_list}
 use Rattle.std.specs.FinMap as finmap
 use Rattle.std.specs.Option.{IfSome}
-use Rattle.cedar_entities.specs.laws.Lists.{all_push}
+use Rattle.cedar_entity_maps.specs.laws.Lists.{all_push}
 use Rattle.cedar_slice.proofs.Copies.{AreKeyed}
 use Rattle.cedar_slice.proofs.Wanting.{found_push, map_append_one}
 use Rattle.cedar_slice.proofs.slicing.copies_of.Goals as goal

@@ -1,6 +1,6 @@
 use Rattle.std.proofs.Common.{◌≡◌, map, filter_map}
 use Rattle.std.specs.FinMap as finmap
-use Rattle.cedar_entities.specs.Plain.{StoreView}
+use Rattle.cedar_entity_maps.specs.Plain.{StoreView}
 use Rattle.cedar_slice.proofs.Copies.{AreKeyed}
 use Rattle.cedar_slice.proofs.slicing.copies_of.Given as goal
 

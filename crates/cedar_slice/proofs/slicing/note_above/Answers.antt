@@ -2,7 +2,7 @@ use Rattle.std.proofs.Common.{ap, ◌∙◌, ◌||◌}
 use Rattle.std.proofs.lemmas.Result.{on_ok_weaker}
 use Rattle.std.specs.HashSet.{contains}
 use Rattle.cedar_ids.specs.UidOf.{same_uid}
-use Rattle.cedar_entities.specs.Modes.{is_ancestor_in}
+use Rattle.cedar_entity_maps.specs.Modes.{is_ancestor_in}
 use Rattle.cedar_slice.proofs.slicing.note_above.Goals as goal
 
 pub returns-in-Some : goal.returns-in-Some

@@ -1,7 +1,7 @@
 use Rattle.std.proofs.Common.{ap, sym, subst, ◌∙◌}
 use Rattle.std.proofs.lemmas.Result.{IfOk-weaker}
 use Rattle.std.specs.FinMap as finmap
-use Rattle.cedar_entities.specs.Plain.{StoreView}
+use Rattle.cedar_entity_maps.specs.Plain.{StoreView}
 use Rattle.cedar_slice.specs.Slices.{IsPlainSlice}
 use Rattle.cedar_slice.proofs.PlainSlices.{plain_slice, least_part}
 use Rattle.cedar_slice.proofs.Sliced.{asked_stays, holds_slice, only_memory}

@@ -1,5 +1,5 @@
 use Rattle.std.proofs.Common.{sym, subst, ◌∙◌}
-use Rattle.cedar_entities.specs.Plain.{IsPlainStore}
+use Rattle.cedar_entity_maps.specs.Plain.{IsPlainStore}
 use Rattle.cedar_stores_apart.proofs.Stored.{as_partial}
 use Rattle.cedar_stores_apart.proofs.store.entities_apart.Goals as goal
 

@@ -1,7 +1,7 @@
 use Rattle.std.proofs.Common.{◌<◌, ◌≡◌, ◌++◌, ◌∷◌, [], ap, sym, subst, ◌∙◌, length, take, arith}
 use Rattle.std.proofs.lemmas.List.{map_more}
 use Rattle.cedar_entity.specs.View.{EntityView}
-use Rattle.cedar_entities.specs.Plain.{entities_in}
+use Rattle.cedar_entity_maps.specs.Plain.{entities_in}
 use Rattle.cedar_trial_edits.specs.laws.Asked.{AreAsked}
 use Rattle.cedar_trial_edits.proofs.Asking.{asked_push}
 use Rattle.cedar_trial_edits.proofs.asked.asked_by.Goals as goal

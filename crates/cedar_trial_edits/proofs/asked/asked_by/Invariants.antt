@@ -1,5 +1,5 @@
 use Rattle.std.proofs.Common.{take}
-use Rattle.cedar_entities.specs.Plain.{entities_in}
+use Rattle.cedar_entity_maps.specs.Plain.{entities_in}
 use Rattle.cedar_trial_edits.specs.laws.Asked.{AreAsked}
 use Rattle.cedar_trial_edits.proofs.asked.asked_by.Given as goal
 

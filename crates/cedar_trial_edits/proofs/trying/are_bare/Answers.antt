@@ -1,6 +1,6 @@
 use Rattle.std.proofs.Common.{◌<◌, ◌≡◌, ap, sym, subst, ◌∙◌, length, arith}
 use Rattle.std.proofs.lemmas.Bool.{false≢true}
-use Rattle.cedar_entities.specs.Plain.{IsBare}
+use Rattle.cedar_entity_maps.specs.Plain.{IsBare}
 use Rattle.cedar_trial_edits.proofs.Bare.{all_item}
 use Rattle.cedar_trial_edits.proofs.trying.are_bare.Goals as goal
 

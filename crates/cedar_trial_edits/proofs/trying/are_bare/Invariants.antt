@@ -1,5 +1,5 @@
 use Rattle.std.proofs.Common.{take}
-use Rattle.cedar_entities.specs.Plain.{AreBare, entities_in}
+use Rattle.cedar_entity_maps.specs.Plain.{AreBare, entities_in}
 use Rattle.cedar_trial_edits.proofs.trying.are_bare.Given as goal
 
 abbrev pub invariant-loop-entity : goal.invariant-loop-entity

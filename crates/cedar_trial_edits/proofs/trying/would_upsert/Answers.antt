@@ -1,5 +1,5 @@
 use Rattle.std.proofs.Common.{Ok, Err}
-use Rattle.cedar_entities.specs.Plain.{entities_in}
+use Rattle.cedar_entity_maps.specs.Plain.{entities_in}
 use Rattle.cedar_trial_edits.proofs.Tried.{putting_refused, putting_tried}
 use Rattle.cedar_trial_edits.proofs.trying.would_upsert.Goals as goal
 

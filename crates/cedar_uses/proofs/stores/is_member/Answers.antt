@@ -2,9 +2,9 @@ use Rattle.std.proofs.Common.{ap, map, subst, sym, ◌∙◌}
 use Rattle.std.proofs.lemmas.Result.{err_from_is_err_and}
 use Rattle.std.proofs.lemmas.Iterator.Consumers.{YieldsList-end}
 use Rattle.std.proofs.lemmas.Iterator.Adapters.{YieldsList-from_vec}
-use Rattle.cedar_entities.specs.Plain.{IsPlainStore, given_of}
-use Rattle.cedar_entities.specs.Refusals.{IsAddingRefused}
-use Rattle.cedar_entities.specs.World.{added, empty_world, given}
+use Rattle.cedar_entity_maps.specs.Plain.{IsPlainStore, given_of}
+use Rattle.cedar_entity_maps.specs.Refusals.{IsAddingRefused}
+use Rattle.cedar_entity_maps.specs.World.{added, empty_world, given}
 use Rattle.cedar_uses.proofs.Bare.{is_bare, listed_more, map_same}
 use Rattle.cedar_uses.proofs.stores.is_member.Goals as goal
 

@@ -1,6 +1,6 @@
 use Rattle.std.specs.Prelude.{◌≡◌, map}
-use Rattle.cedar_entities.specs.Plain.{AreBare, given_of}
-use Rattle.cedar_entities.specs.World.{given}
+use Rattle.cedar_entity_maps.specs.Plain.{AreBare, given_of}
+use Rattle.cedar_entity_maps.specs.World.{given}
 use Rattle.cedar_uses.proofs.stores.is_member.Given as goal
 
 abbrev pub invariant-loop-uid : goal.invariant-loop-uid

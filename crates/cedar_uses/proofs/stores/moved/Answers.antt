@@ -1,8 +1,8 @@
 use Rattle.std.proofs.Common.{◌∷◌, [], ap, subst, sym, ◌∙◌}
 use Rattle.std.proofs.lemmas.Result.{err_from_is_err_and}
-use Rattle.cedar_entities.specs.Plain.{IsPlainStore, entities_in}
-use Rattle.cedar_entities.specs.Refusals.{IsOverwritingRefused}
-use Rattle.cedar_entities.specs.World.{given, overwritten}
+use Rattle.cedar_entity_maps.specs.Plain.{IsPlainStore, entities_in}
+use Rattle.cedar_entity_maps.specs.Refusals.{IsOverwritingRefused}
+use Rattle.cedar_entity_maps.specs.World.{given, overwritten}
 use Rattle.cedar_uses.proofs.Bare.{one_bare}
 use Rattle.cedar_uses.proofs.Edited.{refused_for_memory, taken_out}
 use Rattle.cedar_uses.proofs.stores.moved.Goals as goal

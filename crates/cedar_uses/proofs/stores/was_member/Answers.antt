@@ -1,6 +1,6 @@
 use Rattle.std.proofs.Common.{map}
 use Rattle.cedar_entities.specs.Calls.{all_made}
-use Rattle.cedar_entities.specs.World.{empty_world}
+use Rattle.cedar_entity_maps.specs.World.{empty_world}
 use Rattle.cedar_replay.specs.CallsOf.{call_of}
 use Rattle.cedar_uses.proofs.stores.was_member.Goals as goal
 

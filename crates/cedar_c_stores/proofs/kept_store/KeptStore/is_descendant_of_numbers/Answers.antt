@@ -1,6 +1,6 @@
 use Rattle.std.proofs.Common.{◌≡◌, ap, sym, subst, true, ◌∙◌}
 use Rattle.std.specs.Prelude.{◌↔◌, Bool}
-use Rattle.cedar_entities.specs.World.{graph}
+use Rattle.cedar_entity_maps.specs.World.{graph}
 use Rattle.cedar_graph.specs.Graph.{Reach}
 use Rattle.cedar_c_stores.proofs.Asking.{above_held}
 use Rattle.cedar_c_stores.proofs.kept_store.KeptStore.is_descendant_of_numbers.Goals as goal

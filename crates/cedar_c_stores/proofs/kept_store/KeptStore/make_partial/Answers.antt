@@ -1,5 +1,5 @@
 use Rattle.std.proofs.Common.{subst, sym}
-use Rattle.cedar_entities.specs.Plain.{IsPlainStore}
+use Rattle.cedar_entity_maps.specs.Plain.{IsPlainStore}
 use Rattle.cedar_c_stores.proofs.kept_store.KeptStore.make_partial.Goals as goal
 
 pub returns-clause-plain : goal.returns-clause-plain

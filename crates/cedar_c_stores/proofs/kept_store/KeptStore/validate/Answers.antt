@@ -1,5 +1,5 @@
 use Rattle.std.proofs.Common.{refl, subst}
-use Rattle.cedar_entities.specs.Plain.{StoreView}
+use Rattle.cedar_entity_maps.specs.Plain.{StoreView}
 use Rattle.cedar_entities.specs.StoreFaults.{IsValidStore}
 use Rattle.cedar_c_stores.proofs.kept_store.KeptStore.validate.Goals as goal
 

@@ -1,4 +1,4 @@
-use Rattle.cedar_entities.specs.World.{empty_world}
+use Rattle.cedar_entity_maps.specs.World.{empty_world}
 use Rattle.cedar_c_stores.specs.declared.edits.Edit.TheVariants.{Add}
 use Rattle.cedar_c_stores.proofs.Editing.{plain_given}
 use Rattle.cedar_c_stores.proofs.watched.Watched.built.Goals as goal

@@ -1,5 +1,5 @@
 use Rattle.std.proofs.Common.{subst, sym, true}
-use Rattle.cedar_entities.specs.Plain.{IsPlainStore}
+use Rattle.cedar_entity_maps.specs.Plain.{IsPlainStore}
 use Rattle.cedar_c_stores.proofs.watched.Watched.partial.Goals as goal
 
 pub invariant_of-result : goal.invariant_of-result

@@ -1,6 +1,6 @@
 use Rattle.std.proofs.Common.{◌≡◌, subst}
 use Rattle.std.specs.Result.{IfOk}
-use Rattle.cedar_entities.specs.Plain.{StoreView}
+use Rattle.cedar_entity_maps.specs.Plain.{StoreView}
 use Rattle.cedar_entities.specs.StoreFaults.{IsValidStore}
 use Rattle.cedar_c_stores.proofs.watched.Watched.try_validate.Goals as goal
 

@@ -1,8 +1,8 @@
 use Rattle.std.proofs.Common.{ap, subst, sym, map, ◌∙◌}
 use Rattle.cedar_entity.specs.declared.err.EntitiesError.TheVariants.{Memory}
-use Rattle.cedar_entities.specs.Modes.{row_of}
-use Rattle.cedar_entities.specs.Plain.{AreBare, StoreView}
-use Rattle.cedar_entities.specs.laws.Held.{held_map}
+use Rattle.cedar_entity_maps.specs.Modes.{row_of}
+use Rattle.cedar_entity_maps.specs.Plain.{AreBare, StoreView}
+use Rattle.cedar_entity_maps.specs.laws.Held.{held_map}
 use Rattle.cedar_entities.proofs.Changing.{adds_kept, adds_nothing, adds_plain, adds_same, adds_told, none_came}
 use Rattle.cedar_entities.proofs.Indexes.{children_seen, plain_in}
 use Rattle.cedar_entities.proofs.entities.Entities.add_entities.Goals as goal

@@ -1,6 +1,6 @@
 use Rattle.std.proofs.Common.{ap, sym, ◌∙◌}
 use Rattle.std.proofs.lemmas.Bool.{false≢true}
-use Rattle.cedar_entities.specs.Plain.{StoreView}
+use Rattle.cedar_entity_maps.specs.Plain.{StoreView}
 use Rattle.cedar_entities.proofs.Alike.{same_flag, to_deep, deep_alike, deep_keys}
 use Rattle.cedar_entities.proofs.entities.Entities.deep_eq.Goals as goal
 

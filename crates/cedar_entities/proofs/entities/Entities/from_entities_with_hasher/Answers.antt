@@ -1,8 +1,8 @@
 use Rattle.std.proofs.Common.{false, map, ap, subst, sym}
 use Rattle.cedar_entity.specs.declared.err.EntitiesError.TheVariants.{Memory}
 use Rattle.cedar_entities.specs.Changes.{AddsPlain}
-use Rattle.cedar_entities.specs.Plain.{AreBare, StoreView, given_of, no_entities}
-use Rattle.cedar_entities.specs.World.{empty_world}
+use Rattle.cedar_entity_maps.specs.Plain.{AreBare, StoreView, given_of, no_entities}
+use Rattle.cedar_entity_maps.specs.World.{empty_world}
 use Rattle.cedar_entities.proofs.Changing.{adds_nothing, adds_plain, adds_same, none_came}
 use Rattle.cedar_entities.proofs.PlainStores.{plain_empty}
 use Rattle.cedar_entities.proofs.entities.Entities.from_entities_with_hasher.Goals as goal

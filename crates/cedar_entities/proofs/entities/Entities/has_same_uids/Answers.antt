@@ -1,6 +1,6 @@
 use Rattle.std.proofs.Common.{ap, sym, ◌∙◌}
 use Rattle.std.proofs.lemmas.Bool.{false≢true}
-use Rattle.cedar_entities.specs.Plain.{StoreView}
+use Rattle.cedar_entity_maps.specs.Plain.{StoreView}
 use Rattle.cedar_entities.proofs.Alike.{same_flag}
 use Rattle.cedar_entities.proofs.UidsAlike.{to_same, same_back, same_forth}
 use Rattle.cedar_entities.proofs.entities.Entities.has_same_uids.Goals as goal

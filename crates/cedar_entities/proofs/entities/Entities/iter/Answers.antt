@@ -1,5 +1,5 @@
 use Rattle.std.proofs.Common.{ap, subst}
-use Rattle.cedar_entities.specs.Plain.{StoreView, IsKeyed}
+use Rattle.cedar_entity_maps.specs.Plain.{StoreView, IsKeyed}
 use Rattle.cedar_entities.proofs.StoreMaps.{seen_keyed}
 use Rattle.cedar_entities.proofs.entities.Entities.iter.Goals as goal
 

@@ -1,7 +1,7 @@
 use Rattle.std.proofs.Common.{sym, subst}
-use Rattle.cedar_entities.specs.Plain.{StoreView}
-use Rattle.cedar_entities.specs.laws.Held.{held_map}
-use Rattle.cedar_entities.specs.laws.Indexes.{IsIndexOf, IsPlainHeld}
+use Rattle.cedar_entity_maps.specs.Plain.{StoreView}
+use Rattle.cedar_entity_maps.specs.laws.Held.{held_map}
+use Rattle.cedar_entity_maps.specs.laws.Indexes.{IsIndexOf, IsPlainHeld}
 use Rattle.cedar_entities.proofs.Indexes.{plain_at, plain_held}
 use Rattle.cedar_entities.proofs.entities.Entities.known_plain_with.Goals as goal
 

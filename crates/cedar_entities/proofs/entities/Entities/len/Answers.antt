@@ -1,6 +1,6 @@
 use Rattle.std.proofs.Common.{ap, ◌∙◌}
 use Rattle.std.specs.FinMap as finmap
-use Rattle.cedar_entities.specs.Plain.{StoreView}
+use Rattle.cedar_entity_maps.specs.Plain.{StoreView}
 use Rattle.cedar_entities.proofs.StoreMaps.{len_seen}
 use Rattle.cedar_entities.proofs.PlainLen.{plain_len}
 use Rattle.cedar_entities.proofs.entities.Entities.len.Goals as goal

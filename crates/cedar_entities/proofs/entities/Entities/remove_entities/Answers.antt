@@ -1,13 +1,14 @@
 use Rattle.std.proofs.Common.{ap, subst, sym, Ok, ◌∙◌}
 use Rattle.cedar_entities.specs.Changes.{RemovesEntities}
-use Rattle.cedar_entities.specs.Edits.{taken_out}
-use Rattle.cedar_entities.specs.Modes.{mending, row_of}
-use Rattle.cedar_entities.specs.Plain.{StoreView}
-use Rattle.cedar_entities.specs.Touching.{removed_from}
-use Rattle.cedar_entities.specs.laws.Held.{held_map}
+use Rattle.cedar_entity_maps.specs.Edits.{taken_out}
+use Rattle.cedar_entity_maps.specs.Modes.{mending, row_of}
+use Rattle.cedar_entity_maps.specs.Plain.{StoreView}
+use Rattle.cedar_entity_maps.specs.Touching.{removed_from}
+use Rattle.cedar_entity_maps.specs.laws.Held.{held_map}
 use Rattle.cedar_entities.proofs.Changing.{edit_made, edit_told, none_came, removes_plain}
 use Rattle.cedar_entities.proofs.Indexes.{children_seen, plain_out}
-use Rattle.cedar_entities.proofs.Removing.{taken_untouched}
+use Rattle.cedar_entities.proofs.PlainEdits.{edit_untouched}
+use Rattle.cedar_entities.proofs.Removing.{out_edit}
 use Rattle.cedar_entities.proofs.entities.Entities.remove_entities.Goals as goal
 
 pub returns-in_err-take_all_out-clause-removes : goal.returns-in_err-take_all_out-clause-removes
@@ -32,7 +33,8 @@ returns-clause-removes g c =
     let U = c.args.list.items in
     let s : StoreView = record { held = held_map c.take_all_out.new.entities; partial = c.self.inside.partial } in
     subst (λ E. RemovesEntities c.args.tc_computation E U (Ok s)) (ap (λ (t : StoreView). t.held) c.self.view_is)
-    (edit_made (mending (row_of c.args.tc_computation)) (removed_from D U) D (taken_out D U) s _ (taken_untouched D U)
+    (edit_made (mending (row_of c.args.tc_computation)) (removed_from D U) D (taken_out D U) s _
+    (edit_untouched (out_edit D U))
     c.in_ok-take_all_out.ensures.ends)
 
 pub returns-clause-plain : goal.returns-clause-plain

@@ -2,9 +2,10 @@ use Rattle.std.proofs.Common.{ap, sym, subst, ◌∙◌}
 use Rattle.std.specs.FinMap as finmap
 use Rattle.std.specs.Option.{option_map, option_copied}
 use Rattle.std.specs.Prelude.{Some}
-use Rattle.cedar_entities.specs.laws.Held.{shared}
-use Rattle.cedar_entities.specs.Plain.{StoreView, IsKeyed}
-use Rattle.cedar_entities.proofs.StoreMaps.{get_seen, seen_keyed}
+use Rattle.cedar_entity_maps.specs.laws.Held.{shared}
+use Rattle.cedar_entity_maps.specs.Plain.{StoreView, IsKeyed}
+use Rattle.cedar_entities.proofs.StoreMaps.{seen_keyed}
+use Rattle.cedar_entity_maps.specs.laws.Seen.{get_seen}
 use Rattle.cedar_entities.proofs.entities.Entities.stored.Goals as goal
 
 pub returns-in-Some-clause-value : goal.returns-in-Some-clause-value

@@ -1,8 +1,8 @@
 use Rattle.std.proofs.Common.{ap, refl, subst}
 use Rattle.std.proofs.lemmas.Result.{err_from_is_err_and}
-use Rattle.cedar_entities.specs.Plain.{StoreView}
+use Rattle.cedar_entity_maps.specs.Plain.{StoreView}
 use Rattle.cedar_entities.specs.StoreFaults.{AreAllValid, IsStoreFault}
-use Rattle.cedar_entities.specs.Modes.{IsSound}
+use Rattle.cedar_entity_maps.specs.Modes.{IsSound}
 use Rattle.cedar_entities.proofs.FirstFaults.{told_of_first}
 use Rattle.cedar_entities.proofs.entities.Entities.try_validate.Goals as goal
 

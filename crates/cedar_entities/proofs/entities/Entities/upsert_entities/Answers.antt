@@ -1,13 +1,14 @@
 use Rattle.std.proofs.Common.{ap, subst, sym, map, ◌∙◌}
 use Rattle.cedar_entity.specs.declared.err.EntitiesError.TheVariants.{Memory}
-use Rattle.cedar_entities.specs.Edits.{put_over, uids_of}
-use Rattle.cedar_entities.specs.Modes.{row_of}
-use Rattle.cedar_entities.specs.Plain.{AreBare, StoreView}
-use Rattle.cedar_entities.specs.laws.Held.{held_map}
+use Rattle.cedar_entity_maps.specs.Edits.{put_over, uids_of}
+use Rattle.cedar_entity_maps.specs.Modes.{row_of}
+use Rattle.cedar_entity_maps.specs.Plain.{AreBare, StoreView}
+use Rattle.cedar_entity_maps.specs.laws.Held.{held_map}
 use Rattle.cedar_entities.proofs.Changing.{edit_made, edit_nothing, edit_told, none_came, strips_plain, upserts_plain}
 use Rattle.cedar_entities.proofs.Changing.{upserts_same}
 use Rattle.cedar_entities.proofs.Indexes.{children_seen, plain_over}
-use Rattle.cedar_entities.proofs.Overwriting.{over_untouched}
+use Rattle.cedar_entities.proofs.Overwriting.{over_edit}
+use Rattle.cedar_entities.proofs.PlainEdits.{edit_untouched}
 use Rattle.cedar_entities.proofs.entities.Entities.upsert_entities.Goals as goal
 
 pub returns-in_err-coming-clause-upserts : goal.returns-in_err-coming-clause-upserts
@@ -48,7 +49,7 @@ returns-clause-upserts g c =
     let s : StoreView = record { held = N; partial = c.self.inside.partial } in
     upserts_same c.args.tc_computation D c.args.self.held L (map (λ r. r.value) c.args.list.items) _
     (ap (λ (t : StoreView). t.held) c.self.view_is) c.in_ok-coming.ensures
-    (edit_made (row_of c.args.tc_computation) (uids_of L) D (put_over D L) s _ (over_untouched D L)
+    (edit_made (row_of c.args.tc_computation) (uids_of L) D (put_over D L) s _ (edit_untouched (over_edit D L))
     c.in_ok-put_all_over.ensures.ends)
 
 pub returns-clause-strips : goal.returns-clause-strips

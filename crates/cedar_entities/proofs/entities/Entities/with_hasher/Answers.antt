@@ -1,8 +1,8 @@
 use Rattle.std.proofs.Common.{rules, sym, subst, false}
-use Rattle.cedar_entities.specs.Plain.{Held, IsPlainStore}
-use Rattle.cedar_entities.specs.World.{empty_world}
-use Rattle.cedar_entities.specs.laws.Held.{held_map}
-use Rattle.cedar_entities.specs.laws.Indexes.{IsIndexOf}
+use Rattle.cedar_entity_maps.specs.Plain.{Held, IsPlainStore}
+use Rattle.cedar_entity_maps.specs.World.{empty_world}
+use Rattle.cedar_entity_maps.specs.laws.Held.{held_map}
+use Rattle.cedar_entity_maps.specs.laws.Indexes.{IsIndexOf}
 use Rattle.cedar_entities.proofs.Indexes.{plain_held}
 use Rattle.cedar_entities.proofs.StoreMaps.{seen_empty}
 use Rattle.cedar_entities.proofs.PlainStores.{plain_empty}

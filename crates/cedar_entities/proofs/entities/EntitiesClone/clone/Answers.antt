@@ -1,6 +1,6 @@
 use Rattle.std.proofs.Common.{subst, sym}
-use Rattle.cedar_entities.specs.laws.Held.{held_map}
-use Rattle.cedar_entities.specs.laws.Indexes.{IsIndexOf, IsPlainHeld}
+use Rattle.cedar_entity_maps.specs.laws.Held.{held_map}
+use Rattle.cedar_entity_maps.specs.laws.Indexes.{IsIndexOf, IsPlainHeld}
 use Rattle.cedar_entities.proofs.entities.EntitiesClone.clone.Goals as goal
 
 pub invariant_of-result : goal.invariant_of-result

@@ -1,6 +1,6 @@
 use Rattle.std.proofs.Common.{sym, subst, map}
 use Rattle.cedar_entities.specs.Answers.{ListsHeld}
-use Rattle.cedar_entities.specs.laws.Held.{held_map, shared}
+use Rattle.cedar_entity_maps.specs.laws.Held.{held_map, shared}
 use Rattle.cedar_entities.proofs.Listed.{lists_held}
 use Rattle.cedar_entities.proofs.store_iters.Iter.of.Goals as goal
 

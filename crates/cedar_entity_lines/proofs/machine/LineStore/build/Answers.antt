@@ -1,6 +1,6 @@
 use Rattle.std.proofs.Common.{refl, sym, subst}
 use Rattle.std.proofs.lemmas.Result.{on_ok_weaker}
-use Rattle.cedar_entities.specs.Plain.{entities_in}
+use Rattle.cedar_entity_maps.specs.Plain.{entities_in}
 use Rattle.cedar_entity_lines.specs.Holding.{StoreAndWaiting, Holds}
 use Rattle.cedar_entity_lines.proofs.Steps.{build_takes}
 use Rattle.cedar_entity_lines.proofs.machine.LineStore.build.Goals as goal

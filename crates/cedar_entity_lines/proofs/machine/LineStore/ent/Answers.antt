@@ -1,5 +1,5 @@
 use Rattle.std.proofs.Common.{[], ◌∷◌, ap, refl, sym, subst, ◌∙◌}
-use Rattle.cedar_entities.specs.Plain.{entities_in}
+use Rattle.cedar_entity_maps.specs.Plain.{entities_in}
 use Rattle.cedar_entity_lines.specs.Holding.{StoreAndWaiting, Holds}
 use Rattle.cedar_entity_lines.proofs.Steps.{ent_takes}
 use Rattle.cedar_entity_lines.proofs.machine.LineStore.ent.Goals as goal

@@ -1,6 +1,6 @@
 use Rattle.std.proofs.Common.{sym, subst, OnOk}
 use Rattle.std.proofs.lemmas.Result.{on_ok_weaker}
-use Rattle.cedar_entities.specs.Plain.{entities_in}
+use Rattle.cedar_entity_maps.specs.Plain.{entities_in}
 use Rattle.cedar_entity_lines.specs.Holding.{StoreAndWaiting}
 use Rattle.cedar_entity_lines.specs.laws.Machines.{KeepsAndTells}
 use Rattle.cedar_entity_lines.proofs.machine.LineStore.keep_and_tell.Goals as goal

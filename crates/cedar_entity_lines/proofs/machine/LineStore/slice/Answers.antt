@@ -1,7 +1,7 @@
 use Rattle.std.proofs.Common.{subst, IfOk}
 use Rattle.std.proofs.lemmas.Result.{on_ok_weaker}
-use Rattle.cedar_entities.specs.Plain.{StoreView, IsPlainStore}
-use Rattle.cedar_entities.specs.World.{World}
+use Rattle.cedar_entity_maps.specs.Plain.{StoreView, IsPlainStore}
+use Rattle.cedar_entity_maps.specs.World.{World}
 use Rattle.cedar_slice.specs.Slices.{IsPlainSlice}
 use Rattle.cedar_entity_lines.specs.Holding.{StoreAndWaiting}
 use Rattle.cedar_entity_lines.proofs.Steps.{slice_takes}

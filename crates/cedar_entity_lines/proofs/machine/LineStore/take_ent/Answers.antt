@@ -1,7 +1,7 @@
 use Rattle.std.proofs.Common.{◌≡◌, [], ◌∷◌, ap, refl, subst, sym, map, codes, ◌∙◌}
 use Rattle.std.specs.Cmp.Lexicographic.{bytes_decides}
 use Rattle.std.proofs.lemmas.List.{map-append}
-use Rattle.cedar_entities.specs.Plain.{entities_in}
+use Rattle.cedar_entity_maps.specs.Plain.{entities_in}
 use Rattle.cedar_entity_lines.specs.EntityCommand.{EntityCommand, Ent, IsEntityCommand}
 use Rattle.cedar_entity_lines.specs.Holding.{StoreAndWaiting, Holds}
 use Rattle.cedar_entity_lines.specs.laws.ReadCommands.{command_ascii}

@@ -2,7 +2,7 @@ use Rattle.std.proofs.Common.{ap, sym, subst, ◌∙◌, Vec, Global}
 use Rattle.std.specs.declared.rc.Rc.{Rc}
 use Rattle.std.proofs.lemmas.Result.{on_ok_weaker}
 use Rattle.cedar_entity.specs.View.{EntityView}
-use Rattle.cedar_entities.specs.Plain.{entities_in}
+use Rattle.cedar_entity_maps.specs.Plain.{entities_in}
 use Rattle.cedar_entity_lines.specs.Holding.{StoreAndWaiting, Holds}
 use Rattle.cedar_entity_lines.proofs.Steps.{upsert_takes}
 use Rattle.cedar_entity_lines.proofs.machine.LineStore.upsert.Goals as goal

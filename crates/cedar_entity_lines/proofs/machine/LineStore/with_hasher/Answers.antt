@@ -1,6 +1,6 @@
 use Rattle.std.proofs.Common.{ap}
-use Rattle.cedar_entities.specs.Plain.{entities_in}
-use Rattle.cedar_entities.specs.World.{empty_world}
+use Rattle.cedar_entity_maps.specs.Plain.{entities_in}
+use Rattle.cedar_entity_maps.specs.World.{empty_world}
 use Rattle.cedar_entity_lines.proofs.Steps.{settled, empty_ascii}
 use Rattle.cedar_entity_lines.proofs.machine.LineStore.with_hasher.Goals as goal
 

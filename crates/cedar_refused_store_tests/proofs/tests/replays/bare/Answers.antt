@@ -1,7 +1,7 @@
 use Rattle.std.proofs.Common.{sym, subst}
 use Rattle.std.specs.FinSet as set
 use Rattle.cedar_ids.specs.UidOf.{uid_order}
-use Rattle.cedar_entities.specs.Plain.{IsBare}
+use Rattle.cedar_entity_maps.specs.Plain.{IsBare}
 use Rattle.cedar_refused_store_tests.proofs.tests.replays.bare.Goals as goal
 
 pub returns-in-Some : goal.returns-in-Some

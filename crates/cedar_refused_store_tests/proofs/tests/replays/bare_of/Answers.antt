@@ -1,5 +1,5 @@
 use Rattle.std.proofs.Common.{sym, subst}
-use Rattle.cedar_entities.specs.Plain.{AreBare}
+use Rattle.cedar_entity_maps.specs.Plain.{AreBare}
 use Rattle.cedar_refused_store_tests.proofs.tests.replays.bare_of.Goals as goal
 
 pub loop-text-init : goal.loop-text-init

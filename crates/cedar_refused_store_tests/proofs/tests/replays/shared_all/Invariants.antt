@@ -1,5 +1,5 @@
 use Rattle.std.specs.Prelude.{◌≡◌, map}
-use Rattle.cedar_entities.specs.Plain.{entities_in}
+use Rattle.cedar_entity_maps.specs.Plain.{entities_in}
 use Rattle.cedar_refused_store_tests.proofs.tests.replays.shared_all.Given as goal
 
 abbrev pub invariant-loop-entity : goal.invariant-loop-entity

@@ -1,0 +1,161 @@
+-- From what the closure calls say of the map to what is seen of it.
+use Rattle.std.specs.Prelude.{◌≡◌, Bool, true, false, Option, Some, None, Result, Ok, Err, IfErr, IsTrue, ⊤}
+use Rattle.std.proofs.Common.{ap, sym, refl, subst, ◌∙◌, inl, inr}
+use Rattle.std.specs.Option.{option_map, is_some}
+use Rattle.std.proofs.lemmas.Bool.{false≢true}
+use Rattle.std.specs.HashMap.{HashMap, get}
+use Rattle.cedar_graph.specs.Graph.{KeepsNodes, KeepsEdges, AddsOnlyReached, Reach, IsClosure, IsClosed}
+use Rattle.cedar_graph.specs.Graph.{IsClosedWithoutLoop, IsTrusted, HasNoCycle, HasNoCycleAt, graph_of, edge_at}
+use Rattle.cedar_graph.specs.Faults.{MatchFault, NamesCycleAt, BreaksClosed}
+use Rattle.cedar_graph.specs.declared.err.TcError.{TcError}
+use Rattle.cedar_graph.specs.declared.err.TcError.TheVariants as tc
+use Rattle.cedar_ids.specs.UidOf.{same_uid}
+use Rattle.cedar_ids.specs.declared.entity.EntityUID.{EntityUID}
+use Rattle.cedar_entity.specs.declared.node.SharedEntity.{SharedEntity}
+use Rattle.std.specs.Result.{IsErrAnd}
+use Rattle.cedar_entity.specs.declared.err.EntitiesError.{EntitiesError}
+use Rattle.cedar_entity.specs.ClosureRefusals.{refusal_of, Tells}
+use Rattle.cedar_entity_maps.specs.ClosureFaults.{IsClosureFault}
+use Rattle.cedar_entity_maps.specs.Refusals.{MatchRefusal, NamesOneOf}
+use Rattle.cedar_entity_maps.specs.laws.Held.{held, held_map, shared}
+use Rattle.cedar_entity_maps.specs.Modes.{ancestry, is_ancestor_in, IsSound, TellsCycle, TellsUnsound}
+use Rattle.cedar_entity_maps.specs.laws.Refusals.{refusal_cases}
+use Rattle.cedar_entity_maps.specs.Touching.{IsRepairOf, IsAcyclicAt}
+use Rattle.cedar_entity.specs.View.{has_ancestor, Kept, kept}
+use Rattle.cedar_entity_maps.specs.laws.Seen.{get_seen}
+
+abbrev pub node_edges : SharedEntity → EntityUID → Bool
+node_edges n = has_ancestor (shared n)
+
+abbrev pub node_kept : SharedEntity → Kept
+node_kept n = kept (shared n)
+
+leads_at : (o : Option SharedEntity) (b : EntityUID) → edge_at node_edges o b ≡ is_ancestor_in (option_map shared o) b
+leads_at None b = refl
+leads_at (Some n) b = refl
+
+-- the graph of the nodes is that of the ancestors seen
+pub same_ancestry : {S : Type 0} (m : HashMap EntityUID SharedEntity S)
+    → graph_of same_uid node_edges m ≡ ancestry (held_map m)
+same_ancestry m = λ i a b. (leads_at (get same_uid m a) b ∙ ap (λ o. is_ancestor_in o b) (sym (get_seen m a))) i
+
+kept_at : (o : Option SharedEntity) → option_map kept (option_map shared o) ≡ option_map node_kept o
+kept_at None = refl
+kept_at (Some n) = refl
+
+pub repair_of : {S : Type 0} (m n : HashMap EntityUID SharedEntity S) (fix : EntityUID → Bool)
+    → KeepsNodes same_uid (λ e. (shared e).uid) node_kept m n
+    → ((q : EntityUID) → fix q ≡ false → get same_uid n q ≡ get same_uid m q)
+    → KeepsEdges (graph_of same_uid node_edges m) (graph_of same_uid node_edges n)
+    → AddsOnlyReached (graph_of same_uid node_edges m) (graph_of same_uid node_edges n)
+    → (IsTrusted fix (graph_of same_uid node_edges m) → HasNoCycleAt fix (graph_of same_uid node_edges m)
+    → IsClosure (graph_of same_uid node_edges m) (graph_of same_uid node_edges n))
+    → IsRepairOf fix (held_map m) (held_map n)
+repair_of m n fix keeps alone stays only closed =
+    let G = same_ancestry m in
+    let H = same_ancestry n in
+    record {
+      parts = λ q. ap (option_map kept) (get_seen n q) ∙ kept_at (get same_uid n q) ∙ keeps.rests q
+          ∙ sym (kept_at (get same_uid m q)) ∙ sym (ap (option_map kept) (get_seen m q));
+      alone = λ q t. get_seen n q ∙ ap (option_map shared) (alone q t) ∙ sym (get_seen m q);
+      stays =
+          subst (λ F. KeepsEdges F (ancestry (held_map n))) G
+          (subst (KeepsEdges (graph_of same_uid node_edges m)) H stays);
+      only =
+          subst (λ F. AddsOnlyReached F (ancestry (held_map n))) G
+          (subst (AddsOnlyReached (graph_of same_uid node_edges m)) H only);
+      closed = subst (λ F. IsTrusted fix F → HasNoCycleAt fix F → IsClosure F (ancestry (held_map n))) G
+          (subst (λ F. IsTrusted fix (graph_of same_uid node_edges m)
+          → HasNoCycleAt fix (graph_of same_uid node_edges m)
+          → IsClosure (graph_of same_uid node_edges m) F) H closed);
+    }
+
+pub acyclic_of : {S : Type 0} (m : HashMap EntityUID SharedEntity S) (fix : EntityUID → Bool)
+    → (IsTrusted fix (graph_of same_uid node_edges m) → HasNoCycleAt fix (graph_of same_uid node_edges m))
+    → IsAcyclicAt fix (held_map m)
+acyclic_of m fix h = subst (λ F. IsTrusted fix F → HasNoCycleAt fix F) (same_ancestry m) h
+
+-- a fault as the call tells it
+pub told : (P : EntityUID → EntityUID → EntityUID → Type 0) (Q : EntityUID → Type 0) (t : TcError EntityUID)
+    → MatchFault t P Q → MatchRefusal (refusal_of t) (λ _. ⊥) (λ u. IsClosureFault u P Q)
+told P Q (tc.MissingTcEdge x) h = h
+told P Q (tc.HasCycle x) h = h
+told P Q tc.Memory h = tt
+
+pub cycle_told : {S : Type 0} (m : HashMap EntityUID SharedEntity S) (asked : Bool) (fix : EntityUID → Bool)
+    (t : TcError EntityUID) → NamesCycleAt asked fix (graph_of same_uid node_edges m) t
+    → MatchRefusal (refusal_of t) (λ _. ⊥) (λ u. IsTrue asked × TellsCycle (held_map m) u)
+cycle_told m asked fix (tc.MissingTcEdge x) h = absurd h
+cycle_told m asked fix (tc.HasCycle x) h = (h.0, subst (λ F. Reach F x.vertex x.vertex) (same_ancestry m) h.2)
+cycle_told m asked fix tc.Memory h = tt
+
+pub closed_told : {S : Type 0} (m : HashMap EntityUID SharedEntity S) (t : TcError EntityUID)
+    → MatchFault t (BreaksClosed (graph_of same_uid node_edges m))
+    (λ v. IsClosed (graph_of same_uid node_edges m) × (graph_of same_uid node_edges m v v ≡ true))
+    → MatchRefusal (refusal_of t) (λ _. ⊥) (TellsUnsound (held_map m))
+closed_told m t h =
+    told (BreaksClosed (ancestry (held_map m)))
+    (λ v. IsClosed (ancestry (held_map m)) × (ancestry (held_map m) v v ≡ true)) t
+    (subst (λ F. MatchFault t (BreaksClosed F) (λ v. IsClosed F × (F v v ≡ true))) (same_ancestry m) h)
+
+-- what is said of the refusal for a fault is said of the error that it became
+pub refused_as : {X : Type 0} (C : TcError EntityUID → Type 0) (r : Result X EntitiesError) (t : TcError EntityUID)
+    → IsErrAnd r (Tells t) → MatchRefusal (refusal_of t) (λ _. ⊥) C → IfErr r (λ e. MatchRefusal e (λ _. ⊥) C)
+refused_as C (Ok x) t h k = tt
+refused_as C (Err e) t (inl h) k = subst (λ f. MatchRefusal f (λ _. ⊥) C) (sym h) k
+refused_as C (Err e) t (inr h) k = subst (λ f. MatchRefusal f (λ _. ⊥) C) (sym h) tt
+
+pub closed_seen : {S : Type 0} (m : HashMap EntityUID SharedEntity S)
+    → IsClosedWithoutLoop (graph_of same_uid node_edges m) → IsSound (held_map m)
+closed_seen m h = subst IsClosedWithoutLoop (same_ancestry m) h
+
+-- where all that is held passes, nothing else changes
+alone_at : (o p : Option SharedEntity) (b : Bool) → option_map node_kept p ≡ option_map node_kept o
+    → (is_some (option_map shared o) ≡ true → b ≡ true) → b ≡ false → p ≡ o
+alone_at None None b same all out = refl
+alone_at None (Some n) b same all out = absurd (false≢true (sym (ap is_some same)))
+alone_at (Some m) p b same all out = absurd (false≢true (sym out ∙ all refl))
+
+pub repair_of_whole : {S : Type 0} (m n : HashMap EntityUID SharedEntity S) (fix : EntityUID → Bool)
+    → ((q : EntityUID) → is_some (held m q) ≡ true → fix q ≡ true)
+    → KeepsNodes same_uid (λ e. (shared e).uid) node_kept m n
+    → KeepsEdges (graph_of same_uid node_edges m) (graph_of same_uid node_edges n)
+    → AddsOnlyReached (graph_of same_uid node_edges m) (graph_of same_uid node_edges n)
+    → IsClosure (graph_of same_uid node_edges m) (graph_of same_uid node_edges n)
+    → IsRepairOf fix (held_map m) (held_map n)
+repair_of_whole m n fix all keeps stays only closed =
+    repair_of m n fix keeps (λ q. alone_at (get same_uid m q) (get same_uid n q) (fix q) (keeps.rests q) (all q)) stays
+    only (λ t a. closed)
+
+pub acyclic_whole : {S : Type 0} (m : HashMap EntityUID SharedEntity S) (fix : EntityUID → Bool)
+    → HasNoCycle (graph_of same_uid node_edges m) → IsAcyclicAt fix (held_map m)
+acyclic_whole m fix h = acyclic_of m fix (λ t a p. h a)
+
+-- the uid that a cycle is told by is one of those that were to be looked at
+pub cycle_named : {S : Type 0} (m : HashMap EntityUID SharedEntity S) (asked : Bool) (fix : EntityUID → Bool)
+    (t : TcError EntityUID) → NamesCycleAt asked fix (graph_of same_uid node_edges m) t
+    → MatchRefusal (refusal_of t) (λ _. ⊥) (λ u. IsClosureFault u (λ _ _ _. ⊤) (λ v. fix v ≡ true))
+cycle_named m asked fix (tc.MissingTcEdge x) h = absurd h
+cycle_named m asked fix (tc.HasCycle x) h = h.1
+cycle_named m asked fix tc.Memory h = tt
+
+held_there : (o : Option SharedEntity) → is_some o ≡ true → is_some (option_map shared o) ≡ true
+held_there None h = h
+held_there (Some n) h = refl
+
+-- where all that is held is touched, a cycle of the whole is one at what is touched
+pub touched_named : {S : Type 0} (m : HashMap EntityUID SharedEntity S) (touched : EntityUID → Bool)
+    → ((q : EntityUID) → is_some (held m q) ≡ true → touched q ≡ true) → (asked : Bool) (t : TcError EntityUID)
+    → NamesCycleAt asked (λ v. is_some (get same_uid m v)) (graph_of same_uid node_edges m) t
+    → NamesCycleAt asked touched (graph_of same_uid node_edges m) t
+touched_named m touched all asked (tc.MissingTcEdge x) h = absurd h
+touched_named m touched all asked (tc.HasCycle x) h =
+    (h.0, all x.vertex (held_there (get same_uid m x.vertex) h.1), h.2)
+touched_named m touched all asked tc.Memory h = tt
+
+-- what is said of no duplicate is said of any
+pub named_for : (touched : EntityUID → Bool) (e : EntitiesError)
+    → MatchRefusal e (λ _. ⊥) (λ u. IsClosureFault u (λ _ _ _. ⊤) (λ v. touched v ≡ true)) → NamesOneOf touched e
+named_for touched e h =
+    refusal_cases (λ _. ⊥) (λ u. IsClosureFault u (λ _ _ _. ⊤) (λ v. touched v ≡ true)) (NamesOneOf touched) (λ u n. tt)
+    (λ t k. k) tt e h

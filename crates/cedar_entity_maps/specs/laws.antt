@@ -1,0 +1,14 @@
+pub mod AnyOf
+pub mod Edits
+pub mod Ends
+pub mod Held
+pub mod Indexes
+pub mod Keyed
+pub mod Lists
+pub mod LossLaws
+pub mod Losses
+pub mod PlainAncestors
+pub mod Refusals
+pub mod Rows
+pub mod Seen
+pub mod Worlds

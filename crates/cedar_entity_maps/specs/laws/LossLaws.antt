@@ -1,0 +1,165 @@
+-- What is read of the store once for all uids of an edit, and what that comes to.
+use Rattle.std.specs.Prelude.{◌≡◌, ◌+◌, Bool, true, false, not, ◌&&◌, ◌||◌, List, [], ◌∷◌, Option, Some, None, length}
+use Rattle.std.proofs.Common.{ap, arith, sym, refl, ◌∙◌, get_or, take_all}
+use Rattle.std.proofs.lemmas.Bool.{and_parts, and_from}
+use Rattle.std.specs.Option.{option_map, is_some}
+use Rattle.std.specs.List.{AllByRecursion, list_any}
+use Rattle.std.specs.Set.{is_member}
+use Rattle.std.specs.FinSet as set
+use Rattle.std.specs.FinMap as finmap
+use Rattle.cedar_ids.specs.UidOf.{same_uid, uid_order}
+use Rattle.cedar_ids.specs.laws.UidOfLaws.{uid_order_total, same_uid_decides}
+use Rattle.cedar_ids.specs.declared.entity.EntityUID.{EntityUID}
+use Rattle.cedar_uid_sets.specs.UidSets.{UidValues}
+use Rattle.cedar_uid_sets.specs.laws.Sets.{one_equal}
+use Rattle.cedar_entity.specs.laws.UidSets.{kept_in}
+use Rattle.cedar_entity.specs.View.{EntityView, has_ancestor}
+use Rattle.cedar_entity_maps.specs.Edits.{goes_with, lessened}
+use Rattle.cedar_entity_maps.specs.Modes.{ancestry, is_ancestor_in}
+use Rattle.cedar_entity_maps.specs.Plain.{Held}
+use Rattle.cedar_entity_maps.specs.declared.touching.Loss.{Loss}
+use Rattle.cedar_entity_maps.specs.laws.Edits.{stripped}
+use Rattle.cedar_entity_maps.specs.laws.Losses.{IsLossOf, is_lost, is_stripped, loses, loses_uid, takes, IsWhole}
+use Rattle.cedar_entity_maps.specs.laws.Losses.{left_by}
+use Rattle.cedar_entity_maps.specs.laws.Lists.{any_more}
+use Rattle.cedar_entity_maps.specs.laws.AnyOf.{and_turn, any_alike, any_found, any_member, none_retained, same_bool}
+
+pub and_off : (b : Bool) → (b && false) ≡ false
+and_off true = refl
+and_off false = refl
+
+pub or_off : (b : Bool) → b ≡ (b || false)
+or_off true = refl
+or_off false = refl
+
+pub and_on : (c : Bool) → (c && true) ≡ c
+and_on true = refl
+and_on false = refl
+
+pub and_both : (a b : Bool) → (a && b) ≡ (b && a)
+and_both true true = refl
+and_both true false = refl
+and_both false true = refl
+and_both false false = refl
+
+pub within : (b l : Bool) → (l ≡ true → b ≡ true) → (b && l) ≡ l
+within b true h = ap (λ c. c && true) (h refl)
+within b false h = and_off b
+
+-- what is stripped is touched
+pub stripped_touched : (m l : Bool) → ((m || l) && (not m && l)) ≡ (not m && l)
+stripped_touched true l = refl
+stripped_touched false true = refl
+stripped_touched false false = refl
+
+pub touched_alone : (m l : Bool) → ((m || l) && not m) ≡ (not m && l)
+touched_alone true l = refl
+touched_alone false true = refl
+touched_alone false false = refl
+
+-- of the hits T holds for one where it does for one of the list that is hit
+pub any_hit : (h T : EntityUID → Bool) (hits A : List EntityUID)
+    → ((q : EntityUID) → is_member same_uid hits q ≡ (is_member same_uid A q && h q))
+    → list_any T hits ≡ list_any (λ u. h u && T u) A
+any_hit h T hits A is = same_bool (list_any T hits) (list_any (λ u. h u && T u) A)
+    (λ t. let r = any_found T hits t in let p = and_parts (is_member same_uid A r.0) (h r.0) (sym (is r.0) ∙ r.1) in
+    any_member (λ u. h u && T u) A r.0 p.0 (and_from (h r.0) (T r.0) p.1 r.2))
+    (λ t. let r = any_found (λ u. h u && T u) A t in let p = and_parts (h r.0) (T r.0) r.2 in
+    any_member T hits r.0 (is r.0 ∙ and_from (is_member same_uid A r.0) (h r.0) r.1 p.0) p.1)
+
+-- what a test says of a list of one
+pub any_one : (T : EntityUID → Bool) (xs : List EntityUID) (k : EntityUID) → length xs ≡ 1 → k ≡ get_or xs 0 k
+    → T k ≡ list_any T xs
+any_one T xs k one is = sym (any_more T xs 0 k (omega arith) is) ∙ ap (list_any T) (take_all (0 + 1) xs (omega arith))
+
+-- a difference keeps what the other set lacks
+pub difference_kept : (s t : UidValues) → set.difference s t ≡ set.retain s (λ p. not (set.contains t p))
+difference_kept s t =
+    set.same_set uid_order_total one_equal _ _
+    (λ x. set.contains-difference uid_order_total s t x ∙ sym (kept_in s (set.contains t) x))
+
+-- lists with the same members lessen alike
+pub lessened_alike : (D : Held) (A B : List EntityUID)
+    → ((q : EntityUID) → is_member same_uid A q ≡ is_member same_uid B q) → (o : Option EntityView)
+    → option_map (lessened D A) o ≡ option_map (lessened D B) o
+lessened_alike D A B same None = refl
+lessened_alike D A B same (Some e) =
+    λ i. Some (record e { indirect = set.retain e.indirect (λ w. not (any_alike (goes_with D e w) A B same i)) })
+
+absorb : (x g : Bool) → (g || (x && g)) ≡ g
+absorb true true = refl
+absorb true false = refl
+absorb false true = refl
+absorb false false = refl
+
+-- one that is none of the uids loses where it has one of them
+pub loses_below : (D : Held) (A : List EntityUID) (R : List Loss)
+    → ((q : EntityUID) → loses R q ≡ is_stripped A q (ancestry D q)) → (q : EntityUID) → is_member same_uid A q ≡ false
+    → loses R q ≡ list_any (ancestry D q) A
+loses_below D A R who q out = who q ∙ ap (λ m. not m && list_any (ancestry D q) A) out
+
+module _ (D : Held) (A : List EntityUID) (R : List Loss)
+    (who : (q : EntityUID) → loses R q ≡ is_stripped A q (ancestry D q))
+    (lost : AllByRecursion (IsLossOf (finmap.get D) A) R) (q : EntityUID) where
+  by_loss : (e : EntityView) → finmap.get D q ≡ Some e → (w : EntityUID) (S : List Loss)
+      → AllByRecursion (IsLossOf (finmap.get D) A) S → loses_uid S q w ≡ (loses S q && list_any (goes_with D e w) A)
+  by_loss e is w [] h = refl
+  by_loss e is w (a ∷ S) h = at (same_uid q a.uid) refl (by_loss e is w S h.1)
+    where
+      here : same_uid q a.uid ≡ true → is_lost a.lost w ≡ list_any (goes_with D e w) A
+      here t =
+          h.0 w ∙ ap (λ x. list_any (λ u. is_ancestor_in (finmap.get D x) u && takes (finmap.get D) u w) A)
+          (sym ((same_uid_decides q a.uid).0 t))
+          ∙ ap (λ o. list_any (λ u. is_ancestor_in o u && takes (finmap.get D) u w) A) is
+          ∙ ap (λ f. list_any f A)
+          (λ i u. and_turn (has_ancestor e u) (is_some (finmap.get D u)) (same_uid u w || ancestry D u w) i)
+
+      at : (b : Bool) → same_uid q a.uid ≡ b → loses_uid S q w ≡ (loses S q && list_any (goes_with D e w) A)
+          → ((b && is_lost a.lost w) || loses_uid S q w) ≡ ((b || loses S q) && list_any (goes_with D e w) A)
+      at true t more =
+          ap (λ c. c || loses_uid S q w) (here t) ∙ ap (λ c. list_any (goes_with D e w) A || c) more
+          ∙ absorb (loses S q) (list_any (goes_with D e w) A)
+      at false t more = more
+
+  -- what goes from it is what goes with one of them
+  pub goes_by_loss : is_member same_uid A q ≡ false → (e : EntityView) → finmap.get D q ≡ Some e → (w : EntityUID)
+      → loses_uid R q w ≡ list_any (goes_with D e w) A
+  goes_by_loss out e is w =
+      by_loss e is w R lost
+      ∙ ap (λ b. b && list_any (goes_with D e w) A)
+      (loses_below D A R who q out ∙ ap (λ o. list_any (is_ancestor_in o) A) is)
+      ∙ within (list_any (has_ancestor e) A) (list_any (goes_with D e w) A)
+      (λ t. let r = any_found (goes_with D e w) A t in
+      any_member (has_ancestor e) A r.0 r.1 (and_parts (is_some (finmap.get D r.0)) (has_ancestor e r.0)
+      (and_parts (is_some (finmap.get D r.0) && has_ancestor e r.0)
+      (same_uid r.0 w || ancestry D r.0 w) r.2).0).1)
+
+  -- it is stripped of just that
+  pub stripped_at : is_member same_uid A q ≡ false → (none : UidValues) → none ≡ set.empty → (o : Option EntityView)
+      → finmap.get D q ≡ o
+      → option_map (stripped (λ p. loses R q && set.contains none p) (loses_uid R q)) o ≡ option_map (lessened D A) o
+  stripped_at out none n None is = refl
+  stripped_at out none n (Some e) is = λ i. Some (record e {
+    parents =
+        none_retained e.parents (λ p. loses R q && set.contains none p)
+        (λ x t. ap (λ b. loses R q && b) (ap (λ s. set.contains s x) n ∙ set.contains-empty uid_order x)
+        ∙ and_off (loses R q)) i;
+    indirect = set.retain e.indirect (λ w. not (goes_by_loss out e is w i));
+  })
+
+-- where all goes from each of a list, each uid does
+pub loses_whole : (R : List Loss) → AllByRecursion IsWhole R → (q w : EntityUID) → loses_uid R q w ≡ loses R q
+loses_whole [] h q w = refl
+loses_whole (a ∷ R) h q w =
+    (λ i. (same_uid q a.uid && is_lost (h.0 i) w) || loses_whole R h.1 q w i)
+    ∙ ap (λ b. b || loses R q) (and_on (same_uid q a.uid))
+
+-- what loses nothing is as it was
+pub still : (R : List Loss) → AllByRecursion IsWhole R → (gone : UidValues) (q : EntityUID) → loses R q ≡ false
+    → (o : Option EntityView) → option_map (left_by gone R q) o ≡ o
+still R whole gone q t None = refl
+still R whole gone q t (Some e) = λ i. Some (record e {
+  parents = none_retained e.parents (λ p. loses R q && set.contains gone p)
+      (λ y _. ap (λ b. b && set.contains gone y) t) i;
+  indirect = none_retained e.indirect (loses_uid R q) (λ w _. loses_whole R whole q w ∙ t) i;
+})

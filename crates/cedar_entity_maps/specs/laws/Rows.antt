@@ -1,0 +1,93 @@
+-- Laws of what is said of modes by their rows, and that it says of each of the three what can be said by its name.
+use Rattle.std.specs.Prelude.{◌≡◌, ◌↔◌, Bool, true, false}
+use Rattle.std.proofs.Common.{subst, sym, inl, inr}
+use Rattle.std.proofs.lemmas.Bool.{false≢true}
+use Rattle.std.specs.Bool.{OnTrue}
+use Rattle.cedar_graph.specs.declared.err.TcError.{TcError}
+use Rattle.cedar_ids.specs.declared.entity.EntityUID.{EntityUID}
+use Rattle.cedar_entity_maps.specs.Modes.{Also, IsSound, OneOf, TellsCycle, TellsUnsound, WhereComputed}
+use Rattle.cedar_entity_maps.specs.Plain.{Held}
+use Rattle.cedar_entity_maps.specs.Touching.{IsAcyclicAt, IsMended, IsMendRefused, IsRepairOf, IsSettled}
+use Rattle.cedar_entity_maps.specs.Touching.{IsSettleRefused, WhereTaken}
+use Rattle.cedar_entity_maps.specs.declared.modes.TCComputation.TheVariants as modes
+
+-- what holds anyway holds where it is asked for
+pub where_so : (b : Bool) (P : Type 0) → P → OnTrue b P
+where_so true P p = p
+where_so false P p = tt
+
+pub where_not : (b : Bool) (P : Type 0) → b ≡ false → OnTrue b P
+where_not true P t = absurd (false≢true (sym t))
+where_not false P t = tt
+
+pub where_asked : (b : Bool) (P : Type 0) → b ≡ true → OnTrue b P → P
+where_asked b P t h = subst (λ x. OnTrue x P) t h
+
+pub where_map : (b : Bool) (P Q : Type 0) → (P → Q) → OnTrue b P → OnTrue b Q
+where_map true P Q f h = f h
+where_map false P Q f h = tt
+
+pub also : (b : Bool) (P Q : Type 0) → P → OnTrue b Q → Also b P Q
+also true P Q p q = (p, q)
+also false P Q p q = p
+
+pub also_first : (b : Bool) (P Q : Type 0) → Also b P Q → P
+also_first true P Q h = h.0
+also_first false P Q h = h
+
+pub one_first : (a b : Bool) (P Q : Type 0) → a ≡ true → P → OneOf a P b Q
+one_first true true P Q t p = inl p
+one_first true false P Q t p = p
+one_first false b P Q t p = absurd (false≢true t)
+
+pub one_second : (a b : Bool) (P Q : Type 0) → b ≡ true → Q → OneOf a P b Q
+one_second true true P Q t q = inr q
+one_second false true P Q t q = q
+one_second a false P Q t q = absurd (false≢true t)
+
+-- where more is asked for it is one of those still
+pub one_more : (a b : Bool) (P Q R : Type 0) → OneOf a P false R → OneOf a P b Q
+one_more true true P Q R h = inl h
+one_more true false P Q R h = h
+one_more false b P Q R h = absurd h
+
+pub one_cases : (a b : Bool) (P Q R : Type 0) → (P → R) → (Q → R) → OneOf a P b Q → R
+one_cases true true P Q R f g (inl p) = f p
+one_cases true true P Q R f g (inr q) = g q
+one_cases true false P Q R f g p = f p
+one_cases false true P Q R f g q = g q
+one_cases false false P Q R f g h = absurd h
+
+-- each mode by its name: how it ends an adding or an overwriting, and a removal, and why it refuses these
+module _ (touched : EntityUID → Bool) (D N : Held) (t : TcError EntityUID) where
+  pub assumed : (IsSettled modes.AssumeAlreadyComputed touched D N ↔ (N ≡ D))
+      × (IsSettleRefused modes.AssumeAlreadyComputed touched D t ↔ ⊥)
+      × (IsMended modes.AssumeAlreadyComputed touched D N ↔ (IsRepairOf touched D N))
+      × (IsMendRefused modes.AssumeAlreadyComputed touched D t ↔ ⊥)
+  assumed = ((λ h. h, λ h. h), (λ h. h, λ h. h), (λ h. h, λ h. h), (λ h. h, λ h. h))
+
+  pub enforced : (IsSettled modes.EnforceAlreadyComputed touched D N ↔ ((N ≡ D) × IsSound N))
+      × (IsSettleRefused modes.EnforceAlreadyComputed touched D t ↔ (TellsUnsound D t))
+      × (IsMended modes.EnforceAlreadyComputed touched D N ↔ (IsRepairOf touched D N × IsSound N))
+      × (IsMendRefused modes.EnforceAlreadyComputed touched D t
+      ↔ ((M : Held) × IsRepairOf touched D M × TellsUnsound M t))
+  enforced = ((λ h. h, λ h. h), (λ h. h, λ h. h), (λ h. h, λ h. h), (λ h. h, λ h. h))
+
+  pub computed : (IsSettled modes.ComputeNow touched D N ↔ (IsRepairOf touched D N × IsAcyclicAt touched D))
+      × (IsSettleRefused modes.ComputeNow touched D t ↔ (TellsCycle D t))
+      × (IsMended modes.ComputeNow touched D N ↔ (IsRepairOf touched D N × IsAcyclicAt touched D))
+      × (IsMendRefused modes.ComputeNow touched D t ↔ (TellsCycle D t))
+  computed = ((λ h. h, λ h. h), (λ h. h, λ h. h), (λ h. h, λ h. h), (λ h. h, λ h. h))
+
+-- and where it computes, or takes what is put in as it is
+module _ (P : Type 0) where
+  pub where_assumed : (WhereComputed modes.AssumeAlreadyComputed P ↔ Unit {0})
+      × (WhereTaken modes.AssumeAlreadyComputed P ↔ P)
+  where_assumed = ((λ h. h, λ h. h), (λ h. h, λ h. h))
+
+  pub where_enforced : (WhereComputed modes.EnforceAlreadyComputed P ↔ Unit {0})
+      × (WhereTaken modes.EnforceAlreadyComputed P ↔ P)
+  where_enforced = ((λ h. h, λ h. h), (λ h. h, λ h. h))
+
+  pub where_now : (WhereComputed modes.ComputeNow P ↔ P) × (WhereTaken modes.ComputeNow P ↔ Unit {0})
+  where_now = ((λ h. h, λ h. h), (λ h. h, λ h. h))

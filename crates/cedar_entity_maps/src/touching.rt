@@ -1,0 +1,434 @@
+//! What goes from each entity by the uids that an edit applies, how it is stripped of that, and which entities are
+//! touched.
+ghost use Rattle.std.specs.Prelude.{◌≡◌, Some, true, cond, ◌&&◌, ◌||◌, not, is_some, IfOk, IfErr, OnOk};
+ghost use Rattle.std.specs.FinSet as set;
+ghost use Rattle.std.specs.HashSet.{contains};
+ghost use Rattle.std.specs.List.{AllByRecursion, filter, list_any};
+ghost use Rattle.std.specs.Option.{option_map};
+ghost use Rattle.std.specs.Set.{is_member};
+ghost use Rattle.cedar_ids.specs.UidOf.{same_uid};
+ghost use Rattle.cedar_ids.specs.declared.entity.EntityUID.{EntityUID};
+ghost use Rattle.cedar_entity.specs.View.{has_ancestor};
+ghost use Rattle.cedar_entity.specs.declared.err.EntitiesError.TheVariants.{Memory};
+ghost use Rattle.cedar_entity_maps.specs.Modes.{is_ancestor_in};
+ghost use Rattle.cedar_entity_maps.specs.Touching.{is_touched};
+ghost use Rattle.cedar_entity_maps.specs.laws.Edits.{bared, stripped};
+ghost use Rattle.cedar_entity_maps.specs.laws.Held.{held, held_map, UidsMatch};
+ghost use Rattle.cedar_entity_maps.specs.laws.Losses.{AreLossesOf, IsLossOf, IsWhole, is_lost};
+ghost use Rattle.cedar_entity_maps.specs.laws.Losses.{is_stripped, loses, loses_uid, takes};
+
+use crate::sought::{Sought, listed};
+use cedar_entity::entity::Entity;
+use cedar_entity::err::EntitiesError;
+use cedar_entity::node::SharedEntity;
+use cedar_graph::TCNode;
+use cedar_ids::entity::EntityUID;
+use cedar_uid_sets::{SharedUid, UidSet};
+use std::alloc::{AllocError, Global};
+use std::collections::{HashMap, HashSet};
+use std::hash::BuildHasher;
+use std::rc::Rc;
+
+/// What goes of the indirect ancestors of an entity.
+#[derive(Drop)]
+pub enum Lost {
+    /// All of them.
+    All,
+    /// Those of a set.
+    These(UidSet),
+}
+
+/// What goes from an entity that has one of the applied uids among its ancestors.
+#[derive(Drop)]
+pub struct Loss {
+    pub uid: SharedUid,
+    pub lost: Lost,
+}
+
+/// The uids of a set, each shared once more. It takes memory for the list.
+pub fn pointers_of(uids: &UidSet) -> Result<Vec<SharedUid>, AllocError>
+    ensures { IfOk result (λ v. (q : EntityUID) → is_member same_uid v.items q ≡ set.contains uids.now q) }
+{
+    let copy = uids.clone()?;
+    Ok(copy.into_pointers())
+}
+
+// Copies of the ancestors of an entity.
+fn ancestors_of(alloc: Global, node: &SharedEntity) -> Result<Vec<SharedUid>, AllocError>
+    ensures { IfOk result (λ v. (q : EntityUID) → is_member same_uid v.items q ≡ has_ancestor node.now.0.value q) }
+{
+    let mut all = Vec::new(alloc);
+    let ancestors: Vec<&SharedUid> = node.out_edges(alloc)?;
+    for ancestor in ancestors {
+        all.push(ancestor.clone()?)?;
+    }
+    Ok(all)
+}
+
+// An entity's uid and its ancestors.
+fn with_ancestors(
+    alloc: Global,
+    uid: &SharedUid,
+    node: &SharedEntity,
+) -> Result<Vec<SharedUid>, AllocError>
+    ensures { IfOk result (λ v. (q : EntityUID) →
+        is_member same_uid v.items q ≡ (same_uid uid.now q || has_ancestor node.now.0.value q)) }
+{
+    let mut all = ancestors_of(alloc, node)?;
+    all.push(uid.clone()?)?;
+    Ok(all)
+}
+
+// The uid and its ancestors, where the map holds it, and else nothing.
+fn with_ancestors_at<S: BuildHasher>(
+    alloc: Global,
+    entities: &HashMap<SharedUid, SharedEntity, S>,
+    uid: &SharedUid,
+) -> Result<Vec<SharedUid>, AllocError>
+    ensures { IfOk result (λ v. (q : EntityUID) → is_member same_uid v.items q
+        ≡ (is_some (held entities.now uid.now)
+        && (same_uid uid.now q || is_ancestor_in (held entities.now uid.now) q))) }
+{
+    match entities.get(uid) {
+        Some(node) => with_ancestors(alloc, uid, node),
+        None => Ok(Vec::new(alloc)),
+    }
+}
+
+// Adds uids to a set.
+fn insert_all<S: BuildHasher>(
+    all: &mut HashSet<SharedUid, S>,
+    uids: Vec<SharedUid>,
+) -> Result<(), AllocError>
+    ensures { OnOk result ((q : EntityUID) → contains same_uid all.new q
+        ≡ (contains same_uid all.old q || is_member same_uid uids.items q)) }
+{
+    for uid in uids {
+        all.insert(uid)?;
+    }
+    Ok(())
+}
+
+/// Notes some uids. It takes memory for new ones; `Memory` comes where that was refused, and some are noted then.
+pub fn note_all<S: BuildHasher>(
+    noted: &mut HashSet<SharedUid, S>,
+    uids: Vec<SharedUid>,
+) -> Result<(), EntitiesError>
+    ensures ok { OnOk result ((q : EntityUID) → contains same_uid noted.new q
+        ≡ (contains same_uid noted.old q || is_member same_uid uids.items q)) }
+    ensures err { IfErr result (λ e. e ≡ Memory) }
+{
+    insert_all(noted, uids)?;
+    Ok(())
+}
+
+/// The uids of a list that the map holds, in their order, to be shared. It takes memory for these and for the list.
+pub fn held_uids<S: BuildHasher>(
+    alloc: Global,
+    entities: &HashMap<SharedUid, SharedEntity, S>,
+    list: Vec<EntityUID>,
+) -> Result<Vec<SharedUid>, AllocError>
+    ensures { IfOk result (λ v. v.items ≡ filter (λ u. is_some (held entities.now u)) list.items) }
+{
+    let mut kept = Vec::new(alloc);
+    for uid in list {
+        if entities.contains_key(&uid) {
+            kept.push(SharedUid::new(alloc, uid)?)?;
+        }
+    }
+    Ok(kept)
+}
+
+/// The uids of a list that the map does not hold, in their order. It takes memory for the list.
+pub fn absent_uids<S: BuildHasher>(
+    alloc: Global,
+    entities: &HashMap<SharedUid, SharedEntity, S>,
+    list: Vec<SharedUid>,
+) -> Result<Vec<SharedUid>, AllocError>
+    ensures { IfOk result (λ v. v.items ≡ filter (λ u. not (is_some (held entities.now u))) list.items) }
+{
+    let mut kept = Vec::new(alloc);
+    for shared in list {
+        if entities.contains_key(&shared) {
+            drop(shared);
+        } else {
+            kept.push(shared)?;
+        }
+    }
+    Ok(kept)
+}
+
+// Copies of the uids of the entities that have one of some uids among their ancestors.
+pub(crate) fn touched_by_any<S: BuildHasher>(
+    alloc: Global,
+    entities: &HashMap<SharedUid, SharedEntity, S>,
+    uids: &HashSet<SharedUid, S>,
+) -> Result<Vec<SharedUid>, AllocError>
+    ensures { IfOk result (λ v. (q : EntityUID) →
+        is_member same_uid v.items q ≡ list_any (is_ancestor_in (held entities.now q)) uids.now.keys) }
+{
+    let sought = Sought::of(alloc, uids)?;
+    let mut copies = Vec::new(alloc);
+    for (key, node) in entities {
+        if sought.has_any(&node.0) {
+            copies.push(key.clone()?)?;
+        }
+    }
+    Ok(copies)
+}
+
+// What goes with some uids.
+fn all_with_ancestors<S: BuildHasher + Clone>(
+    alloc: Global,
+    entities: &HashMap<SharedUid, SharedEntity, S>,
+    uids: &[SharedUid],
+) -> Result<HashSet<SharedUid, S>, AllocError>
+    ensures { IfOk result (λ s. (w : EntityUID) → contains same_uid s w
+        ≡ list_any (λ u. takes (held entities.now) u w) uids.now) }
+{
+    let mut lost = HashSet::with_hasher(alloc, entities.hasher().clone()?);
+    for uid in uids {
+        insert_all(&mut lost, with_ancestors_at(alloc, entities, uid)?)?;
+    }
+    Ok(lost)
+}
+
+// What goes with some uids, as a set.
+fn uid_set_with_ancestors<S: BuildHasher + Clone>(
+    alloc: Global,
+    entities: &HashMap<SharedUid, SharedEntity, S>,
+    uids: &[SharedUid],
+) -> Result<UidSet, AllocError>
+    ensures { IfOk result (λ s. (w : EntityUID) → set.contains s w
+        ≡ list_any (λ u. takes (held entities.now) u w) uids.now) }
+{
+    if uids.len() == 1 {
+        return UidSet::from_pointers(with_ancestors_at(alloc, entities, &uids[0])?);
+    }
+    let lost = all_with_ancestors(alloc, entities, uids)?;
+    UidSet::from_pointers(listed(alloc, &lost)?)
+}
+
+// What goes from an entity by some uids.
+fn loss_of<S: BuildHasher + Clone>(
+    alloc: Global,
+    entities: &HashMap<SharedUid, SharedEntity, S>,
+    key: &SharedUid,
+    entity: &Entity,
+    uids: &Sought<'_, S>,
+) -> Result<Loss, AllocError>
+    ensures uid { IfOk result (λ a. a.uid ≡ key.now) }
+    ensures lost { IfOk result (λ a. (w : EntityUID) → is_lost a.lost w
+        ≡ list_any (λ u. has_ancestor entity.now u && takes (held entities.now) u w) uids.now) }
+{
+    let hits = uids.hits(alloc, entity)?;
+    let lost = uid_set_with_ancestors(alloc, entities, &hits)?;
+    let uid = key.clone()?;
+    Ok(Loss {
+        uid,
+        lost: Lost::These(lost),
+    })
+}
+
+// Notes what goes from an entity by some uids, where something does.
+fn push_loss<S: BuildHasher + Clone>(
+    entities: &HashMap<SharedUid, SharedEntity, S>,
+    key: &SharedUid,
+    entity: &Entity,
+    uids: &Sought<'_, S>,
+    losses: &mut Vec<Loss>,
+) -> Result<(), AllocError>
+    ensures who { OnOk result ((q : EntityUID) → loses losses.new.items q
+        ≡ (loses losses.old.items q || (same_uid key.now q
+        && is_stripped uids.now key.now (has_ancestor entity.now)))) }
+    ensures lost { OnOk result (held entities.now key.now ≡ Some entity.now
+        → AllByRecursion (IsLossOf (held entities.now) uids.now) losses.old.items
+        → AllByRecursion (IsLossOf (held entities.now) uids.now) losses.new.items) }
+{
+    if !uids.is_hit(key, entity) {
+        return Ok(());
+    }
+    let alloc = *losses.allocator();
+    losses.push(loss_of(alloc, entities, key, entity, uids)?)?;
+    Ok(())
+}
+
+// Notes what goes from the entity at a uid by some uids, where there is one and something does.
+fn push_loss_at<S: BuildHasher + Clone>(
+    entities: &HashMap<SharedUid, SharedEntity, S>,
+    key: &SharedUid,
+    uids: &Sought<'_, S>,
+    losses: &mut Vec<Loss>,
+) -> Result<(), AllocError>
+    ensures who { OnOk result ((q : EntityUID) → loses losses.new.items q
+        ≡ (loses losses.old.items q || (same_uid key.now q
+        && is_stripped uids.now key.now (is_ancestor_in (held entities.now key.now))))) }
+    ensures lost { OnOk result (AllByRecursion (IsLossOf (held entities.now) uids.now) losses.old.items
+        → AllByRecursion (IsLossOf (held entities.now) uids.now) losses.new.items) }
+{
+    match entities.get(key) {
+        Some(node) => push_loss(entities, key, &node.0, uids, losses),
+        None => Ok(()),
+    }
+}
+
+// What goes by some uids from each entity that is none of them and has one of them among its ancestors. All these are
+// among the entities that are touched.
+fn losses_among<S: BuildHasher + Clone>(
+    alloc: Global,
+    entities: &HashMap<SharedUid, SharedEntity, S>,
+    uids: &HashSet<SharedUid, S>,
+    touched: &HashSet<SharedUid, S>,
+) -> Result<Vec<Loss>, AllocError>
+    requires touched { (q : EntityUID) → contains same_uid touched.now q
+        ≡ is_touched (held_map entities.now) uids.now.keys q }
+    ensures who { IfOk result (λ v. (q : EntityUID) → loses v.items q
+        ≡ is_stripped uids.now.keys q (is_ancestor_in (held entities.now q))) }
+    ensures lost { IfOk result (λ v. AllByRecursion (IsLossOf (held entities.now) uids.now.keys) v.items) }
+{
+    let sought = Sought::of(alloc, uids)?;
+    let mut losses = Vec::new(alloc);
+    for key in touched {
+        push_loss_at(entities, key, &sought, &mut losses)?;
+    }
+    Ok(losses)
+}
+
+// Notes that all indirect ancestors go from the entity at a uid, unless that is one of some uids.
+fn push_whole<S: BuildHasher>(
+    key: &SharedUid,
+    uids: &HashSet<SharedUid, S>,
+    losses: &mut Vec<Loss>,
+) -> Result<(), AllocError>
+    ensures who { OnOk result ((q : EntityUID) → loses losses.new.items q
+        ≡ (loses losses.old.items q || (same_uid key.now q && not (contains same_uid uids.now key.now)))) }
+    ensures lost { OnOk result (AllByRecursion IsWhole losses.old.items → AllByRecursion IsWhole losses.new.items) }
+{
+    if uids.contains(key) {
+        return Ok(());
+    }
+    losses.push(Loss {
+        uid: key.clone()?,
+        lost: Lost::All,
+    })?;
+    Ok(())
+}
+
+// All indirect ancestors, from each entity that is touched and none of some uids.
+fn whole_losses<S: BuildHasher>(
+    alloc: Global,
+    uids: &HashSet<SharedUid, S>,
+    touched: &HashSet<SharedUid, S>,
+) -> Result<Vec<Loss>, AllocError>
+    ensures who { IfOk result (λ v. (q : EntityUID) → loses v.items q
+        ≡ (contains same_uid touched.now q && not (contains same_uid uids.now q))) }
+    ensures lost { IfOk result (λ v. AllByRecursion IsWhole v.items) }
+{
+    let mut losses = Vec::new(alloc);
+    for key in touched {
+        push_whole(key, uids, &mut losses)?;
+    }
+    Ok(losses)
+}
+
+/// What goes by some uids from each entity that is touched and none of them: where a repair writes all ancestors of
+/// that anew, all indirect ones, of which none is then read. It takes memory for the list, and costs the ancestors that
+/// it reads.
+pub fn losses_by<S: BuildHasher + Clone>(
+    alloc: Global,
+    entities: &HashMap<SharedUid, SharedEntity, S>,
+    uids: &HashSet<SharedUid, S>,
+    touched: &HashSet<SharedUid, S>,
+    anew: bool,
+) -> Result<Vec<Loss>, AllocError>
+    requires touched { (q : EntityUID) → contains same_uid touched.now q
+        ≡ is_touched (held_map entities.now) uids.now.keys q }
+    ensures who { IfOk result (λ v. (q : EntityUID) → loses v.items q
+        ≡ is_stripped uids.now.keys q (is_ancestor_in (held entities.now q))) }
+    ensures lost { IfOk result (λ v. AreLossesOf anew (held entities.now) uids.now.keys v.items) }
+{
+    if anew {
+        return whole_losses(alloc, uids, touched);
+    }
+    losses_among(alloc, entities, uids, touched)
+}
+
+// Takes what goes out of the indirect ancestors of an entity.
+fn lose(entity: &mut Entity, lost: &Lost)
+    ensures { entity.new ≡ record entity.old {
+      indirect = set.retain entity.old.indirect (λ w. not (is_lost lost.now w));
+    } }
+{
+    match lost {
+        Lost::All => entity.remove_all_indirect_ancestors(),
+        Lost::These(uids) => entity.remove_ancestors_of(uids),
+    }
+}
+
+// Takes some uids from the parents and others from the indirect ancestors of an entity.
+fn strip_once(entity: &mut Entity, gone: &UidSet, lost: &Lost)
+    ensures { entity.new ≡ stripped (set.contains gone.now) (is_lost lost.now) entity.old }
+{
+    lose(entity, lost);
+    entity.remove_parents_of(gone);
+}
+
+// Takes some uids from the parents and others from the indirect ancestors of the entity at a uid.
+fn strip_once_at<S: BuildHasher>(
+    entities: &mut HashMap<SharedUid, SharedEntity, S>,
+    uid: &SharedUid,
+    gone: &UidSet,
+    lost: &Lost,
+) -> Result<(), EntitiesError>
+    ensures ok { OnOk result ((q : EntityUID) → held entities.new q ≡ cond (same_uid uid.now q)
+        (option_map (stripped (set.contains gone.now) (is_lost lost.now)) (held entities.old q))
+        (held entities.old q)) }
+    ensures err { IfErr result (λ e. e ≡ Memory) }
+{
+    if let Some(node) = entities.get_mut(uid) {
+        strip_once(Rc::make_mut(&mut node.0)?, gone, lost);
+    }
+    Ok(())
+}
+
+/// Strips each entity that loses something. It takes memory to copy an entity that is shared; `Memory` comes where that
+/// was refused, and some are stripped then.
+pub fn strip_each<S: BuildHasher>(
+    entities: &mut HashMap<SharedUid, SharedEntity, S>,
+    losses: Vec<Loss>,
+    gone: &UidSet,
+) -> Result<(), EntitiesError>
+    ensures ok { OnOk result ((q : EntityUID) → held entities.new q ≡ option_map
+        (stripped (λ p. loses losses.items q && set.contains gone.now p) (loses_uid losses.items q))
+        (held entities.old q)) }
+    ensures err { IfErr result (λ e. e ≡ Memory) }
+{
+    for loss in losses {
+        strip_once_at(entities, &loss.uid, gone, &loss.lost)?;
+    }
+    Ok(())
+}
+
+/// Takes all indirect ancestors from the entities that are touched and none of some uids, where a repair writes them
+/// anew. It takes memory, and is refused, as [`strip_each`].
+pub fn forget_each<S: BuildHasher>(
+    alloc: Global,
+    entities: &mut HashMap<SharedUid, SharedEntity, S>,
+    uids: &HashSet<SharedUid, S>,
+    touched: &HashSet<SharedUid, S>,
+    anew: bool,
+) -> Result<(), EntitiesError>
+    requires { UidsMatch entities.old }
+    ensures keys { OnOk result (UidsMatch entities.new) }
+    ensures ok { OnOk result ((q : EntityUID) → held entities.new q ≡ cond
+        (anew && (contains same_uid touched.now q && not (contains same_uid uids.now q)))
+        (option_map bared (held entities.old q)) (held entities.old q)) }
+    ensures err { IfErr result (λ e. e ≡ Memory) }
+{
+    if !anew {
+        return Ok(());
+    }
+    let losses = whole_losses(alloc, uids, touched)?;
+    let none = UidSet::new(alloc);
+    strip_each(entities, losses, &none)
+}
