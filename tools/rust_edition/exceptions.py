@@ -69,7 +69,7 @@ WIDE = {
     ('incoming', 'with_uids'): {'list': 'loop'},
     ('Entities', 'remove_entities'): {'list': 'pass'},
     ('edits', 'take_all_out'): {'list': 'pass'},
-    ('touching', 'held_uids'): {'list': 'loop'},
+    ('lists', 'held_uids'): {'list': 'loop'},
     ('ActionConstraint', 'is_in'): {'euids': 'pass'},
     ('action', 'shared'): {'euids': 'loop'},
     ('PolicySet', 'try_from_iter'): {'policies': 'pass'},

@@ -88,11 +88,3 @@ pub never_refused : (row : Row) (touched : EntityUID → Bool) (D : Held) (t : T
     → ((N : Held) → IsRepairOf touched D N → TellsUnsound N t → ⊥) → IsEndRefused (mending row) touched D t → ⊥
 never_refused row touched D t f g = one_cases row.refuses_cycles row.checks (TellsCycle D t)
     (SomeMade true touched D (λ N. TellsUnsound N t)) ⊥ f (λ s. g s.0 s.1 s.2)
-
--- what is said of a removal where it computes is said where the mode does
-pub mending_computes : (row : Row) (P : Type 0) → OnTrue (computes (mending row)) P → OnTrue (computes row) P
-mending_computes row P = at row.repairs row.refuses_cycles row.checks
-  where
-    at : (a b c : Bool) → OnTrue ((true && b) && not c) P → OnTrue ((a && b) && not c) P
-    at true b c h = h
-    at false b c h = tt

@@ -20,6 +20,7 @@ ghost use Rattle.cedar_entity_maps.specs.laws.Losses.{loses, loses_uid};
 ghost use Rattle.cedar_entities.specs.laws.Readings.{IsReadingOf};
 
 use crate::incoming::{Incoming, uids_in};
+use crate::lists::{held_uids, pointers_of};
 use cedar_entity::err::EntitiesError;
 use cedar_entity::node::SharedEntity;
 use cedar_entity_maps::TCComputation;
@@ -27,7 +28,7 @@ use cedar_entity_maps::index::{Index, join, list_if_it_pays, part, touched_by};
 use cedar_entity_maps::modes::{Row, mending, row_computes, row_of};
 use cedar_entity_maps::settling::finish;
 use cedar_entity_maps::sought::listed;
-use cedar_entity_maps::touching::{Loss, held_uids, losses_by, note_all, pointers_of, strip_each};
+use cedar_entity_maps::touching::{Loss, losses_by, note_all, strip_each};
 use cedar_ids::entity::EntityUID;
 use cedar_uid_sets::{SharedUid, UidSet};
 use std::alloc::Global;

@@ -10,6 +10,7 @@ pub mod dereference;
 mod edits;
 pub mod entities;
 mod incoming;
+mod lists;
 pub mod store_iters;
 mod store_same;
 mod store_text;

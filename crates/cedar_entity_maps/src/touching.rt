@@ -45,14 +45,6 @@ pub struct Loss {
     pub lost: Lost,
 }
 
-/// The uids of a set, each shared once more. It takes memory for the list.
-pub fn pointers_of(uids: &UidSet) -> Result<Vec<SharedUid>, AllocError>
-    ensures { IfOk result (λ v. (q : EntityUID) → is_member same_uid v.items q ≡ set.contains uids.now q) }
-{
-    let copy = uids.clone()?;
-    Ok(copy.into_pointers())
-}
-
 // Copies of the ancestors of an entity.
 fn ancestors_of(alloc: Global, node: &SharedEntity) -> Result<Vec<SharedUid>, AllocError>
     ensures { IfOk result (λ v. (q : EntityUID) → is_member same_uid v.items q ≡ has_ancestor node.now.0.value q) }
@@ -120,42 +112,6 @@ pub fn note_all<S: BuildHasher>(
 {
     insert_all(noted, uids)?;
     Ok(())
-}
-
-/// The uids of a list that the map holds, in their order, to be shared. It takes memory for these and for the list.
-pub fn held_uids<S: BuildHasher>(
-    alloc: Global,
-    entities: &HashMap<SharedUid, SharedEntity, S>,
-    list: Vec<EntityUID>,
-) -> Result<Vec<SharedUid>, AllocError>
-    ensures { IfOk result (λ v. v.items ≡ filter (λ u. is_some (held entities.now u)) list.items) }
-{
-    let mut kept = Vec::new(alloc);
-    for uid in list {
-        if entities.contains_key(&uid) {
-            kept.push(SharedUid::new(alloc, uid)?)?;
-        }
-    }
-    Ok(kept)
-}
-
-/// The uids of a list that the map does not hold, in their order. It takes memory for the list.
-pub fn absent_uids<S: BuildHasher>(
-    alloc: Global,
-    entities: &HashMap<SharedUid, SharedEntity, S>,
-    list: Vec<SharedUid>,
-) -> Result<Vec<SharedUid>, AllocError>
-    ensures { IfOk result (λ v. v.items ≡ filter (λ u. not (is_some (held entities.now u))) list.items) }
-{
-    let mut kept = Vec::new(alloc);
-    for shared in list {
-        if entities.contains_key(&shared) {
-            drop(shared);
-        } else {
-            kept.push(shared)?;
-        }
-    }
-    Ok(kept)
 }
 
 // Copies of the uids of the entities that have one of some uids among their ancestors.

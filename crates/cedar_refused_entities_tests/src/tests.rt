@@ -9,6 +9,7 @@ mod looking;
 mod nodes;
 mod parts;
 mod reads;
+mod steps;
 mod stores;
 mod terms;
 mod uid_sets;

@@ -4,6 +4,7 @@
 //! of what goes with it. Overwriting is an edit by which none goes, removing one by which none comes.
 
 use crate::cedar_entities::incoming::{Incoming, uids_in};
+use crate::cedar_entities::lists::{held_uids, pointers_of};
 use crate::cedar_entity::err::EntitiesError;
 use crate::cedar_entity::node::SharedEntity;
 use crate::cedar_entity_maps::TCComputation;
@@ -11,7 +12,7 @@ use crate::cedar_entity_maps::index::{Index, join, list_if_it_pays, part, touche
 use crate::cedar_entity_maps::modes::{Row, mending, row_computes, row_of};
 use crate::cedar_entity_maps::settling::finish;
 use crate::cedar_entity_maps::sought::listed;
-use crate::cedar_entity_maps::touching::{Loss, held_uids, losses_by, note_all, pointers_of, strip_each};
+use crate::cedar_entity_maps::touching::{Loss, losses_by, note_all, strip_each};
 use crate::cedar_ids::entity::EntityUID;
 use crate::cedar_uid_sets::{SharedUid, UidSet};
 use std::collections::{HashMap, HashSet};

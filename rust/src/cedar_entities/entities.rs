@@ -5,6 +5,7 @@
 use crate::cedar_entities::dereference::{Dereference, unknown_of};
 use crate::cedar_entities::edits::{put_all_over, renews_adding, take_all_out};
 use crate::cedar_entities::incoming::{Incoming, shared_all, stays_plain, uids_in, with_uids};
+use crate::cedar_entities::lists::absent_uids;
 use crate::cedar_entities::store_iters::{IntoIter, Iter};
 use crate::cedar_entities::store_same::{have_deep_equals, have_keys_of};
 use crate::cedar_entities::store_valid::check_each;
@@ -15,7 +16,7 @@ use crate::cedar_entity_maps::index::{Index, join, list_if_it_pays, touched_by};
 use crate::cedar_entity_maps::modes::row_of;
 use crate::cedar_entity_maps::settling::{check, settle_touched, settle_whole};
 use crate::cedar_entity_maps::sought::listed;
-use crate::cedar_entity_maps::touching::{absent_uids, forget_each, note_all};
+use crate::cedar_entity_maps::touching::{forget_each, note_all};
 use crate::cedar_ids::entity::EntityUID;
 use crate::cedar_keyed_hash::KeyedState;
 use crate::cedar_uid_sets::SharedUid;

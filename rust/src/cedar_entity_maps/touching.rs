@@ -6,7 +6,6 @@
 use crate::cedar_entity::entity::Entity;
 use crate::cedar_entity::node::SharedEntity;
 use crate::cedar_entity_maps::sought::{Sought, listed};
-use crate::cedar_ids::entity::EntityUID;
 use crate::cedar_uid_sets::{SharedUid, UidSet};
 use std::collections::{HashMap, HashSet};
 use std::hash::BuildHasher;
@@ -24,12 +23,6 @@ pub enum Lost {
 pub struct Loss {
     pub uid: SharedUid,
     pub lost: Lost,
-}
-
-/// The uids of a set, each shared once more.
-pub fn pointers_of(uids: &UidSet) -> Vec<SharedUid> {
-    let copy = uids.clone();
-    copy.into_pointers()
 }
 
 // Copies of the ancestors of an entity.
@@ -69,34 +62,6 @@ fn insert_all<S: BuildHasher>(all: &mut HashSet<SharedUid, S>, uids: Vec<SharedU
 /// Notes some uids.
 pub fn note_all<S: BuildHasher>(noted: &mut HashSet<SharedUid, S>, uids: Vec<SharedUid>) {
     insert_all(noted, uids);
-}
-
-/// The uids of a list that the map holds, in their order, to be shared.
-pub fn held_uids<S: BuildHasher>(
-    entities: &HashMap<SharedUid, SharedEntity, S>,
-    list: impl IntoIterator<Item = EntityUID>,
-) -> Vec<SharedUid> {
-    let mut kept = Vec::new();
-    for uid in list {
-        if entities.contains_key(&uid) {
-            kept.push(SharedUid::new(uid));
-        }
-    }
-    kept
-}
-
-/// The uids of a list that the map does not hold, in their order.
-pub fn absent_uids<S: BuildHasher>(
-    entities: &HashMap<SharedUid, SharedEntity, S>,
-    list: Vec<SharedUid>,
-) -> Vec<SharedUid> {
-    let mut kept = Vec::new();
-    for shared in list {
-        if !entities.contains_key(&shared) {
-            kept.push(shared);
-        }
-    }
-    kept
 }
 
 // Copies of the uids of the entities that have one of some uids among their ancestors.

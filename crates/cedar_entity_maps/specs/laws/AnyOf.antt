@@ -132,24 +132,3 @@ all_retained s g h = set.same_set uid_order_total one_equal _ _ (λ x.
     none : (b : Bool) → (b && false) ≡ false
     none true = refl
     none false = refl
-
--- where the entity has none of the uids among its ancestors, nothing goes
-none_goes : (D : Held) (A : List EntityUID) (e : EntityView) → list_any (has_ancestor e) A ≡ false → (w : EntityUID)
-    → list_any (goes_with D e w) A ≡ false
-none_goes D A e h w = any_less (goes_with D e w) (has_ancestor e)
-    (λ u t. (and_parts (finmap.contains_key D u) (has_ancestor e u)
-    (and_parts (finmap.contains_key D u && has_ancestor e u) (same_uid u w || ancestry D u w) t).0).1) A h
-
-pub unlessened : (D : Held) (A : List EntityUID) (e : EntityView) → list_any (has_ancestor e) A ≡ false
-    → lessened D A e ≡ e
-unlessened D A e h =
-    λ i. record e {
-      indirect =
-          (ap (λ (g : EntityUID → Bool). set.retain e.indirect (λ w. not (g w))) (λ j w. none_goes D A e h w j)
-          ∙ retain_none e.indirect) i;
-    }
-
-pub untouched_at : (D : Held) (A : List EntityUID) (o : Option EntityView) → list_any (is_ancestor_in o) A ≡ false
-    → option_map (lessened D A) o ≡ o
-untouched_at D A None h = refl
-untouched_at D A (Some e) h = ap Some (unlessened D A e h)

@@ -78,14 +78,6 @@ difference_kept s t =
     set.same_set uid_order_total one_equal _ _
     (λ x. set.contains-difference uid_order_total s t x ∙ sym (kept_in s (set.contains t) x))
 
--- lists with the same members lessen alike
-pub lessened_alike : (D : Held) (A B : List EntityUID)
-    → ((q : EntityUID) → is_member same_uid A q ≡ is_member same_uid B q) → (o : Option EntityView)
-    → option_map (lessened D A) o ≡ option_map (lessened D B) o
-lessened_alike D A B same None = refl
-lessened_alike D A B same (Some e) =
-    λ i. Some (record e { indirect = set.retain e.indirect (λ w. not (any_alike (goes_with D e w) A B same i)) })
-
 absorb : (x g : Bool) → (g || (x && g)) ≡ g
 absorb true true = refl
 absorb true false = refl
@@ -133,19 +125,6 @@ module _ (D : Held) (A : List EntityUID) (R : List Loss)
       any_member (has_ancestor e) A r.0 r.1 (and_parts (is_some (finmap.get D r.0)) (has_ancestor e r.0)
       (and_parts (is_some (finmap.get D r.0) && has_ancestor e r.0)
       (same_uid r.0 w || ancestry D r.0 w) r.2).0).1)
-
-  -- it is stripped of just that
-  pub stripped_at : is_member same_uid A q ≡ false → (none : UidValues) → none ≡ set.empty → (o : Option EntityView)
-      → finmap.get D q ≡ o
-      → option_map (stripped (λ p. loses R q && set.contains none p) (loses_uid R q)) o ≡ option_map (lessened D A) o
-  stripped_at out none n None is = refl
-  stripped_at out none n (Some e) is = λ i. Some (record e {
-    parents =
-        none_retained e.parents (λ p. loses R q && set.contains none p)
-        (λ x t. ap (λ b. loses R q && b) (ap (λ s. set.contains s x) n ∙ set.contains-empty uid_order x)
-        ∙ and_off (loses R q)) i;
-    indirect = set.retain e.indirect (λ w. not (goes_by_loss out e is w i));
-  })
 
 -- where all goes from each of a list, each uid does
 pub loses_whole : (R : List Loss) → AllByRecursion IsWhole R → (q w : EntityUID) → loses_uid R q w ≡ loses R q

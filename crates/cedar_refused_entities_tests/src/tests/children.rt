@@ -27,7 +27,7 @@ fn with_entity(alloc: Global, index: Index, entity: &Entity) -> Option<Index> {
     }
 }
 
-fn index_of(alloc: Global, texts: &str) -> Option<Index> {
+pub(super) fn index_of(alloc: Global, texts: &str) -> Option<Index> {
     let mut index = Some(Children::with_hasher(alloc, BuildHasherDefault::new()));
     for text in texts.split(',') {
         if !text.trim().is_empty() {
@@ -44,7 +44,7 @@ fn index_of(alloc: Global, texts: &str) -> Option<Index> {
     index
 }
 
-fn uids_of(alloc: Global, names: &str) -> Option<HashSet<SharedUid>> {
+pub(super) fn uids_of(alloc: Global, names: &str) -> Option<HashSet<SharedUid>> {
     let mut uids = Some(HashSet::new(alloc));
     for name in names.split_whitespace() {
         uids = joined(uids, shared(alloc, name));
@@ -65,7 +65,7 @@ fn has(alloc: Global, found: &HashSet<SharedUid>, name: &str) -> bool {
 }
 
 // Whether these are the uids that were found.
-fn are_found(alloc: Global, found: &HashSet<SharedUid>, names: &str) -> bool {
+pub(super) fn are_found(alloc: Global, found: &HashSet<SharedUid>, names: &str) -> bool {
     let mut count = 0_usize;
     for name in names.split_whitespace() {
         if !has(alloc, found, name) {

@@ -51,7 +51,7 @@ fn uids(alloc: Global, names: &str) -> Option<Vec<EntityUID>> {
     all
 }
 
-fn mode_of(word: &str) -> TCComputation {
+pub(super) fn mode_of(word: &str) -> TCComputation {
     match word {
         "assume" => TCComputation::AssumeAlreadyComputed,
         "enforce" => TCComputation::EnforceAlreadyComputed,

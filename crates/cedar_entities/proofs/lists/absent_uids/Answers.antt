@@ -1,6 +1,6 @@
 use Rattle.std.proofs.Common.{◌∙◌, sym}
 use Rattle.cedar_entity_maps.specs.laws.AnyOf.{one_left_out, not_absent}
-use Rattle.cedar_entity_maps.proofs.touching.absent_uids.Goals as goal
+use Rattle.cedar_entities.proofs.lists.absent_uids.Goals as goal
 
 -- what the map holds is left out
 pub loop-shared-preserved-then-contains_key : goal.loop-shared-preserved-then-contains_key

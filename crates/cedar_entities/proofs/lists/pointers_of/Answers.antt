@@ -2,7 +2,7 @@ use Rattle.std.proofs.Common.{ap, sym, ◌∙◌}
 use Rattle.std.specs.FinSet as set
 use Rattle.cedar_uid_sets.specs.UidSets.{UidValues}
 use Rattle.cedar_uid_sets.specs.laws.Sets.{contains_listed}
-use Rattle.cedar_entity_maps.proofs.touching.pointers_of.Goals as goal
+use Rattle.cedar_entities.proofs.lists.pointers_of.Goals as goal
 
 pub returns : goal.returns
 returns c q = sym (contains_listed c.into_pointers.result.items q)

@@ -1,0 +1,14 @@
+use Rattle.std.specs.Prelude.{IsTrue}
+use Rattle.std.proofs.Common.{sym, subst, refl, false}
+use Rattle.std.proofs.lemmas.Bool.{both_ways}
+use Rattle.cedar_entity_maps.specs.laws.Held.{held_map}
+use Rattle.cedar_entity_maps.specs.laws.Indexes.{IsIndexOf}
+use Rattle.cedar_refused_entities_tests.proofs.tests.steps.touched.Goals as goal
+
+-- of an index that knows nothing all that it says is so
+pub returns : goal.returns
+returns c =
+    c.touched_by.ensures.ok (held_map c.args.map.now)
+    (subst (λ x. IsIndexOf x (held_map c.args.map.now)) (sym c.unlisted.ensures)
+    (record { plain = λ t. absurd (both_ways false refl t); children = tt }))
+    (λ q. refl)

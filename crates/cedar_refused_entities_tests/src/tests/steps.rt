@@ -1,0 +1,374 @@
+// The steps of an edit over the map of a store, whose entities are written as in `parts`, with commas between them. A
+// row gives a word, some uids and a map, with semicolons between these.
+ghost use Rattle.std.specs.Prelude.{◌≡◌, IfOk, IfSome};
+ghost use Rattle.std.specs.HashSet.{contains};
+ghost use Rattle.cedar_ids.specs.UidOf.{same_uid};
+ghost use Rattle.cedar_ids.specs.declared.entity.EntityUID.{EntityUID};
+ghost use Rattle.cedar_entity_maps.specs.Touching.{is_touched};
+ghost use Rattle.cedar_entity_maps.specs.laws.Held.{held_map, UidsMatch};
+
+use super::children::{are_found, index_of, uids_of};
+use super::entities::counted;
+use super::stores::mode_of;
+use super::{eids, pointers, set_of};
+use cedar_entity::err::EntitiesError;
+use cedar_entity::node::SharedEntity;
+use cedar_entity_maps::index::{Index, touched_by};
+use cedar_entity_maps::modes::{mending, row_of};
+use cedar_entity_maps::settling::{check, finish, settle_touched, settle_whole};
+use cedar_entity_maps::sought::listed;
+use cedar_entity_maps::touching::{Loss, Lost, forget_each, losses_by, note_all, strip_each};
+use cedar_graph::TCNode;
+use cedar_refusals::{
+    Calls, Row, Tried, both, has_words, judged, refuse, tried_rows, unmade, with_word,
+};
+use cedar_uid_sets::SharedUid;
+use std::alloc::{AllocError, Global};
+use std::collections::{HashMap, HashSet};
+
+type Map = HashMap<SharedUid, SharedEntity>;
+
+type Set = HashSet<SharedUid>;
+
+// Puts an entity at its uid; whether it could.
+fn put(alloc: Global, map: &mut Map, entity: SharedEntity) -> bool
+    requires { UidsMatch map.old }
+    ensures { UidsMatch map.new }
+{
+    let key: Result<SharedUid, AllocError> = entity.get_key(alloc);
+    match key {
+        Ok(key) => match map.insert(key, entity) {
+            Ok(former) => {
+                drop(former);
+                true
+            }
+            Err(_) => false,
+        },
+        Err(_) => {
+            drop(entity);
+            false
+        }
+    }
+}
+
+// Puts the entity with a text at its uid; whether it could.
+fn put_text(alloc: Global, map: &mut Map, text: &str) -> bool
+    requires { UidsMatch map.old }
+    ensures { UidsMatch map.new }
+{
+    match counted(alloc, text) {
+        Some(entity) => put(alloc, map, entity),
+        None => false,
+    }
+}
+
+// Whether that could be done, where there is a text.
+fn put_if_any(alloc: Global, map: &mut Map, text: &str) -> bool
+    requires { UidsMatch map.old }
+    ensures { UidsMatch map.new }
+{
+    if text.is_empty() {
+        return true;
+    }
+    put_text(alloc, map, text)
+}
+
+// The map with a text.
+fn map_of(alloc: Global, texts: &str) -> Option<Map>
+    ensures { IfSome result (λ m. UidsMatch m) }
+{
+    let mut map = HashMap::new(alloc);
+    for text in texts.split(',') {
+        if !put_if_any(alloc, &mut map, text.trim()) {
+            drop(map);
+            return None;
+        }
+    }
+    Some(map)
+}
+
+// The map that is wanted, which is empty where a refusal is.
+fn due_of(alloc: Global, want: &str) -> Option<Map> {
+    if want.starts_with('!') {
+        return Some(HashMap::new(alloc));
+    }
+    map_of(alloc, want)
+}
+
+// Whether a map has just the entities of another, with the same ancestors.
+fn are_alike(map: &Map, due: &Map) -> bool {
+    for (uid, entity) in due {
+        match map.get(uid) {
+            Some(other) if other.0.deep_eq(&entity.0) => {}
+            _ => return false,
+        }
+    }
+    map.len() == due.len()
+}
+
+// The parts of what a row gives.
+fn parts_of(given: &str) -> (&str, &str, &str) {
+    let (word, rest) = given.split_once(';').unwrap_or((given, ""));
+    let (names, texts) = rest.split_once(';').unwrap_or((rest, ""));
+    (word.trim(), names, texts)
+}
+
+// What comes of a step that closes a map, checks it, or takes ancestors from it.
+fn settled(alloc: Global, number: usize, row: Row<'_>, uids: Set, due: Map) -> Tried {
+    let (word, _names, texts) = parts_of(row.given);
+    match map_of(alloc, texts) {
+        Some(map) => {
+            let mut map = map;
+            let mode = mode_of(word);
+            let none = HashSet::new(alloc);
+            refuse(alloc, number);
+            let answer = match row.call {
+                "check" => check(alloc, &map),
+                "finish" => finish(alloc, &mut map, &uids, mending(row_of(mode))),
+                "settle_touched" => settle_touched(alloc, &mut map, &uids, mode),
+                "settle_whole" => settle_whole(alloc, &mut map, mode),
+                _ => forget_each(alloc, &mut map, &none, &uids, word == "anew"),
+            };
+            let tried = judged(alloc, answer, row.want, |_| are_alike(&map, &due));
+            drop(none);
+            drop(map);
+            drop(uids);
+            drop(due);
+            tried
+        }
+        None => {
+            drop(uids);
+            drop(due);
+            unmade()
+        }
+    }
+}
+
+// What an edit of some uids touches.
+fn touched(alloc: Global, map: &Map, uids: &Set) -> Result<Set, EntitiesError>
+    ensures { IfOk result (λ s. (q : EntityUID) → contains same_uid s q
+        ≡ is_touched (held_map map.now) uids.now.keys q) }
+{
+    let index = Index::unlisted(false);
+    touched_by(alloc, map, &index, uids)
+}
+
+// Whether losses are written so: each uid and what goes from it.
+fn are_losses(alloc: Global, losses: &Vec<Loss>, want: &str) -> bool {
+    let mut text = Some(String::new(alloc));
+    for loss in losses {
+        text = with_word(text, loss.uid.uid().eid().as_ref());
+        text = match &loss.lost {
+            Lost::All => with_word(text, "all"),
+            Lost::These(uids) => match eids(alloc, uids.iter()) {
+                Some(lost) => {
+                    let longer = with_word(text, lost.as_str());
+                    drop(lost);
+                    longer
+                }
+                None => text,
+            },
+        };
+    }
+    match text {
+        Some(text) => {
+            let told = has_words(text.as_str(), want);
+            drop(text);
+            told
+        }
+        None => false,
+    }
+}
+
+// What comes of finding what goes by some uids.
+fn losing(alloc: Global, number: usize, row: Row<'_>, map: &Map, uids: &Set) -> Tried {
+    let (word, _names, _texts) = parts_of(row.given);
+    match touched(alloc, map, uids) {
+        Ok(touched) => {
+            refuse(alloc, number);
+            let answer = losses_by(alloc, map, uids, &touched, word == "anew");
+            drop(touched);
+            judged(
+                alloc,
+                answer,
+                row.want,
+                |losses| are_losses(alloc, losses, row.want),
+            )
+        }
+        Err(error) => {
+            drop(error);
+            unmade()
+        }
+    }
+}
+
+// What goes by some uids.
+fn losses_of(alloc: Global, map: &Map, uids: &Set) -> Option<Vec<Loss>> {
+    match touched(alloc, map, uids) {
+        Ok(touched) => {
+            let losses: Result<Vec<Loss>, AllocError> = losses_by(
+                alloc, map, uids, &touched, false,
+            );
+            drop(touched);
+            losses.ok()
+        }
+        Err(error) => {
+            drop(error);
+            None
+        }
+    }
+}
+
+// What comes of stripping a map of what goes by some uids, and of these as parents.
+fn stripped(alloc: Global, number: usize, row: Row<'_>, map: Map, due: &Map) -> Tried {
+    let (_word, names, _texts) = parts_of(row.given);
+    let mut map = map;
+    let losses = match uids_of(alloc, names) {
+        Some(uids) => {
+            let losses = losses_of(alloc, &map, &uids);
+            drop(uids);
+            losses
+        }
+        None => None,
+    };
+    let tried = match both(losses, set_of(alloc, names)) {
+        Some((losses, gone)) => {
+            refuse(alloc, number);
+            let answer = strip_each(&mut map, losses, &gone);
+            drop(gone);
+            judged(alloc, answer, row.want, |_| are_alike(&map, due))
+        }
+        None => unmade(),
+    };
+    drop(map);
+    tried
+}
+
+// What comes of finding what an edit touches, where the children may be listed.
+fn touching(alloc: Global, number: usize, row: Row<'_>, map: &Map, uids: &Set) -> Tried {
+    let (word, _names, texts) = parts_of(row.given);
+    let mut index = Index::unlisted(true);
+    if word == "listed" {
+        index.children = index_of(alloc, texts);
+    }
+    refuse(alloc, number);
+    let answer = touched_by(alloc, map, &index, uids);
+    drop(index);
+    judged(
+        alloc,
+        answer,
+        row.want,
+        |found| are_found(alloc, found, row.want),
+    )
+}
+
+// What comes of noting some uids beside others.
+fn noting(alloc: Global, number: usize, row: Row<'_>, uids: Set) -> Tried {
+    let (_word, _names, more) = parts_of(row.given);
+    let mut noted = uids;
+    let tried = match pointers(alloc, more) {
+        Some(more) => {
+            refuse(alloc, number);
+            let answer = note_all(&mut noted, more);
+            judged(
+                alloc,
+                answer,
+                row.want,
+                |_| are_found(alloc, &noted, row.want),
+            )
+        }
+        None => unmade(),
+    };
+    drop(noted);
+    tried
+}
+
+// What comes of listing the uids of a set.
+fn listing(alloc: Global, number: usize, row: Row<'_>, uids: Set) -> Tried {
+    refuse(alloc, number);
+    let answer = listed(alloc, &uids);
+    let tried = judged(alloc, answer, row.want, |list| {
+        list.len() == uids.len() && list.iter().all(|uid| uids.contains(uid))
+    });
+    drop(uids);
+    tried
+}
+
+// What comes of a step that reads a map.
+fn reading(alloc: Global, number: usize, row: Row<'_>, map: Map, uids: Set) -> Tried {
+    let tried = if row.call == "touched_by" {
+        touching(alloc, number, row, &map, &uids)
+    } else {
+        losing(alloc, number, row, &map, &uids)
+    };
+    drop(map);
+    drop(uids);
+    tried
+}
+
+struct OnSteps;
+
+const STEPS: &str = "
+    check | ; ; a b / c, b c, c | a b / c, b c, c
+    check | ; ; a b, b c | ! expected all transitive edges to exist, but `A::\"a\"` -> `A::\"b\"` and `A::\"b\"` -> `A::\"c\"` exists, while `A::\"a\"` -> `A::\"c\"` does not
+    check | ; ; a a | ! input graph has a cycle containing vertex `A::\"a\"`
+    finish | now; a b; a b, b c, c d, d | a b / c d, b c / d, c d, d
+    finish | now; a; a b, b a | ! input graph has a cycle containing vertex `A::\"a\"`
+    finish | assume; a; a b, b c, c | a b / c, b c, c
+    finish | enforce; b; a b, b c, c | ! expected all transitive edges to exist, but `A::\"a\"` -> `A::\"b\"` and `A::\"b\"` -> `A::\"c\"` exists, while `A::\"a\"` -> `A::\"c\"` does not
+    settle_touched | now; a b; a b, b c, c d, d | a b / c d, b c / d, c d, d
+    - settle_touched | assume; a; a b, b c, c | a b, b c, c
+    settle_touched | enforce; a; a a | ! input graph has a cycle containing vertex `A::\"a\"`
+    settle_whole | now; ; a b, b c, c d, d | a b / c d, b c / d, c d, d
+    settle_whole | enforce; ; a b, b c, c | ! expected all transitive edges to exist, but `A::\"a\"` -> `A::\"b\"` and `A::\"b\"` -> `A::\"c\"` exists, while `A::\"a\"` -> `A::\"c\"` does not
+    - settle_whole | assume; ; a b, b c, c | a b, b c, c
+    forget_each | anew; a b; a b / c, b c, c d / e | a b, b c, c d / e
+    - forget_each | ; a; a b / c, b c, c | a b / c, b c, c
+    touched_by | ; c; a b / c, b c, d e | a b c
+    touched_by | listed; c; a b / c, b c, d e | a b c
+    touched_by | listed; e x; a b / c, b c, d e | d e x
+    losses_by | ; b; a b / c d e, b c / d, e | a b c d
+    losses_by | anew; b; a b / c d e, b c / d, e | a all
+    strip_each | ; b; a b / c d e, b c / d, e | a / e, b c / d, e
+    note_all | a; ; b c d e f g h i | a b c d e f g h i
+    - note_all | a b; ; b | a b
+    listed | ; a b c; | ok
+";
+
+impl Calls for OnSteps {
+    fn tried(&self, alloc: Global, number: usize, row: Row<'_>) -> Tried {
+        let (word, names, texts) = parts_of(row.given);
+        let uids = uids_of(alloc, if row.call == "note_all" { word } else { names });
+        match row.call {
+            "note_all" | "listed" => match uids {
+                Some(uids) if row.call == "listed" => listing(alloc, number, row, uids),
+                Some(uids) => noting(alloc, number, row, uids),
+                None => unmade(),
+            },
+            "touched_by" | "losses_by" => match both(map_of(alloc, texts), uids) {
+                Some((map, uids)) => reading(alloc, number, row, map, uids),
+                None => unmade(),
+            },
+            "strip_each" => {
+                drop(uids);
+                match both(map_of(alloc, texts), due_of(alloc, row.want)) {
+                    Some((map, due)) => {
+                        let tried = stripped(alloc, number, row, map, &due);
+                        drop(due);
+                        tried
+                    }
+                    None => unmade(),
+                }
+            }
+            _ => match both(uids, due_of(alloc, row.want)) {
+                Some((uids, due)) => settled(alloc, number, row, uids, due),
+                None => unmade(),
+            },
+        }
+    }
+}
+
+#[test]
+fn each_step_of_an_edit(rt: HostRuntime) {
+    assert!(rt; tried_rows(rt, &OnSteps, STEPS));
+}
