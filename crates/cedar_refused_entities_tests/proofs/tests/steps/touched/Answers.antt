@@ -9,6 +9,6 @@ use Rattle.cedar_refused_entities_tests.proofs.tests.steps.touched.Goals as goal
 pub returns : goal.returns
 returns c =
     c.touched_by.ensures.ok (held_map c.args.map.now)
-    (subst (λ x. IsIndexOf x (held_map c.args.map.now)) (sym c.unlisted.ensures)
+    (subst (λ x. IsIndexOf x (held_map c.args.map.now)) (sym c.unlisted-index.ensures)
     (record { plain = λ t. absurd (both_ways false refl t); children = tt }))
     (λ q. refl)
