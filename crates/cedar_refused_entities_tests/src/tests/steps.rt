@@ -20,7 +20,7 @@ use cedar_entity_maps::sought::listed;
 use cedar_entity_maps::touching::{Loss, Lost, forget_each, losses_by, note_all, strip_each};
 use cedar_graph::TCNode;
 use cedar_refusals::{
-    Calls, Row, Tried, both, has_words, judged, refuse, tried_rows, unmade, with_word,
+    Calls, Row, Tried, both, has_words, judged, refuse, tried_rows, unmade, with_last, with_word,
 };
 use cedar_uid_sets::SharedUid;
 use std::alloc::{AllocError, Global};
@@ -219,10 +219,25 @@ fn losses_of(alloc: Global, map: &Map, uids: &Set) -> Option<Vec<Loss>> {
     }
 }
 
-// What comes of stripping a map of what goes by some uids, and of these as parents.
+// The entities of a map, each shared once more.
+fn copies(alloc: Global, map: &Map) -> Option<Vec<SharedEntity>> {
+    let mut all = Some(Vec::new(alloc));
+    for (_, entity) in map {
+        let copy: Result<SharedEntity, AllocError> = entity.clone();
+        all = with_last(all, copy.ok());
+    }
+    all
+}
+
+// What comes of stripping a map, whose entities may be shared, of what goes by some uids, and of these as parents.
 fn stripped(alloc: Global, number: usize, row: Row<'_>, map: Map, due: &Map) -> Tried {
-    let (_word, names, _texts) = parts_of(row.given);
+    let (word, names, _texts) = parts_of(row.given);
     let mut map = map;
+    let kept = if word == "shared" {
+        copies(alloc, &map)
+    } else {
+        None
+    };
     let losses = match uids_of(alloc, names) {
         Some(uids) => {
             let losses = losses_of(alloc, &map, &uids);
@@ -240,6 +255,7 @@ fn stripped(alloc: Global, number: usize, row: Row<'_>, map: Map, due: &Map) -> 
         }
         None => unmade(),
     };
+    drop(kept);
     drop(map);
     tried
 }
@@ -329,8 +345,9 @@ const STEPS: &str = "
     touched_by | listed; e x; a b / c, b c, d e | d e x
     losses_by | ; b; a b / c d e, b c / d, e | a b c d
     losses_by | anew; b; a b / c d e, b c / d, e | a all
-    strip_each | ; b; a b / c d e, b c / d, e | a / e, b c / d, e
-    note_all | a; ; b c d e f g h i | a b c d e f g h i
+    - strip_each | ; b; a b / c d e, b c / d, e | a / e, b c / d, e
+    strip_each | shared; b; a b / c d e, b c / d, e | a / e, b c / d, e
+    note_all | a; ; b c d e f g h i j k l m n o p q r s t u v w x y z za zb zc zd ze zf zg zh zi zj zk zl zm zn zo | a b c d e f g h i j k l m n o p q r s t u v w x y z za zb zc zd ze zf zg zh zi zj zk zl zm zn zo
     - note_all | a b; ; b | a b
     listed | ; a b c; | ok
 ";
