@@ -283,20 +283,25 @@ fn refusals_name_the_slot_where_it_stands() {
     }
 }
 
+/// A template without slots whose text begins at a place.
+fn thing_at(name: &str, start: usize) -> Template {
+    Template::new(
+        id(name),
+        at(start),
+        Annotations::new(),
+        Effect::Permit,
+        PrincipalConstraint::any(),
+        ActionConstraint::any(),
+        ResourceConstraint::any(),
+        None,
+    )
+}
+
 /// What is bound alike takes the other's value: a static policy, a template, and a template with its link.
 #[test]
 fn merging_takes_the_others_places() {
     fn thing(start: usize) -> Template {
-        Template::new(
-            id("t"),
-            at(start),
-            Annotations::new(),
-            Effect::Permit,
-            PrincipalConstraint::any(),
-            ActionConstraint::any(),
-            ResourceConstraint::any(),
-            None,
-        )
+        thing_at("t", start)
     }
     fn set_at(kind: &str, start: usize) -> PolicySet {
         let mut set = PolicySet::new();
@@ -336,17 +341,7 @@ fn each_policy_takes_the_others_place_for_its_own_id() {
     fn set_of(ids: [&str; 3], first: usize) -> PolicySet {
         let mut set = PolicySet::new();
         for name in ids {
-            let start = first + name.len();
-            let thing = Template::new(
-                id(name),
-                at(start),
-                Annotations::new(),
-                Effect::Permit,
-                PrincipalConstraint::any(),
-                ActionConstraint::any(),
-                ResourceConstraint::any(),
-                None,
-            );
+            let thing = thing_at(name, first + name.len());
             set.add(Template::try_as_policy(shared(thing)).unwrap()).unwrap();
         }
         set
