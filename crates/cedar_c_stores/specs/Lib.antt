@@ -1,6 +1,7 @@
 pub mod Contents
 pub mod Edits
 pub mod Lists
+pub mod Noted
 pub mod Numbers
 pub mod Reads
 pub mod SomePlain

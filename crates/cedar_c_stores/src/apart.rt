@@ -13,7 +13,7 @@ impl<S: BuildHasher + Copy> KeptStore<S> {
     pub fn copy_apart(&self, alloc: Global) -> Result<KeptStore<S>, Reason>
         ensures { Copies self.now.store result }
     {
-        let store = self.store.store_apart(alloc)?;
+        let store = self.store.store_apart(alloc, self.hasher)?;
         Ok(KeptStore::watched(alloc, self.hasher, store))
     }
 

@@ -141,15 +141,20 @@ impl<S: BuildHasher + Copy> KeptStore<S> {
         ensures same { self.new ≡ self.old }
         ensures asks { Asks self.old.store child.now ancestor.now result }
     {
-        let child = self.known.uid_of(alloc, child)?;
-        let ancestor = match self.known.uid_of(alloc, ancestor) {
+        if let Some(below) = self.store.is_noted_below(child, ancestor) {
+            return Ok(below);
+        }
+        let uid = self.known.uid_of(alloc, child)?;
+        let above = match self.known.uid_of(alloc, ancestor) {
             Ok(uid) => uid,
             Err(reason) => return Err(reason),
         };
-        match self.store.stored(&child) {
-            None => Err(Reason::NoEntity),
-            Some(entity) => Ok(entity.is_descendant_of(&ancestor)),
-        }
+        let below = match self.store.stored(&uid) {
+            None => return Err(Reason::NoEntity),
+            Some(entity) => entity.is_descendant_of(&above),
+        };
+        self.store.note(alloc, child, &uid, ancestor, above);
+        Ok(below)
     }
 
     /// The ancestors of an entity become the answer, in the order of uids. `NoEntity` comes where the store has no
@@ -183,7 +188,7 @@ impl<S: BuildHasher + Copy> KeptStore<S> {
     pub fn validate(&mut self, alloc: Global) -> Result<(), Reason>
         ensures { Validates result self.old self.new }
     {
-        let copy = self.store.clone()?;
+        let copy = self.store.store_copy(alloc, self.hasher)?;
         match copy.try_validate(alloc) {
             Ok(_valid) => Ok(()),
             Err(error) => Err(self.refuse(alloc, error)),
@@ -212,7 +217,7 @@ impl<S: BuildHasher + Copy> KeptStore<S> {
         ensures { MatchResult result (λ k. IsSlice uids.items self.now.store k.store
             × IsUntold k) (λ w. w ≡ reasons.NoMemory) }
     {
-        match self.store.slice(alloc, &uids) {
+        match self.store.slice(alloc, self.hasher, &uids) {
             Ok(store) => Ok(KeptStore::watched(alloc, self.hasher, store)),
             Err(_want) => Err(Reason::NoMemory),
         }
@@ -237,7 +242,7 @@ impl<S: BuildHasher + Copy> KeptStore<S> {
     pub fn copy(&self, alloc: Global) -> Result<KeptStore<S>, Reason>
         ensures { Copies self.now.store result }
     {
-        let store = self.store.clone()?;
+        let store = self.store.store_copy(alloc, self.hasher)?;
         Ok(KeptStore::watched(alloc, self.hasher, store))
     }
 

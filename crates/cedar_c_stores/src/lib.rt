@@ -11,6 +11,7 @@ mod keys;
 pub mod known;
 mod laid;
 mod listing;
+mod noted;
 mod number_calls;
 pub mod numbers;
 mod reads;

@@ -35,6 +35,17 @@ impl<S: BuildHasher + Copy> Numbers<S> {
         }
     }
 
+    // The number of a uid that is shared: the one that it has, or the next. Takes memory, and is refused only where that
+    // is; then all is as it was.
+    pub(crate) fn number_of_shared(&mut self, shared: SharedUid) -> Result<usize, AllocError>
+        ensures uids { OnOk result (self.new ≡ uids_with self.old shared) }
+        ensures number { IfOk result (IsNumberOf self.new shared) }
+        ensures err { OnErr result (self.new ≡ self.old) }
+    {
+        let (number, _) = self.uids.insert_full(shared)?;
+        Ok(number)
+    }
+
     // The number of a uid: the one that it has, or the next. Takes memory for the uid, and is refused only where that
     // is; then all is as it was.
     pub(crate) fn number_of(&mut self, alloc: Global, uid: EntityUID) -> Result<usize, AllocError>
@@ -43,8 +54,7 @@ impl<S: BuildHasher + Copy> Numbers<S> {
         ensures err { OnErr result (self.new ≡ self.old) }
     {
         let shared = SharedUid::new(alloc, uid)?;
-        let (number, _) = self.uids.insert_full(shared)?;
-        Ok(number)
+        self.number_of_shared(shared)
     }
 
     // The uid with a number, if it is one's. Takes no memory.

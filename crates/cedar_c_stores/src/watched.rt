@@ -1,5 +1,5 @@
 //! A store that is kept, with what is known of it: whether it is plain, so that an edit may be tried before it is made.
-ghost use Rattle.std.specs.Prelude.{◌≡◌, ◌↔◌, IfErr, IfOk, IsTrue, None, OnErr, false, true};
+ghost use Rattle.std.specs.Prelude.{◌≡◌, ◌↔◌, IfErr, IfOk, IfSome, IsTrue, None, Ok, OnErr, false, true};
 ghost use Rattle.std.specs.FinMap as finmap;
 ghost use Rattle.std.specs.Option.{option_map};
 ghost use Rattle.cedar_entity.specs.declared.err.EntitiesError.TheVariants.{Memory};
@@ -8,10 +8,15 @@ ghost use Rattle.cedar_entity_maps.specs.Plain.{IsKeyed, IsPlainStore, entities_
 ghost use Rattle.cedar_entities.specs.StoreFaults.{IsStoreFault, IsValidStore};
 ghost use Rattle.cedar_entity_maps.specs.World.{World, empty_world};
 ghost use Rattle.cedar_slice.specs.Slices.{IsPlainSlice, sliced};
+ghost use Rattle.cedar_c_lists.specs.Texts.{IsReadOf};
+ghost use Rattle.cedar_entity.specs.View.{has_ancestor};
 ghost use Rattle.cedar_c_stores.specs.Edits.{Edits};
+ghost use Rattle.cedar_c_stores.specs.Reads.{AsksAbove};
+ghost use Rattle.cedar_c_stores.specs.SomePlain.{IsSomePlain};
 ghost use Rattle.cedar_c_stores.specs.Stores.{AddGives, empty_store};
 
 use crate::edits::{Edit, edit_store, keeps_plain, made};
+use crate::noted::Noted;
 use cedar_entities::{Dereference, Entities, EntitiesError, Entity, Iter, TCComputation};
 use cedar_ids::entity::EntityUID;
 use cedar_slice::slice;
@@ -21,18 +26,20 @@ use std::hash::BuildHasher;
 use std::marker::Model;
 use std::rc::Rc;
 
-/// A store, and whether it is known to be the plain store of a world. Contracts see the store. Each call that stands
-/// here under the name of one of `Entities` is that one.
+/// A store, whether it is known to be the plain store of a world, and what questions on it have found. Contracts see the
+/// store. Each call that stands here under the name of one of `Entities` is that one.
 #[derive(Drop)]
 pub struct Watched<S: BuildHasher> {
     entities: Entities<S>,
     plain: bool,
+    noted: Noted<S>,
 }
 
 impl<S: BuildHasher> Model for Watched<S> {
     ghost use Rattle.std.specs.Prelude.{IsTrue};
     ghost use Rattle.cedar_entities.specs.Codes.{store_code};
     ghost use Rattle.cedar_entity_maps.specs.Plain.{StoreView};
+    ghost use Rattle.cedar_c_stores.specs.Noted.{AreNoted};
     ghost use Rattle.cedar_c_stores.specs.SomePlain.{IsSomePlain};
 
     ghost Value = { StoreView };
@@ -41,10 +48,22 @@ impl<S: BuildHasher> Model for Watched<S> {
 
     ghost view = { λ w. w.entities };
 
-    ghost invariant = { λ w. IsTrue w.plain → IsSomePlain w.entities };
+    ghost invariant = { λ w. (IsTrue w.plain → IsSomePlain w.entities) × AreNoted w.entities w.noted };
 }
 
 impl<S: BuildHasher + Copy> Watched<S> {
+    // A store of which nothing is noted, and whether it is known to be plain.
+    fn of(alloc: Global, hasher: S, entities: Entities<S>, plain: bool) -> Watched<S>
+        requires { IsTrue plain → IsSomePlain entities }
+        ensures { result ≡ entities }
+    {
+        Watched {
+            entities,
+            plain,
+            noted: Noted::new(alloc, hasher),
+        }
+    }
+
     // The store without entities, which is plain.
     pub(crate) fn with_hasher(alloc: Global, hasher: S) -> Watched<S>
         ensures value { result ≡ empty_store }
@@ -53,6 +72,7 @@ impl<S: BuildHasher + Copy> Watched<S> {
         Watched {
             entities: Entities::with_hasher(alloc, hasher),
             plain: true,
+            noted: Noted::new(alloc, hasher),
         }
     }
 
@@ -62,10 +82,15 @@ impl<S: BuildHasher + Copy> Watched<S> {
         ensures plain { (W : World) → IsPlainStore W self →
             IsPlainStore (record W { partial = true }) result }
     {
-        let Watched { entities, plain } = self;
+        let Watched {
+            entities,
+            plain,
+            noted,
+        } = self;
         Watched {
             entities: entities.partial(),
             plain,
+            noted,
         }
     }
 
@@ -81,12 +106,12 @@ impl<S: BuildHasher + Copy> Watched<S> {
         let edit = Edit::Add(list);
         let plain = keeps_plain(true, &edit, mode);
         match made(alloc, Entities::with_hasher(alloc, hasher), edit, mode) {
-            Ok(entities) => Ok(Watched { entities, plain }),
+            Ok(entities) => Ok(Watched::of(alloc, hasher, entities, plain)),
             Err(error) => Err(error),
         }
     }
 
-    // Makes an edit. A refusal leaves the store as it was, but that want of memory may leave it without entities.
+    // Makes an edit; nothing is noted then. A refusal leaves the store as it was, but that want of memory may leave it without entities.
     pub(crate) fn edit(
         &mut self,
         alloc: Global,
@@ -96,6 +121,7 @@ impl<S: BuildHasher + Copy> Watched<S> {
     ) -> Result<(), EntitiesError>
         ensures { Edits mode edit self.old result self.new }
     {
+        self.noted = Noted::new(alloc, hasher);
         let plain = keeps_plain(self.plain, &edit, mode);
         match edit_store(alloc, &mut self.entities, hasher, edit, mode, plain) {
             Ok(()) => {
@@ -107,20 +133,26 @@ impl<S: BuildHasher + Copy> Watched<S> {
     }
 
     // A copy that shares nothing with the store: that of a plain one is plain.
-    pub(crate) fn store_apart(&self, alloc: Global) -> Result<Watched<S>, AllocError>
+    pub(crate) fn store_apart(&self, alloc: Global, hasher: S) -> Result<Watched<S>, AllocError>
         ensures { IfOk result (λ w. w ≡ self.now) }
     {
         let entities = entities_apart(alloc, &self.entities)?;
-        Ok(Watched {
-            entities,
-            plain: self.plain,
-        })
+        Ok(Watched::of(alloc, hasher, entities, self.plain))
+    }
+
+    // A copy of the store, which shares its entities: that of a plain one is plain.
+    pub(crate) fn store_copy(&self, alloc: Global, hasher: S) -> Result<Watched<S>, AllocError>
+        ensures { IfOk result (λ w. w ≡ self.now) }
+    {
+        let entities = self.entities.clone()?;
+        Ok(Watched::of(alloc, hasher, entities, self.plain))
     }
 
     // The slice at some uids: that of a plain store is plain.
     pub(crate) fn slice(
         &self,
         alloc: Global,
+        hasher: S,
         uids: &[EntityUID],
     ) -> Result<Watched<S>, EntitiesError>
         ensures held { IfOk result (λ s. s ≡ record {
@@ -132,10 +164,7 @@ impl<S: BuildHasher + Copy> Watched<S> {
         ensures err { IfErr result (λ e. e ≡ Memory) }
     {
         match slice(alloc, &self.entities, uids) {
-            Ok(entities) => Ok(Watched {
-                entities,
-                plain: self.plain,
-            }),
+            Ok(entities) => Ok(Watched::of(alloc, hasher, entities, self.plain)),
             Err(error) => Err(error),
         }
     }
@@ -199,6 +228,33 @@ impl<S: BuildHasher + Copy> Watched<S> {
         self.entities.deep_eq(&other.entities)
     }
 
+    // Whether the uid of one text is an ancestor of the entity with that of another, where questions before have found it.
+    // Takes no memory.
+    pub(crate) fn is_noted_below(&self, child: &[u8], ancestor: &[u8]) -> Option<bool>
+        ensures { IfSome result (λ b. AsksAbove has_ancestor self.now child.now ancestor.now (Ok b)) }
+    {
+        self.noted.is_below(child, ancestor)
+    }
+
+    // Notes the entity with a uid, if there is one, for questions to come, by the text of its uid, and a uid that is looked
+    // for by its text. Takes memory; where it is refused, what was noted stays, and is looked for again.
+    pub(crate) fn note(
+        &mut self,
+        alloc: Global,
+        child: &[u8],
+        uid: &EntityUID,
+        ancestor: &[u8],
+        above: EntityUID,
+    )
+        requires child { IsReadOf uid.now child.now }
+        requires ancestor { IsReadOf above ancestor.now }
+        ensures { self.new ≡ self.old }
+    {
+        if let Some(entity) = self.entities.stored(uid) {
+            drop(self.noted.note(alloc, child, entity, ancestor, above));
+        }
+    }
+
     // The store, where nothing is wrong with it.
     pub(crate) fn try_validate(self, alloc: Global) -> Result<Entities<S>, EntitiesError>
         ensures ok { IfOk result (λ s. (s ≡ self) × IsValidStore self.held) }
@@ -206,17 +262,5 @@ impl<S: BuildHasher + Copy> Watched<S> {
     {
         let Watched { entities, .. } = self;
         entities.try_validate(alloc)
-    }
-}
-
-impl<S: BuildHasher + Clone> Clone for Watched<S> {
-    ghost is_clone = { λ x y. y ≡ x };
-
-    /// A copy of the store, which shares its entities, and of which the same is known.
-    fn clone(&self) -> Result<Watched<S>, AllocError> {
-        Ok(Watched {
-            entities: self.entities.clone()?,
-            plain: self.plain,
-        })
     }
 }

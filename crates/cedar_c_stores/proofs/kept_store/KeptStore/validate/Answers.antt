@@ -5,4 +5,4 @@ use Rattle.cedar_c_stores.proofs.kept_store.KeptStore.validate.Goals as goal
 
 pub returns-in-Ok : goal.returns-in-Ok
 returns-in-Ok g c =
-    (subst (λ (S : StoreView). IsValidStore S.held) c.in_ok-copy.ensures.cases c.in-Ok.ensures.ok.1, refl)
+    (subst (λ (S : StoreView). IsValidStore S.held) c.in_ok-copy.ensures c.in-Ok.ensures.ok.1, refl)

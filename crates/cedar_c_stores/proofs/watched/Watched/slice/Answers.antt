@@ -1,5 +1,13 @@
+use Rattle.std.proofs.Common.{subst, sym}
+use Rattle.cedar_entity_maps.specs.Plain.{IsPlainStore}
+use Rattle.cedar_slice.specs.Slices.{IsPlainSlice}
 use Rattle.cedar_c_stores.proofs.watched.Watched.slice.Goals as goal
 
-pub invariant_of-result : goal.invariant_of-result
-invariant_of-result g c = λ h.
-    let p = c.self.invariant h in let s = c.in-Ok.ensures.plain p.0 p.1 in (s.world, s.is_plain)
+pub of-requires : goal.of-requires
+of-requires g c = λ h.
+    let p = c.self.invariant.0 h in let s = c.in-Ok.ensures.plain p.0 p.1 in (s.world, s.is_plain)
+
+pub returns-in-Ok-clause-plain : goal.returns-in-Ok-clause-plain
+returns-in-Ok-clause-plain g c W p =
+    subst (IsPlainSlice W c.args.uids.now) (sym c.of.ensures)
+    (c.in-Ok.ensures.plain W (subst (IsPlainStore W) (sym c.self.view_is) p))

@@ -2,6 +2,6 @@ use Rattle.std.proofs.Common.{subst, sym}
 use Rattle.cedar_entity_maps.specs.Plain.{IsPlainStore}
 use Rattle.cedar_c_stores.proofs.watched.Watched.store_apart.Goals as goal
 
-pub invariant_of-result : goal.invariant_of-result
-invariant_of-result g c = λ h.
-    let p = c.self.invariant h in (p.0, subst (IsPlainStore p.0) (sym c.in_ok-entities.ensures) p.1)
+pub of-requires : goal.of-requires
+of-requires g c = λ h.
+    let p = c.self.invariant.0 h in (p.0, subst (IsPlainStore p.0) (sym c.in_ok-entities.ensures) p.1)

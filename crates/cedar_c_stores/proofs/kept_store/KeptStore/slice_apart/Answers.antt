@@ -1,0 +1,20 @@
+use Rattle.std.proofs.Common.{inl, List, ℕ, subst, sym}
+use Rattle.std.specs.Prelude.{Result, Ok, Err}
+use Rattle.cedar_entity_maps.specs.Plain.{StoreView}
+use Rattle.cedar_c_lists.specs.declared.layout.Span.{Span}
+use Rattle.cedar_c_lists.specs.declared.reason.Reason.{Reason}
+use Rattle.cedar_c_stores.specs.Stores.{Copies, IsSlice, SlicesAt}
+use Rattle.cedar_c_stores.specs.declared.kept_store.KeptStore.{KeptStore}
+use Rattle.cedar_c_stores.proofs.kept_store.KeptStore.slice_apart.Goals as goal
+
+-- a copy of a slice is that slice
+copied_slice : {B H : Type 0} (text : List ℕ) (spans : List Span) (S : StoreView) (part : KeptStore B H)
+    → SlicesAt text spans S (Ok part) → (r : Result (KeptStore B H) Reason) → Copies part.store r → SlicesAt text spans S r
+copied_slice text spans S part (U, read, slice, untold) (Ok k) (same, new) =
+    (U, read, subst (IsSlice U S) (sym same) slice, new)
+copied_slice text spans S part slices (Err w) want = inl want
+
+pub returns-clause-slices : goal.returns-clause-slices
+returns-clause-slices g c =
+    copied_slice c.args.text.now c.args.spans.now c.args.self.now.store c.in_ok-part.part c.in_ok-part.ensures.slices
+    c.copy_apart.result c.copy_apart.ensures

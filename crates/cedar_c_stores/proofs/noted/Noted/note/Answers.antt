@@ -1,0 +1,4 @@
+use Rattle.cedar_c_stores.proofs.noted.Noted.note.Goals as goal
+
+pub returns : goal.returns
+returns g c S u read held name a = c.note_above.ensures S u read held (c.note_name.ensures S name a)
