@@ -1,4 +1,4 @@
-//! What questions have found before, so that it need not be looked for again.
+//! What questions on a store have found before, so that it need not be looked for again.
 ghost use Rattle.std.specs.Prelude.{◌≡◌, IfOk, IfSome, Ok, Some};
 ghost use Rattle.std.specs.FinMap as finmap;
 ghost use Rattle.cedar_ids.specs.declared.entity.EntityUID.{EntityUID};
@@ -18,7 +18,7 @@ use std::hash::BuildHasher;
 // So many ancestors of an entity are noted at the most: they are gone through one by one.
 const FEW: usize = 32;
 
-// So many uids that are looked for are noted at the most.
+// So many texts are noted at the most, of entities and of uids that are looked for among their ancestors.
 const MOST: usize = 65_536;
 
 // The numbers of the ancestors of an entity, where they are few. Takes memory, for uids that have no number too.
@@ -41,8 +41,9 @@ fn row_of<S: BuildHasher + Copy>(
     Ok(Some(row))
 }
 
-/// What was found before: for the text of the uid of an entity that was asked about the numbers of its ancestors, where
-/// they are few, and for a text that was looked for among them the number of its uid.
+/// What was found before: by the text of the uid of an entity that was asked about the numbers of its ancestors, where
+/// they are few, and by a text that was looked for among them the number of its uid. A number is a place among the uids
+/// that have one, so it is told without a look at a uid.
 #[derive(Drop)]
 pub(crate) struct Noted<S: BuildHasher> {
     numbers: Numbers<S>,
@@ -77,13 +78,13 @@ impl<S: BuildHasher + Copy> Noted<S> {
         }
     }
 
-    // Notes the ancestors of the entity with the uid of a text, unless that is done. Takes memory; a refusal leaves what
-    // was noted.
+    // Notes the ancestors of the entity with the uid of a text, unless that is done, while there is room. Takes memory; a
+    // refusal leaves what was noted.
     fn note_above(&mut self, alloc: Global, text: &[u8], entity: &Entity) -> Result<(), AllocError>
         ensures { (S : StoreView) → (u : EntityUID) → IsReadOf u text.now
             → finmap.get S.held u ≡ Some entity.now → AreNoted S self.old → AreNoted S self.new }
     {
-        if self.above.contains_key(text) {
+        if self.above.len() >= MOST || self.above.contains_key(text) {
             return Ok(());
         }
         let row = row_of(alloc, &mut self.numbers, entity)?;
@@ -92,11 +93,12 @@ impl<S: BuildHasher + Copy> Noted<S> {
         Ok(())
     }
 
-    // Notes the number of the uid of a text, while there is room. Takes memory; a refusal leaves what was noted.
+    // Notes the number of the uid of a text, unless that is done, while there is room. Takes memory; a refusal leaves what
+    // was noted.
     fn note_name(&mut self, alloc: Global, text: &[u8], uid: EntityUID) -> Result<(), AllocError>
         ensures { (S : StoreView) → IsReadOf uid text.now → AreNoted S self.old → AreNoted S self.new }
     {
-        if self.names.len() >= MOST {
+        if self.names.len() >= MOST || self.names.contains_key(text) {
             return Ok(());
         }
         let number = self.numbers.number_of(alloc, uid)?;
