@@ -162,9 +162,6 @@ append_join : (us vs ws : List EntityUID) → (us ++ vs) ++ ws ≡ us ++ (vs ++ 
 append_join [] vs ws = refl
 append_join (x ∷ us) vs ws = ap (λ l. x ∷ l) (append_join us vs ws)
 
-pub keeps_all : (us : List EntityUID) → KeepsNumbers us us
-keeps_all us = ([], sym (append_none us), λ d. d)
-
 pub keeps_more : (us vs ws : List EntityUID) → KeepsNumbers us vs → KeepsNumbers vs ws → KeepsNumbers us ws
 keeps_more us vs ws k l = (
   k.0 ++ l.0,

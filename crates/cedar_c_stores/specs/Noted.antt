@@ -17,10 +17,11 @@ use Rattle.cedar_c_stores.specs.declared.noted.Noted.{Noted}
 abbrev pub noted_at : {A X B : Type 0} → HashMap (Vec ℕ A) X B → List ℕ → Option X
 noted_at m t = get_by (λ k. pointwise nat_eq t k.items) m
 
--- a number that a uid has, and whether it is that of a uid
+-- a uid has this number
 abbrev pub IsGiven : List EntityUID → ℕ → Type 0
 IsGiven us n = (u : EntityUID) × (slice_get us n ≡ Some u)
 
+-- whether a number is that of a uid
 abbrev pub is_number_of : List EntityUID → EntityUID → ℕ → Bool
 is_number_of us q n = option_map_or (same_uid q) (slice_get us n) false
 
