@@ -419,6 +419,28 @@ static void edits(void) {
     cedar_store_free(&s);
 }
 
+/* What was asked is told again, and anew after each call that changes the store. */
+static void asked_again(void) {
+    cedar_store s = {0}, copy = {0};
+    CHECK(new_store(&s) == CEDAR_OK && build(&s, "a b;b c;c", CEDAR_COMPUTE) == CEDAR_OK);
+    for (int i = 0; i < 3; i++) {
+        CHECK(descends(&s, U("a"), U("c")) == 1 && descends(&s, U("c"), U("a")) == 0);
+        CHECK(descends(&s, U("a"), U("x")) == 0 && descends(&s, U("d"), U("a")) == 100 + CEDAR_NO_ENTITY);
+        CHECK(descends(&s, U("a"), "x") == 100 + CEDAR_NOT_A_UID && descends(&s, "a", U("c")) == 104);
+    }
+    CHECK(cedar_store_copy(&s, &copy) == CEDAR_OK);
+    CHECK(add(&s, "c x;x a", CEDAR_COMPUTE) == CEDAR_DUPLICATE && descends(&s, U("a"), U("x")) == 0);
+    CHECK(upsert(&s, "b x", CEDAR_COMPUTE) == CEDAR_OK);
+    CHECK(descends(&s, U("a"), U("c")) == 0 && descends(&s, U("a"), U("x")) == 1);
+    CHECK(removed(&s, "b", CEDAR_COMPUTE) == CEDAR_OK && descends(&s, U("a"), U("x")) == 0);
+    CHECK(descends(&s, U("b"), U("x")) == 100 + CEDAR_NO_ENTITY);
+    CHECK(build(&s, "a z", CEDAR_COMPUTE) == CEDAR_OK && descends(&s, U("a"), U("z")) == 1);
+    CHECK(descends(&copy, U("a"), U("c")) == 1 && descends(&copy, U("a"), U("x")) == 0);
+    CHECK(cedar_store_partial(&copy) == CEDAR_OK && descends(&copy, U("a"), U("c")) == 1);
+    cedar_store_free(&s);
+    cedar_store_free(&copy);
+}
+
 static void copies_and_slices(void) {
     cedar_store s = {0}, t = {0};
     CHECK(new_store(&s) == CEDAR_OK && build(&s, "a b;b c;c;x c", CEDAR_COMPUTE) == CEDAR_OK);
@@ -816,6 +838,7 @@ int main(void) {
     modes();
     actions();
     edits();
+    asked_again();
     copies_and_slices();
     reading_ancestors();
     partial_stores();

@@ -98,6 +98,19 @@ fn each_question_is_answered_of_the_store_as_it_is() {
 }
 
 #[test]
+fn a_long_chain_is_told_as_a_short_one() {
+    let size = 70;
+    let plain: Plain = (0..size).map(|one| (one, vec![one + 1])).collect();
+    let entities: Vec<Entity> = plain
+        .iter()
+        .map(|(one, above)| entity(*one, above))
+        .collect();
+    let store = Entities::from_entities(&entities, NOW).unwrap();
+    asked(&store, &plain, size);
+    asked(&store, &plain, size);
+}
+
+#[test]
 fn a_copy_and_a_slice_answer_of_themselves() {
     let mut store = store("a b;b c;c;x c");
     assert!(store.is_descendant_of(uid("a"), uid("c")).unwrap());
