@@ -351,9 +351,9 @@ uint32_t cedar_store_has(cedar_store *s, const uint8_t *uid, size_t uid_len, boo
  * is written at CEDAR_OK alone. CEDAR_OK, CEDAR_CLOSED, CEDAR_NOT_A_UID where one of the texts is no uid's,
  * CEDAR_NO_ENTITY where the store has no entity with the first uid, CEDAR_NO_MEMORY.
  *
- * The handle notes what it is asked, by both texts, until the next call that changes the store: of at most 65,536
- * entities the text and up to 32 ancestors, and of as many uids the text. What is noted is told without reading a uid,
- * at a quarter of the cost. Memory that notes are refused refuses nothing. */
+ * Once the store was asked as often as it has entities, the handle notes what it is asked, by both texts, until the next
+ * call that changes the store: of at most 65,536 entities the text and up to 32 ancestors, and of as many uids the text.
+ * What is noted is told without reading a uid, at a quarter of the cost. Memory that notes are refused refuses nothing. */
 uint32_t cedar_store_is_descendant_of(cedar_store *s, const uint8_t *child, size_t child_len, const uint8_t *ancestor,
                                       size_t ancestor_len, bool *answer);
 

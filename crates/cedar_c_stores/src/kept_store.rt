@@ -131,10 +131,12 @@ impl<S: BuildHasher + Copy> KeptStore<S> {
     }
 
     /// Whether the entity with the uid that one text is is a descendant of the uid that another is. `NoEntity` comes
-    /// where the store has no such entity. Takes memory for the two uids, and for what is noted of them until the next
-    /// edit: the numbers of the entity's ancestors, where these are at most 32, and that of the other uid, each by its
-    /// text, of at most 65,536 texts. A question between two texts that are noted costs two looks, takes no memory and
-    /// reads no uid. Want of memory for what is noted refuses nothing.
+    /// where the store has no such entity. Takes memory for the two uids.
+    ///
+    /// After as many questions as the store has entities, since the last edit, it takes memory for notes too: by the text
+    /// of an entity the numbers of its ancestors, where these are at most 32, and by the text of the other uid its number,
+    /// of at most 65,536 texts each. A question between two texts that are noted costs two looks, takes no memory and
+    /// reads no uid. Want of memory for notes refuses nothing.
     pub fn is_descendant_of(
         &mut self,
         alloc: Global,

@@ -33,6 +33,8 @@ pub struct Watched<S: BuildHasher> {
     entities: Entities<S>,
     plain: bool,
     noted: Noted<S>,
+    // How many questions went by that were not noted, up to as many as there are entities.
+    asked: usize,
 }
 
 impl<S: BuildHasher> Model for Watched<S> {
@@ -61,6 +63,7 @@ impl<S: BuildHasher + Copy> Watched<S> {
             entities,
             plain,
             noted: Noted::new(alloc, hasher),
+            asked: 0,
         }
     }
 
@@ -73,6 +76,7 @@ impl<S: BuildHasher + Copy> Watched<S> {
             entities: Entities::with_hasher(alloc, hasher),
             plain: true,
             noted: Noted::new(alloc, hasher),
+            asked: 0,
         }
     }
 
@@ -86,11 +90,13 @@ impl<S: BuildHasher + Copy> Watched<S> {
             entities,
             plain,
             noted,
+            asked,
         } = self;
         Watched {
             entities: entities.partial(),
             plain,
             noted,
+            asked,
         }
     }
 
@@ -122,6 +128,7 @@ impl<S: BuildHasher + Copy> Watched<S> {
         ensures { Edits mode edit self.old result self.new }
     {
         self.noted = Noted::new(alloc, hasher);
+        self.asked = 0;
         let plain = keeps_plain(self.plain, &edit, mode);
         match edit_store(alloc, &mut self.entities, hasher, edit, mode, plain) {
             Ok(()) => {
@@ -237,7 +244,8 @@ impl<S: BuildHasher + Copy> Watched<S> {
     }
 
     // Notes the entity with a uid, if there is one, for questions to come, by the text of its uid, and a uid that is looked
-    // for by its text. Takes memory; where it is refused, what was noted stays, and is looked for again.
+    // for by its text, once as many questions went by as there are entities: who asks of each entity once pays for no note.
+    // Takes memory; where it is refused, what was noted stays, and is looked for again.
     pub(crate) fn note(
         &mut self,
         alloc: Global,
@@ -250,6 +258,10 @@ impl<S: BuildHasher + Copy> Watched<S> {
         requires ancestor { IsReadOf above ancestor.now }
         ensures { self.new ≡ self.old }
     {
+        if self.asked < self.entities.len() {
+            self.asked += 1;
+            return;
+        }
         if let Some(entity) = self.entities.stored(uid) {
             drop(self.noted.note(alloc, child, entity, ancestor, above));
         }
