@@ -137,6 +137,13 @@ static uint32_t asks_above(held *h) {
     return truth(status, answer, true);
 }
 
+/* Often enough for notes to be made: a request of theirs that is refused refuses no question. */
+static uint32_t asks_again(held *h) {
+    uint32_t status = CEDAR_OK;
+    for (int i = 0; i < 12 && status == CEDAR_OK; i++) status = asks_above(h);
+    return status;
+}
+
 static uint32_t makes_uid(held *h) {
     uint8_t out[16];
     size_t length = 9;
@@ -482,6 +489,7 @@ static const call CALLS[] = {
     removes_enforced,
     asks_has,
     asks_above,
+    asks_again,
     lists_ancestors,
     lists_parents,
     lists_nothing,
