@@ -1,1 +1,3 @@
+pub mod BlockBytes
 pub mod LineTexts
+pub mod Marks

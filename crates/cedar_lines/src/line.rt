@@ -1,42 +1,56 @@
 //! The fields of a line.
-ghost use Rattle.std.specs.Prelude.{◌≡◌, ◌==◌, ◌<◌, ◌∷◌, IfOk, OnOk, IfSome, IsTrue, MatchOption, length, map};
+ghost use Rattle.std.specs.Prelude.{◌≡◌, ◌==◌, ◌+◌, ◌≤◌, ◌++◌, IfOk, OnOk, IsTrue, length, drop, map};
 ghost use Rattle.std.specs.List.{list_all, slice_split};
-ghost use Rattle.std.specs.Option.{option_copied};
+ghost use Rattle.std.specs.Str.{IsAscii};
 ghost use Rattle.cedar_lines.specs.Lines.{is_line_byte};
-ghost use Rattle.cedar_lines.specs.laws.Fields.{fields_left, HasNoTab, IsFirstTab};
+ghost use Rattle.cedar_lines.specs.laws.Fields.{HasNoTabIn};
 
+use crate::lanes::{has_line_bytes, lowest_bit, tabs_in, without_bit};
 use std::alloc::AllocError;
 
-// The place of the first tab, if there is one.
-fn first_tab(line: &[u8]) -> Option<usize>
-    ensures { MatchOption result (HasNoTab line.now) (IsFirstTab line.now) }
+// Puts the fields that end at a tab from one place up to another behind those before. The first begins at `start`.
+// Where the next begins.
+fn push_fields<'a>(
+    fields: &mut Vec<&'a str>,
+    line: &'a str,
+    start: usize,
+    from: usize,
+    to: usize,
+) -> Result<usize, AllocError>
+    requires ascii { IsAscii line.now }
+    requires within { (from ≤ to) × (to ≤ from + 16) × (to ≤ length line.now) }
+    requires begun { (start ≤ from) × HasNoTabIn line.now start from }
+    ensures begun { IfOk result (λ next. (next ≤ to) × HasNoTabIn line.now next to) }
+    ensures fields { IfOk result (λ next.
+        map (λ x. x.now) fields.new.items ++ slice_split (λ b. b == 9) (drop next line.now)
+        ≡ map (λ x. x.now) fields.old.items ++ slice_split (λ b. b == 9) (drop start line.now)) }
 {
-    line.iter().position(|b| *b == b'\t')
-}
-
-// What stands before the first tab, and what stands behind it, if there is one. Most fields are short, so it goes from
-// byte to byte.
-fn first_field(line: &str) -> (&str, Option<&str>)
-    ensures fields { slice_split (λ b. b == 9) line.now ≡ result.0.now ∷ fields_left (option_copied result.1) }
-    ensures shorter { IfSome result.1 (λ rest. length rest.now < length line.now) }
-{
-    match first_tab(line.as_bytes()) {
-        None => (line, None),
-        Some(i) => (&line[..i], Some(&line[i + 1..])),
+    let mut next = start;
+    let mut tabs = tabs_in(line.as_bytes(), from, to);
+    while tabs != 0 {
+        let bit = lowest_bit(tabs);
+        let tab = from + bit;
+        fields.push(&line[next..tab])?;
+        next = tab + 1;
+        tabs = without_bit(tabs, bit);
     }
+    Ok(next)
 }
 
 // Puts the fields between the tabs of a line in the place of those before.
 fn set_fields<'a>(fields: &mut Vec<&'a str>, line: &'a str) -> Result<(), AllocError>
+    requires { IsAscii line.now }
     ensures { OnOk result (map (λ x. x.now) fields.new.items ≡ slice_split (λ b. b == 9) line.now) }
 {
     fields.clear();
-    let mut left = Some(line);
-    while let Some(rest) = left {
-        let (field, behind) = first_field(rest);
-        fields.push(field)?;
-        left = behind;
+    let mut start = 0;
+    let mut seen = 0;
+    while seen < line.len() {
+        let to = seen + (line.len() - seen).min(16);
+        start = push_fields(fields, line, start, seen, to)?;
+        seen = to;
     }
+    fields.push(&line[start..])?;
     Ok(())
 }
 
@@ -47,11 +61,14 @@ fn is_line_byte(b: u8) -> bool
     b == b'\t' || (32 <= b && b <= 126)
 }
 
-// Whether a line has tabs and printable ASCII alone. It is gone through to its end, which costs less a byte than to
-// stop at the first that is neither.
+// Whether a line has tabs and printable ASCII alone. A short one is gone through to its end, which costs less a byte
+// than to stop at the first that is neither.
 fn has_line_bytes_alone(line: &[u8]) -> bool
     ensures { result ≡ list_all is_line_byte line.now }
 {
+    if 16 <= line.len() && has_line_bytes(line) {
+        return true;
+    }
     let mut is_readable = true;
     for b in line {
         is_readable = is_readable & is_line_byte(*b);

@@ -1,49 +1,63 @@
--- Where the first field of a line ends.
-use Rattle.std.specs.Prelude.{◌≡◌, ℕ, zero, suc, ◌<◌, ◌+◌, List, [], ◌∷◌, ◌==◌, true, false, Option, Some, None}
-use Rattle.std.specs.Prelude.{length, take, drop}
-use Rattle.std.proofs.Common.{ap, ◌∙◌, refl, arith}
-use Rattle.std.specs.List.{slice_split, onto_first, AllWithin, HoldsAt}
-use Rattle.std.proofs.lemmas.Bool.Decides.{nat_tests}
+-- Where tabs stand in a line, and where a field ends.
+use Rattle.std.specs.Prelude.{◌≡◌, ℕ, zero, suc, ◌+◌, ◌-◌, ◌<◌, ◌≤◌, List, [], ◌∷◌, ◌==◌, true, false, length, take, drop, slice_index}
+use Rattle.std.proofs.Common.{ap, subst, sym, ◌∙◌, refl, arith, length-drop, get_or-drop, drop-drop}
+use Rattle.std.specs.Int.{bit_at}
+use Rattle.std.specs.List.{slice_split, onto_first}
 use Rattle.std.proofs.lemmas.List.Splits.{slice_split-cons_yes, slice_split-cons_no}
 
--- the fields of what is left, if anything is
-abbrev pub fields_left : Option (List ℕ) → List (List ℕ)
-fields_left None = []
-fields_left (Some xs) = slice_split (λ b. b == 9) xs
+-- a tab stands at this place
+abbrev pub HasTabAt : List ℕ → ℕ → Type 0
+HasTabAt xs k = (slice_index xs k == 9) ≡ true
 
--- how many bytes are left, and one for that some are
-abbrev pub bytes_left : Option (List ℕ) → ℕ
-bytes_left None = 0
-bytes_left (Some xs) = suc (length xs)
+-- no byte from a place up to another is a tab
+abbrev pub HasNoTabIn : List ℕ → ℕ → ℕ → Type 0
+HasNoTabIn xs from to = (k : ℕ) → from ≤ k → k < to → (slice_index xs k == 9) ≡ false
 
--- no byte is a tab
-abbrev pub HasNoTab : List ℕ → Type 0
-HasNoTab xs = AllWithin (λ b. b == 9 ≡ false) xs 0 (length xs)
-
--- the first tab stands at this place
-abbrev pub IsFirstTab : List ℕ → ℕ → Type 0
-IsFirstTab xs i = (i < length xs) × HoldsAt (λ b. b == 9 ≡ true) xs i × AllWithin (λ b. b == 9 ≡ false) xs 0 i
-
--- a tab is ASCII
-pub tab_is_ascii : (b : ℕ) → b == 9 ≡ true → b < 128
-tab_is_ascii b h = grind (arith, nat_tests)
+-- of the places from one up to another, bit k of a mask is set where a tab stands k places on, and no other bit is
+pub record MarksTabs (xs : List ℕ) (from to m : ℕ) : Type 0 where
+  pub each : (k : ℕ) → from + k < to → HasTabAt xs (from + k) → bit_at m k ≡ 1
+  pub only : (k : ℕ) → bit_at m k ≡ 1 → (from + k < to) × HasTabAt xs (from + k)
 
 -- the bytes before the first tab are the first field, and those after it the others
-pub ends_before : (xs : List ℕ) (i : ℕ) → IsFirstTab xs i
+ends_before : (xs : List ℕ) (i : ℕ) → i < length xs → HasTabAt xs i → HasNoTabIn xs 0 i
     → slice_split (λ b. b == 9) xs ≡ take i xs ∷ slice_split (λ b. b == 9) (drop (suc i) xs)
-ends_before [] i h = absurd (omega (arith, h.0))
-ends_before (x ∷ xs) zero h = slice_split-cons_yes (λ b. b == 9) x xs (h.1 0)
-ends_before (x ∷ xs) (suc i) h =
-    slice_split-cons_no (λ b. b == 9) x xs (h.2 0 0 (omega arith) (omega arith))
-    ∙ ap (onto_first x) (ends_before xs i (
-      omega (arith, h.0),
-      h.1,
-      λ k d l m. h.2 (suc k) d (omega arith) (omega
-          (arith, m)),
-    ))
+ends_before [] i l t n = absurd (omega arith)
+ends_before (x ∷ xs) zero l t n = slice_split-cons_yes (λ b. b == 9) x xs t
+ends_before (x ∷ xs) (suc i) l t n =
+    slice_split-cons_no (λ b. b == 9) x xs (n 0 (omega arith) (omega arith))
+    ∙ ap (onto_first x) (ends_before xs i (omega arith) t (λ k low high. n (suc k) (omega arith) (omega arith)))
 
 -- bytes without a tab are one field
-pub only_field : (xs : List ℕ) → HasNoTab xs → slice_split (λ b. b == 9) xs ≡ xs ∷ []
+only_field : (xs : List ℕ) → HasNoTabIn xs 0 (length xs) → slice_split (λ b. b == 9) xs ≡ xs ∷ []
 only_field [] n = refl
-only_field (x ∷ xs) n = slice_split-cons_no (λ b. b == 9) x xs (n 0 0 (omega arith) (omega arith))
-    ∙ ap (onto_first x) (only_field xs (λ k d l m. n (suc k) d (omega arith) (omega (arith, m))))
+only_field (x ∷ xs) n = slice_split-cons_no (λ b. b == 9) x xs (n 0 (omega arith) (omega arith))
+    ∙ ap (onto_first x) (only_field xs (λ k low high. n (suc k) (omega arith) (omega arith)))
+
+later : (xs : List ℕ) (from to n : ℕ) → n + from ≤ to → HasNoTabIn xs from to → HasNoTabIn (drop from xs) 0 n
+later xs from to n l none k low high =
+    ap (λ b. b == 9) (get_or-drop from xs k 0) ∙ none (from + k) (omega arith) (omega arith)
+
+-- the bytes from a place up to the first tab behind it are a field, and those after the tab the others
+pub next_field : (xs : List ℕ) (from tab : ℕ) → from ≤ tab → tab < length xs → HasTabAt xs tab → HasNoTabIn xs from tab
+    → slice_split (λ b. b == 9) (drop from xs)
+    ≡ take (tab - from) (drop from xs) ∷ slice_split (λ b. b == 9) (drop (tab + 1) xs)
+next_field xs from tab low high t none =
+    let back : from + (tab - from) ≡ tab = omega arith in
+    let next : from + suc (tab - from) ≡ tab + 1 = omega arith in
+    let there : HasTabAt (drop from xs) (tab - from) =
+    ap (λ b. b == 9) (get_or-drop from xs (tab - from) 0) ∙ subst (HasTabAt xs) (sym back) t in
+    ends_before (drop from xs) (tab - from) (omega (arith, length-drop from xs)) there
+    (later xs from tab _ (omega arith) none)
+    ∙ ap (λ ys. take (tab - from) (drop from xs) ∷ slice_split (λ b. b == 9) ys)
+    (drop-drop (suc (tab - from)) from xs ∙ ap (λ k. drop k xs) next)
+
+-- the bytes from a place on are the last field, if there is no tab among them
+pub last_field : (xs : List ℕ) (from : ℕ) → from ≤ length xs → HasNoTabIn xs from (length xs)
+    → slice_split (λ b. b == 9) (drop from xs) ≡ drop from xs ∷ []
+last_field xs from l none =
+    only_field (drop from xs) (later xs from (length xs) _ (omega (arith, length-drop from xs)) none)
+
+-- from a place on, the tabs before another are those that a mask marks
+pub record MarksTabsFrom (xs : List ℕ) (start from to m : ℕ) : Type 0 where
+  pub each : (k : ℕ) → start ≤ k → k < to → HasTabAt xs k → (from ≤ k) × (bit_at m (k - from) ≡ 1)
+  pub only : (k : ℕ) → bit_at m k ≡ 1 → (start ≤ from + k) × (from + k < to) × HasTabAt xs (from + k)

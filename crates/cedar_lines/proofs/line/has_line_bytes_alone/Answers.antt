@@ -4,6 +4,7 @@ use Rattle.std.proofs.Common.{◌∙◌, ap, refl, sym}
 use Rattle.std.proofs.lemmas.List.{take_all}
 use Rattle.std.proofs.lemmas.List.Folds.{list_all_more}
 use Rattle.cedar_lines.specs.Lines.{is_line_byte}
+use Rattle.cedar_lines.proofs.LineTexts.{list_all-from_line_bytes}
 use Rattle.cedar_lines.proofs.line.has_line_bytes_alone.Goals as goal
 
 pub loop-b-init : goal.loop-b-init
@@ -17,3 +18,6 @@ loop-b-preserved c =
 pub returns : goal.returns
 returns c =
     c.loop-b.invariant ∙ ap (list_all is_line_byte) (take_all c.loop-b.b-index c.args.line.now c.loop-b-test.false)
+
+pub returns-then-has_line_bytes : goal.returns-then-has_line_bytes
+returns-then-has_line_bytes c = sym (list_all-from_line_bytes c.args.line.now (c.has_line_bytes.ensures c.if-has_line_bytes.true))

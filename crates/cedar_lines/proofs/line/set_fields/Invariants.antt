@@ -1,12 +1,15 @@
-use Rattle.std.proofs.Common.{◌≡◌, ◌==◌, ◌++◌, map}
+use Rattle.std.proofs.Common.{◌≡◌, ◌==◌, ◌++◌, ◌-◌, ◌≤◌, length, map, drop}
 use Rattle.std.specs.List.{slice_split}
-use Rattle.std.specs.Option.{option_copied}
-use Rattle.cedar_lines.specs.laws.Fields.{fields_left, bytes_left}
+use Rattle.cedar_lines.specs.laws.Fields.{HasNoTabIn}
 use Rattle.cedar_lines.proofs.line.set_fields.Given as goal
 
-abbrev pub invariant-loop-left : goal.invariant-loop-left
-invariant-loop-left l = map (λ f. f.now) l.fields.items ++ fields_left (option_copied l.left)
-    ≡ slice_split (λ b. b == 9) l.line
+abbrev pub invariant-loop-seen : goal.invariant-loop-seen
+invariant-loop-seen l = record {
+  begun : l.start ≤ l.seen;
+  ordered : l.seen ≤ length l.line;
+  none : HasNoTabIn l.line l.start l.seen;
+  cut : map (λ f. f.now) l.fields.items ++ slice_split (λ b. b == 9) (drop l.start l.line) ≡ slice_split (λ b. b == 9) l.line;
+}
 
-abbrev pub decreases-loop-left : goal.decreases-loop-left
-decreases-loop-left l = bytes_left (option_copied l.left)
+abbrev pub decreases-loop-seen : goal.decreases-loop-seen
+decreases-loop-seen l = length l.line - l.seen

@@ -1,0 +1,108 @@
+// Sixteen bytes of a line at a time: a line has few of them, and a test for each byte costs several times as much.
+ghost use Rattle.std.specs.Prelude.{◌≡◌, ◌≢◌, ℕ, ◌+◌, ◌<◌, ◌≤◌, IsTrue, length};
+ghost use Rattle.std.specs.Int.{bit_at};
+ghost use Rattle.cedar_lines.specs.Lines.{HasLineBytesIn};
+ghost use Rattle.cedar_lines.specs.laws.Fields.{MarksTabs};
+
+use std::simd::prelude::*;
+
+// Whether each of the 16 bytes from a place on is a tab or printable ASCII.
+#[inline(always)]
+fn has_line_bytes_at(line: &[u8], at: usize) -> bool
+    requires { at + 16 ≤ length line.now }
+    ensures { IsTrue result → HasLineBytesIn line.now at (at + 16) }
+{
+    let v = u8x16::from_slice(&line[at..]);
+    let is_control = v.simd_lt(u8x16::splat(b' ')) & v.simd_ne(u8x16::splat(b'\t'));
+    (is_control | v.simd_ge(u8x16::splat(127))).to_bitmask() == 0
+}
+
+// Whether each byte of a line of 16 or more is a tab or printable ASCII. The last sixteen may have been seen in part.
+#[inline(always)]
+pub(crate) fn has_line_bytes(line: &[u8]) -> bool
+    requires { 16 ≤ length line.now }
+    ensures { IsTrue result → HasLineBytesIn line.now 0 (length line.now) }
+{
+    let mut at = 0;
+    while 16 < line.len() - at {
+        if !has_line_bytes_at(line, at) {
+            return false;
+        }
+        at += 16;
+    }
+    has_line_bytes_at(line, line.len() - 16)
+}
+
+// The tabs among the 16 bytes from a place on.
+#[inline(always)]
+fn tabs_at(line: &[u8], at: usize) -> u64
+    requires { at + 16 ≤ length line.now }
+    ensures { MarksTabs line.now at (at + 16) result }
+{
+    u8x16::from_slice(&line[at..])
+        .simd_eq(u8x16::splat(b'\t'))
+        .to_bitmask()
+}
+
+// The same of fewer bytes, one by one.
+fn tabs_by_one(line: &[u8], from: usize, to: usize) -> u64
+    requires ordered { from ≤ to }
+    requires within { to ≤ length line.now }
+    requires few { to ≤ from + 16 }
+    ensures { MarksTabs line.now from to result }
+{
+    let mut tabs = 0;
+    for i in from..to {
+        if line[i] == b'\t' {
+            tabs = with_bit(tabs, i - from);
+        }
+    }
+    tabs
+}
+
+// The tabs from a place up to another, which is at most 16 bytes on, read from the 16 bytes that end there.
+#[inline(always)]
+pub(crate) fn tabs_in(line: &[u8], from: usize, to: usize) -> u64
+    requires ordered { from ≤ to }
+    requires within { to ≤ length line.now }
+    requires few { to ≤ from + 16 }
+    ensures { MarksTabs line.now from to result }
+{
+    if to < 16 {
+        return tabs_by_one(line, from, to);
+    }
+    tabs_at(line, to - 16) >> (16 - (to - from))
+}
+
+// The place of the lowest bit of a mask.
+#[inline(always)]
+pub(crate) fn lowest_bit(mask: u64) -> usize
+    requires { mask ≢ 0 }
+    ensures bound { result < 64 }
+    ensures set { bit_at mask result ≡ 1 }
+    ensures below { (k : ℕ) → k < result → bit_at mask k ≡ 0 }
+{
+    mask.trailing_zeros() as usize
+}
+
+// A mask without one of its bits.
+#[inline(always)]
+pub(crate) fn without_bit(mask: u64, bit: usize) -> u64
+    requires bound { bit < 64 }
+    requires set { bit_at mask bit ≡ 1 }
+    ensures smaller { result < mask }
+    ensures kept { (k : ℕ) → k < 64 → k ≢ bit → bit_at result k ≡ bit_at mask k }
+    ensures no_more { (k : ℕ) → bit_at result k ≡ 1 → (k ≢ bit) × (bit_at mask k ≡ 1) }
+{
+    mask & !(1 << bit)
+}
+
+// A mask with one more bit.
+#[inline(always)]
+fn with_bit(mask: u64, bit: usize) -> u64
+    requires { bit < 64 }
+    ensures set { bit_at result bit ≡ 1 }
+    ensures others { (k : ℕ) → k ≢ bit → bit_at result k ≡ bit_at mask k }
+{
+    mask | (1 << bit)
+}
