@@ -13,8 +13,9 @@ fn has_line_bytes_at(line: &[u8], at: usize) -> bool
     ensures { IsTrue result → HasLineBytesIn line.now at (at + 16) }
 {
     let v = u8x16::from_slice(&line[at..]);
-    let is_control = v.simd_lt(u8x16::splat(b' ')) & v.simd_ne(u8x16::splat(b'\t'));
-    (is_control | v.simd_ge(u8x16::splat(127))).to_bitmask() == 0
+    // Those below a blank come out above the others.
+    let from_blank = v - u8x16::splat(b' ');
+    (from_blank.simd_gt(u8x16::splat(94)) & v.simd_ne(u8x16::splat(b'\t'))).to_bitmask() == 0
 }
 
 // Whether each byte of a line of 16 or more is a tab or printable ASCII. The last sixteen may have been seen in part.
@@ -44,34 +45,48 @@ fn tabs_at(line: &[u8], at: usize) -> u64
         .to_bitmask()
 }
 
-// The same of fewer bytes, one by one.
-fn tabs_by_one(line: &[u8], from: usize, to: usize) -> u64
-    requires ordered { from ≤ to }
-    requires within { to ≤ length line.now }
-    requires few { to ≤ from + 16 }
-    ensures { MarksTabs line.now from to result }
+// The tabs among fewer than 16 bytes, one by one.
+fn tabs_of_few(bytes: &[u8]) -> u64
+    requires { length bytes.now < 16 }
+    ensures { MarksTabs bytes.now 0 (length bytes.now) result }
 {
     let mut tabs = 0;
-    for i in from..to {
-        if line[i] == b'\t' {
-            tabs = with_bit(tabs, i - from);
+    for i in 0..bytes.len() {
+        if bytes[i] == b'\t' {
+            tabs = with_bit(tabs, i);
         }
     }
     tabs
 }
 
-// The tabs from a place up to another, which is at most 16 bytes on, read from the 16 bytes that end there.
+// The tabs among at most 64 bytes. The last sixteen may have been seen in part.
+#[inline(always)]
+fn tabs_of(bytes: &[u8]) -> u64
+    requires { length bytes.now ≤ 64 }
+    ensures { MarksTabs bytes.now 0 (length bytes.now) result }
+{
+    if bytes.len() < 16 {
+        return tabs_of_few(bytes);
+    }
+    let last = bytes.len() - 16;
+    let mut tabs = 0;
+    let mut at = 0;
+    while at < last {
+        tabs |= tabs_at(bytes, at) << at;
+        at += 16;
+    }
+    tabs | (tabs_at(bytes, last) << last)
+}
+
+// The tabs from a place up to another, at most 64 bytes on.
 #[inline(always)]
 pub(crate) fn tabs_in(line: &[u8], from: usize, to: usize) -> u64
     requires ordered { from ≤ to }
     requires within { to ≤ length line.now }
-    requires few { to ≤ from + 16 }
+    requires few { to ≤ from + 64 }
     ensures { MarksTabs line.now from to result }
 {
-    if to < 16 {
-        return tabs_by_one(line, from, to);
-    }
-    tabs_at(line, to - 16) >> (16 - (to - from))
+    tabs_of(&line[from..to])
 }
 
 // The place of the lowest bit of a mask.

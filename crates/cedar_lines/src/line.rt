@@ -18,7 +18,7 @@ fn push_fields<'a>(
     to: usize,
 ) -> Result<usize, AllocError>
     requires ascii { IsAscii line.now }
-    requires within { (from ≤ to) × (to ≤ from + 16) × (to ≤ length line.now) }
+    requires within { (from ≤ to) × (to ≤ from + 64) × (to ≤ length line.now) }
     requires begun { (start ≤ from) × HasNoTabIn line.now start from }
     ensures begun { IfOk result (λ next. (next ≤ to) × HasNoTabIn line.now next to) }
     ensures fields { IfOk result (λ next.
@@ -46,7 +46,7 @@ fn set_fields<'a>(fields: &mut Vec<&'a str>, line: &'a str) -> Result<(), AllocE
     let mut start = 0;
     let mut seen = 0;
     while seen < line.len() {
-        let to = seen + (line.len() - seen).min(16);
+        let to = seen + (line.len() - seen).min(64);
         start = push_fields(fields, line, start, seen, to)?;
         seen = to;
     }

@@ -2,29 +2,34 @@
 
 //! The fields of a line.
 
-// The place of the first tab, if there is one.
-fn first_tab(line: &[u8]) -> Option<usize> {
-    line.iter().position(|b| *b == b'\t')
-}
+use crate::cedar_lines::lanes::{has_line_bytes, lowest_bit, tabs_in, without_bit};
 
-// What stands before the first tab, and what stands behind it, if there is one. Most fields are short, so it goes from
-// byte to byte.
-fn first_field(line: &str) -> (&str, Option<&str>) {
-    match first_tab(line.as_bytes()) {
-        None => (line, None),
-        Some(i) => (&line[..i], Some(&line[i + 1..])),
+// Puts the fields that end at a tab from one place up to another behind those before. The first begins at `start`.
+// Where the next begins.
+fn push_fields<'a>(fields: &mut Vec<&'a str>, line: &'a str, start: usize, from: usize, to: usize) -> usize {
+    let mut next = start;
+    let mut tabs = tabs_in(line.as_bytes(), from, to);
+    while tabs != 0 {
+        let bit = lowest_bit(tabs);
+        let tab = from + bit;
+        fields.push(&line[next..tab]);
+        next = tab + 1;
+        tabs = without_bit(tabs, bit);
     }
+    next
 }
 
 // Puts the fields between the tabs of a line in the place of those before.
 fn set_fields<'a>(fields: &mut Vec<&'a str>, line: &'a str) {
     fields.clear();
-    let mut left = Some(line);
-    while let Some(rest) = left {
-        let (field, behind) = first_field(rest);
-        fields.push(field);
-        left = behind;
+    let mut start = 0;
+    let mut seen = 0;
+    while seen < line.len() {
+        let to = seen + (line.len() - seen).min(64);
+        start = push_fields(fields, line, start, seen, to);
+        seen = to;
     }
+    fields.push(&line[start..]);
 }
 
 // Whether a byte is a tab or printable ASCII.
@@ -32,9 +37,12 @@ fn is_line_byte(b: u8) -> bool {
     b == b'\t' || (32..=126).contains(&b)
 }
 
-// Whether a line has tabs and printable ASCII alone. It is gone through to its end, which costs less a byte than to
-// stop at the first that is neither.
+// Whether a line has tabs and printable ASCII alone. A short one is gone through to its end, which costs less a byte
+// than to stop at the first that is neither.
 fn has_line_bytes_alone(line: &[u8]) -> bool {
+    if 16 <= line.len() && has_line_bytes(line) {
+        return true;
+    }
     let mut is_readable = true;
     for b in line {
         is_readable &= is_line_byte(*b);

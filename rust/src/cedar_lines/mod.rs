@@ -5,5 +5,6 @@
 
 pub mod field;
 pub mod known_types;
+mod lanes;
 pub mod line;
 pub mod writing;

@@ -1,5 +1,5 @@
-use Rattle.std.proofs.Common.{ℕ, leb, cond, bit_or, refl, arith}
-use Rattle.std.proofs.lemmas.Simd.{zip2_of_maps, zip2_splat, zip2_splat_left, length-chunk}
+use Rattle.std.proofs.Common.{ℕ, ltb, cond, bit_and, refl, arith}
+use Rattle.std.proofs.lemmas.Simd.{zip2_of_maps, zip2_splat, splat_is_map, length-chunk}
 use lib.Lanes.{chunk}
 use Rattle.cedar_lines.proofs.BlockBytes.{HasLineBytesIn-from_mask}
 use Rattle.cedar_lines.proofs.lanes.has_line_bytes_at.Goals as goal
@@ -9,6 +9,6 @@ returns c none =
     let v = chunk c.args.at 16 c.args.line.now in
     let long = length-chunk c.args.at 16 c.args.line.now c.requires in
     HasLineBytesIn-from_mask c.args.line.now c.args.at 16 _ c.requires (omega arith) c.type_inv.line none _
-    (zip2_of_maps bit_or _ _ v
-    (zip2_of_maps _ _ _ v (zip2_splat {Y = ℕ} _ v 16 32 long) (zip2_splat {Y = ℕ} _ v 16 9 long))
-    (zip2_splat_left (λ a b. cond (leb a b) 255 0) 127 16 v long)) refl
+    (zip2_of_maps bit_and _ _ v
+    (zip2_of_maps (λ a b. cond (ltb a b) 255 0) _ _ v (splat_is_map v 16 94 long) (zip2_splat {Y = ℕ} _ v 16 32 long))
+    (zip2_splat {Y = ℕ} _ v 16 9 long)) refl
