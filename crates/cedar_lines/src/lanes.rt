@@ -1,4 +1,5 @@
-// Sixteen bytes of a line at a time: a line has few of them, and a test for each byte costs several times as much.
+// Bytes and tabs of a line, sixteen at a time. Most lines have from 16 to 64 bytes: a look at each costs some six
+// instructions, and vectors of more bytes do not fit into them.
 ghost use Rattle.std.specs.Prelude.{◌≡◌, ◌≢◌, ℕ, ◌+◌, ◌<◌, ◌≤◌, IsTrue, length};
 ghost use Rattle.std.specs.Int.{bit_at};
 ghost use Rattle.cedar_lines.specs.Lines.{HasLineBytesIn};

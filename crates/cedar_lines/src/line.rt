@@ -8,8 +8,8 @@ ghost use Rattle.cedar_lines.specs.laws.Fields.{HasNoTabIn};
 use crate::lanes::{has_line_bytes, lowest_bit, tabs_in, without_bit};
 use std::alloc::AllocError;
 
-// Puts the fields that end at a tab from one place up to another behind those before. The first begins at `start`.
-// Where the next begins.
+// Puts the fields that end at the tabs from a place up to another, at most 64 bytes on, behind those before. The first of
+// them begins at `start`. Where the field after them begins.
 fn push_fields<'a>(
     fields: &mut Vec<&'a str>,
     line: &'a str,

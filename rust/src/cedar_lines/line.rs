@@ -4,8 +4,8 @@
 
 use crate::cedar_lines::lanes::{has_line_bytes, lowest_bit, tabs_in, without_bit};
 
-// Puts the fields that end at a tab from one place up to another behind those before. The first begins at `start`.
-// Where the next begins.
+// Puts the fields that end at the tabs from a place up to another, at most 64 bytes on, behind those before. The first of
+// them begins at `start`. Where the field after them begins.
 fn push_fields<'a>(fields: &mut Vec<&'a str>, line: &'a str, start: usize, from: usize, to: usize) -> usize {
     let mut next = start;
     let mut tabs = tabs_in(line.as_bytes(), from, to);
