@@ -8,4 +8,5 @@ pub mod MergeSteps
 pub mod MergeTakesIn
 pub mod Numerals
 pub mod RenamingLaws
+pub mod TemplatesAlike
 pub mod Trials

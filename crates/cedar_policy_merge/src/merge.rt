@@ -1,6 +1,6 @@
 //! Merging other maps into these: what the two bind, under ids that do not conflict.
-ghost use Rattle.std.specs.Prelude.{◌≡◌, ◌↔◌, ◌&&◌, ◌||◌, ◌++◌, ◌+◌, ◌∷◌, [], true, false, not, length, is_some};
-ghost use Rattle.std.specs.Prelude.{if◌then◌else◌, IfOk};
+ghost use Rattle.std.specs.Prelude.{◌≡◌, ◌↔◌, ◌&&◌, ◌||◌, ◌++◌, ◌+◌, ◌∷◌, ◌<◌, [], true, false, not, length};
+ghost use Rattle.std.specs.Prelude.{if◌then◌else◌, is_some, IfOk};
 ghost use Rattle.std.specs.Prelude.{OnErr, OnOk, IfSome, IsTrue, List, ℕ, Some};
 ghost use Rattle.std.specs.List.{find, list_any};
 ghost use Rattle.std.specs.Map.{lookup, values_of};
@@ -12,7 +12,7 @@ ghost use Rattle.cedar_policy.specs.PolicyEquality.{same_policy};
 ghost use Rattle.cedar_ids.specs.Texts.{same_text};
 ghost use Rattle.cedar_policy_maps.specs.PolicySets.{AreOnce, bound_at, is_bound, is_body_at};
 ghost use Rattle.cedar_policy_merge.specs.Fresh.{is_bound_in_either};
-ghost use Rattle.cedar_policy_merge.specs.Merge.{has_policy, gathered};
+ghost use Rattle.cedar_policy_merge.specs.Merge.{has_body, has_policy, gathered};
 ghost use Rattle.cedar_policy_merge.specs.Merge.{conflicts, Differ, renamed_body, renamed_policy, joined_bodies};
 ghost use Rattle.cedar_policy_merge.specs.Merge.{joined_policies, merged, new_id, IsRenaming, MergesSets};
 ghost use Rattle.cedar_policy_merge.specs.laws.GatherLaws.{Bodies, Policies, Links, Templates, in_groups};
@@ -20,11 +20,13 @@ ghost use Rattle.cedar_policy_merge.specs.laws.GatherLaws.{conflicting_bodies, c
 ghost use Rattle.cedar_policy_merge.specs.laws.LookedAtLaws.{agree, clashes, lies_over};
 ghost use Rattle.cedar_policy_merge.specs.laws.MergeTakesIn.{standing_bodies};
 ghost use Rattle.cedar_policy_merge.specs.laws.MergeSteps.{Refuses, with_template_renamed};
-ghost use Rattle.cedar_policy_merge.specs.laws.RenamingLaws.{AreFreeHere};
+ghost use Rattle.cedar_policy_merge.specs.laws.RenamingLaws.{AreFreeHere, is_in};
+ghost use Rattle.cedar_policy_merge.specs.laws.TemplatesAlike.{AllStandUnless, AreSameUnless, StandsUnless};
 ghost use Rattle.cedar_policy_maps.specs.Views.{bodies_of};
 
 use crate::fresh::fresh_ids;
 use crate::places::are_placed_as;
+use cedar_binding::same_bindings;
 use cedar_ids::policy_id::PolicyID;
 use cedar_policy::{Policy, Template};
 use cedar_policy_maps::{Parted, PolicyMaps, is_link};
@@ -188,12 +190,14 @@ fn gather_body<S: BuildHasher + Copy>(
 }
 
 // Gathers the ids of policies there that conflict with policies here, and lists those that conflict with bodies here.
+// The ids of bodies that conflict were gathered before.
 fn gather_policies<S: BuildHasher + Copy>(
     ids: &mut IndexSet<PolicyID, S>,
     templates: &mut Vec<PolicyID>,
     here: &PolicyMaps<S>,
     other: &PolicyMaps<S>,
 ) -> Result<(), AllocError>
+    requires { AllStandUnless here.now other.now ids.old.keys }
     ensures ids { OnOk result (ids.new.keys ≡ gathered ids.old.keys
         (conflicting_policies Policies here.now other.now other.now.policies)) }
     ensures templates { OnOk result (templates.new.items ≡ templates.old.items
@@ -214,15 +218,21 @@ fn gather_policy<S: BuildHasher + Copy>(
     here: &PolicyMaps<S>,
     policy: &Policy,
 ) -> Result<(), AllocError>
+    requires { StandsUnless here.now policy.now.template ids.old.keys }
     ensures ids { OnOk result (ids.new.keys ≡ gathered ids.old.keys
         (if clashes here.now policy.now then policy_id policy.now ∷ [] else [])) }
     ensures templates { OnOk result (templates.new.items ≡ templates.old.items
         ++ (if lies_over here.now policy.now then policy_id policy.now ∷ [] else [])) }
 {
+    // No effect at run time: this call says that these maps are those of a policy set.
+    let _policy_set = here.is_empty();
     let own = policy.id();
     match here.policy_at(own) {
         None => list_id(templates, own, here.has_body(own)),
-        Some(stands) => gather_id(ids, own, is_other_policy(stands, policy)),
+        Some(stands) => {
+            let clashes = is_other_policy(ids, stands, policy);
+            gather_id(ids, own, clashes)
+        }
     }
 }
 
@@ -280,11 +290,71 @@ fn have_policies_alike<S: BuildHasher + Copy>(
 }
 
 // Whether two policies with one id are not bound alike, but for static ones: these conflict by their bodies.
-fn is_other_policy(stands: &Policy, policy: &Policy) -> bool
+fn is_other_policy<S: BuildHasher + Copy>(
+    ids: &IndexSet<PolicyID, S>,
+    stands: &Policy,
+    policy: &Policy,
+) -> bool
+    requires id { policy_id stands.now ≡ policy_id policy.now }
+    requires alike { AreSameUnless stands.now.template policy.now.template ids.now.keys }
     ensures { result ≡ ((is_some stands.now.link || is_some policy.now.link)
         && not (same_policy stands.now policy.now)) }
 {
-    has_link(stands, policy) && stands != policy
+    has_link(stands, policy) && !is_same_policy(ids, stands, policy)
+}
+
+// Whether two policies with one id are the same.
+fn is_same_policy<S: BuildHasher + Copy>(
+    ids: &IndexSet<PolicyID, S>,
+    stands: &Policy,
+    policy: &Policy,
+) -> bool
+    requires id { policy_id stands.now ≡ policy_id policy.now }
+    requires alike { AreSameUnless stands.now.template policy.now.template ids.now.keys }
+    ensures { result ≡ same_policy stands.now policy.now }
+{
+    is_same_template(ids, stands.template(), policy.template())
+        && have_links_alike(stands, policy)
+        && same_bindings(stands.env(), policy.env())
+}
+
+// Whether two templates are the same. Those with one id are, unless it is one of these ids: only then they are compared.
+fn is_same_template<S: BuildHasher + Copy>(
+    ids: &IndexSet<PolicyID, S>,
+    stands: &Template,
+    template: &Template,
+) -> bool
+    requires { AreSameUnless stands.now template.now ids.now.keys }
+    ensures { result ≡ same_body stands.now template.now }
+{
+    if stands.id() != template.id() {
+        return false;
+    }
+    if is_among(ids, template.id()) {
+        return stands == template;
+    }
+    true
+}
+
+// Whether an id is one of these. Where there are none it is not hashed.
+fn is_among<S: BuildHasher + Copy>(ids: &IndexSet<PolicyID, S>, id: &PolicyID) -> bool
+    ensures { result ≡ is_in id.now ids.now.keys }
+{
+    if ids.is_empty() {
+        return false;
+    }
+    ids.contains(id)
+}
+
+// Whether two policies are links, or neither is.
+fn have_links_alike(stands: &Policy, policy: &Policy) -> bool
+    ensures { result ≡ agree (is_some stands.now.link) (is_some policy.now.link) }
+{
+    if is_link(stands) {
+        is_link(policy)
+    } else {
+        !is_link(policy)
+    }
 }
 
 // Whether one of two policies is a link.
@@ -307,7 +377,8 @@ fn new_of<'a, S: BuildHasher + Copy>(
     renaming.get(id)
 }
 
-// Whether an id there is bound here once it is the new one, if there is one: no new id is.
+// Whether an id of a body there is bound here once it is the new one, if there is one: no new id is. Bodies here are
+// looked at first, since it is mostly one of theirs.
 fn stands_here<S: BuildHasher + Copy>(
     here: &PolicyMaps<S>,
     new: Option<&PolicyID>,
@@ -318,7 +389,38 @@ fn stands_here<S: BuildHasher + Copy>(
 {
     match new {
         Some(_new) => false,
-        None => here.is_bound(id),
+        None => here.has_body(id) || here.has_policy(id),
+    }
+}
+
+// The place of the policy here that has an id there, once it is the new one, if there is one: no new id is bound.
+fn place_here<S: BuildHasher + Copy>(
+    here: &PolicyMaps<S>,
+    new: Option<&PolicyID>,
+    id: &PolicyID,
+) -> Option<usize>
+    requires { IfSome (option_copied new) (λ v. is_bound here.now v ≡ false) }
+    ensures within { IfSome result (λ k. k < length here.now.policies) }
+    ensures found { is_some result ≡ has_policy here.now (unwrap_or (option_copied new.entry) id.now) }
+{
+    match new {
+        Some(_new) => None,
+        None => here.place_of_policy(id),
+    }
+}
+
+// Whether a body here has an id there, once it is the new one, if there is one: no new id is bound.
+fn has_body_here<S: BuildHasher + Copy>(
+    here: &PolicyMaps<S>,
+    new: Option<&PolicyID>,
+    id: &PolicyID,
+) -> bool
+    requires { IfSome (option_copied new) (λ v. is_bound here.now v ≡ false) }
+    ensures { result ≡ has_body here.now (unwrap_or (option_copied new.entry) id.now) }
+{
+    match new {
+        Some(_unbound) => false,
+        None => here.has_body(id),
     }
 }
 
@@ -471,27 +573,18 @@ fn part_policy<S: BuildHasher + Copy>(
         ++ joined_policies here.now (new_id renaming.now.entries) (policy.now ∷ [])) }
 {
     let new = new_of(renaming, policy.id());
-    if stands_here(here, new, policy.id()) {
-        keep(&mut parted.stand, shares, here, policy)?;
+    if let Some(place) = place_here(here, new, policy.id()) {
+        let stands = &here.all_policies()[place];
+        keep_at(&mut parted.stand, shares, place, stands, policy)?;
+        return Ok(());
+    }
+    if has_body_here(here, new, policy.id()) {
         return Ok(());
     }
     parted
         .join
         .push(renamed_policy(alloc, policy, new, renaming)?)?;
     Ok(())
-}
-
-// Lets a policy here that is bound alike there have the locations of that one.
-fn keep<S: BuildHasher + Copy>(
-    stand: &mut Vec<Policy>,
-    shares: &mut Vec<(usize, Rc<Template>)>,
-    here: &PolicyMaps<S>,
-    policy: &Policy,
-) -> Result<(), AllocError> {
-    match here.place_of_policy(policy.id()) {
-        None => Ok(()),
-        Some(place) => keep_at(stand, shares, place, &here.all_policies()[place], policy),
-    }
 }
 
 // Lists a policy that is bound alike in both: a copy of the one there, where it binds uids with other locations, else

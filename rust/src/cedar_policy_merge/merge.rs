@@ -2,6 +2,7 @@
 
 //! Merging other maps into these: what the two bind, under ids that do not conflict.
 
+use crate::cedar_binding::same_bindings;
 use crate::cedar_ids::policy_id::PolicyID;
 use crate::cedar_policy::{Policy, Template};
 use crate::cedar_policy_maps::{Parted, PolicyMaps, is_link};
@@ -109,6 +110,7 @@ fn gather_body<S: BuildHasher + Copy>(
 }
 
 // Gathers the ids of policies there that conflict with policies here, and lists those that conflict with bodies here.
+// The ids of bodies that conflict were gathered before.
 fn gather_policies<S: BuildHasher + Copy>(
     ids: &mut OrderedSet<PolicyID, S>,
     templates: &mut Vec<PolicyID>,
@@ -130,7 +132,10 @@ fn gather_policy<S: BuildHasher + Copy>(
     let own = policy.id();
     match here.policy_at(own) {
         None => list_id(templates, own, here.has_body(own)),
-        Some(stands) => gather_id(ids, own, is_other_policy(stands, policy)),
+        Some(stands) => {
+            let clashes = is_other_policy(ids, stands, policy);
+            gather_id(ids, own, clashes);
+        }
     }
 }
 
@@ -169,8 +174,47 @@ fn have_policies_alike<S: BuildHasher + Copy>(here: &PolicyMaps<S>, other: &Poli
 }
 
 // Whether two policies with one id are not bound alike, but for static ones: these conflict by their bodies.
-fn is_other_policy(stands: &Policy, policy: &Policy) -> bool {
-    has_link(stands, policy) && stands != policy
+fn is_other_policy<S: BuildHasher + Copy>(ids: &OrderedSet<PolicyID, S>, stands: &Policy, policy: &Policy) -> bool {
+    has_link(stands, policy) && !is_same_policy(ids, stands, policy)
+}
+
+// Whether two policies with one id are the same.
+fn is_same_policy<S: BuildHasher + Copy>(ids: &OrderedSet<PolicyID, S>, stands: &Policy, policy: &Policy) -> bool {
+    is_same_template(ids, stands.template(), policy.template())
+        && have_links_alike(stands, policy)
+        && same_bindings(stands.env(), policy.env())
+}
+
+// Whether two templates are the same. Those with one id are, unless it is one of these ids: only then they are compared.
+fn is_same_template<S: BuildHasher + Copy>(
+    ids: &OrderedSet<PolicyID, S>,
+    stands: &Template,
+    template: &Template,
+) -> bool {
+    if stands.id() != template.id() {
+        return false;
+    }
+    if is_among(ids, template.id()) {
+        return stands == template;
+    }
+    true
+}
+
+// Whether an id is one of these. Where there are none it is not hashed.
+fn is_among<S: BuildHasher + Copy>(ids: &OrderedSet<PolicyID, S>, id: &PolicyID) -> bool {
+    if ids.is_empty() {
+        return false;
+    }
+    ids.contains(id)
+}
+
+// Whether two policies are links, or neither is.
+fn have_links_alike(stands: &Policy, policy: &Policy) -> bool {
+    if is_link(stands) {
+        is_link(policy)
+    } else {
+        !is_link(policy)
+    }
 }
 
 // Whether one of two policies is a link.
@@ -189,11 +233,28 @@ fn new_of<'a, S: BuildHasher + Copy>(
     renaming.get(id)
 }
 
-// Whether an id there is bound here once it is the new one, if there is one: no new id is.
+// Whether an id of a body there is bound here once it is the new one, if there is one: no new id is. Bodies here are
+// looked at first, since it is mostly one of theirs.
 fn stands_here<S: BuildHasher + Copy>(here: &PolicyMaps<S>, new: Option<&PolicyID>, id: &PolicyID) -> bool {
     match new {
         Some(_) => false,
-        None => here.is_bound(id),
+        None => here.has_body(id) || here.has_policy(id),
+    }
+}
+
+// The place of the policy here that has an id there, once it is the new one, if there is one: no new id is bound.
+fn place_here<S: BuildHasher + Copy>(here: &PolicyMaps<S>, new: Option<&PolicyID>, id: &PolicyID) -> Option<usize> {
+    match new {
+        Some(_) => None,
+        None => here.place_of_policy(id),
+    }
+}
+
+// Whether a body here has an id there, once it is the new one, if there is one: no new id is bound.
+fn has_body_here<S: BuildHasher + Copy>(here: &PolicyMaps<S>, new: Option<&PolicyID>, id: &PolicyID) -> bool {
+    match new {
+        Some(_) => false,
+        None => here.has_body(id),
     }
 }
 
@@ -284,23 +345,15 @@ fn part_policy<S: BuildHasher + Copy>(
     renaming: &OrderedMap<PolicyID, PolicyID, S>,
 ) {
     let new = new_of(renaming, policy.id());
-    if stands_here(here, new, policy.id()) {
-        keep(&mut parted.stand, shares, here, policy);
+    if let Some(place) = place_here(here, new, policy.id()) {
+        let stands = &here.all_policies()[place];
+        keep_at(&mut parted.stand, shares, place, stands, policy);
+        return;
+    }
+    if has_body_here(here, new, policy.id()) {
         return;
     }
     parted.join.push(renamed_policy(policy, new, renaming));
-}
-
-// Lets a policy here that is bound alike there have the locations of that one.
-fn keep<S: BuildHasher + Copy>(
-    stand: &mut Vec<Policy>,
-    shares: &mut Vec<(usize, Arc<Template>)>,
-    here: &PolicyMaps<S>,
-    policy: &Policy,
-) {
-    if let Some(place) = here.place_of_policy(policy.id()) {
-        keep_at(stand, shares, place, &here.all_policies()[place], policy);
-    }
 }
 
 // Lists a policy that is bound alike in both: a copy of the one there, where it binds uids with other locations, else

@@ -42,7 +42,7 @@ held_at true b q p rest f h r = let same : q ≡ p = cc in subst (IsHeld b) same
 held_at false b q p rest f h r = r f
 
 -- a policy that is found is held
-policy_held : (b : SetParts) (i : List ℕ) (ps : List PolicyParts) (p : PolicyParts) → find (is_policy_at i) ps ≡ Some p
+pub policy_held : (b : SetParts) (i : List ℕ) (ps : List PolicyParts) (p : PolicyParts) → find (is_policy_at i) ps ≡ Some p
     → AreHeld b ps → IsHeld b p
 policy_held b i [] p f h = absurd (cc)
 policy_held b i (q ∷ qs) p f h = held_at (is_policy_at i q) b q p (find (is_policy_at i) qs) f h.0

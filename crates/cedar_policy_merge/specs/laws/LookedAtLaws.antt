@@ -35,7 +35,7 @@ denied true w = refl
 denied false w = refl
 
 -- something has an id exactly where it is found under it
-found_any : {X : Type 0} (t : X → Bool) (xs : List X) → list_any t xs ≡ is_some (find t xs)
+pub found_any : {X : Type 0} (t : X → Bool) (xs : List X) → list_any t xs ≡ is_some (find t xs)
 found_any t [] = refl
 found_any t (x ∷ xs) = grind (arith, common_steps, found_any t xs)
 

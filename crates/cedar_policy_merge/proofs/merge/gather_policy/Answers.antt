@@ -6,7 +6,25 @@ use Rattle.cedar_policy.specs.Policies.{policy_id}
 use Rattle.cedar_policy_maps.specs.PolicySets.{is_policy_at}
 use Rattle.cedar_policy_merge.specs.Merge.{has_body, gathered}
 use Rattle.cedar_policy_merge.specs.laws.LookedAtLaws.{clashes_with, clashes, lies_over, over_body, not_over}
+use Rattle.cedar_policy_merge.specs.laws.TemplatesAlike.{one_id, templates_same}
 use Rattle.cedar_policy_merge.proofs.merge.gather_policy.Goals as goal
+
+pub is_other_policy-clashes-requires-clause-id : goal.is_other_policy-clashes-requires-clause-id
+is_other_policy-clashes-requires-clause-id g c =
+    let h = c.args.here.now in
+    let q = c.args.policy.now in
+    let stands : Some c.in-Some.stands.now ≡ find (is_policy_at (policy_id q)) h.policies = c.in-Some.ensures
+    ∙ ap (λ j. find (is_policy_at j) h.policies) c.id-own.ensures in
+    one_id h c.in-Some.stands.now q stands
+
+pub is_other_policy-clashes-requires-clause-alike : goal.is_other_policy-clashes-requires-clause-alike
+is_other_policy-clashes-requires-clause-alike g c =
+    let h = c.args.here.now in
+    let q = c.args.policy.now in
+    let stands : Some c.in-Some.stands.now ≡ find (is_policy_at (policy_id q)) h.policies = c.in-Some.ensures
+    ∙ ap (λ j. find (is_policy_at j) h.policies) c.id-own.ensures in
+    templates_same h c.in-Some.stands.now q c.args.ids.now.keys c.is_empty-policy_set.ensures.policy_set stands
+    c.requires
 
 pub returns-in-None-clause-ids : goal.returns-in-None-clause-ids
 returns-in-None-clause-ids g c =
@@ -36,7 +54,7 @@ returns-in-Some-clause-ids g c =
     let q = c.args.policy.now in
     let stands : Some c.in-Some.stands.now ≡ find (is_policy_at (policy_id q)) h.policies = c.in-Some.ensures
     ∙ ap (λ j. find (is_policy_at j) h.policies) c.id-own.ensures in
-    let told : c.is_other_policy.result ≡ clashes h q = c.is_other_policy.ensures
+    let told : c.is_other_policy-clashes.result ≡ clashes h q = c.is_other_policy-clashes.ensures
     ∙ ap (λ r. clashes_with r q) stands in
     on_ok_weaker c.gather_id.result
     (λ e. e ∙ (λ j. gathered c.args.ids.now.keys (cond (told j) (c.id-own.ensures j ∷ []) [])))

@@ -1,50 +1,82 @@
-use Rattle.std.proofs.Common.{◌≡◌, ◌∙◌, ◌++◌, ◌∷◌, [], cond, not, ap, sym, true, false, subst, List, ℕ, Option, IfSome}
+use Rattle.std.proofs.Common.{◌≡◌, ◌∙◌, ◌++◌, ◌∷◌, [], ◌||◌, cond, not, ap, sym, true, false, subst, List, ℕ, Option}
+use Rattle.std.proofs.Common.{IfSome}
 use Rattle.std.proofs.lemmas.List.{append-nil}
 use Rattle.std.specs.Map.{lookup}
 use Rattle.std.specs.Option.{unwrap_or, option_copied}
 use Rattle.cedar_ids.specs.Texts.{same_text}
-use Rattle.cedar_policy.specs.Policies.{policy_id}
-use Rattle.cedar_policy_maps.specs.PolicySets.{is_bound}
-use Rattle.cedar_policy_merge.specs.Merge.{new_id, renamed_policy}
+use Rattle.cedar_policy.specs.Policies.{PolicyParts, policy_id}
+use Rattle.cedar_policy_maps.specs.PolicySets.{SetParts, is_bound}
+use Rattle.cedar_policy_merge.specs.Merge.{has_body, has_policy, new_id, renamed_policy}
 use Rattle.cedar_policy_merge.specs.laws.MergeLaws.{policy_new}
+use Rattle.cedar_policy_merge.specs.laws.RenamingLaws.{AreFreeHere, first_of, second_of}
 use Rattle.cedar_policy_merge.proofs.merge.part_policy.Goals as goal
 
-pub stands_here-requires : goal.stands_here-requires
-stands_here-requires g c =
-    let looked = c.new_of-new.ensures ∙ ap (λ i. lookup (same_text i) c.args.renaming.now.entries) c.id.ensures in
-    subst (λ (o : Option (List ℕ)). IfSome o (λ v. is_bound c.args.here.now v ≡ false)) (sym looked)
-    (c.requires (policy_id c.args.policy.now))
+-- what was looked up under a policy's id is no id that is bound here
+free_here : (h : SetParts) (r : List (List ℕ × List ℕ)) (p : PolicyParts) (i : List ℕ) (o : Option (List ℕ))
+    → AreFreeHere h r → i ≡ policy_id p → o ≡ lookup (same_text i) r → IfSome o (λ v. is_bound h v ≡ false)
+free_here h r p i o a e l = subst (λ (o : Option (List ℕ)). IfSome o (λ v. is_bound h v ≡ false)) (sym l) (a i)
+
+-- the id that a policy gets
+got : (r : List (List ℕ × List ℕ)) (p : PolicyParts) (i j : List ℕ) (o : Option (List ℕ)) → i ≡ policy_id p
+    → j ≡ policy_id p → o ≡ lookup (same_text i) r → unwrap_or o j ≡ policy_id (renamed_policy (new_id r) p)
+got r p i j o e k l =
+    ap (unwrap_or o) k ∙ ap (λ o. unwrap_or o (policy_id p)) (l ∙ ap (λ i. lookup (same_text i) r) e)
+    ∙ sym (policy_new (new_id r) p)
+
+pub place_here-requires : goal.place_here-requires
+place_here-requires g c =
+    free_here c.args.here.now c.args.renaming.now.entries c.args.policy.now c.id.result.now
+    (option_copied c.new_of-new.result) c.requires c.id.ensures c.new_of-new.ensures
+
+pub has_body_here-requires : goal.has_body_here-requires
+has_body_here-requires g c =
+    free_here c.args.here.now c.args.renaming.now.entries c.args.policy.now c.id.result.now
+    (option_copied c.new_of-new.result) c.requires c.id.ensures c.new_of-new.ensures
 
 pub renamed_policy-requires : goal.renamed_policy-requires
 renamed_policy-requires g c =
     ap (λ o. unwrap_or o (policy_id c.args.policy.now))
     (c.new_of-new.ensures ∙ ap (λ i. lookup (same_text i) c.args.renaming.now.entries) c.id.ensures)
 
-pub returns-then-stands_here : goal.returns-then-stands_here
-returns-then-stands_here g c =
+pub returns-in-Some : goal.returns-in-Some
+returns-in-Some g c =
+    let h = c.args.here.now in
     let p = c.args.policy.now in
-    let renaming = new_id c.args.renaming.now.entries in
-    let looked = c.new_of-new.ensures ∙ ap (λ i. lookup (same_text i) c.args.renaming.now.entries) c.id.ensures in
-    let given : unwrap_or (option_copied c.new_of-new.result) (policy_id p) ≡ renaming (policy_id p) =
-    ap (λ o. unwrap_or o (policy_id p)) looked in
-    let bound : is_bound c.args.here.now (policy_id (renamed_policy renaming p)) ≡ true =
-    sym (c.stands_here.ensures ∙ ap (is_bound c.args.here.now)
-    (ap (unwrap_or (option_copied c.new_of-new.result)) c.id-2.ensures ∙ given ∙ sym (policy_new renaming p)))
-    ∙ c.if-stands_here.true in
+    let r = c.args.renaming.now.entries in
+    let q = renamed_policy (new_id r) p in
+    let stands : has_policy h (policy_id q) ≡ true =
+    sym (c.in-Some.ensures.found ∙ ap (has_policy h) (got r p c.id.result.now c.id-2.result.now
+    (option_copied c.new_of-new.result) c.id.ensures c.id-2.ensures c.new_of-new.ensures)) in
+    let bound : is_bound h (policy_id q) ≡ true = first_of (has_policy h (policy_id q)) (has_body h (policy_id q)) stands in
     let old = c.args.parted.now.join.items in
-    sym (append-nil old) ∙ (λ j. old ++ cond (not (sym bound j)) (renamed_policy renaming p ∷ []) [])
+    sym (append-nil old) ∙ (λ j. old ++ cond (not (sym bound j)) (q ∷ []) [])
+
+pub returns-then-has_body_here : goal.returns-then-has_body_here
+returns-then-has_body_here g c =
+    let h = c.args.here.now in
+    let p = c.args.policy.now in
+    let r = c.args.renaming.now.entries in
+    let q = renamed_policy (new_id r) p in
+    let stands : has_body h (policy_id q) ≡ true =
+    sym (c.has_body_here.ensures ∙ ap (has_body h) (got r p c.id.result.now c.id-3.result.now
+    (option_copied c.new_of-new.result) c.id.ensures c.id-3.ensures c.new_of-new.ensures)) ∙ c.if-has_body_here.true in
+    let bound : is_bound h (policy_id q) ≡ true = second_of (has_policy h (policy_id q)) (has_body h (policy_id q)) stands in
+    let old = c.args.parted.now.join.items in
+    sym (append-nil old) ∙ (λ j. old ++ cond (not (sym bound j)) (q ∷ []) [])
 
 pub returns : goal.returns
 returns g c =
+    let h = c.args.here.now in
     let p = c.args.policy.now in
-    let renaming = new_id c.args.renaming.now.entries in
-    let looked = c.new_of-new.ensures ∙ ap (λ i. lookup (same_text i) c.args.renaming.now.entries) c.id.ensures in
-    let given : unwrap_or (option_copied c.new_of-new.result) (policy_id p) ≡ renaming (policy_id p) =
-    ap (λ o. unwrap_or o (policy_id p)) looked in
-    let bound : is_bound c.args.here.now (policy_id (renamed_policy renaming p)) ≡ false =
-    sym (c.stands_here.ensures ∙ ap (is_bound c.args.here.now)
-    (ap (unwrap_or (option_copied c.new_of-new.result)) c.id-2.ensures ∙ given ∙ sym (policy_new renaming p)))
-    ∙ c.if-stands_here.false in
+    let r = c.args.renaming.now.entries in
+    let q = renamed_policy (new_id r) p in
+    let no_policy : has_policy h (policy_id q) ≡ false =
+    sym (c.in_default.ensures.found ∙ ap (has_policy h) (got r p c.id.result.now c.id-2.result.now
+    (option_copied c.new_of-new.result) c.id.ensures c.id-2.ensures c.new_of-new.ensures)) in
+    let no_body : has_body h (policy_id q) ≡ false =
+    sym (c.has_body_here.ensures ∙ ap (has_body h) (got r p c.id.result.now c.id-3.result.now
+    (option_copied c.new_of-new.result) c.id.ensures c.id-3.ensures c.new_of-new.ensures)) ∙ c.if-has_body_here.false in
+    let bound : is_bound h (policy_id q) ≡ false = λ j. no_policy j || no_body j in
     let old = c.args.parted.now.join.items in
     c.in_ok-push.ensures.items
     ∙ (λ j. old ++ cond (not (sym bound j)) (c.in_ok-renamed_policy.ensures j ∷ []) [])
