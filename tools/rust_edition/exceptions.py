@@ -28,6 +28,7 @@ DROPPED = {('KeyedState', 'new'), ('fresh', 'count_ids'), ('fresh', 'size'), ('n
 UNASKED = {
     ('PolicySet', 'from_raw_components'), ('PolicyMaps', 'from_raw_components'), ('lists', 'read_policy'),
     ('lists', 'read_policies'), ('maps', 'keep_templates'), ('LineStore', 'new'), ('PolicySets', 'new'),
+    ('command', 'read_policy_command'),
     ('Entity', 'with_shared_parents'),
     ('UidSet', 'is_ascending'), ('UidSet', 'retain'),
 }

@@ -23,7 +23,9 @@ use crate::validate::check;
 use cedar_action::ActionConstraint;
 use cedar_annotation::annotation::Iter;
 use cedar_annotation::{Annotation, Annotations};
-use cedar_binding::{LinkingError, SlotEnv, check_bindings, fitted_bindings, no_bindings};
+use cedar_binding::{
+    LinkingError, SlotEnv, check_bindings, copy_of_bindings, fitted_bindings, no_bindings,
+};
 use cedar_body::{Effect, TemplateBody};
 use cedar_ids::id::AnyId;
 use cedar_ids::loc::Loc;
@@ -291,6 +293,22 @@ impl Template {
     {
         Template::check_binding(alloc, &template, &values)?;
         let values = fitted_bindings(values);
+        Ok(Policy::of(alloc, template, Some(new_id), values)?)
+    }
+
+    /// The policy of this template, this id and a copy of these bindings; else the refusal of `check_binding`. A refused
+    /// call has copied nothing, so that to make many links from one map, whose room serves all, costs a map only where
+    /// there is a policy. Takes memory as `link` does, and for the copy. It is this project's own.
+    pub fn link_copying(
+        alloc: Global,
+        template: Rc<Template>,
+        new_id: PolicyID,
+        values: &SlotEnv,
+    ) -> Result<Policy, LinkingError>
+        ensures { Links result template.value new_id (env_of values.now) }
+    {
+        Template::check_binding(alloc, &template, values)?;
+        let values = copy_of_bindings(values)?;
         Ok(Policy::of(alloc, template, Some(new_id), values)?)
     }
 

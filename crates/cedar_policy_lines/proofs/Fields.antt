@@ -1,6 +1,6 @@
 -- Reading fields.
 use Rattle.std.specs.Prelude.{◌≡◌, ℕ, List, [], ◌∷◌, ◌++◌, length, drop, nat_eq, Bool, true, false, Option, Some, None}
-use Rattle.std.specs.Prelude.{Result, Ok, Err, MatchOption, ◌==◌, map, if◌then◌else◌}
+use Rattle.std.specs.Prelude.{Result, Ok, Err, MatchOption, map, if◌then◌else◌}
 use Rattle.std.proofs.Common.{ap, sym, refl, ◌∙◌, arith, get_or, ◌<◌, ◌+◌, suc}
 use Rattle.std.proofs.Math.Seq.{drop-cons}
 use Rattle.std.specs.Borrow.{Bor}

@@ -3,7 +3,7 @@ ghost use Rattle.std.specs.Prelude.{◌≡◌, OnOk, IfOk, map};
 ghost use Rattle.std.specs.Option.{option_map};
 ghost use Rattle.cedar_ids.specs.UidOf.{uid_parts};
 ghost use Rattle.cedar_lines.specs.Reads.{ReadsAs};
-ghost use Rattle.cedar_binding.specs.Bindings.{binds};
+ghost use Rattle.cedar_binding.specs.Bindings.{binds, no_env};
 ghost use Rattle.cedar_binding.specs.Views.{env_of};
 ghost use Rattle.cedar_policy_lines.specs.PolicyCommand.{IsPolicyCommand, Other, Ids, bound_more};
 ghost use Rattle.cedar_policy_lines.specs.CommandOf.{policy_command_of};
@@ -11,7 +11,7 @@ ghost use Rattle.cedar_policy_lines.specs.laws.PolicyReading.{only, bindings_of,
 ghost use Rattle.cedar_policy_lines.specs.laws.PolicyReading.{unlink_of, merge_of, bare_of, command_by};
 
 use crate::field::{TemplateSlots, binding_of, effect_of, renaming_of, slots_of};
-use cedar_binding::{bound_to, no_bindings};
+use cedar_binding::no_bindings;
 use cedar_body::Effect;
 use cedar_ids::entity::EntityUID;
 use cedar_ids::policy_id::PolicyID;
@@ -19,6 +19,7 @@ use cedar_lines::known_types::KnownTypes;
 use cedar_policy::SlotEnv;
 use cedar_terms::slot::SlotId;
 use std::alloc::{AllocError, Global};
+use std::mem;
 
 /// A line on policy sets that is a command. It is this project's own.
 #[derive(Debug, Drop)]
@@ -50,38 +51,43 @@ fn only<'a>(fields: &[&'a str]) -> Option<&'a str>
     None
 }
 
-// Binds a slot.
-fn bind(values: &mut SlotEnv, slot: SlotId, uid: EntityUID) -> Result<(), AllocError>
-    ensures { OnOk result (env_of values.new ≡ bound_more (env_of values.old) slot (uid_parts uid)) }
+// Binds a slot, and says whether it was bound before.
+fn bind(values: &mut SlotEnv, slot: SlotId, uid: EntityUID) -> Result<bool, AllocError>
+    ensures bound { OnOk result (env_of values.new ≡ bound_more (env_of values.old) slot (uid_parts uid)) }
+    ensures again { IfOk result (λ again. again ≡ binds (env_of values.old) slot) }
 {
-    values.insert(slot, uid)?;
-    Ok(())
+    let before = values.insert(slot, uid)?;
+    Ok(before.is_some())
 }
 
-// Whether a slot is bound.
-fn is_bound(values: &SlotEnv, slot: SlotId) -> bool
-    ensures { result ≡ binds (env_of values.now) slot }
+// Takes a map, whose room stays, and lets go what it binds.
+fn emptied(alloc: Global, spare: &mut SlotEnv) -> SlotEnv
+    ensures { env_of result ≡ no_env }
 {
-    bound_to(values, slot).is_some()
+    let mut values = mem::replace(spare, no_bindings(alloc));
+    values.clear();
+    values
 }
 
-// The bindings that the fields are, if they are some: one field for each slot that is bound.
+// The bindings that the fields are, if they are some: one field for each slot that is bound. They are put into a map
+// that is taken.
 fn bindings_of(
     alloc: Global,
     known: &mut KnownTypes,
+    spare: &mut SlotEnv,
     fields: &[&str],
 ) -> Result<Option<SlotEnv>, AllocError>
     ensures { IfOk result (λ o. option_map env_of o ≡ bindings_of (map (λ f. f.now) fields.now)) }
 {
-    let mut values = no_bindings(alloc);
+    let mut values = emptied(alloc, spare);
     for field in fields {
         let Some((slot, uid)) = binding_of(alloc, known, field)? else {
             return Ok(None);
         };
-        if is_bound(&values, slot) {
+        let again = bind(&mut values, slot, uid)?;
+        if again {
             return Ok(None);
         }
-        bind(&mut values, slot, uid)?;
     }
     Ok(Some(values))
 }
@@ -123,6 +129,7 @@ fn template_of(alloc: Global, fields: &[&str]) -> Result<Option<PolicyCommand>, 
 fn link_of(
     alloc: Global,
     known: &mut KnownTypes,
+    spare: &mut SlotEnv,
     fields: &[&str],
 ) -> Result<Option<PolicyCommand>, AllocError>
     ensures { IfOk result (λ o. option_map policy_command_of o ≡ link_of (map (λ f. f.now) fields.now)) }
@@ -133,7 +140,7 @@ fn link_of(
     let Some((id, rest)) = rest.split_first() else {
         return Ok(None);
     };
-    let Some(values) = bindings_of(alloc, known, rest)? else {
+    let Some(values) = bindings_of(alloc, known, spare, rest)? else {
         return Ok(None);
     };
     let template = PolicyID::from_string(alloc, template)?;
@@ -184,6 +191,7 @@ fn ids_of(fields: &[&str]) -> Option<PolicyCommand>
 fn command_by(
     alloc: Global,
     known: &mut KnownTypes,
+    spare: &mut SlotEnv,
     word: &str,
     fields: &[&str],
 ) -> Result<Option<PolicyCommand>, AllocError>
@@ -196,7 +204,7 @@ fn command_by(
         return template_of(alloc, fields);
     }
     if word == "link" {
-        return link_of(alloc, known, fields);
+        return link_of(alloc, known, spare, fields);
     }
     if word == "unlink" {
         return unlink_of(alloc, fields);
@@ -227,8 +235,21 @@ pub fn read_policy_command(
 ) -> Result<Option<PolicyCommand>, AllocError>
     ensures { IfOk result (ReadsAs (λ c. IsPolicyCommand c (map (λ f. f.now) fields.now)) policy_command_of) }
 {
+    let mut spare = no_bindings(alloc);
+    read_with(alloc, known, &mut spare, fields)
+}
+
+// The same, where the bindings of a link are put into a map that is taken.
+pub(crate) fn read_with(
+    alloc: Global,
+    known: &mut KnownTypes,
+    spare: &mut SlotEnv,
+    fields: &[&str],
+) -> Result<Option<PolicyCommand>, AllocError>
+    ensures { IfOk result (ReadsAs (λ c. IsPolicyCommand c (map (λ f. f.now) fields.now)) policy_command_of) }
+{
     let Some((word, rest)) = fields.split_first() else {
         return Ok(None);
     };
-    command_by(alloc, known, word, rest)
+    command_by(alloc, known, spare, word, rest)
 }

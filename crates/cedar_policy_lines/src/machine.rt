@@ -1,22 +1,25 @@
 //! The two policy sets of a run, and one function for each command on them.
-ghost use Rattle.std.specs.Prelude.{◌≡◌, OnOk};
+ghost use Rattle.std.specs.Prelude.{◌≡◌, IfOk, OnOk, map};
 ghost use Rattle.cedar_binding.specs.Views.{env_of};
+ghost use Rattle.cedar_lines.specs.Reads.{ReadsAs};
 ghost use Rattle.cedar_policy_lines.specs.TwoSets.{no_sets};
 ghost use Rattle.cedar_policy_lines.specs.PolicyCommand.{Static as static_command, Template as template_command};
 ghost use Rattle.cedar_policy_lines.specs.PolicyCommand.{Link as link_command, Unlink as unlink_command};
 ghost use Rattle.cedar_policy_lines.specs.PolicyCommand.{Other as other_command, Merge as merge_command};
-ghost use Rattle.cedar_policy_lines.specs.PolicyCommand.{Ids as ids_command};
+ghost use Rattle.cedar_policy_lines.specs.PolicyCommand.{IsPolicyCommand, Ids as ids_command};
 ghost use Rattle.cedar_policy_lines.specs.CommandOf.{policy_command_of};
 ghost use Rattle.cedar_policy_lines.specs.PolicyOutput.{PolicyWrites};
 
-use crate::command::PolicyCommand;
+use crate::command::{PolicyCommand, read_with};
 use crate::field::TemplateSlots;
-use crate::making::{link, static_policy, template};
+use crate::making::{static_policy, template};
 use crate::writing::{
     push_by_linking, push_by_merging, push_by_set, push_by_unlinking, push_ids, push_ok,
 };
+use cedar_binding::no_bindings;
 use cedar_body::Effect;
 use cedar_ids::policy_id::PolicyID;
+use cedar_lines::known_types::KnownTypes;
 use cedar_policy::SlotEnv;
 use cedar_policy_set::PolicySet;
 use std::alloc::{AllocError, Global};
@@ -26,10 +29,12 @@ use std::mem;
 
 /// The two policy sets of a run: the current one, and the one aside. Contracts see their policy sets; the sets hash ids
 /// by what `S` builds, which they do not see. It is this project's own.
+// The bindings of a link are read into one map, whose room serves all: what it binds between lines says nothing.
 #[derive(Debug, Drop)]
 pub struct PolicySets<S: BuildHasher = BuildHasherDefault<FoldHasher>> {
     current: PolicySet<S>,
     aside: PolicySet<S>,
+    spare: SlotEnv,
 }
 
 impl<S: BuildHasher> Model for PolicySets<S> {
@@ -60,7 +65,26 @@ impl<S: BuildHasher + Copy> PolicySets<S> {
         PolicySets {
             current: PolicySet::with_hasher(alloc, hasher),
             aside: PolicySet::with_hasher(alloc, hasher),
+            spare: no_bindings(alloc),
         }
+    }
+
+    /// The command whose fields these are, if they are those of a line on policy sets. The bindings of a link are read
+    /// into the room of those of the link before, so that a link that is refused has taken no map; the sets stay as they
+    /// are.
+    ///
+    /// Takes memory for the ids, the bindings and what is known, and is refused only where that is; its cost is linear in
+    /// the fields. It is this project's own.
+    pub fn read(
+        &mut self,
+        alloc: Global,
+        known: &mut KnownTypes,
+        fields: &[&str],
+    ) -> Result<Option<PolicyCommand>, AllocError>
+        ensures same { self.new ≡ self.old }
+        ensures reads { IfOk result (ReadsAs (λ c. IsPolicyCommand c (map (λ f. f.now) fields.now)) policy_command_of) }
+    {
+        read_with(alloc, known, &mut self.spare, fields)
     }
 
     // A static policy joins.
@@ -105,7 +129,10 @@ impl<S: BuildHasher + Copy> PolicySets<S> {
         ensures { OnOk result (PolicyWrites (link_command template_id new_id
             (env_of values)) self.old self.new out.old.items out.new.items) }
     {
-        let answer = link(alloc, &mut self.current, template_id, new_id, values);
+        let answer = self
+            .current
+            .link_copying(alloc, template_id, new_id, &values);
+        self.spare = values;
         push_by_linking(alloc, out, answer)
     }
 

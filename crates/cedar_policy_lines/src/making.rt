@@ -1,8 +1,5 @@
 //! The policies and templates that constrain nothing but by slots, as lines make them.
 ghost use Rattle.std.specs.Prelude.{◌≡◌, IfOk};
-ghost use Rattle.cedar_binding.specs.Views.{env_of};
-ghost use Rattle.cedar_policy_set.specs.Refusals.{Steps, told_by_linking};
-ghost use Rattle.cedar_policy_set.specs.Steps.{link_step};
 ghost use Rattle.cedar_policy_lines.specs.PolicyOutput.{slot_constraint, slot_rule, slotted_body, static_body};
 ghost use Rattle.cedar_policy_lines.specs.PolicyOutput.{template_body};
 ghost use Rattle.cedar_policy_lines.specs.PolicyCommand.{slots_named};
@@ -15,11 +12,9 @@ use cedar_action::ActionConstraint;
 use cedar_annotation::Annotations;
 use cedar_body::Effect;
 use cedar_ids::policy_id::PolicyID;
-use cedar_policy::{LinkingError, SlotEnv, StaticPolicy, Template, UnexpectedSlotError};
-use cedar_policy_set::PolicySet;
+use cedar_policy::{StaticPolicy, Template, UnexpectedSlotError};
 use cedar_scope::{PrincipalConstraint, ResourceConstraint};
 use std::alloc::{AllocError, Global};
-use std::hash::BuildHasher;
 
 /// A static policy that constrains nothing. Takes memory, and is refused only where that is. It is this project's own.
 pub fn static_policy(
@@ -156,18 +151,4 @@ pub(crate) fn template(
     let action = on_action(slots);
     let resource = on_resource(slots);
     slotted_template(alloc, id, Effect::Permit, principal, action, resource)
-}
-
-// Links a template, and keeps the link in the set alone.
-pub(crate) fn link<S: BuildHasher + Copy>(
-    alloc: Global,
-    set: &mut PolicySet<S>,
-    template_id: PolicyID,
-    new_id: PolicyID,
-    values: SlotEnv,
-) -> Result<(), LinkingError>
-    ensures { Steps told_by_linking result set.old set.new (link_step set.old template_id new_id (env_of values)) }
-{
-    set.link(alloc, template_id, new_id, values)?;
-    Ok(())
 }

@@ -7,7 +7,7 @@ ghost use Rattle.cedar_policy_maps.specs.PolicySets.{empty_set, bound_at, is_bou
 ghost use Rattle.cedar_policy_set.specs.Refusals.{IsRefusal, Steps, Makes, told_by_set, told_by_linking};
 ghost use Rattle.cedar_policy_set.specs.Steps.{add_static_step, add_template_step, add_step, link_onto, link_step};
 ghost use Rattle.cedar_policy_set.specs.Steps.{add_then, UnlinksTo};
-ghost use Rattle.cedar_policy_set.specs.laws.Standing.{HasNoTemplate, Stands, StandsThere, TellsBound};
+ghost use Rattle.cedar_policy_set.specs.laws.Standing.{HasNoTemplate, Stands, StandsThere, TellsBound, link_put};
 
 use crate::policy_set::PolicySet;
 use cedar_ids::policy_id::PolicyID;
@@ -186,6 +186,28 @@ impl<S: BuildHasher + Copy> PolicySet<S> {
         }
     }
 
+    /// Links as [`PolicySet::link`] does, to a copy of these bindings, and lends nothing.
+    ///
+    /// Where the bindings do not fit nothing was copied, so that to make many links from one map, whose room serves all,
+    /// costs a map only where there is a policy. Refused as that is; takes memory as that does, and for the copy. It is
+    /// this project's own.
+    #[tactic(auto, using(crate::specs::laws::StepLaws::no_template_step))]
+    pub fn link_copying(
+        &mut self,
+        alloc: Global,
+        template_id: PolicyID,
+        new_id: PolicyID,
+        values: &SlotEnv,
+    ) -> Result<(), LinkingError>
+        ensures { Steps told_by_linking result self.old self.new
+            (link_step self.old template_id new_id (env_of values.now)) }
+    {
+        match self.template(&template_id)? {
+            None => Err(LinkingError::NoSuchTemplate { id: template_id }),
+            Some(template) => self.link_template_copying(alloc, template, new_id, values),
+        }
+    }
+
     // A further share of the template with this id, where a template stands there.
     fn template(&self, id: &PolicyID) -> Result<Option<Rc<Template>>, AllocError>
         ensures { IfOk result (λ o. MatchOption o (HasNoTemplate (bound_at self.now id.now))
@@ -199,7 +221,7 @@ impl<S: BuildHasher + Copy> PolicySet<S> {
     }
 
     // Puts a link of this template, which stands under its id, last.
-    #[tactic(auto, using(crate::specs::laws::StepLaws::unfit_is_refused, crate::specs::laws::StepLaws::fit_is_not_refused, crate::specs::laws::StepLaws::fit_goes_on))]
+    #[tactic(auto, using(crate::specs::laws::StepLaws::unfit_is_refused, crate::specs::laws::StepLaws::fit_is_not_refused))]
     fn link_template(
         &mut self,
         alloc: Global,
@@ -212,6 +234,34 @@ impl<S: BuildHasher + Copy> PolicySet<S> {
             (link_onto template.value self.old new_id (env_of values)) }
     {
         let policy = Template::link(alloc, template, new_id, values)?;
+        self.put_link(policy)
+    }
+
+    // Puts a link of this template, which stands under its id, to a copy of these bindings last.
+    #[tactic(auto, using(crate::specs::laws::StepLaws::unfit_is_refused, crate::specs::laws::StepLaws::fit_is_not_refused))]
+    fn link_template_copying(
+        &mut self,
+        alloc: Global,
+        template: Rc<Template>,
+        new_id: PolicyID,
+        values: &SlotEnv,
+    ) -> Result<(), LinkingError>
+        requires { Stands self.old template.value }
+        ensures { Steps told_by_linking result self.old self.new
+            (link_onto template.value self.old new_id (env_of values.now)) }
+    {
+        let policy = Template::link_copying(alloc, template, new_id, values)?;
+        self.put_link(policy)
+    }
+
+    // Puts a link whose template stands here last, where its own id is free.
+    fn put_link(&mut self, policy: Policy) -> Result<(), LinkingError>
+        requires link { policy.link ≡ None → ⊥ }
+        requires stands { Stands self.old policy.template }
+        ensures { Steps told_by_linking result self.old self.new (link_put self.old policy) }
+    {
+        // No effect at run time: this call says that exactly the slots of its template are bound.
+        let _total = policy.env();
         let occupied = self.maps.is_bound(policy.id());
         if occupied {
             return Err(LinkingError::PolicyIdConflict {

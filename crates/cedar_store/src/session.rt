@@ -8,7 +8,7 @@ ghost use Rattle.cedar_store.specs.Output.{State, start, not_command};
 use cedar_entity_lines::{KnownUids, LineStore, read_entity_command};
 use cedar_lines::line::read_fields;
 use cedar_lines::writing::push_line;
-use cedar_policy_lines::{PolicySets, read_policy_command};
+use cedar_policy_lines::PolicySets;
 use std::alloc::{AllocError, Global};
 use std::hash::{BuildHasher, BuildHasherDefault, FoldHasher};
 use std::marker::Model;
@@ -102,7 +102,7 @@ impl<S: BuildHasher + Copy> Session<S> {
         ensures { IfOk result (λ taken. (s : State) → StandsAt self.old s →
             TakesKind Policy taken (map (λ f. f.now) fields.now) s self.new out.old.items out.new.items) }
     {
-        match read_policy_command(alloc, self.known.types(), fields)? {
+        match self.sets.read(alloc, self.known.types(), fields)? {
             None => Ok(false),
             Some(command) => {
                 self.sets.take(alloc, command, out)?;
@@ -113,8 +113,9 @@ impl<S: BuildHasher + Copy> Session<S> {
 
     // Takes a line, and says whether it is a command. What the fields are before and after says nothing: those of a
     // line that is not empty are put there. An empty line is a command that does nothing, and is told before its fields
-    // are read. Lines of entities are the most of the others, so the store is asked for these first. A command goes
-    // from where it is read straight to what it is for.
+    // are read. Lines of entities are the most of the others, so the store is asked for these first. Those on policy
+    // sets cost less than its commands, so that to ask for them next costs less of what a line does. A command goes from
+    // where it is read straight to what it is for.
     pub(crate) fn take_fields_of<'a>(
         &mut self,
         alloc: Global,
@@ -136,12 +137,12 @@ impl<S: BuildHasher + Copy> Session<S> {
         if waits {
             return Ok(true);
         }
-        let on_store = self.take_on_store(alloc, fields, out)?;
-        if on_store {
-            return Ok(true);
-        }
         let on_sets = self.take_on_sets(alloc, fields, out)?;
         if on_sets {
+            return Ok(true);
+        }
+        let on_store = self.take_on_store(alloc, fields, out)?;
+        if on_store {
             return Ok(true);
         }
         Ok(false)

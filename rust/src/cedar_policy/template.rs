@@ -5,7 +5,7 @@
 use crate::cedar_action::ActionConstraint;
 use crate::cedar_annotation::annotation::Iter;
 use crate::cedar_annotation::{Annotation, Annotations};
-use crate::cedar_binding::{LinkingError, SlotEnv, check_bindings, fitted_bindings, no_bindings};
+use crate::cedar_binding::{LinkingError, SlotEnv, check_bindings, copy_of_bindings, fitted_bindings, no_bindings};
 use crate::cedar_body::{Effect, TemplateBody};
 use crate::cedar_ids::id::AnyId;
 use crate::cedar_ids::loc::Loc;
@@ -967,6 +967,15 @@ impl Template {
     pub fn link(template: Arc<Self>, new_id: PolicyID, values: SlotEnv) -> Result<Policy, LinkingError> {
         Self::check_binding(&template, &values)?;
         let values = fitted_bindings(values);
+        Ok(Policy::of(template, Some(new_id), values))
+    }
+
+    /// The policy of this template, this id and a copy of these bindings; else the refusal of `check_binding`. A
+    /// refused call has copied nothing, so that to make many links from one map, whose room serves all, costs a map
+    /// only where there is a policy. It is this project's own.
+    pub fn link_copying(template: Arc<Self>, new_id: PolicyID, values: &SlotEnv) -> Result<Policy, LinkingError> {
+        Self::check_binding(&template, values)?;
+        let values = copy_of_bindings(values);
         Ok(Policy::of(template, Some(new_id), values))
     }
 

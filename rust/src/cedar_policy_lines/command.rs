@@ -2,7 +2,7 @@
 
 //! Which fields are which command.
 
-use crate::cedar_binding::{bound_to, no_bindings};
+use crate::cedar_binding::no_bindings;
 use crate::cedar_body::Effect;
 use crate::cedar_ids::entity::EntityUID;
 use crate::cedar_ids::policy_id::PolicyID;
@@ -10,6 +10,7 @@ use crate::cedar_lines::known_types::KnownTypes;
 use crate::cedar_policy::SlotEnv;
 use crate::cedar_policy_lines::field::{TemplateSlots, binding_of, effect_of, renaming_of, slots_of};
 use crate::cedar_terms::slot::SlotId;
+use std::mem;
 
 /// A line on policy sets that is a command. It is this project's own.
 #[derive(Debug)]
@@ -39,25 +40,29 @@ fn only<'a>(fields: &[&'a str]) -> Option<&'a str> {
     None
 }
 
-// Binds a slot.
-fn bind(values: &mut SlotEnv, slot: SlotId, uid: EntityUID) {
-    values.insert(slot, uid);
+// Binds a slot, and says whether it was bound before.
+fn bind(values: &mut SlotEnv, slot: SlotId, uid: EntityUID) -> bool {
+    let before = values.insert(slot, uid);
+    before.is_some()
 }
 
-// Whether a slot is bound.
-fn is_bound(values: &SlotEnv, slot: SlotId) -> bool {
-    bound_to(values, slot).is_some()
+// Takes a map, whose room stays, and lets go what it binds.
+fn emptied(spare: &mut SlotEnv) -> SlotEnv {
+    let mut values = mem::replace(spare, no_bindings());
+    values.clear();
+    values
 }
 
-// The bindings that the fields are, if they are some: one field for each slot that is bound.
-fn bindings_of(known: &mut KnownTypes, fields: &[&str]) -> Option<SlotEnv> {
-    let mut values = no_bindings();
+// The bindings that the fields are, if they are some: one field for each slot that is bound. They are put into a map
+// that is taken.
+fn bindings_of(known: &mut KnownTypes, spare: &mut SlotEnv, fields: &[&str]) -> Option<SlotEnv> {
+    let mut values = emptied(spare);
     for field in fields {
         let (slot, uid) = binding_of(known, field)?;
-        if is_bound(&values, slot) {
+        let again = bind(&mut values, slot, uid);
+        if again {
             return None;
         }
-        bind(&mut values, slot, uid);
     }
     Some(values)
 }
@@ -80,10 +85,10 @@ fn template_of(fields: &[&str]) -> Option<PolicyCommand> {
 }
 
 // The command of `link`.
-fn link_of(known: &mut KnownTypes, fields: &[&str]) -> Option<PolicyCommand> {
+fn link_of(known: &mut KnownTypes, spare: &mut SlotEnv, fields: &[&str]) -> Option<PolicyCommand> {
     let (template, rest) = fields.split_first()?;
     let (id, rest) = rest.split_first()?;
-    let values = bindings_of(known, rest)?;
+    let values = bindings_of(known, spare, rest)?;
     let template = PolicyID::from_string(template);
     let id = PolicyID::from_string(id);
     Some(PolicyCommand::Link(template, id, values))
@@ -119,7 +124,7 @@ fn ids_of(fields: &[&str]) -> Option<PolicyCommand> {
 }
 
 // The command with this word and these fields behind it.
-fn command_by(known: &mut KnownTypes, word: &str, fields: &[&str]) -> Option<PolicyCommand> {
+fn command_by(known: &mut KnownTypes, spare: &mut SlotEnv, word: &str, fields: &[&str]) -> Option<PolicyCommand> {
     if word == "static" {
         return static_of(fields);
     }
@@ -127,7 +132,7 @@ fn command_by(known: &mut KnownTypes, word: &str, fields: &[&str]) -> Option<Pol
         return template_of(fields);
     }
     if word == "link" {
-        return link_of(known, fields);
+        return link_of(known, spare, fields);
     }
     if word == "unlink" {
         return unlink_of(fields);
@@ -144,13 +149,8 @@ fn command_by(known: &mut KnownTypes, word: &str, fields: &[&str]) -> Option<Pol
     None
 }
 
-/// The command whose fields these are, if they are those of a line on policy sets: the word and what stands behind it.
-///
-/// An id is any field, the empty one too. The types of the uids that it binds are known from then on, and shared with
-/// the lines to come.
-///
-/// Its cost is linear in the fields. It is this project's own.
-pub fn read_policy_command(known: &mut KnownTypes, fields: &[&str]) -> Option<PolicyCommand> {
+// The same, where the bindings of a link are put into a map that is taken.
+pub(crate) fn read_with(known: &mut KnownTypes, spare: &mut SlotEnv, fields: &[&str]) -> Option<PolicyCommand> {
     let (word, rest) = fields.split_first()?;
-    command_by(known, word, rest)
+    command_by(known, spare, word, rest)
 }

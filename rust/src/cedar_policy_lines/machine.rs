@@ -2,13 +2,15 @@
 
 //! The two policy sets of a run, and one function for each command on them.
 
+use crate::cedar_binding::no_bindings;
 use crate::cedar_body::Effect;
 use crate::cedar_ids::policy_id::PolicyID;
 use crate::cedar_keyed_hash::KeyedState;
+use crate::cedar_lines::known_types::KnownTypes;
 use crate::cedar_policy::SlotEnv;
-use crate::cedar_policy_lines::command::PolicyCommand;
+use crate::cedar_policy_lines::command::{PolicyCommand, read_with};
 use crate::cedar_policy_lines::field::TemplateSlots;
-use crate::cedar_policy_lines::making::{link, static_policy, template};
+use crate::cedar_policy_lines::making::{static_policy, template};
 use crate::cedar_policy_lines::writing::{
     push_by_linking, push_by_merging, push_by_set, push_by_unlinking, push_ids, push_ok,
 };
@@ -18,10 +20,12 @@ use std::mem;
 
 /// The two policy sets of a run: the current one, and the one aside. The sets hash ids by what `S` builds. It is this
 /// project's own.
+// The bindings of a link are read into one map, whose room serves all: what it binds between lines says nothing.
 #[derive(Debug)]
 pub struct PolicySets<S: BuildHasher = KeyedState> {
     current: PolicySet<S>,
     aside: PolicySet<S>,
+    spare: SlotEnv,
 }
 
 impl<S: BuildHasher + Copy> PolicySets<S> {
@@ -30,7 +34,17 @@ impl<S: BuildHasher + Copy> PolicySets<S> {
         Self {
             current: PolicySet::with_hasher(hasher),
             aside: PolicySet::with_hasher(hasher),
+            spare: no_bindings(),
         }
+    }
+
+    /// The command whose fields these are, if they are those of a line on policy sets. The bindings of a link are read
+    /// into the room of those of the link before, so that a link that is refused has taken no map; the sets stay as they
+    /// are.
+    ///
+    /// Its cost is linear in the fields. It is this project's own.
+    pub fn read(&mut self, known: &mut KnownTypes, fields: &[&str]) -> Option<PolicyCommand> {
+        read_with(known, &mut self.spare, fields)
     }
 
     // A static policy joins.
@@ -49,7 +63,8 @@ impl<S: BuildHasher + Copy> PolicySets<S> {
 
     // A link joins.
     fn link(&mut self, template_id: PolicyID, new_id: PolicyID, values: SlotEnv, out: &mut Vec<u8>) {
-        let answer = link(&mut self.current, template_id, new_id, values);
+        let answer = self.current.link_copying(template_id, new_id, &values);
+        self.spare = values;
         push_by_linking(out, answer);
     }
 

@@ -6,11 +6,9 @@ use crate::cedar_action::ActionConstraint;
 use crate::cedar_annotation::Annotations;
 use crate::cedar_body::Effect;
 use crate::cedar_ids::policy_id::PolicyID;
-use crate::cedar_policy::{LinkingError, SlotEnv, StaticPolicy, Template, UnexpectedSlotError};
+use crate::cedar_policy::{StaticPolicy, Template, UnexpectedSlotError};
 use crate::cedar_policy_lines::field::TemplateSlots;
-use crate::cedar_policy_set::PolicySet;
 use crate::cedar_scope::{PrincipalConstraint, ResourceConstraint};
-use std::hash::BuildHasher;
 
 /// A static policy that constrains nothing. It is this project's own.
 pub fn static_policy(id: PolicyID, effect: Effect) -> StaticPolicy {
@@ -109,15 +107,4 @@ pub(crate) fn template(id: PolicyID, slots: TemplateSlots) -> Template {
     let action = on_action(slots);
     let resource = on_resource(slots);
     slotted_template(id, Effect::Permit, principal, action, resource)
-}
-
-// Links a template, and keeps the link in the set alone.
-pub(crate) fn link<S: BuildHasher + Copy>(
-    set: &mut PolicySet<S>,
-    template_id: PolicyID,
-    new_id: PolicyID,
-    values: SlotEnv,
-) -> Result<(), LinkingError> {
-    set.link(template_id, new_id, values)?;
-    Ok(())
 }

@@ -8,6 +8,4 @@ pub mod machine;
 pub mod making;
 mod writing;
 
-pub use command::read_policy_command;
-
 pub use machine::PolicySets;

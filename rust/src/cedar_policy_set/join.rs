@@ -252,6 +252,22 @@ impl<S: BuildHasher + Copy> PolicySet<S> {
         }
     }
 
+    /// Links as [`PolicySet::link`] does, to a copy of these bindings, and lends nothing.
+    ///
+    /// Where the bindings do not fit nothing was copied, so that to make many links from one map, whose room serves
+    /// all, costs a map only where there is a policy. Refused as that is. It is this project's own.
+    pub fn link_copying(
+        &mut self,
+        template_id: PolicyID,
+        new_id: PolicyID,
+        values: &SlotEnv,
+    ) -> Result<(), LinkingError> {
+        match self.template(&template_id) {
+            None => Err(LinkingError::NoSuchTemplate { id: template_id }),
+            Some(template) => self.link_template_copying(template, new_id, values),
+        }
+    }
+
     // A further share of the template with this id, where a template stands there.
     fn template(&self, id: &PolicyID) -> Option<Arc<Template>> {
         match self.maps.found(id) {
@@ -268,6 +284,22 @@ impl<S: BuildHasher + Copy> PolicySet<S> {
         values: SlotEnv,
     ) -> Result<(), LinkingError> {
         let policy = Template::link(template, new_id, values)?;
+        self.put_link(policy)
+    }
+
+    // Puts a link of this template, which stands under its id, to a copy of these bindings last.
+    fn link_template_copying(
+        &mut self,
+        template: Arc<Template>,
+        new_id: PolicyID,
+        values: &SlotEnv,
+    ) -> Result<(), LinkingError> {
+        let policy = Template::link_copying(template, new_id, values)?;
+        self.put_link(policy)
+    }
+
+    // Puts a link whose template stands here last, where its own id is free.
+    fn put_link(&mut self, policy: Policy) -> Result<(), LinkingError> {
         let occupied = self.maps.is_bound(policy.id());
         if occupied {
             return Err(LinkingError::PolicyIdConflict { id: own_id_of(policy) });

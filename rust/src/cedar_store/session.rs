@@ -6,7 +6,7 @@ use crate::cedar_entity_lines::{KnownUids, LineStore, read_entity_command};
 use crate::cedar_keyed_hash::KeyedState;
 use crate::cedar_lines::line::read_fields;
 use crate::cedar_lines::writing::push_line;
-use crate::cedar_policy_lines::{PolicySets, read_policy_command};
+use crate::cedar_policy_lines::PolicySets;
 use std::hash::BuildHasher;
 
 /// What takes the lines of the program and answers each: the store with the entities that wait for it, and the two
@@ -137,7 +137,7 @@ impl<S: BuildHasher + Copy> Session<S> {
 
     // Takes the fields of a line on policy sets, and says whether they are those of one.
     fn take_on_sets(&mut self, fields: &[&str], out: &mut Vec<u8>) -> bool {
-        match read_policy_command(self.known.types(), fields) {
+        match self.sets.read(self.known.types(), fields) {
             None => false,
             Some(command) => {
                 self.sets.take(command, out);
@@ -148,8 +148,9 @@ impl<S: BuildHasher + Copy> Session<S> {
 
     // Takes a line, and says whether it is a command. What the fields are before and after says nothing: those of a
     // line that is not empty are put there. An empty line is a command that does nothing, and is told before its fields
-    // are read. Lines of entities are the most of the others, so the store is asked for these first. A command goes
-    // from where it is read straight to what it is for.
+    // are read. Lines of entities are the most of the others, so the store is asked for these first. Those on policy
+    // sets cost less than its commands, so that to ask for them next costs less of what a line does. A command goes from
+    // where it is read straight to what it is for.
     pub(crate) fn take_fields_of<'a>(&mut self, fields: &mut Vec<&'a str>, line: &'a [u8], out: &mut Vec<u8>) -> bool {
         if line.is_empty() {
             return true;
@@ -162,12 +163,12 @@ impl<S: BuildHasher + Copy> Session<S> {
         if waits {
             return true;
         }
-        let on_store = self.take_on_store(fields, out);
-        if on_store {
-            return true;
-        }
         let on_sets = self.take_on_sets(fields, out);
         if on_sets {
+            return true;
+        }
+        let on_store = self.take_on_store(fields, out);
+        if on_store {
             return true;
         }
         false

@@ -1,11 +1,13 @@
 -- Which templates stand on a policy set, and which ids are bound.
-use Rattle.std.specs.Prelude.{◌≡◌, ℕ, Bool, List, Option, Some, None, Result, Err, if◌then◌else◌}
+use Rattle.std.specs.Prelude.{◌≡◌, ℕ, Bool, List, Option, Some, None, Result, Ok, Err, if◌then◌else◌}
 use Rattle.cedar_body.specs.Bodies.{BodyParts}
 use Rattle.cedar_body.specs.BodyEquality.{same_body}
 use Rattle.cedar_policy_set_errors.specs.declared.err.PolicySetError.{PolicySetError}
+use Rattle.cedar_policy.specs.Policies.{PolicyParts, policy_id}
 use Rattle.cedar_policy_maps.specs.PolicySets.{SetParts, Binding, Static, Template, Link, bound_at, is_bound}
+use Rattle.cedar_policy_maps.specs.PolicySets.{with_policy}
 use Rattle.cedar_policy_set.specs.Refusals.{IsRefusal, told_by_set}
-use Rattle.cedar_policy_set.specs.Steps.{Refusal, occupied}
+use Rattle.cedar_policy_set.specs.Steps.{Refusal, occupied, id_conflict}
 
 -- a template stands under an id, and this is whether it is equal to another
 abbrev pub StandsThere : SetParts → List ℕ → Bool → BodyParts → Type 0
@@ -26,3 +28,7 @@ HasNoTemplate (Some (Link l t e)) = Unit {0}
 abbrev pub TellsBound : SetParts → List ℕ → PolicySetError → Type 0
 TellsBound b i e =
     (free : Result SetParts Refusal) → IsRefusal (told_by_set e) (if is_bound b i then Err (occupied i) else free)
+
+-- a link of a template that stands joins where its own id is free
+abbrev pub link_put : SetParts → PolicyParts → Result SetParts Refusal
+link_put b p = if is_bound b (policy_id p) then Err (id_conflict (policy_id p)) else Ok (with_policy b p)

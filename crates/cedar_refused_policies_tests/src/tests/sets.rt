@@ -135,6 +135,21 @@ fn put_link(alloc: Global, number: usize, set: &mut PolicySet, text: &str) -> Op
     }
 }
 
+fn put_copy(alloc: Global, number: usize, set: &mut PolicySet, text: &str) -> Option<Said> {
+    let (template, rest) = text.split_once(' ').unwrap_or((text, ""));
+    let (name, bound) = rest.split_once(' ').unwrap_or((rest, ""));
+    let ids = both(id(alloc, template), id(alloc, name));
+    match both(ids, values(alloc, bound)) {
+        Some(((template, name), values)) => {
+            refuse(alloc, number);
+            let said = told_done(alloc, set.link_copying(alloc, template, name, &values));
+            drop(values);
+            Some(said)
+        }
+        None => None,
+    }
+}
+
 // The ids of policies in their order.
 fn told_ids(alloc: Global, ids: LinkedIds<'_>) -> Option<String> {
     let mut text = Some(String::new(alloc));
@@ -225,6 +240,7 @@ fn step(
         "template" => put_template(alloc, number, set, rest),
         "add" => put_policy(alloc, number, set, rest),
         "link" => put_link(alloc, number, set, rest),
+        "link_copying" => put_copy(alloc, number, set, rest),
         "keep" | "rename" => Some(merged(alloc, number, set, other, word == "rename")),
         _ => named(alloc, number, set, word, rest),
     }
@@ -391,6 +407,10 @@ const SETS: &str = "
     PolicySet::link | template t acting principal; link t l action=Action.x principal=x | l
     - PolicySet::link | static s; link s l | ! failed to find a template with id `s`
     PolicySet::link | template t; static l; link t l | ! template-linked policy id `l` conflicts with an existing policy id
+    PolicySet::link_copying | template t principal; link_copying t l principal=x | ok
+    PolicySet::link_copying | template t principal; link_copying t l resource=x | ! the following slots were not provided as arguments: ?principal. The following slots were provided as arguments, but did not exist in the template: ?resource
+    PolicySet::link_copying | template t; static l; link_copying t l | ! template-linked policy id `l` conflicts with an existing policy id
+    - PolicySet::link_copying | static s; link_copying s l | ! failed to find a template with id `s`
     - PolicySet::unlink | template t; link t l; unlink l | Template Instance of t, slots: []
     PolicySet::unlink | template t; static l; unlink l | ! unable to remove link with policy id `l` because it is a static policy
     PolicySet::unlink | template t; unlink l | ! unable to unlink policy id `l` because it does not exist
@@ -412,6 +432,7 @@ fn word_of(call: &str) -> &str {
         "PolicySet::add_template" => "template",
         "PolicySet::add" => "add",
         "PolicySet::link" => "link",
+        "PolicySet::link_copying" => "link_copying",
         "PolicySet::unlink" => "unlink",
         "PolicySet::remove_static" => "remove_static",
         "PolicySet::remove_template" => "remove_template",

@@ -166,6 +166,8 @@ const LINKING: &str = "
     Template::link | t principal, principal=x | Template Instance of t, slots: [?principal -> A::\"x\"]
     Template::link | t principal, resource=x | ! the following slots were not provided as arguments: ?principal. The following slots were provided as arguments, but did not exist in the template: ?resource
     Template::link | t acting, action=x | ! the action slot is bound to `A::\"x\"`, which is not an action
+    Template::link_copying | t principal, principal=x | Template Instance of t, slots: [?principal -> A::\"x\"]
+    Template::link_copying | t principal, resource=x | ! the following slots were not provided as arguments: ?principal. The following slots were provided as arguments, but did not exist in the template: ?resource
     Template::try_as_policy | t clause | permit( principal, action, resource ) when { true };
     Template::try_as_policy | t principal | ! the following slots were not provided as arguments: ?principal
     - TemplateValidationError::clone | slot | found slot `?principal` in a condition clause
@@ -190,6 +192,19 @@ fn linked(alloc: Global, number: usize, row: Row<'_>) -> Tried {
             Template::link(alloc, template, id, values),
             row.want,
         ),
+    )
+}
+
+fn linked_copying(alloc: Global, number: usize, row: Row<'_>) -> Tried {
+    with(
+        alloc,
+        number,
+        both(id(alloc, "l"), given(alloc, row.given)),
+        |(id, (template, values))| {
+            let linked = Template::link_copying(alloc, template, id, &values);
+            drop(values);
+            made(alloc, linked, row.want)
+        },
     )
 }
 
@@ -261,6 +276,7 @@ impl Calls for OnLinking {
                 )
             }
             "Template::link" => linked(alloc, number, row),
+            "Template::link_copying" => linked_copying(alloc, number, row),
             "Template::try_as_policy" => {
                 with(alloc, number, shared(alloc, row.given), |template| {
                     made(alloc, Template::try_as_policy(alloc, template), want)

@@ -41,6 +41,8 @@ const LINES: &str = "
     - read_policy_command | ids | some
     - read_policy_command | frob | none
     - read_policy_command | link t l principal=A::x | none
+    PolicySets::read | link t l principal=A::\"x\" resource=A::\"y\" | some
+    - PolicySets::read | link t l principal=A::x | none
     static_policy | p | permit( principal, action, resource );
     slotted_template | t | permit( principal == ?principal, action, resource == ?resource );
     PolicySets::take | static a permit | ok
@@ -139,13 +141,16 @@ fn read(alloc: Global, number: usize, row: Row<'_>) -> Tried {
     match fields {
         Ok(fields) => {
             let mut known = KnownTypes::new(alloc);
+            let mut sets = PolicySets::new(alloc);
             refuse(alloc, number);
-            let tried = judged(
-                alloc,
-                read_policy_command(alloc, &mut known, fields.as_slice()),
-                row.want,
-                |command| is_read(alloc, command, row),
-            );
+            let command = match row.call {
+                "PolicySets::read" => sets.read(alloc, &mut known, fields.as_slice()),
+                _ => read_policy_command(alloc, &mut known, fields.as_slice()),
+            };
+            let tried = judged(alloc, command, row.want, |command| {
+                is_read(alloc, command, row)
+            });
+            drop(sets);
             drop(known);
             drop(fields);
             tried
@@ -308,7 +313,7 @@ impl Calls for OnLines {
             "uid_of_text" => shared(alloc, number, row),
             "read_fields" => parted(alloc, number, row),
             "push_line" => written(alloc, number, row),
-            "read_policy_command" => read(alloc, number, row),
+            "read_policy_command" | "PolicySets::read" => read(alloc, number, row),
             "PolicySets::take" => taken(alloc, number, row),
             "static_policy" => with(alloc, number, id_of(alloc, row.given), |id| {
                 made(alloc, static_policy(alloc, id, Effect::Permit), row.want)

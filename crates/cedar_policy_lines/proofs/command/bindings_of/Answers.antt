@@ -12,9 +12,9 @@ returns-in_default c =
     none_read c.args.fields.now c.loop-field.field-index _ d _ c.loop-field-test.true c.loop-field.invariant
     (ap (with_binding d) (unread _ c.in_ok-slot.field-0 _ c.in_ok-slot.ensures c.in_default.is))
 
-pub returns-then-is_bound : goal.returns-then-is_bound
-returns-then-is_bound c =
+pub returns-then-again : goal.returns-then-again
+returns-then-again c =
     let d = env_of c.loop-field.values in
     let read = sym c.in_ok-slot.ensures ∙ ap (option_map (λ b. (b.0, uid_parts b.1))) c.in-Some.is in
     none_read c.args.fields.now c.loop-field.field-index _ d _ c.loop-field-test.true c.loop-field.invariant
-    (bound_again d _ _ read (sym c.is_bound.ensures ∙ c.if-is_bound.true))
+    (bound_again d _ _ read (sym c.in_ok-again.ensures.again ∙ c.if-again.true))

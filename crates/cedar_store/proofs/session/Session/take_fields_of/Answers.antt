@@ -32,8 +32,8 @@ returns-then-waits g c s h =
           (took.3 s.entities is.entities c.args.out.now.items),
     )
 
-pub returns-then-on_store : goal.returns-then-on_store
-returns-then-on_store g c s h =
+pub returns-then-on_sets : goal.returns-then-on_sets
+returns-then-on_sets g c s h =
     let i = c.self.inside in
     let text : c.in_ok-is_text.is_text ≡ true = c.if-not-is_text.false in
     let readable : list_all is_line_byte c.args.line.now ≡ true = sym c.in_ok-is_text.ensures.readable ∙ text in
@@ -42,12 +42,12 @@ returns-then-on_store g c s h =
     let left = (rw c.if-waits.false at c.in_ok-waits.ensures).1 in
     let is = subst (λ m. StandsAt (record { entities = m; policy_sets = i.sets; is_lost = i.is_lost }) s) (sym left)
     (subst (λ v. StandsAt v s) (sym c.self.view_is) h) in
-    let took = rw c.if-on_store.true at (c.in_ok-on_store.ensures s is) in
-    line_taken Entity c.args.line.now (map (λ f. f.now) c.deref-2.result.now) s _ c.args.out.now.items _ readable same
+    let took = rw c.if-on_sets.true at (c.in_ok-on_sets.ensures s is) in
+    line_taken Policy c.args.line.now (map (λ f. f.now) c.deref-2.result.now) s _ c.args.out.now.items _ readable same
     took
 
-pub returns-then-on_sets : goal.returns-then-on_sets
-returns-then-on_sets g c s h =
+pub returns-then-on_store : goal.returns-then-on_store
+returns-then-on_store g c s h =
     let i = c.self.inside in
     let text : c.in_ok-is_text.is_text ≡ true = c.if-not-is_text.false in
     let readable : list_all is_line_byte c.args.line.now ≡ true = sym c.in_ok-is_text.ensures.readable ∙ text in
@@ -56,12 +56,12 @@ returns-then-on_sets g c s h =
     let left = (rw c.if-waits.false at c.in_ok-waits.ensures).1 in
     let is = subst (λ m. StandsAt (record { entities = m; policy_sets = i.sets; is_lost = i.is_lost }) s) (sym left)
     (subst (λ v. StandsAt v s) (sym c.self.view_is) h) in
-    let none = rw c.if-on_store.false at (c.in_ok-on_store.ensures s is) in
-    let took = rw c.if-on_sets.true at (c.in_ok-on_sets.ensures s none.1) in
-    line_taken Policy c.args.line.now (map (λ f. f.now) c.deref-3.result.now) s _ c.args.out.now.items _ readable same
+    let none = rw c.if-on_sets.false at (c.in_ok-on_sets.ensures s is) in
+    let took = rw c.if-on_store.true at (c.in_ok-on_store.ensures s none.1) in
+    line_taken Entity c.args.line.now (map (λ f. f.now) c.deref-3.result.now) s _ c.args.out.now.items _ readable same
     (subst
-    (λ o. TakesKind Policy true (map (λ f. f.now) c.deref-3.result.now) s c.take_on_sets.new.self o
-    c.take_on_sets.new.out.items) none.2 took)
+    (λ o. TakesKind Entity true (map (λ f. f.now) c.deref-3.result.now) s c.take_on_store.new.self o
+    c.take_on_store.new.out.items) none.2 took)
 
 pub returns : goal.returns
 returns g c s h =
@@ -75,10 +75,10 @@ returns g c s h =
     let left = (rw c.if-waits.false at c.in_ok-waits.ensures).1 in
     let is = subst (λ m. StandsAt (record { entities = m; policy_sets = i.sets; is_lost = i.is_lost }) s) (sym left)
     (subst (λ v. StandsAt v s) (sym c.self.view_is) h) in
-    let none = rw c.if-on_store.false at (c.in_ok-on_store.ensures s is) in
-    let more = rw c.if-on_sets.false at (c.in_ok-on_sets.ensures s none.1) in
+    let none = rw c.if-on_sets.false at (c.in_ok-on_sets.ensures s is) in
+    let more = rw c.if-on_store.false at (c.in_ok-on_store.ensures s none.1) in
     line_left line s _ c.args.out.now.items _ (λ e. false≢true (sym c.if-is_empty.false ∙ c.is_empty.ensures ∙ ap (λ l.
     length l == 0) e))
-    (none_of_line Entity line (map (λ f. f.now) c.deref-2.result.now) same-2 none.0)
-    (none_of_line Policy line (map (λ f. f.now) c.deref-3.result.now) same-3 more.0)
+    (none_of_line Entity line (map (λ f. f.now) c.deref-3.result.now) same-3 more.0)
+    (none_of_line Policy line (map (λ f. f.now) c.deref-2.result.now) same-2 none.0)
     more.1 (more.2 ∙ none.2)

@@ -2,7 +2,7 @@ use Rattle.std.proofs.Common.{◌∷◌, map}
 use Rattle.std.proofs.lemmas.Result.{IfOk-weaker}
 use Rattle.cedar_policy_lines.specs.CommandOf.{policy_command_of}
 use Rattle.cedar_policy_lines.proofs.Fields.{no_command, reads_as}
-use Rattle.cedar_policy_lines.proofs.command.read_policy_command.Goals as goal
+use Rattle.cedar_policy_lines.proofs.command.read_with.Goals as goal
 
 pub returns-in_default : goal.returns-in_default
 returns-in_default c = no_command c.args.fields.now c.in_default.ensures.cases
