@@ -7,11 +7,12 @@ mod common;
 #[path = "common/policies.rs"]
 mod policies;
 
-use cedar_store::ast::{Effect, LinkingError, Policy, PolicySet, PolicySetTemplateRemovalError, SlotEnv};
+use cedar_store::ast::{Effect, LinkingError, Policy, PolicySet, PolicySetTemplateRemovalError, SlotEnv, Template};
 use cedar_store::entities::{Entities, TCComputation};
 use cedar_store::replay::{Answer, EntityCall, PolicyCall, replay_entities, replay_policies};
 use common::{child, id, principal, resource, shared, uid, with_eid};
 use policies::{permit, principal_template, resource_template};
+use std::sync::Arc;
 
 fn links_of(set: &PolicySet, template: &str) -> Vec<String> {
     let ids = set.get_linked_policies(&id(template)).expect("it is held");
@@ -179,6 +180,33 @@ fn copies_stand_apart_and_sets_of_one_are_what_adding_leaves() {
     let mut set = linked(&[]);
     let lent = set.link(id("t"), id("l"), principal(with_eid("x"))).unwrap();
     assert_eq!(lent.id(), &id("l"));
+}
+
+/// A link of a copy of bindings is that of the bindings, and is refused as that is.
+#[test]
+fn links_of_copies_of_bindings() {
+    let fit = principal(with_eid("x"));
+    let (mut set, mut other) = (linked(&[]), linked(&[]));
+    for (template, name, values, joins) in [
+        ("t", "l", &fit, true),
+        ("t", "l", &fit, false),
+        ("u", "m", &fit, false),
+        ("t", "m", &resource(with_eid("x")), false),
+        ("t", "m", &SlotEnv::new(), false),
+        ("t", "m", &fit, true),
+    ] {
+        let told = set.link_copying(id(template), id(name), values);
+        let due = other.link(id(template), id(name), values.clone()).map(|_| ());
+        assert_eq!(told.is_ok(), joins);
+        assert_eq!(
+            told.map_err(|error| error.to_string()),
+            due.map_err(|error| error.to_string())
+        );
+        assert_eq!(set, other);
+    }
+    let template = Arc::new(principal_template("t"));
+    let copied = Template::link_copying(template.clone(), id("l"), &fit).unwrap();
+    assert_eq!(copied, Template::link(template, id("l"), fit).unwrap());
 }
 
 #[test]
