@@ -644,6 +644,24 @@ class Memory(unittest.TestCase):
         self.assertEqual(len(other), 300)
         self.assertEqual((len(own.left), len(own.opened)), (0, opened - 1))
 
+    def test_a_thread_that_begins_lets_go(self):
+        """What a thread lets go of before it has something of its own, as the collector may, is left to its own."""
+        held, own = [Store(made(("a", "b")))], cedar_store._held.LOCAL.thread
+        begins = cedar_store._held.Thread.__init__
+
+        def lets_go(thread):
+            held.clear()
+            begins(thread)
+
+        cedar_store._held.Thread.__init__ = lets_go
+        try:
+            with self.assertWarnsRegex(ResourceWarning, "a store let go of by another thread"):
+                on_thread(lambda: Store(made(("c", "d"))).close())
+        finally:
+            cedar_store._held.Thread.__init__ = begins
+        self.assertEqual(len(own.left), 1)
+        own.sweep()
+
     def test_each_call_frees_what_was_left(self):
         store, policies = Store(made(("a", "b"))), Policies()
         own = cedar_store._held.LOCAL.thread

@@ -251,7 +251,8 @@ class Held:
                 self._free(self._at)
             return
         at = ctypes.addressof(self._handle)
-        if thread is LOCAL.thread:
+        # A thread that is just about to have something of its own has nothing yet.
+        if thread is getattr(LOCAL, "thread", None):
             thread.free(at)
             return
         thread.left.append(at)
