@@ -296,9 +296,9 @@ impl Template {
         Ok(Policy::of(alloc, template, Some(new_id), values)?)
     }
 
-    /// The policy of this template, this id and a copy of these bindings; else the refusal of `check_binding`. A refused
-    /// call has copied nothing, so that to make many links from one map, whose room serves all, costs a map only where
-    /// there is a policy. Takes memory as `link` does, and for the copy. It is this project's own.
+    /// The policy of this template, this id and a copy of these bindings; else the refusal of `check_binding`. Where
+    /// they do not fit nothing was copied, so that to make many links from one map, whose room serves all, costs a map
+    /// only where there is a policy. Takes memory as `link` does, and for the copy. It is this project's own.
     pub fn link_copying(
         alloc: Global,
         template: Rc<Template>,
