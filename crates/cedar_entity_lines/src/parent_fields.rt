@@ -8,9 +8,11 @@ ghost use Rattle.cedar_lines.specs.Reads.{ReadsAs};
 ghost use Rattle.cedar_entity_lines.specs.EntityCommand.{AreTexts};
 
 use cedar_lines::known_types::{KnownTypes, uid_of_text};
+use cedar_lines::room::text_in;
 use cedar_uid_sets::SharedUid;
 use std::alloc::{AllocError, Global};
 use std::marker::Model;
+use std::mem;
 
 // A parent that was read, and its text. Contracts see the uid.
 #[derive(Drop)]
@@ -105,6 +107,14 @@ fn make_places(known: &mut Vec<Option<KnownParent>>) -> Result<(), AllocError> {
     Ok(())
 }
 
+// The text of what was known, whose room the next takes.
+fn text_of(alloc: Global, known: Option<KnownParent>) -> String {
+    match known {
+        None => String::new(alloc),
+        Some(KnownParent { text, uid: _uid }) => text,
+    }
+}
+
 // A parent that was read is known at its place from then on.
 fn keep_parent(
     alloc: Global,
@@ -118,13 +128,14 @@ fn keep_parent(
     if known.is_empty() {
         make_places(known)?;
     }
-    let one = KnownParent {
-        text: String::from_str(alloc, text)?,
-        uid: uid.clone()?,
+    let Some(at) = known.get_mut(place) else {
+        return Ok(());
     };
-    if let Some(at) = known.get_mut(place) {
-        *at = Some(one);
-    }
+    let mut room = text_of(alloc, mem::replace(at, None));
+    *at = Some(KnownParent {
+        text: text_in(alloc, &mut room, text)?,
+        uid: uid.clone()?,
+    });
     Ok(())
 }
 

@@ -10,6 +10,7 @@ ghost use Rattle.cedar_lines.specs.Reads.{ReadsAs};
 ghost use Rattle.cedar_lines.specs.laws.Halves.{IsMadeOf};
 
 use crate::field::uid_field;
+use crate::room::text_in;
 use cedar_ids::entity::{Eid, EntityType, EntityUID};
 use cedar_ids::err::ParseErrors;
 use cedar_ids::escape::is_own_escape;
@@ -41,6 +42,8 @@ impl Model for KnownType {
 #[derive(Drop)]
 pub struct KnownTypes {
     types: Vec<KnownType>,
+    // An eid that was let go, whose room the next takes.
+    room: String,
 }
 
 impl KnownTypes {
@@ -48,7 +51,14 @@ impl KnownTypes {
     pub fn new(alloc: Global) -> KnownTypes {
         KnownTypes {
             types: Vec::new(alloc),
+            room: String::new(alloc),
         }
+    }
+
+    /// Lets a uid go, and keeps the room of its eid for a uid to come. It takes no memory.
+    pub fn keep_room(&mut self, uid: EntityUID) {
+        let (_ty, eid) = uid.components();
+        self.room = eid.into_smolstr();
     }
 }
 
@@ -119,12 +129,17 @@ fn unescaped_halves(text: &str) -> Option<(&str, &str)>
 }
 
 // The uid of a type and an eid that is its own escape. Its text is that of the type, the mark, the eid and a quote.
-fn uid_of_parts(alloc: Global, ty: EntityType, eid: &str) -> Result<EntityUID, AllocError>
+fn uid_of_parts(
+    alloc: Global,
+    room: &mut String,
+    ty: EntityType,
+    eid: &str,
+) -> Result<EntityUID, AllocError>
     requires { IsTrue (is_own_escape eid.now) }
     ensures { IfOk result (λ u. (name : List ℕ) → IsNameText (type_name ty) name →
         IsPrinted (uid_parts u) (name ++ (codes "::\"" ++ (eid.now ++ codes "\"")))) }
 {
-    let eid = String::from_str(alloc, eid)?;
+    let eid = text_in(alloc, room, eid)?;
     Ok(EntityUID::from_components(ty, Eid::new(eid), None))
 }
 
@@ -159,7 +174,7 @@ fn known_halves<'a, 'b>(known: &'a [KnownType], text: &'b str) -> Option<(&'a Kn
 // The uid of a type that is read anew and an eid that is its own escape, if the first text is that of a type.
 fn uid_of_halves(
     alloc: Global,
-    known: &mut Vec<KnownType>,
+    known: &mut KnownTypes,
     name: &str,
     eid: &str,
 ) -> Result<Option<EntityUID>, AllocError>
@@ -167,16 +182,16 @@ fn uid_of_halves(
     ensures { IfOk result (λ o. IfSome o (λ u. IsPrinted (uid_parts u) (name.now
         ++ (codes "::\"" ++ (eid.now ++ codes "\""))))) }
 {
-    let Some(ty) = read_type(alloc, known, name)? else {
+    let Some(ty) = read_type(alloc, &mut known.types, name)? else {
         return Ok(None);
     };
-    Ok(Some(uid_of_parts(alloc, ty, eid)?))
+    Ok(Some(uid_of_parts(alloc, &mut known.room, ty, eid)?))
 }
 
 // The uid with a text, where that is read without an escape and of a name.
 fn uid_without_escape(
     alloc: Global,
-    known: &mut Vec<KnownType>,
+    known: &mut KnownTypes,
     text: &str,
 ) -> Result<Option<EntityUID>, AllocError>
     ensures { IfOk result (λ o. IfSome o (λ u. IsPrinted (uid_parts u) text.now)) }
@@ -190,7 +205,7 @@ fn uid_without_escape(
 // The uid with a text, of which no type that is known is a part.
 fn read_uid(
     alloc: Global,
-    known: &mut Vec<KnownType>,
+    known: &mut KnownTypes,
     text: &str,
 ) -> Result<Option<EntityUID>, AllocError>
     ensures { IfOk result (ReadsAs (λ (u : EntityUID). IsPrinted (uid_parts u) text.now) (λ u. u)) }
@@ -216,8 +231,8 @@ pub fn uid_of_text(
     ensures { IfOk result (ReadsAs (λ (u : EntityUID). IsPrinted (uid_parts u) text.now) (λ u. u)) }
 {
     let Some((one, eid)) = known_halves(&known.types, text) else {
-        return read_uid(alloc, &mut known.types, text);
+        return read_uid(alloc, known, text);
     };
     let ty = type_of(one)?;
-    Ok(Some(uid_of_parts(alloc, ty, eid)?))
+    Ok(Some(uid_of_parts(alloc, &mut known.room, ty, eid)?))
 }

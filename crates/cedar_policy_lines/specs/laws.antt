@@ -1,4 +1,5 @@
 pub mod Machines
+pub mod NamedSlots
 pub mod OneAnswer
 pub mod OneMerge
 pub mod PolicyReading

@@ -3,19 +3,21 @@ ghost use Rattle.std.specs.Prelude.{◌≡◌, OnOk, IfOk, map};
 ghost use Rattle.std.specs.Option.{option_map};
 ghost use Rattle.cedar_ids.specs.UidOf.{uid_parts};
 ghost use Rattle.cedar_lines.specs.Reads.{ReadsAs};
-ghost use Rattle.cedar_binding.specs.Bindings.{binds, no_env};
 ghost use Rattle.cedar_binding.specs.Views.{env_of};
 ghost use Rattle.cedar_policy_lines.specs.PolicyCommand.{IsPolicyCommand, Other, Ids, bound_more};
 ghost use Rattle.cedar_policy_lines.specs.CommandOf.{policy_command_of};
+ghost use Rattle.cedar_policy_lines.specs.laws.NamedSlots.{named_alone, bound_if};
 ghost use Rattle.cedar_policy_lines.specs.laws.PolicyReading.{only, bindings_of, static_of, template_of, link_of};
 ghost use Rattle.cedar_policy_lines.specs.laws.PolicyReading.{unlink_of, merge_of, bare_of, command_by};
 
 use crate::field::{TemplateSlots, binding_of, effect_of, renaming_of, slots_of};
+use crate::named::NamedSlots;
 use cedar_binding::no_bindings;
 use cedar_body::Effect;
 use cedar_ids::entity::EntityUID;
 use cedar_ids::policy_id::PolicyID;
 use cedar_lines::known_types::KnownTypes;
+use cedar_lines::room::text_in;
 use cedar_policy::SlotEnv;
 use cedar_terms::slot::SlotId;
 use std::alloc::{AllocError, Global};
@@ -40,6 +42,36 @@ pub enum PolicyCommand {
     Ids,
 }
 
+// What the link before was read into, whose room the next takes: the id of its template, and the map of its bindings.
+#[derive(Debug, Drop)]
+pub(crate) struct LinkRoom {
+    pub(crate) template: PolicyID,
+    pub(crate) values: SlotEnv,
+}
+
+impl LinkRoom {
+    // That of no link. It takes no memory.
+    pub(crate) fn new(alloc: Global) -> LinkRoom {
+        LinkRoom {
+            template: no_id(alloc),
+            values: no_bindings(alloc),
+        }
+    }
+}
+
+// The empty id, which takes no memory.
+fn no_id(alloc: Global) -> PolicyID {
+    PolicyID::from_smolstr(String::new(alloc))
+}
+
+// The id with a text, in the room of another.
+fn id_in(alloc: Global, room: &mut PolicyID, text: &str) -> Result<PolicyID, AllocError>
+    ensures { IfOk result (λ id. id ≡ text.now) }
+{
+    let mut before = mem::replace(room, no_id(alloc)).into_smolstr();
+    Ok(PolicyID::from_smolstr(text_in(alloc, &mut before, text)?))
+}
+
 // The one field that there is.
 fn only<'a>(fields: &[&'a str]) -> Option<&'a str>
     ensures { option_map (λ f. f.now) result ≡ only (map (λ f. f.now) fields.now) }
@@ -51,44 +83,63 @@ fn only<'a>(fields: &[&'a str]) -> Option<&'a str>
     None
 }
 
-// Binds a slot, and says whether it was bound before.
-fn bind(values: &mut SlotEnv, slot: SlotId, uid: EntityUID) -> Result<bool, AllocError>
-    ensures bound { OnOk result (env_of values.new ≡ bound_more (env_of values.old) slot (uid_parts uid)) }
-    ensures again { IfOk result (λ again. again ≡ binds (env_of values.old) slot) }
+// Binds a slot. What it was bound to is let go, but the room of its eid.
+fn bind(
+    known: &mut KnownTypes,
+    values: &mut SlotEnv,
+    slot: SlotId,
+    uid: EntityUID,
+) -> Result<(), AllocError>
+    ensures { OnOk result (env_of values.new ≡ bound_more (env_of values.old) slot (uid_parts uid)) }
 {
-    let before = values.insert(slot, uid)?;
-    Ok(before.is_some())
+    match values.insert(slot, uid)? {
+        None => (),
+        Some(before) => known.keep_room(before),
+    }
+    Ok(())
 }
 
-// Takes a map, whose room stays, and lets go what it binds.
-fn emptied(alloc: Global, spare: &mut SlotEnv) -> SlotEnv
-    ensures { env_of result ≡ no_env }
+// Unbinds a slot, unless it is named.
+fn unbind_unless(values: &mut SlotEnv, slot: SlotId, is_named: bool)
+    ensures { env_of values.new ≡ bound_if is_named slot (env_of values.old) }
 {
-    let mut values = mem::replace(spare, no_bindings(alloc));
-    values.clear();
-    values
+    if !is_named {
+        drop(values.remove(&slot));
+    }
+}
+
+// Unbinds the slots that are not named.
+fn unbind_others(values: &mut SlotEnv, named: NamedSlots)
+    ensures { env_of values.new ≡ named_alone named (env_of values.old) }
+{
+    unbind_unless(values, SlotId::Principal, named.has(SlotId::Principal));
+    unbind_unless(values, SlotId::Action, named.has(SlotId::Action));
+    unbind_unless(values, SlotId::Resource, named.has(SlotId::Resource));
 }
 
 // The bindings that the fields are, if they are some: one field for each slot that is bound. They are put into a map
-// that is taken.
+// that is taken, in the place of what the link before bound.
 fn bindings_of(
     alloc: Global,
     known: &mut KnownTypes,
-    spare: &mut SlotEnv,
+    room: &mut SlotEnv,
     fields: &[&str],
 ) -> Result<Option<SlotEnv>, AllocError>
     ensures { IfOk result (λ o. option_map env_of o ≡ bindings_of (map (λ f. f.now) fields.now)) }
 {
-    let mut values = emptied(alloc, spare);
+    let mut values = mem::replace(room, no_bindings(alloc));
+    let mut named = NamedSlots::none();
     for field in fields {
         let Some((slot, uid)) = binding_of(alloc, known, field)? else {
             return Ok(None);
         };
-        let again = bind(&mut values, slot, uid)?;
-        if again {
+        if named.has(slot) {
             return Ok(None);
         }
+        bind(known, &mut values, slot, uid)?;
+        named = named.with(slot);
     }
+    unbind_others(&mut values, named);
     Ok(Some(values))
 }
 
@@ -129,7 +180,7 @@ fn template_of(alloc: Global, fields: &[&str]) -> Result<Option<PolicyCommand>, 
 fn link_of(
     alloc: Global,
     known: &mut KnownTypes,
-    spare: &mut SlotEnv,
+    room: &mut LinkRoom,
     fields: &[&str],
 ) -> Result<Option<PolicyCommand>, AllocError>
     ensures { IfOk result (λ o. option_map policy_command_of o ≡ link_of (map (λ f. f.now) fields.now)) }
@@ -140,10 +191,10 @@ fn link_of(
     let Some((id, rest)) = rest.split_first() else {
         return Ok(None);
     };
-    let Some(values) = bindings_of(alloc, known, spare, rest)? else {
+    let Some(values) = bindings_of(alloc, known, &mut room.values, rest)? else {
         return Ok(None);
     };
-    let template = PolicyID::from_string(alloc, template)?;
+    let template = id_in(alloc, &mut room.template, template)?;
     let id = PolicyID::from_string(alloc, id)?;
     Ok(Some(PolicyCommand::Link(template, id, values)))
 }
@@ -191,7 +242,7 @@ fn ids_of(fields: &[&str]) -> Option<PolicyCommand>
 fn command_by(
     alloc: Global,
     known: &mut KnownTypes,
-    spare: &mut SlotEnv,
+    room: &mut LinkRoom,
     word: &str,
     fields: &[&str],
 ) -> Result<Option<PolicyCommand>, AllocError>
@@ -204,7 +255,7 @@ fn command_by(
         return template_of(alloc, fields);
     }
     if word == "link" {
-        return link_of(alloc, known, spare, fields);
+        return link_of(alloc, known, room, fields);
     }
     if word == "unlink" {
         return unlink_of(alloc, fields);
@@ -235,15 +286,15 @@ pub fn read_policy_command(
 ) -> Result<Option<PolicyCommand>, AllocError>
     ensures { IfOk result (ReadsAs (λ c. IsPolicyCommand c (map (λ f. f.now) fields.now)) policy_command_of) }
 {
-    let mut spare = no_bindings(alloc);
-    read_with(alloc, known, &mut spare, fields)
+    let mut room = LinkRoom::new(alloc);
+    read_with(alloc, known, &mut room, fields)
 }
 
-// The same, where the bindings of a link are put into a map that is taken.
+// The same, where a link is read into the room of one before, which is taken.
 pub(crate) fn read_with(
     alloc: Global,
     known: &mut KnownTypes,
-    spare: &mut SlotEnv,
+    room: &mut LinkRoom,
     fields: &[&str],
 ) -> Result<Option<PolicyCommand>, AllocError>
     ensures { IfOk result (ReadsAs (λ c. IsPolicyCommand c (map (λ f. f.now) fields.now)) policy_command_of) }
@@ -251,5 +302,5 @@ pub(crate) fn read_with(
     let Some((word, rest)) = fields.split_first() else {
         return Ok(None);
     };
-    command_by(alloc, known, spare, word, rest)
+    command_by(alloc, known, room, word, rest)
 }

@@ -1,5 +1,5 @@
 //! The two policy sets of a run, and one function for each command on them.
-ghost use Rattle.std.specs.Prelude.{◌≡◌, IfOk, OnOk, map};
+ghost use Rattle.std.specs.Prelude.{◌≡◌, [], IfOk, OnOk, map};
 ghost use Rattle.cedar_binding.specs.Views.{env_of};
 ghost use Rattle.cedar_lines.specs.Reads.{ReadsAs};
 ghost use Rattle.cedar_policy_lines.specs.TwoSets.{no_sets};
@@ -10,13 +10,13 @@ ghost use Rattle.cedar_policy_lines.specs.PolicyCommand.{IsPolicyCommand, Ids as
 ghost use Rattle.cedar_policy_lines.specs.CommandOf.{policy_command_of};
 ghost use Rattle.cedar_policy_lines.specs.PolicyOutput.{PolicyWrites};
 
-use crate::command::{PolicyCommand, read_with};
+use crate::command::{LinkRoom, PolicyCommand, read_with};
 use crate::field::TemplateSlots;
-use crate::making::{static_policy, template};
+use crate::making::{template, unconstrained};
 use crate::writing::{
     push_by_linking, push_by_merging, push_by_set, push_by_unlinking, push_ids, push_ok,
 };
-use cedar_binding::no_bindings;
+use cedar_annotation::Annotations;
 use cedar_body::Effect;
 use cedar_ids::policy_id::PolicyID;
 use cedar_lines::known_types::KnownTypes;
@@ -26,18 +26,22 @@ use std::alloc::{AllocError, Global};
 use std::hash::{BuildHasher, BuildHasherDefault, FoldHasher};
 use std::marker::Model;
 use std::mem;
+use std::rc::Rc;
 
 /// The two policy sets of a run: the current one, and the one aside. Contracts see their policy sets; the sets hash ids
 /// by what `S` builds, which they do not see. It is this project's own.
-// The bindings of a link are read into one map, whose room serves all: what it binds between lines says nothing.
+// Links are read into one room, which serves all: what stands there between lines says nothing. The bodies of lines
+// share their annotations, which are none.
 #[derive(Debug, Drop)]
 pub struct PolicySets<S: BuildHasher = BuildHasherDefault<FoldHasher>> {
     current: PolicySet<S>,
     aside: PolicySet<S>,
-    spare: SlotEnv,
+    room: LinkRoom,
+    annotations: Option<Rc<Annotations>>,
 }
 
 impl<S: BuildHasher> Model for PolicySets<S> {
+    ghost use Rattle.std.specs.Prelude.{◌≡◌, [], IfSome};
     ghost use Rattle.cedar_policy_lines.specs.TwoSets.{TwoSets};
     ghost use Rattle.cedar_policy_lines.specs.Codes.{sets_code};
 
@@ -46,6 +50,8 @@ impl<S: BuildHasher> Model for PolicySets<S> {
     ghost coded = { sets_code };
 
     ghost view = { λ s. record { current = s.current; aside = s.aside } };
+
+    ghost invariant = { λ s. IfSome s.annotations (λ a. a.value ≡ []) };
 }
 
 impl PolicySets {
@@ -65,13 +71,14 @@ impl<S: BuildHasher + Copy> PolicySets<S> {
         PolicySets {
             current: PolicySet::with_hasher(alloc, hasher),
             aside: PolicySet::with_hasher(alloc, hasher),
-            spare: no_bindings(alloc),
+            room: LinkRoom::new(alloc),
+            annotations: None,
         }
     }
 
-    /// The command whose fields these are, if they are those of a line on policy sets. The bindings of a link are read
-    /// into the room of those of the link before, so that a link that is refused has taken no map; the sets stay as they
-    /// are.
+    /// The command whose fields these are, if they are those of a line on policy sets. The id of a link's template and its
+    /// bindings are read into the room of those of the link before, so that a link that is refused has taken no map; the
+    /// sets stay as they are.
     ///
     /// Takes memory for the ids, the bindings and what is known, and is refused only where that is; its cost is linear in
     /// the fields. It is this project's own.
@@ -84,7 +91,20 @@ impl<S: BuildHasher + Copy> PolicySets<S> {
         ensures same { self.new ≡ self.old }
         ensures reads { IfOk result (ReadsAs (λ c. IsPolicyCommand c (map (λ f. f.now) fields.now)) policy_command_of) }
     {
-        read_with(alloc, known, &mut self.spare, fields)
+        read_with(alloc, known, &mut self.room, fields)
+    }
+
+    // The annotations of the bodies of lines, once more.
+    fn annotations(&mut self, alloc: Global) -> Result<Rc<Annotations>, AllocError>
+        ensures same { self.new ≡ self.old }
+        ensures none { IfOk result (λ a. a.value ≡ []) }
+    {
+        if let Some(shared) = &self.annotations {
+            return shared.clone();
+        }
+        let shared = Rc::new(alloc, Annotations::new(alloc))?;
+        self.annotations = Some(shared.clone()?);
+        Ok(shared)
     }
 
     // A static policy joins.
@@ -97,7 +117,8 @@ impl<S: BuildHasher + Copy> PolicySets<S> {
     ) -> Result<(), AllocError>
         ensures { OnOk result (PolicyWrites (static_command id effect) self.old self.new out.old.items out.new.items) }
     {
-        let policy = static_policy(alloc, id, effect)?;
+        let annotations = self.annotations(alloc)?;
+        let policy = unconstrained(alloc, annotations, id, effect)?;
         let answer = self.current.add_static(alloc, policy);
         push_by_set(alloc, out, answer)
     }
@@ -112,7 +133,8 @@ impl<S: BuildHasher + Copy> PolicySets<S> {
     ) -> Result<(), AllocError>
         ensures { OnOk result (PolicyWrites (template_command id slots) self.old self.new out.old.items out.new.items) }
     {
-        let template = template(alloc, id, slots)?;
+        let annotations = self.annotations(alloc)?;
+        let template = template(alloc, annotations, id, slots)?;
         let answer = self.current.add_template(alloc, template);
         push_by_set(alloc, out, answer)
     }
@@ -131,8 +153,11 @@ impl<S: BuildHasher + Copy> PolicySets<S> {
     {
         let answer = self
             .current
-            .link_copying(alloc, template_id, new_id, &values);
-        self.spare = values;
+            .link_copying(alloc, &template_id, new_id, &values);
+        self.room = LinkRoom {
+            template: template_id,
+            values,
+        };
         push_by_linking(alloc, out, answer)
     }
 

@@ -1,5 +1,5 @@
 //! The policies and templates that constrain nothing but by slots, as lines make them.
-ghost use Rattle.std.specs.Prelude.{◌≡◌, IfOk};
+ghost use Rattle.std.specs.Prelude.{◌≡◌, [], IfOk};
 ghost use Rattle.cedar_policy_lines.specs.PolicyOutput.{slot_constraint, slot_rule, slotted_body, static_body};
 ghost use Rattle.cedar_policy_lines.specs.PolicyOutput.{template_body};
 ghost use Rattle.cedar_policy_lines.specs.PolicyCommand.{slots_named};
@@ -15,6 +15,7 @@ use cedar_ids::policy_id::PolicyID;
 use cedar_policy::{StaticPolicy, Template, UnexpectedSlotError};
 use cedar_scope::{PrincipalConstraint, ResourceConstraint};
 use std::alloc::{AllocError, Global};
+use std::rc::Rc;
 
 /// A static policy that constrains nothing. Takes memory, and is refused only where that is. It is this project's own.
 pub fn static_policy(
@@ -24,18 +25,32 @@ pub fn static_policy(
 ) -> Result<StaticPolicy, AllocError>
     ensures { IfOk result (λ p. p ≡ static_body id effect) }
 {
-    let policy = StaticPolicy::new(
+    let annotations = Rc::new(alloc, Annotations::new(alloc))?;
+    unconstrained(alloc, annotations, id, effect)
+}
+
+// A static policy that constrains nothing, whose annotations, which are none, are shared.
+pub(crate) fn unconstrained(
+    alloc: Global,
+    annotations: Rc<Annotations>,
+    id: PolicyID,
+    effect: Effect,
+) -> Result<StaticPolicy, AllocError>
+    requires { annotations.value ≡ [] }
+    ensures { IfOk result (λ p. p ≡ static_body id effect) }
+{
+    let template = Template::new_shared(
         alloc,
         id,
         None,
-        Annotations::new(alloc),
+        annotations,
         effect,
         PrincipalConstraint::any(),
         ActionConstraint::any(),
         ResourceConstraint::any(),
         None,
-    );
-    match policy {
+    )?;
+    match StaticPolicy::try_from(template) {
         Ok(policy) => Ok(policy),
         Err(UnexpectedSlotError::FoundSlot(_slot)) => unreachable!(),
         Err(UnexpectedSlotError::Memory) => Err(AllocError),
@@ -139,16 +154,25 @@ pub fn slotted_template(
     )
 }
 
-// A template that permits, with the slots that are named.
+// A template that permits, with the slots that are named, whose annotations, which are none, are shared.
 pub(crate) fn template(
     alloc: Global,
+    annotations: Rc<Annotations>,
     id: PolicyID,
     slots: TemplateSlots,
 ) -> Result<Template, AllocError>
+    requires { annotations.value ≡ [] }
     ensures { IfOk result (λ t. t ≡ template_body id slots) }
 {
-    let principal = on_principal(slots);
-    let action = on_action(slots);
-    let resource = on_resource(slots);
-    slotted_template(alloc, id, Effect::Permit, principal, action, resource)
+    Template::new_shared(
+        alloc,
+        id,
+        None,
+        annotations,
+        Effect::Permit,
+        principal_of(on_principal(slots)),
+        action_of(on_action(slots)),
+        resource_of(on_resource(slots)),
+        None,
+    )
 }

@@ -1,0 +1,57 @@
+-- Which slots the fields of a line have named, and the bindings of those alone.
+use Rattle.std.specs.Prelude.{◌≡◌, Bool, true, false, not, ◌||◌, ◌&&◌, Option, Some, None, refl, if◌then◌else◌}
+use Rattle.std.proofs.Common.{ap, ◌∙◌}
+use Rattle.cedar_ids.specs.Uid.{UidParts}
+use Rattle.cedar_terms.specs.SlotTree.{same_slot}
+use Rattle.cedar_terms.specs.declared.slot.SlotId.{SlotId}
+use Rattle.cedar_terms.specs.declared.slot.SlotId.TheVariants.{Principal, Action, Resource}
+use Rattle.cedar_binding.specs.Bindings.{EnvParts, binds}
+use Rattle.cedar_policy_lines.specs.PolicyCommand.{bound_more}
+use Rattle.cedar_policy_lines.specs.declared.named.NamedSlots.{NamedSlots}
+
+-- whether a slot is named
+abbrev pub is_named : NamedSlots → SlotId → Bool
+is_named n Principal = n.principal
+is_named n Action = n.action
+is_named n Resource = n.resource
+
+-- the bindings of the slots that are named
+abbrev pub named_alone : NamedSlots → EnvParts → EnvParts
+named_alone n e s = if is_named n s then e s else None
+
+-- bindings in which a slot is not bound, unless it is named
+abbrev pub bound_if : Bool → SlotId → EnvParts → EnvParts
+bound_if v s e r = if same_slot r s && not v then None else e r
+
+-- a slot that is named and bound is bound among those that are named
+pub named_is_bound : (n : NamedSlots) (e : EnvParts) (s : SlotId) → is_named n s ≡ true → binds e s ≡ true
+    → binds (named_alone n e) s ≡ true
+named_is_bound n e s v b = rw v in b
+
+more_at : (a b : Bool) (x y : Option UidParts)
+    → (if a || b then (if a then x else y) else None) ≡ (if a then x else if b then y else None)
+more_at true b x y = refl
+more_at false b x y = refl
+
+-- one more slot that is named and bound is bound more among those that are named
+pub named_more : (n m : NamedSlots) (e : EnvParts) (s : SlotId) (u : UidParts)
+    → ((r : SlotId) → is_named m r ≡ (same_slot r s || is_named n r))
+    → named_alone m (bound_more e s u) ≡ bound_more (named_alone n e) s u
+named_more n m e s u h =
+    λ i r. (ap (λ v. if v then bound_more e s u r else None) (h r)
+    ∙ more_at (same_slot r s) (is_named n r) (Some u) (e r)) i
+
+unless_at : (v : Bool) (x : Option UidParts) → (if not v then None else x) ≡ (if v then x else None)
+unless_at true x = refl
+unless_at false x = refl
+
+others_at : (n : NamedSlots) (e : EnvParts) (s : SlotId)
+    → bound_if n.resource Resource (bound_if n.action Action (bound_if n.principal Principal e)) s ≡ named_alone n e s
+others_at n e Principal = unless_at n.principal (e Principal)
+others_at n e Action = unless_at n.action (e Action)
+others_at n e Resource = unless_at n.resource (e Resource)
+
+-- where each slot is bound only if it is named, what is bound are the bindings of those that are named
+pub others_unbound : (n : NamedSlots) (e : EnvParts)
+    → bound_if n.resource Resource (bound_if n.action Action (bound_if n.principal Principal e)) ≡ named_alone n e
+others_unbound n e = λ i s. others_at n e s i
