@@ -1,5 +1,5 @@
 -- Masks of the tabs of a line.
-use Rattle.std.proofs.Common.{◌≡◌, ◌≢◌, ℕ, ◌+◌, ◌-◌, ◌/◌, ◌%◌, ◌^◌, ◌<◌, ◌≤◌, ◌==◌, true, false, Bool, cond, List, length, get_or, sym, ap, subst, ◌∙◌, refl, arith, ⊎_elim, shr-shr, pow_pos, bit_or, ◌*◌}
+use Rattle.std.proofs.Common.{◌≡◌, ◌≢◌, ℕ, ◌+◌, ◌-◌, ◌/◌, ◌%◌, ◌^◌, ◌<◌, ◌≤◌, ◌==◌, true, false, Bool, cond, List, length, get_or, sym, ap, subst, ◌∙◌, refl, arith, ⊎_elim, pow_pos, bit_or, ◌*◌}
 use lib.ListN.{get_or-eq_default}
 use Rattle.std.specs.Int.{bit_at}
 use Rattle.std.proofs.lemmas.Nat.{div-add-mod'}

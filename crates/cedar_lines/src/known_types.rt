@@ -1,5 +1,6 @@
 //! Reading uids of which many have one type: the types that were read are known by their texts, and shared.
 ghost use Rattle.std.specs.Prelude.{◌≡◌, ◌++◌, List, ℕ, IfOk, MatchOption, IfSome, IsTrue, codes};
+ghost use Rattle.std.specs.String.{string_bytes};
 ghost use Rattle.cedar_ids.specs.Escape.{is_own_escape};
 ghost use Rattle.cedar_ids.specs.Name.{NameParts};
 ghost use Rattle.cedar_ids.specs.TextOf.{IsNameText, IsPrinted};
@@ -42,8 +43,6 @@ impl Model for KnownType {
 #[derive(Drop)]
 pub struct KnownTypes {
     types: Vec<KnownType>,
-    // An eid that was let go, whose room the next takes.
-    room: String,
 }
 
 impl KnownTypes {
@@ -51,14 +50,7 @@ impl KnownTypes {
     pub fn new(alloc: Global) -> KnownTypes {
         KnownTypes {
             types: Vec::new(alloc),
-            room: String::new(alloc),
         }
-    }
-
-    /// Lets a uid go, and keeps the room of its eid for a uid to come. It takes no memory.
-    pub fn keep_room(&mut self, uid: EntityUID) {
-        let (_ty, eid) = uid.components();
-        self.room = eid.into_smolstr();
     }
 }
 
@@ -129,18 +121,12 @@ fn unescaped_halves(text: &str) -> Option<(&str, &str)>
 }
 
 // The uid of a type and an eid that is its own escape. Its text is that of the type, the mark, the eid and a quote.
-fn uid_of_parts(
-    alloc: Global,
-    room: &mut String,
-    ty: EntityType,
-    eid: &str,
-) -> Result<EntityUID, AllocError>
-    requires { IsTrue (is_own_escape eid.now) }
-    ensures { IfOk result (λ u. (name : List ℕ) → IsNameText (type_name ty) name →
-        IsPrinted (uid_parts u) (name ++ (codes "::\"" ++ (eid.now ++ codes "\"")))) }
+fn uid_of_parts(ty: EntityType, eid: String) -> EntityUID
+    requires { IsTrue (is_own_escape (string_bytes eid)) }
+    ensures { (name : List ℕ) → IsNameText (type_name ty) name →
+        IsPrinted (uid_parts result) (name ++ (codes "::\"" ++ (string_bytes eid ++ codes "\""))) }
 {
-    let eid = text_in(alloc, room, eid)?;
-    Ok(EntityUID::from_components(ty, Eid::new(eid), None))
+    EntityUID::from_components(ty, Eid::new(eid), None)
 }
 
 // A type that is known, shared once more.
@@ -174,7 +160,7 @@ fn known_halves<'a, 'b>(known: &'a [KnownType], text: &'b str) -> Option<(&'a Kn
 // The uid of a type that is read anew and an eid that is its own escape, if the first text is that of a type.
 fn uid_of_halves(
     alloc: Global,
-    known: &mut KnownTypes,
+    known: &mut Vec<KnownType>,
     name: &str,
     eid: &str,
 ) -> Result<Option<EntityUID>, AllocError>
@@ -182,16 +168,17 @@ fn uid_of_halves(
     ensures { IfOk result (λ o. IfSome o (λ u. IsPrinted (uid_parts u) (name.now
         ++ (codes "::\"" ++ (eid.now ++ codes "\""))))) }
 {
-    let Some(ty) = read_type(alloc, &mut known.types, name)? else {
+    let Some(ty) = read_type(alloc, known, name)? else {
         return Ok(None);
     };
-    Ok(Some(uid_of_parts(alloc, &mut known.room, ty, eid)?))
+    let eid = String::from_str(alloc, eid)?;
+    Ok(Some(uid_of_parts(ty, eid)))
 }
 
 // The uid with a text, where that is read without an escape and of a name.
 fn uid_without_escape(
     alloc: Global,
-    known: &mut KnownTypes,
+    known: &mut Vec<KnownType>,
     text: &str,
 ) -> Result<Option<EntityUID>, AllocError>
     ensures { IfOk result (λ o. IfSome o (λ u. IsPrinted (uid_parts u) text.now)) }
@@ -205,7 +192,7 @@ fn uid_without_escape(
 // The uid with a text, of which no type that is known is a part.
 fn read_uid(
     alloc: Global,
-    known: &mut KnownTypes,
+    known: &mut Vec<KnownType>,
     text: &str,
 ) -> Result<Option<EntityUID>, AllocError>
     ensures { IfOk result (ReadsAs (λ (u : EntityUID). IsPrinted (uid_parts u) text.now) (λ u. u)) }
@@ -231,8 +218,28 @@ pub fn uid_of_text(
     ensures { IfOk result (ReadsAs (λ (u : EntityUID). IsPrinted (uid_parts u) text.now) (λ u. u)) }
 {
     let Some((one, eid)) = known_halves(&known.types, text) else {
-        return read_uid(alloc, known, text);
+        return read_uid(alloc, &mut known.types, text);
     };
     let ty = type_of(one)?;
-    Ok(Some(uid_of_parts(alloc, &mut known.room, ty, eid)?))
+    let eid = String::from_str(alloc, eid)?;
+    Ok(Some(uid_of_parts(ty, eid)))
+}
+
+/// What [`uid_of_text`] answers. Where the type is known the eid stands in the room of a text, which is taken.
+///
+/// Takes memory as that does, for the eid only where there is less room than it needs. It is this project's own.
+pub fn uid_in(
+    alloc: Global,
+    known: &mut KnownTypes,
+    room: &mut String,
+    text: &str,
+) -> Result<Option<EntityUID>, AllocError>
+    ensures { IfOk result (ReadsAs (λ (u : EntityUID). IsPrinted (uid_parts u) text.now) (λ u. u)) }
+{
+    let Some((one, eid)) = known_halves(&known.types, text) else {
+        return read_uid(alloc, &mut known.types, text);
+    };
+    let ty = type_of(one)?;
+    let eid = text_in(alloc, room, eid)?;
+    Ok(Some(uid_of_parts(ty, eid)))
 }

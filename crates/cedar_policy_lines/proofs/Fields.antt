@@ -104,3 +104,22 @@ unread g (Some x) p e n = absurd (cc)
 pub bound_again : (d : EnvParts) (b : SlotId × UidParts) (o : Option (SlotId × UidParts)) → o ≡ Some b
     → binds d b.0 ≡ true → with_binding d o ≡ None
 bound_again d b o e h = ap (with_binding d) e ∙ bound_twice (binds d b.0) (bound_more d b.0 b.1) h
+
+bound_once : (v : Bool) (x : EnvParts) → v ≡ false → (if v then None else Some x) ≡ Some x
+bound_once true x e = absurd (cc)
+bound_once false x e = refl
+
+bound_new : (d : EnvParts) (b : SlotId × UidParts) (o : Option (SlotId × UidParts)) → o ≡ Some b
+    → binds d b.0 ≡ false → with_binding d o ≡ Some (bound_more d b.0 b.1)
+bound_new d b o e h = ap (with_binding d) e ∙ bound_once (binds d b.0) (bound_more d b.0 b.1) h
+
+-- where the field at a place binds one slot more, reading goes on behind it
+pub one_more_read : (fs : List (Bor (List ℕ))) (k : ℕ) (z : Bor (List ℕ)) (d e : EnvParts) (b : SlotId × UidParts)
+    → (o : Option EnvParts) → k < length fs → bindings_from (Some d) (map (λ x. x.now) (drop k fs)) ≡ o
+    → binding_of (get_or fs k z).now ≡ Some b → binds d b.0 ≡ false → e ≡ bound_more d b.0 b.1
+    → bindings_from (Some e) (map (λ x. x.now) (drop (k + 1) fs)) ≡ o
+one_more_read fs k z d e b o l h read new is =
+    let rest = map (λ x. x.now) (drop (k + 1) fs) in
+    ap (λ x. bindings_from (Some x) rest) is
+    ∙ sym (ap (λ x. bindings_from x rest) (bound_new d b (binding_of (get_or fs k z).now) read new))
+    ∙ ap (bindings_from (Some d)) (sym (field_first fs k z l)) ∙ h

@@ -1,12 +1,14 @@
 //! Which fields are which command.
 ghost use Rattle.std.specs.Prelude.{◌≡◌, OnOk, IfOk, map};
+ghost use Rattle.std.specs.List.{list_all};
+ghost use Rattle.std.specs.Map.{keys_of};
 ghost use Rattle.std.specs.Option.{option_map};
 ghost use Rattle.cedar_ids.specs.UidOf.{uid_parts};
 ghost use Rattle.cedar_lines.specs.Reads.{ReadsAs};
 ghost use Rattle.cedar_binding.specs.Views.{env_of};
 ghost use Rattle.cedar_policy_lines.specs.PolicyCommand.{IsPolicyCommand, Other, Ids, bound_more};
 ghost use Rattle.cedar_policy_lines.specs.CommandOf.{policy_command_of};
-ghost use Rattle.cedar_policy_lines.specs.laws.NamedSlots.{named_alone, bound_if};
+ghost use Rattle.cedar_policy_lines.specs.laws.NamedSlots.{is_named, named_alone, bound_if};
 ghost use Rattle.cedar_policy_lines.specs.laws.PolicyReading.{only, bindings_of, static_of, template_of, link_of};
 ghost use Rattle.cedar_policy_lines.specs.laws.PolicyReading.{unlink_of, merge_of, bare_of, command_by};
 
@@ -42,11 +44,13 @@ pub enum PolicyCommand {
     Ids,
 }
 
-// What the link before was read into, whose room the next takes: the id of its template, and the map of its bindings.
+// What the link before was read into, whose room the next takes: the id of its template, the map of its bindings, and an
+// eid that was bound before.
 #[derive(Debug, Drop)]
 pub(crate) struct LinkRoom {
-    pub(crate) template: PolicyID,
-    pub(crate) values: SlotEnv,
+    template: PolicyID,
+    values: SlotEnv,
+    eid: String,
 }
 
 impl LinkRoom {
@@ -55,7 +59,14 @@ impl LinkRoom {
         LinkRoom {
             template: no_id(alloc),
             values: no_bindings(alloc),
+            eid: String::new(alloc),
         }
+    }
+
+    // Keeps what a link was read into.
+    pub(crate) fn keep(&mut self, template: PolicyID, values: SlotEnv) {
+        self.template = template;
+        self.values = values;
     }
 }
 
@@ -83,9 +94,9 @@ fn only<'a>(fields: &[&'a str]) -> Option<&'a str>
     None
 }
 
-// Binds a slot. What it was bound to is let go, but the room of its eid.
+// Binds a slot. Of what it was bound to the eid is kept, for its room.
 fn bind(
-    known: &mut KnownTypes,
+    room: &mut String,
     values: &mut SlotEnv,
     slot: SlotId,
     uid: EntityUID,
@@ -94,7 +105,10 @@ fn bind(
 {
     match values.insert(slot, uid)? {
         None => (),
-        Some(before) => known.keep_room(before),
+        Some(before) => {
+            let (_ty, eid) = before.components();
+            *room = eid.into_smolstr();
+        }
     }
     Ok(())
 }
@@ -108,10 +122,20 @@ fn unbind_unless(values: &mut SlotEnv, slot: SlotId, is_named: bool)
     }
 }
 
-// Unbinds the slots that are not named.
+// Whether each slot that is bound is named.
+fn are_named(values: &SlotEnv, named: NamedSlots) -> bool
+    ensures { result ≡ list_all (is_named named) (keys_of values.now.entries) }
+{
+    values.keys().all(|slot| named.has(*slot))
+}
+
+// Unbinds the slots that are not named. Mostly there are none, and none is hashed.
 fn unbind_others(values: &mut SlotEnv, named: NamedSlots)
     ensures { env_of values.new ≡ named_alone named (env_of values.old) }
 {
+    if are_named(values, named) {
+        return;
+    }
     unbind_unless(values, SlotId::Principal, named.has(SlotId::Principal));
     unbind_unless(values, SlotId::Action, named.has(SlotId::Action));
     unbind_unless(values, SlotId::Resource, named.has(SlotId::Resource));
@@ -122,21 +146,21 @@ fn unbind_others(values: &mut SlotEnv, named: NamedSlots)
 fn bindings_of(
     alloc: Global,
     known: &mut KnownTypes,
-    room: &mut SlotEnv,
+    room: &mut LinkRoom,
     fields: &[&str],
 ) -> Result<Option<SlotEnv>, AllocError>
     ensures { IfOk result (λ o. option_map env_of o ≡ bindings_of (map (λ f. f.now) fields.now)) }
 {
-    let mut values = mem::replace(room, no_bindings(alloc));
+    let mut values = mem::replace(&mut room.values, no_bindings(alloc));
     let mut named = NamedSlots::none();
     for field in fields {
-        let Some((slot, uid)) = binding_of(alloc, known, field)? else {
+        let Some((slot, uid)) = binding_of(alloc, known, &mut room.eid, field)? else {
             return Ok(None);
         };
         if named.has(slot) {
             return Ok(None);
         }
-        bind(known, &mut values, slot, uid)?;
+        bind(&mut room.eid, &mut values, slot, uid)?;
         named = named.with(slot);
     }
     unbind_others(&mut values, named);
@@ -191,7 +215,7 @@ fn link_of(
     let Some((id, rest)) = rest.split_first() else {
         return Ok(None);
     };
-    let Some(values) = bindings_of(alloc, known, &mut room.values, rest)? else {
+    let Some(values) = bindings_of(alloc, known, room, rest)? else {
         return Ok(None);
     };
     let template = id_in(alloc, &mut room.template, template)?;

@@ -9,7 +9,7 @@ ghost use Rattle.cedar_policy_lines.specs.laws.PolicyReading.{binding_of};
 
 use cedar_body::Effect;
 use cedar_ids::entity::EntityUID;
-use cedar_lines::known_types::{KnownTypes, uid_of_text};
+use cedar_lines::known_types::{KnownTypes, uid_in};
 use cedar_terms::slot::SlotId;
 use std::alloc::{AllocError, Global};
 
@@ -88,39 +88,41 @@ fn behind<'a>(field: &'a str, mark: &str) -> Option<&'a str>
     field.strip_prefix(mark)
 }
 
-// A slot with the uid whose text stands behind its mark.
+// A slot with the uid whose text stands behind its mark. The eid is read into the room of a text.
 fn bound_as(
     alloc: Global,
     known: &mut KnownTypes,
+    room: &mut String,
     slot: SlotId,
     text: &str,
 ) -> Result<Option<(SlotId, EntityUID)>, AllocError>
     ensures { IfOk result (λ o. option_map {U = SlotId × UidParts} (λ b. (b.0, uid_parts b.1)) o
         ≡ option_map {U = SlotId × UidParts} (λ u. (slot, u)) (uid_read text.now)) }
 {
-    match uid_of_text(alloc, known, text)? {
+    match uid_in(alloc, known, room, text)? {
         None => Ok(None),
         Some(uid) => Ok(Some((slot, uid))),
     }
 }
 
-// The binding that a field is.
+// The binding that a field is. The eid is read into the room of a text.
 pub(crate) fn binding_of(
     alloc: Global,
     known: &mut KnownTypes,
+    room: &mut String,
     field: &str,
 ) -> Result<Option<(SlotId, EntityUID)>, AllocError>
     ensures { IfOk result (λ o. option_map {U = SlotId × UidParts} (λ b. (b.0, uid_parts b.1)) o
         ≡ binding_of field.now) }
 {
     if let Some(text) = behind(field, "principal=") {
-        return bound_as(alloc, known, SlotId::Principal, text);
+        return bound_as(alloc, known, room, SlotId::Principal, text);
     }
     if let Some(text) = behind(field, "action=") {
-        return bound_as(alloc, known, SlotId::Action, text);
+        return bound_as(alloc, known, room, SlotId::Action, text);
     }
     if let Some(text) = behind(field, "resource=") {
-        return bound_as(alloc, known, SlotId::Resource, text);
+        return bound_as(alloc, known, room, SlotId::Resource, text);
     }
     Ok(None)
 }

@@ -154,10 +154,7 @@ impl<S: BuildHasher + Copy> PolicySets<S> {
         let answer = self
             .current
             .link_copying(alloc, &template_id, new_id, &values);
-        self.room = LinkRoom {
-            template: template_id,
-            values,
-        };
+        self.room.keep(template_id, values);
         push_by_linking(alloc, out, answer)
     }
 

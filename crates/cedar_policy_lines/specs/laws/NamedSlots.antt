@@ -1,8 +1,14 @@
 -- Which slots the fields of a line have named, and the bindings of those alone.
-use Rattle.std.specs.Prelude.{◌≡◌, Bool, true, false, not, ◌||◌, ◌&&◌, Option, Some, None, refl, if◌then◌else◌}
-use Rattle.std.proofs.Common.{ap, ◌∙◌}
+use Rattle.std.specs.Prelude.{◌≡◌, List, [], ◌∷◌, Bool, true, false, not, ◌||◌, ◌&&◌, Option, Some, None, is_some, refl}
+use Rattle.std.specs.Prelude.{if◌then◌else◌}
+use Rattle.std.specs.List.{list_all}
+use Rattle.std.specs.Map.{keys_of, lookup}
+use Rattle.std.specs.Option.{option_map}
+use Rattle.std.proofs.Common.{ap, ◌∙◌, sym}
+use Rattle.std.proofs.lemmas.Bool.{and_parts, false≢true}
 use Rattle.cedar_ids.specs.Uid.{UidParts}
 use Rattle.cedar_terms.specs.SlotTree.{same_slot}
+use Rattle.cedar_terms.specs.laws.SlotIdLaws.{same_slot_decides}
 use Rattle.cedar_terms.specs.declared.slot.SlotId.{SlotId}
 use Rattle.cedar_terms.specs.declared.slot.SlotId.TheVariants.{Principal, Action, Resource}
 use Rattle.cedar_binding.specs.Bindings.{EnvParts, binds}
@@ -26,7 +32,18 @@ bound_if v s e r = if same_slot r s && not v then None else e r
 -- a slot that is named and bound is bound among those that are named
 pub named_is_bound : (n : NamedSlots) (e : EnvParts) (s : SlotId) → is_named n s ≡ true → binds e s ≡ true
     → binds (named_alone n e) s ≡ true
-named_is_bound n e s v b = rw v in b
+named_is_bound n e s v b = ap (λ w. is_some (if w then e s else None)) v ∙ b
+
+-- a slot that is not named is not bound among those that are
+pub unnamed_is_unbound : (n : NamedSlots) (e : EnvParts) (s : SlotId) → is_named n s ≡ false
+    → binds (named_alone n e) s ≡ false
+unnamed_is_unbound n e s v = ap (λ w. is_some (if w then e s else None)) v
+
+-- where a slot is named and bound more, each that is named is bound
+pub still_bound : (a b : Bool) (x : Option UidParts) (u : UidParts) → (a || b) ≡ true → (b ≡ true → is_some x ≡ true)
+    → is_some (if a then Some u else x) ≡ true
+still_bound true b x u n h = refl
+still_bound false b x u n h = h n
 
 more_at : (a b : Bool) (x y : Option UidParts)
     → (if a || b then (if a then x else y) else None) ≡ (if a then x else if b then y else None)
@@ -55,3 +72,28 @@ others_at n e Resource = unless_at n.resource (e Resource)
 pub others_unbound : (n : NamedSlots) (e : EnvParts)
     → bound_if n.resource Resource (bound_if n.action Action (bound_if n.principal Principal e)) ≡ named_alone n e
 others_unbound n e = λ i s. others_at n e s i
+
+differs : (n : NamedSlots) (s k : SlotId) (v : Bool) → same_slot s k ≡ v → is_named n k ≡ true → is_named n s ≡ false
+    → v ≡ false
+differs n s k true e h g = absurd (false≢true (sym g ∙ ap (is_named n) ((same_slot_decides s k).0 e) ∙ h))
+differs n s k false e h g = refl
+
+named_at : {W : Type 0} (v : Bool) (x : Option W) → (v ≡ false → x ≡ None) → x ≡ (if v then x else None)
+named_at true x h = refl
+named_at false x h = h refl
+
+module _ {V : Type 0} where
+  not_found : (n : NamedSlots) (es : List (SlotId × V)) (s : SlotId) → list_all (is_named n) (keys_of es) ≡ true
+      → is_named n s ≡ false → lookup (same_slot s) es ≡ None
+  not_found n [] s h g = refl
+  not_found n (e ∷ es) s h g =
+      let p = and_parts _ _ h in
+      ap (λ v. if v then Some e.1 else lookup (same_slot s) es) (differs n s e.0 (same_slot s e.0) refl p.0 g)
+      ∙ not_found n es s p.1 g
+
+  -- where the keys of entries are named, what is found at a slot is found among those that are named
+  pub all_named : {W : Type 0} (f : V → W) (n : NamedSlots) (es : List (SlotId × V))
+      → list_all (is_named n) (keys_of es) ≡ true → (s : SlotId) → option_map f (lookup (same_slot s) es)
+      ≡ (if is_named n s then option_map f (lookup (same_slot s) es) else None)
+  all_named f n es h s =
+      named_at (is_named n s) (option_map f (lookup (same_slot s) es)) (λ g. ap (option_map f) (not_found n es s h g))

@@ -1,4 +1,10 @@
+use Rattle.std.proofs.Common.{◌++◌, codes, subst}
+use Rattle.cedar_ids.specs.TextOf.{IsPrinted}
+use Rattle.cedar_ids.specs.UidOf.{uid_parts}
 use Rattle.cedar_lines.proofs.known_types.uid_of_halves.Goals as goal
 
 pub returns : goal.returns
-returns c = c.in_ok-uid_of_parts.ensures c.args.name.now (rw c.in-Some.is at c.in_ok-ty.ensures)
+returns c =
+    subst (λ e. IsPrinted (uid_parts c.uid_of_parts.result) (c.args.name.now ++ (codes "::\"" ++ (e ++ codes "\""))))
+    c.in_ok-eid.ensures.ok
+    (c.uid_of_parts.ensures c.args.name.now (rw c.in-Some.is at c.in_ok-ty.ensures))
