@@ -18,11 +18,12 @@ use Rattle.cedar_ids.specs.Texts.{same_text}
 use Rattle.cedar_ids.specs.laws.TextLaws.{same_text_equiv}
 use Rattle.cedar_body.specs.Bodies.{BodyParts}
 use Rattle.cedar_policy.specs.Policies.{PolicyParts, policy_id}
-use Rattle.cedar_policy_maps.specs.PolicySets.{AreOnce, is_bound, is_body_at, is_policy_at}
+use Rattle.cedar_policy_maps.specs.PolicySets.{SetParts, AreOnce, bound_at, is_bound, is_body_at}
+use Rattle.cedar_policy_maps.specs.PolicySets.{is_policy_at, template_bound}
 use Rattle.cedar_policy_maps.specs.Lists.{ids_in}
 use Rattle.cedar_policy_maps.specs.Maps.{Maps, shared_of, lists_of, set_in, ids_by_body, templates_in, DoAgree}
 use Rattle.cedar_policy_maps.specs.Views.{bodies_of}
-use Rattle.cedar_policy_maps.specs.laws.SetLaws.{no_body_at, no_policy_at}
+use Rattle.cedar_policy_maps.specs.laws.SetLaws.{no_body_at, no_policy_at, template_among}
 use Rattle.cedar_policy_maps.specs.laws.ListedLaws.{changed, with_listed, IsKeyed, lookup_is, keyed_last, join_listed}
 use Rattle.cedar_policy_maps.specs.laws.Walks.{parted, bodies_more, policies_more}
 use Rattle.cedar_policy_maps.specs.laws.MapLaws.{listed_at, all_listed}
@@ -189,6 +190,18 @@ body_known m es i h q = some_mapped body (lookup (same_text i) es) ∙ ap is_som
 pub policy_known : (m : Maps) (i : List ℕ) → DoAgree m
     → is_some (lookup (same_text i) m.policies) ≡ list_any (is_policy_at i) (set_in m).policies
 policy_known m i h = ap is_some (policy_read m i h) ∙ some_find (is_policy_at i) (set_in m).policies
+
+-- the template that is bound, by whether the body with the id is one
+pub template_is : (b : SetParts) (i : List ℕ) (t : BodyParts) (v : Bool) → v ≡ not (list_any (is_policy_at i) b.policies)
+    → Some t ≡ find (is_body_at i) b.bodies → cond v (Some t) None ≡ template_bound (bound_at b i)
+template_is b i t v e f =
+    ap (λ v. cond v (Some t) None) e ∙ turned (list_any (is_policy_at i) b.policies) t
+    ∙ (λ j. cond (sym (some_find (is_policy_at i) b.policies) j) None (f j))
+    ∙ sym (template_among (find (is_policy_at i) b.policies) (find (is_body_at i) b.bodies))
+  where
+    turned : (w : Bool) (t : BodyParts) → cond (not w) (Some t) None ≡ cond w None (Some t)
+    turned true t = refl
+    turned false t = refl
 
 no_template_at : (i : List ℕ) (ts : List BodyParts) (ps : List PolicyParts) → list_any (is_body_at i) ts ≡ false
     → find (is_body_at i) (templates_in ps ts) ≡ None

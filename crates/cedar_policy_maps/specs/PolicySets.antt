@@ -57,6 +57,11 @@ bound_among None None = None
 abbrev pub bound_at : SetParts → List ℕ → Option Binding
 bound_at b i = bound_among (find (is_policy_at i) b.policies) (find (is_body_at i) b.bodies)
 
+-- the template that is bound, if what is bound is one
+abbrev pub template_bound : Option Binding → Option BodyParts
+template_bound (Some (Template t)) = Some t
+template_bound x = None
+
 -- whether something is
 abbrev pub is_bound : SetParts → List ℕ → Bool
 is_bound b i = list_any (is_policy_at i) b.policies || list_any (is_body_at i) b.bodies

@@ -1,8 +1,9 @@
 //! What reads and changes the three maps.
-ghost use Rattle.std.specs.Prelude.{◌≡◌, OnOk, OnErr, IfSome, None, Some, false, length, ◌<◌, is_some, slice_get};
+ghost use Rattle.std.specs.Prelude.{◌≡◌, OnOk, OnErr, IfSome, None, Some, false, length, ◌<◌, is_some, not, slice_get};
 ghost use Rattle.std.specs.List.{find, list_any};
 ghost use Rattle.std.specs.Option.{option_copied, option_map};
 ghost use Rattle.cedar_policy_maps.specs.PolicySets.{bound_at, is_bound, is_body_at, is_policy_at, has_links};
+ghost use Rattle.cedar_policy_maps.specs.PolicySets.{template_bound};
 ghost use Rattle.cedar_policy_maps.specs.PolicySets.{with_template, with_policy, with_both, without_id, last_policy};
 ghost use Rattle.cedar_policy_maps.specs.Lists.{ids_in};
 ghost use Rattle.cedar_policy_maps.specs.Maps.{templates_in};
@@ -13,7 +14,7 @@ ghost use Rattle.cedar_policy_maps.specs.laws.MapLaws.{has_ids};
 
 use crate::found::Found;
 use crate::iters::LinkedIds;
-use crate::lists::is_link;
+use crate::lists::{has_no_slots, is_link};
 use crate::maps::{
     insert_reserved, list_policy, room_for_body, room_for_both, room_for_list, unlist,
 };
@@ -141,6 +142,36 @@ impl<S: BuildHasher + Copy> PolicyMaps<S> {
                 None => None,
             },
         }
+    }
+
+    /// The template that an id is bound to, as it is shared, if it is bound to one. A template with slots is found by one
+    /// look-up.
+    pub fn bound_template(&self, id: &PolicyID) -> Option<&Rc<Template>>
+        ensures { option_map (λ t. t.now.value) result ≡ template_bound (bound_at self.now id.now) }
+    {
+        match self.body_at(id) {
+            None => None,
+            Some(template) => {
+                if self.is_template(id, template) {
+                    Some(template)
+                } else {
+                    None
+                }
+            }
+        }
+    }
+
+    // Whether the body with this id is a template. One with slots is, so that no policy is looked for.
+    fn is_template(&self, id: &PolicyID, body: &Template) -> bool
+        requires { find (is_body_at id.now) self.now.bodies ≡ Some body.now }
+        ensures { result ≡ not (list_any (is_policy_at id.now) self.now.policies) }
+    {
+        // No effect at run time: this borrow says that the set is a policy set.
+        let _ = &self.templates;
+        if has_no_slots(body) {
+            return !self.has_policy(id);
+        }
+        true
     }
 
     /// Whether an id is bound.

@@ -10,14 +10,14 @@ use Rattle.std.proofs.lemmas.List.{map-append}
 use Rattle.std.proofs.lemmas.List.Folds.{list_any-append}
 use Rattle.cedar_ids.specs.Texts.{same_text}
 use Rattle.cedar_ids.specs.laws.TextLaws.{same_text_equiv, same_text_decides}
-use Rattle.cedar_body.specs.Bodies.{BodyParts}
+use Rattle.cedar_body.specs.Bodies.{BodyParts, body_slots}
 use Rattle.cedar_policy.specs.Policies.{PolicyParts, policy_id}
 use Rattle.cedar_policy_maps.specs.PolicySets.{SetParts, AreOnce, is_bound, is_body_at, is_policy_at, links_to}
 use Rattle.cedar_policy_maps.specs.PolicySets.{has_links}
 use Rattle.cedar_policy_maps.specs.PolicySets.{with_template, with_policy, with_both, without_id, IsHeldBy, IsHeld}
 use Rattle.cedar_policy_maps.specs.PolicySets.{AreHeld}
 use Rattle.cedar_policy_maps.specs.PolicySets.{IsPolicySet}
-use Rattle.cedar_policy_maps.specs.Lists.{is_on, ids_in}
+use Rattle.cedar_policy_maps.specs.Lists.{is_on, ids_in, is_slotless}
 use Rattle.cedar_policy_maps.specs.Maps.{Maps, set_in, ids_by_body, templates_in, DoAgree}
 use Rattle.cedar_policy_maps.specs.laws.SetLaws.{no_body_at, no_policy_at, ids_apart, template_joins, link_joins}
 use Rattle.cedar_policy_maps.specs.laws.SetLaws.{free_link, both_free, both_join, taken_out, policy_has_no_links}
@@ -264,6 +264,29 @@ static_ids b i p h f s =
     (ap (option_map (λ t. ids_in t.id b.policies)) k.0
     ∙ ap (λ j. Some (ids_in j b.policies)) (sym k.1)
     ∙ ap Some (own_of b i p h f (found_any (is_body_at i) b.bodies p.template k.0)))
+
+slotted_by : (o : Option (List ℕ)) (b : SetParts) (i : List ℕ) (t : BodyParts) (p : PolicyParts) → o ≡ p.link
+    → i ≡ policy_id p → IsHeldBy o b p → find (is_body_at i) b.bodies ≡ Some t → is_slotless (body_slots t) ≡ false → ⊥
+slotted_by None b i t p e q h f s =
+    let k = static_body_by None b i p e refl q h in
+    let same : t ≡ p.template = cc (f, k.0) in
+    false≢true (sym s ∙ ap (λ (u : BodyParts). is_slotless (body_slots u)) same ∙ ap is_slotless h.1)
+slotted_by (Some l) b i t p e q h f s =
+    let none = link_ids_by (Some l) b i p e refl q h in
+    absurd (cc (none, f))
+
+slotted_found : (b : SetParts) (i : List ℕ) (t : BodyParts) (o : Option PolicyParts) → IsPolicySet b
+    → find (is_policy_at i) b.policies ≡ o → find (is_body_at i) b.bodies ≡ Some t
+    → is_slotless (body_slots t) ≡ false → o ≡ None
+slotted_found b i t None h g f s = refl
+slotted_found b i t (Some p) h g f s = absurd
+    (slotted_by p.link b i t p refl (own_id i p b.policies g) (held_found b i p b.policies h.held g) f s)
+
+-- no policy has the id of a body with slots
+pub slotted_free : (b : SetParts) (i : List ℕ) (t : BodyParts) → IsPolicySet b → find (is_body_at i) b.bodies ≡ Some t
+    → is_slotless (body_slots t) ≡ false → list_any (is_policy_at i) b.policies ≡ false
+slotted_free b i t h f s =
+    none_is (is_policy_at i) b.policies (slotted_found b i t (find (is_policy_at i) b.policies) h refl f s)
 
 -- ---- what joins
 

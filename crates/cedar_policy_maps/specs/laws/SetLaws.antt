@@ -17,7 +17,7 @@ use Rattle.cedar_binding.specs.Bindings.{BindsExactly, FitsSlots, wrong_action}
 use Rattle.cedar_policy.specs.Policies.{PolicyParts, policy_id, static_policy}
 use Rattle.cedar_policy_maps.specs.PolicySets.{SetParts, Template, empty_set, HasOwnId, bound_at, bound_among, is_bound}
 use Rattle.cedar_policy_maps.specs.PolicySets.{is_body_at, is_policy_at, links_to, has_links, policy_binding}
-use Rattle.cedar_policy_maps.specs.PolicySets.{binding_by}
+use Rattle.cedar_policy_maps.specs.PolicySets.{binding_by, template_bound}
 use Rattle.cedar_policy_maps.specs.PolicySets.{with_template, with_policy, with_both, without_id, IsHeldBy, IsHeld}
 use Rattle.cedar_policy_maps.specs.PolicySets.{AreHeld}
 use Rattle.cedar_policy_maps.specs.PolicySets.{IsPolicySet}
@@ -120,6 +120,23 @@ found_template : (p : Option PolicyParts) (t : Option BodyParts) (u : BodyParts)
 found_template (Some p) t u e = absurd (no_template_by p.link p u e)
 found_template None (Some t) u e = (refl, cc)
 found_template None None u e = absurd (cc)
+
+no_template_in : (o : Option (List ℕ)) (p : PolicyParts) → template_bound (Some (binding_by o p)) ≡ None
+no_template_in None p = refl
+no_template_in (Some l) p = refl
+
+-- the template that is bound is the body with the id, where no policy has it
+pub template_among : (p : Option PolicyParts) (t : Option BodyParts)
+    → template_bound (bound_among p t) ≡ cond (is_some p) None t
+template_among (Some p) t = no_template_in p.link p
+template_among None (Some t) = refl
+template_among None None = refl
+
+pub no_template_among : (p : Option PolicyParts) (t : Option BodyParts) → t ≡ None
+    → template_bound (bound_among p t) ≡ None
+no_template_among (Some p) t e = no_template_in p.link p
+no_template_among None (Some u) e = absurd (cc)
+no_template_among None None e = refl
 
 -- what a template that is bound says of the orders
 pub template_at : (b : SetParts) (i : List ℕ) (u : BodyParts) → bound_at b i ≡ Some (Template u)
