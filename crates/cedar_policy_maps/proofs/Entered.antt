@@ -1,5 +1,5 @@
 -- The maps of a set once a merge has put in what enters.
-use Rattle.std.specs.Prelude.{◌≡◌, ℕ, List, [], ◌∷◌, ◌++◌, not, refl, map}
+use Rattle.std.specs.Prelude.{◌≡◌, ℕ, List, [], ◌∷◌, ◌++◌, not, map}
 use Rattle.std.proofs.Common.{sym, ap, ◌∙◌, subst}
 use Rattle.std.specs.List.{list_any}
 use Rattle.std.specs.Map.{keys_of, values_of}
@@ -13,6 +13,7 @@ use Rattle.cedar_policy_maps.specs.PolicySets.{SetParts, AreOnce, is_policy_at}
 use Rattle.cedar_policy_maps.specs.Maps.{Maps, shared_of, lists_of, maps_of, set_in, ids_by_body, templates_in}
 use Rattle.cedar_policy_maps.specs.Maps.{DoAgree}
 use Rattle.cedar_policy_maps.specs.Views.{bodies_of}
+use Rattle.cedar_policy_maps.specs.laws.GatherLaws.{gathered, gathered_own, elsewhere_in, under_keys}
 use Rattle.cedar_policy_maps.specs.laws.GrowLaws.{grown_by, HaveOwnKeys, own_keys, listed_keys, grown_keys}
 use Rattle.cedar_policy_maps.specs.laws.ListedLaws.{IsKeyed}
 use Rattle.cedar_policy_maps.specs.laws.RawMaps.{shared_keys}
@@ -29,10 +30,6 @@ body_id t = t.id
 pub once_after : {A : Type 0} (id : A → List ℕ) (xs ys : List A) → AreOnce id (xs ++ ys) → AreOnce id ys
 once_after id [] ys h = h
 once_after id (x ∷ xs) ys h = once_after id xs ys h.1
-
-under_keys : (ts : List BodyParts) (ps : List PolicyParts) → keys_of (ids_by_body ts ps) ≡ map body_id ts
-under_keys [] ps = refl
-under_keys (t ∷ ts) ps = ap (λ ks. t.id ∷ ks) (under_keys ts ps)
 
 abbrev Becomes : Maps → SetParts → Type 0
 Becomes m b = DoAgree m × (set_in m ≡ b)
@@ -53,12 +50,10 @@ policies_new m stand bs fs h k g =
     own_keys policy_id m.policies fs (values_of m.policies) (values_of fs) h.policies_by_id g k.policy_set.policies_once
 
 module _ {S : Type 0} where
-  pub grown_once : (stand : List BodyParts) (qs ps : List PolicyParts) (gs : List (List ℕ × IndexSet (List ℕ) S))
-      → AreOnce body_id stand → lists_of gs ≡ ids_by_body (templates_in qs stand) ps → HaveOwnKeys gs
-  grown_once stand qs ps gs h g =
-      own_keys body_id [] gs [] (templates_in qs stand) refl (sym (listed_keys gs) ∙ ap keys_of g
-      ∙ under_keys (templates_in qs stand) ps)
-      (once-filter body_id (λ (t : BodyParts). not (list_any (is_policy_at t.id) qs)) stand h)
+  pub grown_once : (ps : List PolicyParts) (gs : List (List ℕ × IndexSet (List ℕ) S)) → lists_of gs ≡ gathered [] ps
+      → HaveOwnKeys gs
+  grown_once ps gs g =
+      subst (AreOnce (λ (k : List ℕ). k)) (sym (ap keys_of g) ∙ listed_keys gs) (gathered_own [] ps tt)
 
   pub lists_new : (m : Maps) (stand bs : List BodyParts) (ps : List PolicyParts)
       (hs ns : List (List ℕ × IndexSet (List ℕ) S)) (more : List (List ℕ × List (List ℕ))) → DoAgree m
@@ -81,17 +76,22 @@ module _ {S : Type 0} where
       → CanTakeIn (set_in (maps_of ts ps ls)) stand (bodies_of (values_of es)) (values_of fs)
       → IsKeyed shared_id es → IsKeyed policy_id fs →
       lists_of ns ≡ ids_by_body (templates_in (values_of fs) (bodies_of (values_of es))) (values_of fs)
-      → lists_of gs ≡ ids_by_body (templates_in (values_of ps) stand) (values_of fs) →
+      → lists_of gs ≡ gathered [] (elsewhere_in (keys_of ns) (values_of fs)) →
       shared_of us ≡ shared_of (ts ++ es) → qs ≡ ps ++ fs → lists_of hs ≡ grown_by (lists_of ls) (lists_of gs)
       → ms ≡ hs ++ ns →
       Becomes (maps_of us qs ms) (taken_in (set_in (maps_of ts ps ls)) (bodies_of (values_of es)) (values_of fs))
   entered ts es us ps fs qs ls gs hs ns ms stand h k f g n w a q p l =
       let m : Maps = maps_of ts ps ls in
       let vs : values_of (shared_of es) ≡ bodies_of (values_of es) = sym (shared_values es) in
-      let lists : lists_of ms ≡ grown_by (lists_of ls) (ids_by_body (templates_in (values_of ps) stand) (values_of fs))
+      let keys : keys_of ns ≡ map body_id (templates_in (values_of fs) (values_of (shared_of es))) =
+      sym (listed_keys ns) ∙ ap keys_of n
+      ∙ under_keys (templates_in (values_of fs) (bodies_of (values_of es))) (values_of fs)
+      ∙ ap (λ bs. map body_id (templates_in (values_of fs) bs)) (sym vs) in
+      let lists : lists_of ms ≡ grown_by (lists_of ls) (gathered []
+      (elsewhere_in (map body_id (templates_in (values_of fs) (values_of (shared_of es)))) (values_of fs)))
       ++ ids_by_body (templates_in (values_of fs) (values_of (shared_of es))) (values_of fs) =
       ap lists_of l ∙ map-append (λ (e : List ℕ × IndexSet (List ℕ) S). (e.0, e.1.keys)) hs ns
-      ∙ (λ j. (p ∙ ap (grown_by (lists_of ls)) w) j
+      ∙ (λ j. (p ∙ ap (grown_by (lists_of ls)) (w ∙ ap (λ ks. gathered [] (elsewhere_in ks (values_of fs))) keys)) j
       ++ (n ∙ ap (λ bs. ids_by_body (templates_in (values_of fs) bs) (values_of fs)) (sym vs)) j) in
       subst (λ bs. Becomes (maps_of us qs ms) (taken_in (set_in m) bs (values_of fs))) vs
       (taken_in_kept m stand (shared_of es) (shared_of us) fs qs (lists_of ms) h

@@ -1,21 +1,19 @@
 -- Entries that go last, and lists that change.
-use Rattle.std.specs.Prelude.{◌≡◌, ℕ, ◌+◌, ◌<◌, suc, length, List, [], ◌∷◌, ◌++◌, Bool, true, false, not, ◌||◌, Option}
-use Rattle.std.specs.Prelude.{Some, None, refl, map, is_some}
+use Rattle.std.specs.Prelude.{◌≡◌, ℕ, ◌+◌, ◌<◌, suc, length, List, [], ◌∷◌, ◌++◌, Bool, true, false, not, ◌||◌, ◌&&◌}
+use Rattle.std.specs.Prelude.{Option, Some, None, refl, map, is_some}
 use Rattle.std.proofs.Common.{cond, sym, ap, ◌∙◌, subst, take, drop, get_or, Bor}
 use Rattle.std.specs.List.{filter, find, list_any, AllZip}
-use Rattle.std.specs.Map.{values_of, lookup, set_value, remove_entry}
+use Rattle.std.specs.Map.{keys_of, values_of, lookup, set_value, remove_entry}
 use Rattle.std.specs.Option.{option_map, option_copied}
 use Rattle.std.specs.declared.rc.Rc.{Rc}
 use Rattle.std.specs.declared.alloc.Global.{Global}
-use Rattle.std.proofs.lemmas.Bool.{or_parts}
+use Rattle.std.proofs.lemmas.Bool.{or_parts, false≢true}
 use Rattle.std.proofs.lemmas.List.{map-append, append_assoc, append-nil}
-use Rattle.std.proofs.lemmas.List.Folds.{list_any-append}
 use Rattle.std.proofs.lemmas.List.Elements.{filter-append}
 use Rattle.std.proofs.lemmas.List.Sums.{fold-append}
 use Rattle.std.proofs.lemmas.Map.Made.{lookup-map_values}
-use Rattle.indexmap.specs.IndexSet.{IndexSet}
+use Rattle.indexmap.specs.IndexSet.{IndexSet, insert_key}
 use Rattle.cedar_ids.specs.Texts.{same_text}
-use Rattle.cedar_ids.specs.laws.TextLaws.{same_text_equiv}
 use Rattle.cedar_body.specs.Bodies.{BodyParts}
 use Rattle.cedar_policy.specs.Policies.{PolicyParts, policy_id}
 use Rattle.cedar_policy_maps.specs.PolicySets.{SetParts, AreOnce, bound_at, is_bound, is_body_at}
@@ -24,10 +22,13 @@ use Rattle.cedar_policy_maps.specs.Lists.{ids_in}
 use Rattle.cedar_policy_maps.specs.Maps.{Maps, shared_of, lists_of, set_in, ids_by_body, templates_in, DoAgree}
 use Rattle.cedar_policy_maps.specs.Views.{bodies_of}
 use Rattle.cedar_policy_maps.specs.laws.SetLaws.{no_body_at, no_policy_at, template_among}
-use Rattle.cedar_policy_maps.specs.laws.ListedLaws.{changed, with_listed, IsKeyed, lookup_is, keyed_last, join_listed}
+use Rattle.cedar_policy_maps.specs.laws.ListedLaws.{changed, with_listed, IsKeyed, lookup_is, keyed_last}
+use Rattle.cedar_policy_maps.specs.laws.GatherLaws.{with_gathered, gathered, gathered_unless, links_in, is_elsewhere}
+use Rattle.cedar_policy_maps.specs.laws.GatherLaws.{elsewhere_in}
+use Rattle.cedar_policy_maps.specs.laws.GrowLaws.{listed_keys}
 use Rattle.cedar_policy_maps.specs.laws.Walks.{parted, bodies_more, policies_more}
 use Rattle.cedar_policy_maps.specs.laws.MapLaws.{listed_at, all_listed}
-use Rattle.cedar_policy_maps.specs.laws.OnceLaws.{is_at, find-unless, any-filter_none, any-map}
+use Rattle.cedar_policy_maps.specs.laws.OnceLaws.{is_at, before_at, find-unless, any-filter_none, any-map}
 
 unchanged_at : (v : Bool) (e : List ℕ × List (List ℕ)) (es gs : List (List ℕ × List (List ℕ))) → gs ≡ es
     → cond v ((e.0, e.1) ∷ es) (e ∷ gs) ≡ e ∷ es
@@ -76,6 +77,104 @@ module _ {S : Type 0} where
   pub rewritten : (test : List ℕ → Bool) (es : List (List ℕ × IndexSet (List ℕ) S)) (s w : IndexSet (List ℕ) S)
       → lookup test es ≡ Some s → w.keys ≡ s.keys → lists_of (set_value test es w) ≡ lists_of es
   rewritten test es s w l k = written test (λ ks. ks) es s w l k ∙ changed-same test (lists_of es)
+
+-- ---- ids that are gathered
+
+pub key_known : {V : Type 0} (t : List ℕ → Bool) (es : List (List ℕ × V))
+    → is_some (lookup t es) ≡ list_any t (keys_of es)
+key_known t [] = refl
+key_known t (e ∷ es) = known_at (t e.0) (key_known t es)
+  where
+    known_at : (v : Bool) → is_some (lookup t es) ≡ list_any t (keys_of es)
+        → is_some (cond v (Some e.1) (lookup t es)) ≡ (v || list_any t (keys_of es))
+    known_at true h = refl
+    known_at false h = h
+
+there_at : (v : Bool) (k i : List ℕ) (u : List ℕ × List (List ℕ)) (us : List (List ℕ × List (List ℕ)))
+    → (v || list_any (same_text k) (keys_of us)) ≡ true
+    → (list_any (same_text k) (keys_of us) ≡ true → with_listed k i us ≡ with_gathered k i us)
+    → cond v ((u.0, insert_key same_text u.1 i) ∷ us) (u ∷ with_listed k i us)
+    ≡ cond v ((u.0, insert_key same_text u.1 i) ∷ us) (u ∷ with_gathered k i us)
+there_at true k i u us h ih = refl
+there_at false k i u us h ih = ap (λ xs. u ∷ xs) (ih h)
+
+gathered_there : (k i : List ℕ) (us : List (List ℕ × List (List ℕ))) → list_any (same_text k) (keys_of us) ≡ true
+    → with_listed k i us ≡ with_gathered k i us
+gathered_there k i [] h = absurd (false≢true h)
+gathered_there k i (u ∷ us) h = there_at (same_text k u.0) k i u us h (gathered_there k i us)
+
+gathered_last : (k i : List ℕ) (us : List (List ℕ × List (List ℕ))) → list_any (same_text k) (keys_of us) ≡ false
+    → us ++ (k, i ∷ []) ∷ [] ≡ with_gathered k i us
+gathered_last k i [] n = refl
+gathered_last k i (u ∷ us) n =
+    ap (λ xs. u ∷ xs) (gathered_last k i us (or_parts _ _ n).1)
+    ∙ sym (ap (λ v. cond v ((u.0, insert_key same_text u.1 i) ∷ us) (u ∷ with_gathered k i us)) (or_parts _ _ n).0)
+
+module _ {S : Type 0} where
+  -- whether there is a list under a key
+  pub has_list : (t : List ℕ → Bool) (es : List (List ℕ × IndexSet (List ℕ) S)) (o : Option (IndexSet (List ℕ) S))
+      → lookup t es ≡ o → list_any t (keys_of es) ≡ is_some o
+  has_list t es o e = sym (key_known t es) ∙ ap is_some e
+
+  -- an id that goes last where there is a list, and where there is none
+  pub gathered_in : (k i : List ℕ) (es : List (List ℕ × IndexSet (List ℕ) S)) (s : IndexSet (List ℕ) S)
+      → lookup (same_text k) es ≡ Some s → with_listed k i (lists_of es) ≡ with_gathered k i (lists_of es)
+  gathered_in k i es s e =
+      gathered_there k i (lists_of es) (ap (list_any (same_text k)) (listed_keys es)
+      ∙ has_list (same_text k) es (Some s) e)
+
+  pub gathered_new : (k i : List ℕ) (es : List (List ℕ × IndexSet (List ℕ) S)) → lookup (same_text k) es ≡ None
+      → lists_of es ++ (k, i ∷ []) ∷ [] ≡ with_gathered k i (lists_of es)
+  gathered_new k i es e =
+      gathered_last k i (lists_of es) (ap (list_any (same_text k)) (listed_keys es)
+      ∙ has_list (same_text k) es None e)
+
+-- one policy is listed, in the first lists or elsewhere, by whether it is a link
+pub link_listed : (v : Bool) (p : PolicyParts) (k i : List ℕ) (ls : List (List ℕ × List (List ℕ))) → is_some p.link ≡ v
+    → k ≡ p.template.id → i ≡ policy_id p → cond v (with_listed k i ls) ls ≡ all_listed ls (links_in (p ∷ []))
+link_listed true p k i ls e q r =
+    (λ j. with_listed (q j) (r j) ls) ∙ sym (ap (λ v. all_listed ls (cond v (p ∷ []) [])) e)
+link_listed false p k i ls e q r = sym (ap (λ v. all_listed ls (cond v (p ∷ []) [])) e)
+
+elsewhere_one : (w : Bool) (p : PolicyParts) (us : List (List ℕ × List (List ℕ)))
+    → gathered_unless w p.template.id (policy_id p) us ≡ gathered us (cond (not w) (p ∷ []) [])
+elsewhere_one true p us = refl
+elsewhere_one false p us = refl
+
+pub link_gathered : (p : PolicyParts) (k i : List ℕ) (ks : List (List ℕ)) (us : List (List ℕ × List (List ℕ)))
+    → is_some p.link ≡ true → k ≡ p.template.id → i ≡ policy_id p
+    → gathered_unless (list_any (same_text k) ks) k i us ≡ gathered us (elsewhere_in ks (p ∷ []))
+link_gathered p k i ks us e q r =
+    (λ j. gathered_unless (list_any (same_text (q j)) ks) (q j) (r j) us)
+    ∙ elsewhere_one (list_any (same_text p.template.id) ks) p us
+    ∙ sym (ap (λ v. gathered us (cond (v && not (list_any (same_text p.template.id) ks)) (p ∷ []) [])) e)
+
+pub static_gathered : (p : PolicyParts) (ks : List (List ℕ)) (us : List (List ℕ × List (List ℕ)))
+    → is_some p.link ≡ false → us ≡ gathered us (elsewhere_in ks (p ∷ []))
+static_gathered p ks us e =
+    sym (ap (λ v. gathered us (cond (v && not (list_any (same_text p.template.id) ks)) (p ∷ []) [])) e)
+
+-- one more policy is
+pub links_more : (ps : List PolicyParts) (k : ℕ) (p : PolicyParts) (ls ms ns : List (List ℕ × List (List ℕ)))
+    → k < length ps → p ≡ get_or ps k p → ms ≡ all_listed ls (links_in (take k ps))
+    → ns ≡ all_listed ms (links_in (p ∷ [])) → ns ≡ all_listed ls (links_in (take (k + 1) ps))
+links_more ps k p ls ms ns n g h e =
+    e ∙ ap (λ xs. all_listed xs (links_in (p ∷ []))) h
+    ∙ sym (ap (λ qs. all_listed ls (links_in qs)) (policies_more ps k p n g)
+    ∙ ap (all_listed ls) (filter-append (λ (p : PolicyParts). is_some p.link) (take k ps) (p ∷ []))
+    ∙ fold-append (λ (done : List (List ℕ × List (List ℕ))) (p : PolicyParts). with_listed p.template.id
+    (policy_id p) done) ls (links_in (take k ps)) (links_in (p ∷ [])))
+
+pub gathered_more : (ps : List PolicyParts) (k : ℕ) (p : PolicyParts) (ks js : List (List ℕ))
+    (us vs ws : List (List ℕ × List (List ℕ)))
+    → k < length ps → p ≡ get_or ps k p → js ≡ ks → vs ≡ gathered us (elsewhere_in ks (take k ps))
+    → ws ≡ gathered vs (elsewhere_in js (p ∷ [])) → ws ≡ gathered us (elsewhere_in ks (take (k + 1) ps))
+gathered_more ps k p ks js us vs ws n g q h e =
+    e ∙ (λ j. gathered (h j) (elsewhere_in (q j) (p ∷ [])))
+    ∙ sym (ap (λ qs. gathered us (elsewhere_in ks qs)) (policies_more ps k p n g)
+    ∙ ap (gathered us) (filter-append (is_elsewhere ks) (take k ps) (p ∷ []))
+    ∙ fold-append (λ (done : List (List ℕ × List (List ℕ))) (p : PolicyParts). with_gathered p.template.id
+    (policy_id p) done) us (elsewhere_in ks (take k ps)) (elsewhere_in ks (p ∷ [])))
 
 -- ---- entries with their values read
 
@@ -253,22 +352,13 @@ absent_policy m i h n = policy_read m i h
 -- ---- maps that are made from lists, and copies
 
 module _ {V : Type 0} (f : V → List ℕ) where
-  before_at : (xs : List V) (x : V) (rest : List V) → AreOnce f (xs ++ x ∷ rest) → list_any (is_at f (f x)) xs ≡ false
-  before_at [] x rest h = refl
-  before_at (y ∷ ys) x rest h =
-      let n = or_parts _ _ (sym (list_any-append (is_at f (f y)) ys (x ∷ rest)) ∙ h.0) in
-      neither _ _ (same_text_equiv.symm (f x) (f y) ∙ (or_parts _ _ n.1).0) (before_at ys x rest h.1)
-    where
-      neither : (a b : Bool) → a ≡ false → b ≡ false → (a || b) ≡ false
-      neither a b p q = cc
-
   -- the id of the next value is no key
   pub next_absent : (es : List (List ℕ × V)) (k : List ℕ) (v : V) (rest all : List V) → AreOnce f all → IsKeyed f es
       → values_of es ++ v ∷ rest ≡ all → k ≡ f v → lookup (same_text k) es ≡ None
   next_absent es k v rest all h g e q =
       lookup_is f (same_text k) es g
       ∙ find-unless (is_at f k) (values_of es) (ap (λ i. list_any (is_at f i) (values_of es)) q
-      ∙ before_at (values_of es) v rest (subst (AreOnce f) (sym e) h))
+      ∙ before_at f (values_of es) v rest (subst (AreOnce f) (sym e) h))
 
   -- it goes last
   pub next_put : (es fs : List (List ℕ × V)) (k : List ℕ) (v : V) (rest all : List V) → IsKeyed f es
@@ -369,30 +459,6 @@ module _ {S : Type 0} where
       (ap (λ j. list_any (is_body_at j) (bodies_of (take k ts))) q
       ∙ before_at body_id (bodies_of (take k ts)) t.value (bodies_of (drop (suc k) ts))
       (subst (AreOnce body_id) (parted ts k t n g) o))))
-
--- one more policy is listed
-pub listed_more : (ps : List PolicyParts) (k : ℕ) (p : PolicyParts) (ls ms ns : List (List ℕ × List (List ℕ)))
-    → k < length ps → p ≡ get_or ps k p → ms ≡ all_listed ls (take k ps) →
-    ns ≡ with_listed p.template.id (policy_id p) ms → ns ≡ all_listed ls (take (k + 1) ps)
-listed_more ps k p ls ms ns n g h e =
-    e ∙ ap (with_listed p.template.id (policy_id p)) h
-    ∙ sym (ap (all_listed ls) (policies_more ps k p n g)
-    ∙ fold-append (λ (done : List (List ℕ × List (List ℕ)))
-    (p : PolicyParts). with_listed p.template.id (policy_id p) done) ls (take k ps) (p ∷ []))
-
-listed_from : (ts : List BodyParts) (qs ps : List PolicyParts) → AreOnce body_id ts → AreOnce policy_id (qs ++ ps)
-    → all_listed (ids_by_body ts qs) ps ≡ ids_by_body ts (qs ++ ps)
-listed_from ts qs [] h g = sym (ap (ids_by_body ts) (append-nil qs))
-listed_from ts qs (p ∷ ps) h g =
-    let one = join_listed body_id policy_id
-    (λ (p : PolicyParts). p.template.id) ts qs p h (before_at policy_id qs p ps g) in
-    let more : (qs ++ p ∷ []) ++ ps ≡ qs ++ p ∷ ps = append_assoc qs (p ∷ []) ps in
-    ap (λ ls. all_listed ls ps) one ∙ listed_from ts (qs ++ p ∷ []) ps h (subst (AreOnce policy_id) (sym more) g)
-    ∙ ap (ids_by_body ts) more
-
-pub listed_all : (ts : List BodyParts) (ps : List PolicyParts) → AreOnce body_id ts → AreOnce policy_id ps
-    → all_listed (ids_by_body ts []) ps ≡ ids_by_body ts ps
-listed_all ts ps h g = listed_from ts [] ps h g
 
 pub shared_copied : (es fs : List (List ℕ × Rc BodyParts Global))
     → AllZip (λ (p q : List ℕ × Rc BodyParts Global). (q.0 ≡ p.0) × (q.1.value ≡ p.1.value)) es fs

@@ -1,4 +1,5 @@
 pub mod SetLaws
+pub mod GatherLaws
 pub mod GrowLaws
 pub mod ListedLaws
 pub mod MapLaws

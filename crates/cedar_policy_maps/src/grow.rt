@@ -1,12 +1,13 @@
 //! How maps take in bodies and policies beside what stands there: room first, and then steps that cannot fail.
 ghost use Rattle.std.specs.Prelude.{◌≡◌, ◌≤◌, ◌++◌, [], length, false, ℕ, List, OnOk, OnErr, IfOk, IsTrue};
-ghost use Rattle.std.specs.Map.{values_of, lookup};
+ghost use Rattle.std.specs.Map.{keys_of, values_of, lookup};
 ghost use Rattle.cedar_ids.specs.Texts.{same_text};
 ghost use Rattle.cedar_body.specs.Bodies.{BodyParts};
 ghost use Rattle.cedar_policy.specs.Policies.{policy_id};
 ghost use Rattle.cedar_policy_maps.specs.PolicySets.{AreOnce};
 ghost use Rattle.cedar_policy_maps.specs.Maps.{lists_of, shared_of, ids_by_body, templates_in};
 ghost use Rattle.cedar_policy_maps.specs.Views.{bodies_of};
+ghost use Rattle.cedar_policy_maps.specs.laws.GatherLaws.{gathered, elsewhere_in};
 ghost use Rattle.cedar_policy_maps.specs.laws.GrowLaws.{HasRoom, HaveRoom, grown_by, HaveOwnKeys};
 ghost use Rattle.cedar_policy_maps.specs.laws.ListedLaws.{changed, IsKeyed};
 ghost use Rattle.cedar_policy_maps.specs.TakenIn.{taken_in, CanTakeIn};
@@ -14,7 +15,7 @@ ghost use Rattle.indexmap.specs.IndexMap.{spare};
 ghost use Rattle.indexmap.specs.IndexSet.{insert_all};
 ghost use Rattle.indexmap.specs.IndexSet as sets;
 
-use crate::maps::{bodies_by_id, ids_by_template, policies_by_id};
+use crate::maps::{EnteringLists, bodies_by_id, ids_by_template, policies_by_id};
 use crate::policy_maps::PolicyMaps;
 use cedar_ids::policy_id::PolicyID;
 use cedar_policy::{Policy, Template, share_template};
@@ -45,7 +46,7 @@ impl<T: Drop> Parted<T> {
     }
 }
 
-// What goes last in the three maps, and in lists under bodies that stand there.
+// What goes last in the three maps, and in lists under templates that stand there.
 #[derive(Drop)]
 struct Entering<S: BuildHasher> {
     templates: IndexMap<PolicyID, Rc<Template>, S>,
@@ -75,7 +76,7 @@ impl<S: BuildHasher + Copy> PolicyMaps<S> {
             stand: alike,
             join: policies,
         } = policies;
-        let entering = what_enters(alloc, &self.links, &stand, join, policies)?;
+        let entering = what_enters(alloc, *self.links.hasher(), join, policies)?;
         self.put_in(entering, stand, alike)
     }
 
@@ -102,7 +103,7 @@ impl<S: BuildHasher + Copy> PolicyMaps<S> {
             ≡ ids_by_body (templates_in (values_of entering.links.entries)
             (bodies_of (values_of entering.templates.entries))) (values_of entering.links.entries) }
         requires grown { lists_of entering.grown.entries
-            ≡ ids_by_body (templates_in self.old.policies (bodies_of bodies.items)) (values_of entering.links.entries) }
+            ≡ gathered [] (elsewhere_in (keys_of entering.listed.entries) (values_of entering.links.entries)) }
         ensures ok { OnOk result (self.new ≡ taken_in self.old (bodies_of (values_of entering.templates.entries))
             (values_of entering.links.entries)) }
         ensures err { OnErr result (self.new ≡ self.old) }
@@ -129,43 +130,13 @@ impl<S: BuildHasher + Copy> PolicyMaps<S> {
     }
 }
 
-// The policies that enter, by their ids, and under each template that stands the ids of those that it gets.
-#[derive(Drop)]
-struct EnteringPolicies<S: BuildHasher> {
-    links: IndexMap<PolicyID, Policy, S>,
-    grown: IndexMap<PolicyID, IndexSet<PolicyID, S>, S>,
-}
-
-// What enters of policies a set with these policies, where some bodies stand.
-fn policies_that_enter<S: BuildHasher + Copy>(
-    alloc: Global,
-    known: &IndexMap<PolicyID, Policy, S>,
-    stand: &[Rc<Template>],
-    policies: Vec<Policy>,
-) -> Result<EnteringPolicies<S>, AllocError>
-    requires keyed { IsKeyed policy_id known.now.entries }
-    requires stand { AreOnce (λ (t : BodyParts). t.id) (bodies_of stand.now) }
-    requires policies { AreOnce policy_id policies.items }
-    ensures policies_keyed { IfOk result (λ e. IsKeyed policy_id e.links.entries) }
-    ensures policies { IfOk result (λ e. values_of e.links.entries ≡ policies.items) }
-    ensures grown { IfOk result (λ e. lists_of e.grown.entries
-        ≡ ids_by_body (templates_in (values_of known.now.entries) (bodies_of stand.now)) policies.items) }
-{
-    let grown = ids_by_template(alloc, stand, known, &policies)?;
-    let links = policies_by_id(alloc, *known.hasher(), policies)?;
-    Ok(EnteringPolicies { links, grown })
-}
-
-// What enters a set with these policies where some bodies stand and others join, with policies on both.
+// What enters a set where some bodies join, with policies on these and on others.
 fn what_enters<S: BuildHasher + Copy>(
     alloc: Global,
-    known: &IndexMap<PolicyID, Policy, S>,
-    stand: &[Rc<Template>],
+    hasher: S,
     bodies: Vec<Rc<Template>>,
     policies: Vec<Policy>,
 ) -> Result<Entering<S>, AllocError>
-    requires keyed { IsKeyed policy_id known.now.entries }
-    requires stand { AreOnce (λ (t : BodyParts). t.id) (bodies_of stand.now) }
     requires bodies { AreOnce (λ (t : BodyParts). t.id) (bodies_of bodies.items) }
     requires policies { AreOnce policy_id policies.items }
     ensures bodies_keyed { IfOk result (λ e. IsKeyed (λ t. t.value.id) e.templates.entries) }
@@ -175,11 +146,10 @@ fn what_enters<S: BuildHasher + Copy>(
     ensures listed { IfOk result (λ e. lists_of e.listed.entries
         ≡ ids_by_body (templates_in policies.items (bodies_of bodies.items)) policies.items) }
     ensures grown { IfOk result (λ e. lists_of e.grown.entries
-        ≡ ids_by_body (templates_in (values_of known.now.entries) (bodies_of stand.now)) policies.items) }
+        ≡ gathered [] (elsewhere_in (keys_of e.listed.entries) policies.items)) }
 {
-    let hasher = *known.hasher();
-    let EnteringPolicies { links, grown } = policies_that_enter(alloc, known, stand, policies)?;
-    let listed = ids_by_template(alloc, &bodies, &links, links.values().as_slice())?;
+    let links = policies_by_id(alloc, hasher, policies)?;
+    let EnteringLists { listed, grown } = ids_by_template(alloc, &bodies, &links)?;
     let templates = bodies_by_id(alloc, hasher, bodies)?;
     Ok(Entering {
         templates,

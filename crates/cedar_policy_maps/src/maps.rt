@@ -1,19 +1,21 @@
 //! One map at a time: what goes last, what is listed under an id, and maps that are made from lists.
 ghost use Rattle.std.specs.Prelude.{◌≡◌, ◌<◌, ◌++◌, ◌∷◌, [], None, not, is_some, OnOk, OnErr, IfOk};
-ghost use Rattle.std.specs.List.{filter};
-ghost use Rattle.std.specs.Map.{values_of};
+ghost use Rattle.std.specs.List.{filter, list_any};
+ghost use Rattle.std.specs.Map.{keys_of, values_of};
 ghost use Rattle.cedar_ids.specs.Texts.{same_text};
 ghost use Rattle.cedar_body.specs.Bodies.{BodyParts};
 ghost use Rattle.cedar_policy.specs.Policies.{policy_id};
 ghost use Rattle.cedar_policy_maps.specs.PolicySets.{AreOnce};
 ghost use Rattle.cedar_policy_maps.specs.Maps.{lists_of, shared_of, ids_by_body, templates_in};
 ghost use Rattle.cedar_policy_maps.specs.Views.{bodies_of};
+ghost use Rattle.cedar_policy_maps.specs.laws.GatherLaws.{gathered, gathered_unless, with_gathered};
+ghost use Rattle.cedar_policy_maps.specs.laws.GatherLaws.{links_in, elsewhere_in};
 ghost use Rattle.cedar_policy_maps.specs.laws.ListedLaws.{with_listed, without_listed, IsKeyed};
 ghost use Rattle.cedar_policy_maps.specs.laws.MapLaws.{unlisted, all_listed};
 ghost use Rattle.indexmap.specs.IndexMap.{get, spare};
 ghost use Rattle.indexmap.specs.IndexSet.{insert_key, remove_key};
 
-use crate::lists::template_of;
+use crate::lists::{is_link, template_of};
 use cedar_ids::policy_id::PolicyID;
 use cedar_policy::{Policy, Template};
 use indexmap::{IndexMap, IndexSet};
@@ -194,20 +196,6 @@ pub(crate) fn list_link<S: BuildHasher + Copy>(
     }
 }
 
-// Lists a copy of an id last under a body's, where there is a list.
-fn list_link_copy<S: BuildHasher + Copy>(
-    map: &mut IndexMap<PolicyID, IndexSet<PolicyID, S>, S>,
-    body: &PolicyID,
-    id: &PolicyID,
-) -> Result<(), AllocError>
-    ensures { OnOk result (lists_of map.new.entries ≡ with_listed body.now id.now (lists_of map.old.entries)) }
-{
-    match map.get_mut(body) {
-        None => Ok(()),
-        Some(ids) => insert_id_copy(ids, id),
-    }
-}
-
 // Takes an id out of what is listed under a body's.
 fn unlist_id<S: BuildHasher + Copy>(
     map: &mut IndexMap<PolicyID, IndexSet<PolicyID, S>, S>,
@@ -322,23 +310,34 @@ fn put_policy<S: BuildHasher + Copy>(
     insert_new(links, id, policy)
 }
 
-// The ids of the policies on each template, under its id, in the order of bodies. Of the bodies those are templates
-// whose ids the first policies do not have.
+// Lists that enter.
+#[derive(Drop)]
+pub(crate) struct EnteringLists<S: BuildHasher> {
+    // Under each template that joins the ids of its links.
+    pub(crate) listed: IndexMap<PolicyID, IndexSet<PolicyID, S>, S>,
+    // Under each other template that gets links the ids of these.
+    pub(crate) grown: IndexMap<PolicyID, IndexSet<PolicyID, S>, S>,
+}
+
+// The ids of links that join, under those of their templates. Of the bodies that join those are templates whose ids no
+// policy that joins has.
 pub(crate) fn ids_by_template<S: BuildHasher + Copy>(
     alloc: Global,
     bodies: &[Rc<Template>],
-    known: &IndexMap<PolicyID, Policy, S>,
-    policies: &[Policy],
-) -> Result<IndexMap<PolicyID, IndexSet<PolicyID, S>, S>, AllocError>
+    policies: &IndexMap<PolicyID, Policy, S>,
+) -> Result<EnteringLists<S>, AllocError>
     requires bodies { AreOnce (λ (t : BodyParts). t.id) (bodies_of bodies.now) }
-    requires keyed { IsKeyed policy_id known.now.entries }
-    requires policies { AreOnce policy_id policies.now }
-    ensures { IfOk result (λ m. lists_of m.entries ≡ ids_by_body
-        (templates_in (values_of known.now.entries) (bodies_of bodies.now)) policies.now) }
+    requires keyed { IsKeyed policy_id policies.now.entries }
+    requires policies { AreOnce policy_id (values_of policies.now.entries) }
+    ensures listed { IfOk result (λ e. lists_of e.listed.entries ≡ ids_by_body
+        (templates_in (values_of policies.now.entries) (bodies_of bodies.now)) (values_of policies.now.entries)) }
+    ensures grown { IfOk result (λ e. lists_of e.grown.entries
+        ≡ gathered [] (elsewhere_in (keys_of e.listed.entries) (values_of policies.now.entries))) }
 {
-    let mut map = no_ids(alloc, bodies, known)?;
-    list_policies(&mut map, policies)?;
-    Ok(map)
+    let mut listed = no_ids(alloc, bodies, policies)?;
+    let mut grown = IndexMap::with_hasher(alloc, *policies.hasher());
+    list_links(&mut listed, &mut grown, policies.values().as_slice())?;
+    Ok(EnteringLists { listed, grown })
 }
 
 // No id under each template's id.
@@ -377,20 +376,84 @@ fn put_no_ids<S: BuildHasher + Copy>(
     insert_new(map, template.id().clone()?, ids)
 }
 
-// Lists policies, each last under its body's id. Where there is no list no id is hashed.
-fn list_policies<S: BuildHasher + Copy>(
-    map: &mut IndexMap<PolicyID, IndexSet<PolicyID, S>, S>,
+// Lists links, each last under its template's id: in the first map where that has a list there, and else in the second.
+fn list_links<S: BuildHasher + Copy>(
+    listed: &mut IndexMap<PolicyID, IndexSet<PolicyID, S>, S>,
+    grown: &mut IndexMap<PolicyID, IndexSet<PolicyID, S>, S>,
     policies: &[Policy],
 ) -> Result<(), AllocError>
-    ensures { OnOk result (lists_of map.new.entries ≡ all_listed (lists_of map.old.entries) policies.now) }
+    ensures listed { OnOk result (lists_of listed.new.entries
+        ≡ all_listed (lists_of listed.old.entries) (links_in policies.now)) }
+    ensures grown { OnOk result (lists_of grown.new.entries
+        ≡ gathered (lists_of grown.old.entries) (elsewhere_in (keys_of listed.old.entries) policies.now)) }
 {
-    if map.is_empty() {
-        return Ok(());
-    }
     for policy in policies {
-        list_link_copy(map, policy.template().id(), policy.id())?;
+        list_if_link(listed, grown, policy)?;
     }
     Ok(())
+}
+
+// Lists a policy in one of two maps, if it is a link.
+fn list_if_link<S: BuildHasher + Copy>(
+    listed: &mut IndexMap<PolicyID, IndexSet<PolicyID, S>, S>,
+    grown: &mut IndexMap<PolicyID, IndexSet<PolicyID, S>, S>,
+    policy: &Policy,
+) -> Result<(), AllocError>
+    ensures listed { OnOk result (lists_of listed.new.entries
+        ≡ all_listed (lists_of listed.old.entries) (links_in (policy.now ∷ []))) }
+    ensures grown { OnOk result (lists_of grown.new.entries
+        ≡ gathered (lists_of grown.old.entries) (elsewhere_in (keys_of listed.old.entries) (policy.now ∷ []))) }
+{
+    if is_link(policy) {
+        list_in_either(listed, grown, policy.template().id(), policy.id())
+    } else {
+        Ok(())
+    }
+}
+
+// Lists a copy of an id last under a template's: in the first map where that has a list there, and else in the second.
+fn list_in_either<S: BuildHasher + Copy>(
+    listed: &mut IndexMap<PolicyID, IndexSet<PolicyID, S>, S>,
+    grown: &mut IndexMap<PolicyID, IndexSet<PolicyID, S>, S>,
+    body: &PolicyID,
+    id: &PolicyID,
+) -> Result<(), AllocError>
+    ensures listed { OnOk result (lists_of listed.new.entries
+        ≡ with_listed body.now id.now (lists_of listed.old.entries)) }
+    ensures grown { OnOk result (lists_of grown.new.entries ≡ gathered_unless
+        (list_any (same_text body.now) (keys_of listed.old.entries)) body.now id.now (lists_of grown.old.entries)) }
+{
+    match listed.get_mut(body) {
+        None => gather_id(grown, body, id),
+        Some(there) => insert_id_copy(there, id),
+    }
+}
+
+// Lists a copy of an id last under a template's, which goes last itself where it has no list.
+fn gather_id<S: BuildHasher + Copy>(
+    map: &mut IndexMap<PolicyID, IndexSet<PolicyID, S>, S>,
+    body: &PolicyID,
+    id: &PolicyID,
+) -> Result<(), AllocError>
+    ensures { OnOk result (lists_of map.new.entries ≡ with_gathered body.now id.now (lists_of map.old.entries)) }
+{
+    match map.get_mut(body) {
+        None => put_list(map, body, id),
+        Some(ids) => insert_id_copy(ids, id),
+    }
+}
+
+// Puts the list of one id under a new key last, copies of both.
+fn put_list<S: BuildHasher + Copy>(
+    map: &mut IndexMap<PolicyID, IndexSet<PolicyID, S>, S>,
+    body: &PolicyID,
+    id: &PolicyID,
+) -> Result<(), AllocError>
+    requires { get same_text map.old body.now ≡ None }
+    ensures { OnOk result (lists_of map.new.entries ≡ lists_of map.old.entries ++ (body.now, id.now ∷ []) ∷ []) }
+{
+    let ids = set_of(*map.allocator(), *map.hasher(), id)?;
+    insert_new(map, body.clone()?, ids)
 }
 
 // Keeps the lists under ids that no policy has, in their order.

@@ -50,11 +50,6 @@ abbrev pub all_listed : List (List ℕ × List (List ℕ)) → List PolicyParts 
 all_listed ls ps = fold (λ (done : List (List ℕ × List (List ℕ))) (p : PolicyParts). with_listed p.template.id
     (policy_id p) done) ls ps
 
--- where there is no list none is listed
-pub none_listed : (ps : List PolicyParts) → all_listed [] ps ≡ []
-none_listed [] = refl
-none_listed (p ∷ ps) = none_listed ps
-
 -- whether there are ids
 abbrev pub has_ids : Option (List (List ℕ)) → Bool
 has_ids None = false

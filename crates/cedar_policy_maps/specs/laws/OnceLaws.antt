@@ -41,6 +41,17 @@ once-push id (y ∷ ys) x h n = (
   once-push id ys x h.1 (or_parts _ _ n).1,
 )
 
+-- what stands before something has other ids
+pub before_at : {A : Type 0} (id : A → List ℕ) (xs : List A) (x : A) (rest : List A) → AreOnce id (xs ++ x ∷ rest)
+    → list_any (is_at id (id x)) xs ≡ false
+before_at id [] x rest h = refl
+before_at id (y ∷ ys) x rest h =
+    let n = or_parts _ _ (sym (list_any-append (is_at id (id y)) ys (x ∷ rest)) ∙ h.0) in
+    neither _ _ (same_text_equiv.symm (id x) (id y) ∙ (or_parts _ _ n.1).0) (before_at id ys x rest h.1)
+  where
+    neither : (a b : Bool) → a ≡ false → b ≡ false → (a || b) ≡ false
+    neither a b p q = cc
+
 pub filter_none : {X : Type 0} (t : X → Bool) (xs : List X) → list_any t xs ≡ false → filter (λ x. not (t x)) xs ≡ xs
 filter_none t [] h = refl
 filter_none t (x ∷ xs) h = grind (arith, common_steps, filter_none t xs)

@@ -1,21 +1,21 @@
 -- The three maps agree once bodies and policies went last in them.
-use Rattle.std.specs.Prelude.{◌≡◌, ℕ, List, [], ◌∷◌, ◌++◌, Bool, true, false, not, refl, map}
+use Rattle.std.specs.Prelude.{◌≡◌, ℕ, List, [], ◌∷◌, ◌++◌, Bool, true, false, not, map}
 use Rattle.std.proofs.Common.{cond, sym, ap, ◌∙◌, subst}
 use Rattle.std.specs.List.{filter, list_any}
 use Rattle.std.specs.Map.{values_of}
 use Rattle.std.proofs.lemmas.List.{map-append}
-use Rattle.cedar_ids.specs.laws.TextLaws.{same_text_decides}
 use Rattle.cedar_body.specs.Bodies.{BodyParts}
 use Rattle.cedar_policy.specs.Policies.{PolicyParts, policy_id}
-use Rattle.cedar_policy_maps.specs.PolicySets.{SetParts, is_body_at, is_policy_at, IsPolicySet}
+use Rattle.cedar_policy_maps.specs.PolicySets.{SetParts, AreOnce, is_policy_at, IsPolicySet}
 use Rattle.cedar_policy_maps.specs.Lists.{is_on}
 use Rattle.cedar_policy_maps.specs.Maps.{Maps, set_in, ids_by_body, templates_in, DoAgree}
-use Rattle.cedar_policy_maps.specs.TakenIn.{taken_in, AreOnly, AreBare, CanTakeIn}
-use Rattle.cedar_policy_maps.specs.laws.GrowLaws.{grown_by, all_grown, all_new}
+use Rattle.cedar_policy_maps.specs.TakenIn.{taken_in, AreBare, CanTakeIn}
+use Rattle.cedar_policy_maps.specs.laws.GatherLaws.{gathered, elsewhere_in, elsewhere_listed, free_templates}
+use Rattle.cedar_policy_maps.specs.laws.GrowLaws.{grown_by, all_new}
 use Rattle.cedar_policy_maps.specs.laws.GrowLaws as each
 use Rattle.cedar_policy_maps.specs.laws.ListedLaws.{IsKeyed}
 use Rattle.cedar_policy_maps.specs.laws.MapLaws.{templates_once}
-use Rattle.cedar_policy_maps.specs.laws.TemplateLaws.{any-filter, templates_joined}
+use Rattle.cedar_policy_maps.specs.laws.TemplateLaws.{templates_joined}
 
 abbrev body_id : BodyParts → List ℕ
 body_id t = t.id
@@ -34,25 +34,6 @@ keyed-append id (e ∷ es) fs h g =
 values-append : {V : Type 0} (es fs : List (List ℕ × V)) → values_of (es ++ fs) ≡ values_of es ++ values_of fs
 values-append es fs = map-append (λ e. e.1) es fs
 
--- templates here that are not among bodies that stand in both are none of the templates among these
-only_at : (v : Bool) (t : BodyParts) (us stand : List BodyParts) (qs ps : List PolicyParts)
-    → list_any (is_policy_at t.id) qs ≡ v →
-    (list_any (is_body_at t.id) stand ≡ false → list_any (is_on t.id) ps ≡ false)
-    → AreOnly us (templates_in qs stand) ps →
-    AreOnly (cond (not v) (t ∷ us) us) (templates_in qs stand) ps
-only_at true t us stand qs ps e n r = r
-only_at false t us stand qs ps e n r = (
-  (λ f. n (sym (any-filter (λ (t : BodyParts). not (list_any (is_policy_at t.id) qs)) (is_body_at t.id) stand
-      (λ u g. ap (λ k. not (list_any (is_policy_at k) qs)) (sym ((same_text_decides t.id u.id).0 g)) ∙ ap not e)) ∙ f)),
-  r,
-)
-
-only_templates : (ts stand : List BodyParts) (qs ps : List PolicyParts) → AreOnly ts stand ps
-    → AreOnly (templates_in qs ts) (templates_in qs stand) ps
-only_templates [] stand qs ps h = tt
-only_templates (t ∷ ts) stand qs ps h = only_at (list_any (is_policy_at t.id) qs) t
-    (templates_in qs ts) stand qs ps refl h.0 (only_templates ts stand qs ps h.1)
-
 bare_kept : (v : Bool) (t : BodyParts) (us : List BodyParts) (ps : List PolicyParts) → list_any (is_on t.id) ps ≡ false
     → AreBare us ps → AreBare (cond v (t ∷ us) us) ps
 bare_kept true t us ps n r = (n, r)
@@ -64,29 +45,24 @@ bare_templates (t ∷ ts) qs ps h = bare_kept (not (list_any (is_policy_at t.id)
     (bare_templates ts qs ps h.1)
 
 -- what is asked of all bodies, as it is asked of anything that stands under ids
-each_only : (ts stand : List BodyParts) (ps : List PolicyParts) → AreOnly ts stand ps
-    → each.AreOnly body_id policy_id own_body ts stand ps
-each_only [] stand ps h = tt
-each_only (t ∷ ts) stand ps h = (h.0, each_only ts stand ps h.1)
-
 each_bare : (ts : List BodyParts) (ps : List PolicyParts) → AreBare ts ps
     → each.AreBare body_id policy_id own_body ts ps
 each_bare [] ps h = tt
 each_bare (t ∷ ts) ps h = (h.0, each_bare ts ps h.1)
 
 -- the lists of all templates, those that grew and the new ones
-lists_agree : (b : SetParts) (stand ts : List BodyParts) (ps : List PolicyParts) → IsPolicySet b
-    → CanTakeIn b stand ts ps →
-    grown_by (ids_by_body (templates_in b.policies b.bodies) b.policies)
-    (ids_by_body (templates_in b.policies stand) ps) ++ ids_by_body (templates_in ps ts) ps
+lists_agree : (b : SetParts) (stand ts : List BodyParts) (ps : List PolicyParts) → CanTakeIn b stand ts ps
+    → grown_by (ids_by_body (templates_in b.policies b.bodies) b.policies)
+    (gathered [] (elsewhere_in (map body_id (templates_in ps ts)) ps)) ++ ids_by_body (templates_in ps ts) ps
     ≡ ids_by_body (templates_in (b.policies ++ ps) (b.bodies ++ ts)) (b.policies ++ ps)
-lists_agree b stand ts ps x k =
+lists_agree b stand ts ps k =
     let old = templates_in b.policies b.bodies in
     let new = templates_in ps ts in
-    (λ j. all_grown body_id policy_id own_body old (templates_in b.policies stand) b.policies ps
-    (templates_once b.bodies b.policies x.bodies_once)
-    (templates_once stand b.policies k.once) k.policy_set.policies_once
-    (each_only old (templates_in b.policies stand) ps (only_templates b.bodies stand b.policies ps k.only)) j
+    let once : AreOnce body_id (old ++ new) =
+    subst (AreOnce body_id) (templates_joined b.bodies ts b.policies ps k.beside k.behind)
+    (templates_once (b.bodies ++ ts) (b.policies ++ ps) k.policy_set.bodies_once) in
+    (λ j. elsewhere_listed old new b.policies ps once k.policy_set.policies_once
+    (free_templates b.bodies b.policies ps k.beside) j
     ++ sym (all_new body_id policy_id own_body new b.policies ps
     (each_bare new b.policies (bare_templates ts ps b.policies k.bare))) j)
     ∙ sym (map-append (λ (t : BodyParts). (t.id, map policy_id (filter (is_on t.id) (b.policies ++ ps)))) old new)
@@ -102,7 +78,7 @@ taken_in_agrees : (m : Maps) (stand : List BodyParts) (bs : List (List ℕ × Bo
       bodies = m.bodies ++ bs;
       policies = m.policies ++ qs;
       listed =
-          grown_by m.listed (ids_by_body (templates_in (values_of m.policies) stand) (values_of qs))
+          grown_by m.listed (gathered [] (elsewhere_in (map body_id (templates_in (values_of qs) (values_of bs))) (values_of qs)))
           ++ ids_by_body (templates_in (values_of qs) (values_of bs)) (values_of qs);
     })
     (taken_in (set_in m) (values_of bs) (values_of qs))
@@ -114,7 +90,7 @@ taken_in_agrees m stand bs qs h k f g =
     (record {
       bodies = m.bodies ++ bs;
       policies = m.policies ++ qs;
-      listed = grown_by m.listed (ids_by_body (templates_in (values_of m.policies) stand) (values_of qs))
+      listed = grown_by m.listed (gathered [] (elsewhere_in (map body_id (templates_in (values_of qs) (values_of bs))) (values_of qs)))
           ++ ids_by_body (templates_in (values_of qs) (values_of bs)) (values_of qs);
     })
     ≡ taken_in b (values_of bs) (values_of qs) = λ j. record { bodies = ts j; policies = ps j } in (
@@ -123,9 +99,9 @@ taken_in_agrees m stand bs qs h k f g =
         bodies_by_id = keyed-append body_id m.bodies bs h.bodies_by_id f;
         policies_by_id = keyed-append policy_id m.policies qs h.policies_by_id g;
         all_listed =
-            ap (λ ls. grown_by ls (ids_by_body (templates_in b.policies stand) (values_of qs))
+            ap (λ ls. grown_by ls (gathered [] (elsewhere_in (map body_id (templates_in (values_of qs) (values_of bs))) (values_of qs)))
             ++ ids_by_body (templates_in (values_of qs) (values_of bs)) (values_of qs)) h.all_listed
-            ∙ lists_agree b stand (values_of bs) (values_of qs) h.policy_set k
+            ∙ lists_agree b stand (values_of bs) (values_of qs) k
             ∙ (λ j. ids_by_body (templates_in (sym ps j) (sym ts j)) (sym ps j));
       },
       now,
@@ -135,7 +111,7 @@ pub taken_in_kept : (m : Maps) (stand : List BodyParts) (bs bodies : List (List 
     × BodyParts)) (qs policies : List (List ℕ × PolicyParts)) (listed : List (List ℕ × List (List ℕ))) → DoAgree m →
     CanTakeIn (set_in m) stand (values_of bs) (values_of qs) → IsKeyed body_id bs → IsKeyed policy_id qs →
     bodies ≡ m.bodies ++ bs → policies ≡ m.policies ++ qs
-    → listed ≡ grown_by m.listed (ids_by_body (templates_in (values_of m.policies) stand) (values_of qs))
+    → listed ≡ grown_by m.listed (gathered [] (elsewhere_in (map body_id (templates_in (values_of qs) (values_of bs))) (values_of qs)))
     ++ ids_by_body (templates_in (values_of qs) (values_of bs)) (values_of qs) →
     Becomes (record {
       bodies = bodies;

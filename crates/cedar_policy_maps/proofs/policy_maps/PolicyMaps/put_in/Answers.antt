@@ -1,9 +1,10 @@
-use Rattle.std.specs.Prelude.{◌≡◌, ◌++◌}
+use Rattle.std.specs.Prelude.{◌++◌}
 use Rattle.std.proofs.Common.{◌∙◌, sym, ap, subst, refl}
-use Rattle.std.specs.Map.{values_of}
+use Rattle.std.specs.Map.{keys_of, values_of}
 use Rattle.cedar_policy_maps.specs.PolicySets.{SetParts}
-use Rattle.cedar_policy_maps.specs.Maps.{Maps, maps_of, set_in, lists_of, shared_of, ids_by_body, templates_in}
+use Rattle.cedar_policy_maps.specs.Maps.{Maps, maps_of, set_in, lists_of, shared_of}
 use Rattle.cedar_policy_maps.specs.Views.{bodies_of}
+use Rattle.cedar_policy_maps.specs.laws.GatherLaws.{elsewhere_in}
 use Rattle.cedar_policy_maps.specs.laws.GrowLaws.{grown_by}
 use Rattle.cedar_policy_maps.specs.TakenIn.{CanTakeIn, taken_in}
 use Rattle.cedar_policy_maps.proofs.Entered.{bodies_new, policies_new, grown_once, lists_new, entered}
@@ -38,8 +39,8 @@ put_all_last-requires-2-clause-new g c =
 
 pub grow_lists-requires-clause-once : goal.grow_lists-requires-clause-once
 grow_lists-requires-clause-once g c =
-    grown_once (bodies_of c.args.bodies.items) c.args.self.now.policies
-    (values_of c.args.entering.links.entries) c.args.entering.grown.entries c.requires.can.once c.requires.grown
+    grown_once (elsewhere_in (keys_of c.args.entering.listed.entries) (values_of c.args.entering.links.entries))
+    c.args.entering.grown.entries c.requires.grown
 
 pub put_all_last-requires-3-clause-new : goal.put_all_last-requires-3-clause-new
 put_all_last-requires-3-clause-new g c =
@@ -64,16 +65,13 @@ invariant_of-self-2 g c =
     let es = c.args.entering.templates.entries in
     let fs = c.args.entering.links.entries in
     let gs = c.args.entering.grown.entries in
-    let grown : lists_of gs ≡ ids_by_body (templates_in (values_of ps) (bodies_of c.args.bodies.items)) (values_of fs) =
-    subst (λ (b : SetParts). lists_of gs ≡ ids_by_body (templates_in b.policies (bodies_of c.args.bodies.items))
-    (values_of fs)) (sym c.self.view_is) c.requires.grown in
     let k : CanTakeIn (set_in (maps_of ts ps ls)) (bodies_of c.args.bodies.items) (bodies_of (values_of es))
     (values_of fs) =
     subst (λ b. CanTakeIn b (bodies_of c.args.bodies.items) (bodies_of (values_of es)) (values_of fs))
     (sym c.self.view_is) c.requires.can in
     (entered ts es c.keep_bodies.new.templates.entries ps fs c.keep_policies.new.links.entries ls gs
     c.grow_lists.new.map.entries c.args.entering.listed.entries c.put_all_last-3.new.map.entries
-    (bodies_of c.args.bodies.items) c.self.invariant k c.requires.bodies c.requires.policies c.requires.listed grown
+    (bodies_of c.args.bodies.items) c.self.invariant k c.requires.bodies c.requires.policies c.requires.listed c.requires.grown
     (c.keep_bodies.ensures ∙ ap shared_of c.put_all_last.ensures
     ∙ ap (λ us. shared_of (us ++ es)) c.make_room.ensures.bodies)
     (c.keep_policies.ensures ∙ c.put_all_last-2.ensures ∙ ap (λ qs. qs ++ fs) c.make_room.ensures.policies)
@@ -88,16 +86,13 @@ returns-clause-ok g c =
     let es = c.args.entering.templates.entries in
     let fs = c.args.entering.links.entries in
     let gs = c.args.entering.grown.entries in
-    let grown : lists_of gs ≡ ids_by_body (templates_in (values_of ps) (bodies_of c.args.bodies.items)) (values_of fs) =
-    subst (λ (b : SetParts). lists_of gs ≡ ids_by_body (templates_in b.policies (bodies_of c.args.bodies.items))
-    (values_of fs)) (sym c.self.view_is) c.requires.grown in
     let k : CanTakeIn (set_in (maps_of ts ps ls)) (bodies_of c.args.bodies.items) (bodies_of (values_of es))
     (values_of fs) =
     subst (λ b. CanTakeIn b (bodies_of c.args.bodies.items) (bodies_of (values_of es)) (values_of fs))
     (sym c.self.view_is) c.requires.can in
     (entered ts es c.keep_bodies.new.templates.entries ps fs c.keep_policies.new.links.entries ls gs
     c.grow_lists.new.map.entries c.args.entering.listed.entries c.put_all_last-3.new.map.entries
-    (bodies_of c.args.bodies.items) c.self.invariant k c.requires.bodies c.requires.policies c.requires.listed grown
+    (bodies_of c.args.bodies.items) c.self.invariant k c.requires.bodies c.requires.policies c.requires.listed c.requires.grown
     (c.keep_bodies.ensures ∙ ap shared_of c.put_all_last.ensures
     ∙ ap (λ us. shared_of (us ++ es)) c.make_room.ensures.bodies)
     (c.keep_policies.ensures ∙ c.put_all_last-2.ensures ∙ ap (λ qs. qs ++ fs) c.make_room.ensures.policies)

@@ -1,14 +1,8 @@
-use Rattle.std.proofs.Common.{sym, subst}
 use Rattle.cedar_body.specs.Bodies.{BodyParts}
 use Rattle.cedar_policy.specs.Policies.{policy_id}
-use Rattle.cedar_policy_maps.specs.PolicySets.{AreOnce}
 use Rattle.cedar_policy_maps.specs.Views.{bodies_of}
 use Rattle.cedar_policy_maps.proofs.Entered.{once_after}
 use Rattle.cedar_policy_maps.proofs.policy_maps.PolicyMaps.take_in.Goals as goal
-
-pub what_enters-requires-clause-stand : goal.what_enters-requires-clause-stand
-what_enters-requires-clause-stand g c =
-    subst (λ ts. AreOnce (λ (t : BodyParts). t.id) (bodies_of ts)) (sym c.deref.ensures.value) c.requires.once
 
 pub what_enters-requires-clause-bodies : goal.what_enters-requires-clause-bodies
 what_enters-requires-clause-bodies g c =
