@@ -142,11 +142,13 @@ pub mod iters {
     pub use cedar_scope::iters::ConstraintTypeNames;
 }
 
-/// What lines share: their fields, a field that is a uid, the types that such fields name, and lines that are written.
+/// What lines share: their fields, a field that is a uid, the types that such fields name, texts in the room of others, and
+/// lines that are written.
 pub mod lines {
     pub use cedar_lines::field::uid_field;
-    pub use cedar_lines::known_types::{KnownTypes, uid_of_text};
+    pub use cedar_lines::known_types::{KnownTypes, uid_in, uid_of_text};
     pub use cedar_lines::line::read_fields;
+    pub use cedar_lines::room::text_in;
     pub use cedar_lines::writing::push_line;
 }
 

@@ -2,8 +2,9 @@
 // blanks, but for `read_fields`, by tabs.
 use super::stores::are_written;
 use cedar_lines::field::uid_field;
-use cedar_lines::known_types::{KnownTypes, uid_of_text};
+use cedar_lines::known_types::{KnownTypes, uid_in, uid_of_text};
 use cedar_lines::line::read_fields;
+use cedar_lines::room::text_in;
 use cedar_lines::writing::push_line;
 use cedar_policy_lines::making::{slotted_template, static_policy};
 use cedar_policy_lines::{PolicyCommand, PolicySets, TemplateSlots, read_policy_command};
@@ -25,6 +26,12 @@ const LINES: &str = "
     uid_of_text | A::\"a\" B::\"b\" | B::\"b\"
     uid_of_text | A::\"a\" A::\"'\" | none
     - uid_of_text | A::b | none
+    uid_in | x A::\"a\" A::\"longer\" | A::\"longer\"
+    uid_in | x A::\"a\" B::\"b\" | B::\"b\"
+    - uid_in | longer A::\"a\" A::\"b\" | A::\"b\"
+    - uid_in | x A::\"a\" A::b | none
+    text_in | x longer | longer
+    - text_in | longer x | x
     read_fields | ent\tA::\"a\"\tA::\"b\" | ent A::\"a\" A::\"b\"
     - read_fields | \u{e9} | none
     push_line | anc A::\"a\" | anc A::\"a\"
@@ -278,6 +285,51 @@ fn shared(alloc: Global, number: usize, row: Row<'_>) -> Tried {
     tried
 }
 
+// The last word is read into the room of the first, where the type of the one between is known.
+fn uid_in_room(alloc: Global, number: usize, row: Row<'_>, room: String, words: &str) -> Tried {
+    let mut room = room;
+    let (before, text) = words.rsplit_once(' ').unwrap_or(("", words));
+    let mut known = KnownTypes::new(alloc);
+    let well = are_known(alloc, &mut known, before);
+    let tried = if well {
+        refuse(alloc, number);
+        judged(
+            alloc,
+            uid_in(alloc, &mut known, &mut room, text),
+            row.want,
+            |uid| match uid {
+                Some(uid) => is_worded(alloc, uid, row.want),
+                None => row.want == "none",
+            },
+        )
+    } else {
+        unmade()
+    };
+    drop(known);
+    tried
+}
+
+// The second word is copied into the room of the first.
+fn text_in_room(alloc: Global, number: usize, row: Row<'_>, room: String, text: &str) -> Tried {
+    let mut room = room;
+    refuse(alloc, number);
+    judged(alloc, text_in(alloc, &mut room, text), row.want, |text| {
+        text.as_str() == row.want
+    })
+}
+
+// What is read into the room of the first word.
+fn in_room(alloc: Global, number: usize, row: Row<'_>) -> Tried {
+    let (first, rest) = row.given.split_once(' ').unwrap_or((row.given, ""));
+    match String::from_str(alloc, first) {
+        Err(_) => unmade(),
+        Ok(room) => match row.call {
+            "uid_in" => uid_in_room(alloc, number, row, room, rest),
+            _ => text_in_room(alloc, number, row, room, rest),
+        },
+    }
+}
+
 fn written(alloc: Global, number: usize, row: Row<'_>) -> Tried {
     let mut out = Vec::new(alloc);
     refuse(alloc, number);
@@ -311,6 +363,7 @@ impl Calls for OnLines {
                 )
             }
             "uid_of_text" => shared(alloc, number, row),
+            "uid_in" | "text_in" => in_room(alloc, number, row),
             "read_fields" => parted(alloc, number, row),
             "push_line" => written(alloc, number, row),
             "read_policy_command" | "PolicySets::read" => read(alloc, number, row),
