@@ -5,6 +5,7 @@
 //! parted here; the one refusal, but for memory, is that of `cedar_policy_set_errors`.
 #![tactic(auto)]
 
+mod found;
 mod fresh;
 mod merge;
 mod places;

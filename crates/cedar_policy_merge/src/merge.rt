@@ -24,6 +24,7 @@ ghost use Rattle.cedar_policy_merge.specs.laws.RenamingLaws.{AreFreeHere, is_in}
 ghost use Rattle.cedar_policy_merge.specs.laws.TemplatesAlike.{AllStandUnless, AreSameUnless, StandsUnless};
 ghost use Rattle.cedar_policy_maps.specs.Views.{bodies_of};
 
+use crate::found::{Places, body_at, has_body, has_policy, place_of_policy, policy_at};
 use crate::fresh::fresh_ids;
 use crate::places::are_placed_as;
 use cedar_binding::same_bindings;
@@ -160,8 +161,13 @@ fn gather_bodies<S: BuildHasher + Copy>(
 {
     // No effect at run time: this call says that the other is that of a policy set.
     let _policy_set = other.is_empty();
+    let mut places = Places {
+        body: 0,
+        policy: 0,
+        other: 0,
+    };
     for template in other.shared_bodies() {
-        gather_body(ids, links, here, other, template)?;
+        gather_body(ids, links, here, other, template, &mut places)?;
     }
     Ok(())
 }
@@ -173,6 +179,7 @@ fn gather_body<S: BuildHasher + Copy>(
     here: &PolicyMaps<S>,
     other: &PolicyMaps<S>,
     template: &Template,
+    places: &mut Places,
 ) -> Result<(), AllocError>
     requires { find (is_body_at template.now.id) other.now.bodies ≡ Some template.now }
     ensures ids { OnOk result (ids.new.keys ≡ gathered ids.old.keys
@@ -183,9 +190,12 @@ fn gather_body<S: BuildHasher + Copy>(
     // No effect at run time: these calls say that both are those of a policy set.
     let _policy_sets = (here.is_empty(), other.is_empty());
     let own = template.id();
-    match here.template_at(own) {
+    match body_at(here, own, &mut places.body) {
         None => list_id(links, own, here.has_policy(own)),
-        Some(stands) => gather_id(ids, own, is_other_body(here, other, stands, template)),
+        Some(stands) => {
+            let clashes = is_other_body(here, other, stands, template, places);
+            gather_id(ids, own, clashes)
+        }
     }
 }
 
@@ -205,8 +215,9 @@ fn gather_policies<S: BuildHasher + Copy>(
 {
     // No effect at run time: these calls say that both are those of a policy set.
     let _policy_sets = (here.is_empty(), other.is_empty());
+    let mut next = 0;
     for policy in other.all_policies() {
-        gather_policy(ids, templates, here, policy)?;
+        gather_policy(ids, templates, here, policy, &mut next)?;
     }
     Ok(())
 }
@@ -217,6 +228,7 @@ fn gather_policy<S: BuildHasher + Copy>(
     templates: &mut Vec<PolicyID>,
     here: &PolicyMaps<S>,
     policy: &Policy,
+    next: &mut usize,
 ) -> Result<(), AllocError>
     requires { StandsUnless here.now policy.now.template ids.old.keys }
     ensures ids { OnOk result (ids.new.keys ≡ gathered ids.old.keys
@@ -227,7 +239,7 @@ fn gather_policy<S: BuildHasher + Copy>(
     // No effect at run time: this call says that these maps are those of a policy set.
     let _policy_set = here.is_empty();
     let own = policy.id();
-    match here.policy_at(own) {
+    match policy_at(here, own, next) {
         None => list_id(templates, own, here.has_body(own)),
         Some(stands) => {
             let clashes = is_other_policy(ids, stands, policy);
@@ -267,11 +279,12 @@ fn is_other_body<S: BuildHasher + Copy>(
     other: &PolicyMaps<S>,
     stands: &Template,
     template: &Template,
+    places: &mut Places,
 ) -> bool
     ensures { result ≡ (not (same_body stands.now template.now)
         || not (agree (has_policy here.now template.now.id) (has_policy other.now template.now.id))) }
 {
-    stands != template || !have_policies_alike(here, other, template.id())
+    stands != template || !have_policies_alike(here, other, template.id(), places)
 }
 
 // Whether a policy here and one there have an id, or neither does.
@@ -279,13 +292,14 @@ fn have_policies_alike<S: BuildHasher + Copy>(
     here: &PolicyMaps<S>,
     other: &PolicyMaps<S>,
     id: &PolicyID,
+    places: &mut Places,
 ) -> bool
     ensures { result ≡ agree (has_policy here.now id.now) (has_policy other.now id.now) }
 {
-    if here.has_policy(id) {
-        other.has_policy(id)
+    if has_policy(here, id, &mut places.policy) {
+        has_policy(other, id, &mut places.other)
     } else {
-        !other.has_policy(id)
+        !has_policy(other, id, &mut places.other)
     }
 }
 
@@ -383,13 +397,14 @@ fn stands_here<S: BuildHasher + Copy>(
     here: &PolicyMaps<S>,
     new: Option<&PolicyID>,
     id: &PolicyID,
+    next: &mut usize,
 ) -> bool
     requires { IfSome (option_copied new) (λ v. is_bound here.now v ≡ false) }
     ensures { result ≡ is_bound here.now (unwrap_or (option_copied new.entry) id.now) }
 {
     match new {
         Some(_new) => false,
-        None => here.has_body(id) || here.has_policy(id),
+        None => has_body(here, id, next) || here.has_policy(id),
     }
 }
 
@@ -398,6 +413,7 @@ fn place_here<S: BuildHasher + Copy>(
     here: &PolicyMaps<S>,
     new: Option<&PolicyID>,
     id: &PolicyID,
+    next: &mut usize,
 ) -> Option<usize>
     requires { IfSome (option_copied new) (λ v. is_bound here.now v ≡ false) }
     ensures within { IfSome result (λ k. k < length here.now.policies) }
@@ -405,7 +421,7 @@ fn place_here<S: BuildHasher + Copy>(
 {
     match new {
         Some(_new) => None,
-        None => here.place_of_policy(id),
+        None => place_of_policy(here, id, next),
     }
 }
 
@@ -473,8 +489,9 @@ fn part_bodies<S: BuildHasher + Copy>(
         ≡ bodies_of parted.old.join.items ++ joined_bodies here.now (new_id renaming.now.entries)
         (bodies_of theirs.now)) }
 {
+    let mut next = 0;
     for template in theirs {
-        part_body(alloc, parted, here, template, renaming)?;
+        part_body(alloc, parted, here, template, renaming, &mut next)?;
     }
     Ok(())
 }
@@ -486,6 +503,7 @@ fn part_body<S: BuildHasher + Copy>(
     here: &PolicyMaps<S>,
     template: &Rc<Template>,
     renaming: &IndexMap<PolicyID, PolicyID, S>,
+    next: &mut usize,
 ) -> Result<(), AllocError>
     requires { AreFreeHere here.now renaming.now.entries }
     ensures stand { OnOk result (bodies_of parted.new.stand.items
@@ -496,7 +514,7 @@ fn part_body<S: BuildHasher + Copy>(
         (template.now.value ∷ [])) }
 {
     let new = new_of(renaming, template.id());
-    let stands = stands_here(here, new, template.id());
+    let stands = stands_here(here, new, template.id(), next);
     part(parted, stands, renamed_body(alloc, template, new)?)
 }
 
@@ -515,6 +533,15 @@ fn renamed_body(
     }
 }
 
+// Policies of the other set: those that join, or stand here and have other locations; the templates of others that
+// stand here, each with its policy's place; and the place here that is looked at first.
+#[derive(Drop)]
+struct PartedPolicies {
+    policies: Parted<Policy>,
+    shares: Vec<(usize, Rc<Template>)>,
+    next: usize,
+}
+
 // The policies of the other set, under their new ids.
 fn parted_policies<S: BuildHasher + Copy>(
     alloc: Global,
@@ -526,34 +553,29 @@ fn parted_policies<S: BuildHasher + Copy>(
     ensures { IfOk result (λ p. p.0.join.items ≡ joined_policies here.now
         (new_id renaming.now.entries) other.now.policies) }
 {
-    let mut parted = Parted::new(alloc);
-    let mut shares = Vec::new(alloc);
-    part_policies(
-        alloc,
-        &mut parted,
-        &mut shares,
-        here,
-        other.all_policies(),
-        renaming,
-    )?;
-    Ok((parted, shares))
+    let mut parted = PartedPolicies {
+        policies: Parted::new(alloc),
+        shares: Vec::new(alloc),
+        next: 0,
+    };
+    part_policies(alloc, &mut parted, here, other.all_policies(), renaming)?;
+    Ok((parted.policies, parted.shares))
 }
 
 // Puts policies of the other set, under their new ids, last among those that join, or those that stand here.
 fn part_policies<S: BuildHasher + Copy>(
     alloc: Global,
-    parted: &mut Parted<Policy>,
-    shares: &mut Vec<(usize, Rc<Template>)>,
+    parted: &mut PartedPolicies,
     here: &PolicyMaps<S>,
     theirs: &[Policy],
     renaming: &IndexMap<PolicyID, PolicyID, S>,
 ) -> Result<(), AllocError>
     requires { AreFreeHere here.now renaming.now.entries }
-    ensures { OnOk result (parted.new.join.items ≡ parted.old.join.items
+    ensures { OnOk result (parted.new.policies.join.items ≡ parted.old.policies.join.items
         ++ joined_policies here.now (new_id renaming.now.entries) theirs.now) }
 {
     for policy in theirs {
-        part_policy(alloc, parted, shares, here, policy, renaming)?;
+        part_policy(alloc, parted, here, policy, renaming)?;
     }
     Ok(())
 }
@@ -562,26 +584,26 @@ fn part_policies<S: BuildHasher + Copy>(
 // it has other locations.
 fn part_policy<S: BuildHasher + Copy>(
     alloc: Global,
-    parted: &mut Parted<Policy>,
-    shares: &mut Vec<(usize, Rc<Template>)>,
+    parted: &mut PartedPolicies,
     here: &PolicyMaps<S>,
     policy: &Policy,
     renaming: &IndexMap<PolicyID, PolicyID, S>,
 ) -> Result<(), AllocError>
     requires { AreFreeHere here.now renaming.now.entries }
-    ensures { OnOk result (parted.new.join.items ≡ parted.old.join.items
+    ensures { OnOk result (parted.new.policies.join.items ≡ parted.old.policies.join.items
         ++ joined_policies here.now (new_id renaming.now.entries) (policy.now ∷ [])) }
 {
     let new = new_of(renaming, policy.id());
-    if let Some(place) = place_here(here, new, policy.id()) {
+    if let Some(place) = place_here(here, new, policy.id(), &mut parted.next) {
         let stands = &here.all_policies()[place];
-        keep_at(&mut parted.stand, shares, place, stands, policy)?;
+        keep_at(parted, place, stands, policy)?;
         return Ok(());
     }
     if has_body_here(here, new, policy.id()) {
         return Ok(());
     }
     parted
+        .policies
         .join
         .push(renamed_policy(alloc, policy, new, renaming)?)?;
     Ok(())
@@ -590,18 +612,19 @@ fn part_policy<S: BuildHasher + Copy>(
 // Lists a policy that is bound alike in both: a copy of the one there, where it binds uids with other locations, else
 // its template, unless they share it.
 fn keep_at(
-    stand: &mut Vec<Policy>,
-    shares: &mut Vec<(usize, Rc<Template>)>,
+    parted: &mut PartedPolicies,
     place: usize,
     stands: &Policy,
     policy: &Policy,
-) -> Result<(), AllocError> {
+) -> Result<(), AllocError>
+    ensures { OnOk result (parted.new.policies.join.items ≡ parted.old.policies.join.items) }
+{
     if !are_placed_as(stands.env(), policy.env()) {
-        stand.push(policy.clone()?)?;
+        parted.policies.stand.push(policy.clone()?)?;
         return Ok(());
     }
     if !Rc::ptr_eq(stands.template_arc(), policy.template_arc()) {
-        shares.push((place, policy.template_arc().clone()?))?;
+        parted.shares.push((place, policy.template_arc().clone()?))?;
     }
     Ok(())
 }

@@ -6,6 +6,7 @@ use crate::cedar_binding::same_bindings;
 use crate::cedar_ids::policy_id::PolicyID;
 use crate::cedar_policy::{Policy, Template};
 use crate::cedar_policy_maps::{Parted, PolicyMaps, is_link};
+use crate::cedar_policy_merge::found::{Places, body_at, has_body, has_policy, place_of_policy, policy_at};
 use crate::cedar_policy_merge::fresh::fresh_ids;
 use crate::cedar_policy_merge::places::are_placed_as;
 use crate::cedar_policy_set_errors::err::PolicySetError;
@@ -89,8 +90,13 @@ fn gather_bodies<S: BuildHasher + Copy>(
     here: &PolicyMaps<S>,
     other: &PolicyMaps<S>,
 ) {
+    let mut places = Places {
+        body: 0,
+        policy: 0,
+        other: 0,
+    };
     for template in other.shared_bodies() {
-        gather_body(ids, links, here, other, template);
+        gather_body(ids, links, here, other, template, &mut places);
     }
 }
 
@@ -101,11 +107,15 @@ fn gather_body<S: BuildHasher + Copy>(
     here: &PolicyMaps<S>,
     other: &PolicyMaps<S>,
     template: &Template,
+    places: &mut Places,
 ) {
     let own = template.id();
-    match here.template_at(own) {
+    match body_at(here, own, &mut places.body) {
         None => list_id(links, own, here.has_policy(own)),
-        Some(stands) => gather_id(ids, own, is_other_body(here, other, stands, template)),
+        Some(stands) => {
+            let clashes = is_other_body(here, other, stands, template, places);
+            gather_id(ids, own, clashes);
+        }
     }
 }
 
@@ -117,8 +127,9 @@ fn gather_policies<S: BuildHasher + Copy>(
     here: &PolicyMaps<S>,
     other: &PolicyMaps<S>,
 ) {
+    let mut next = 0;
     for policy in other.all_policies() {
-        gather_policy(ids, templates, here, policy);
+        gather_policy(ids, templates, here, policy, &mut next);
     }
 }
 
@@ -128,9 +139,10 @@ fn gather_policy<S: BuildHasher + Copy>(
     templates: &mut Vec<PolicyID>,
     here: &PolicyMaps<S>,
     policy: &Policy,
+    next: &mut usize,
 ) {
     let own = policy.id();
-    match here.policy_at(own) {
+    match policy_at(here, own, next) {
         None => list_id(templates, own, here.has_body(own)),
         Some(stands) => {
             let clashes = is_other_policy(ids, stands, policy);
@@ -160,16 +172,22 @@ fn is_other_body<S: BuildHasher + Copy>(
     other: &PolicyMaps<S>,
     stands: &Template,
     template: &Template,
+    places: &mut Places,
 ) -> bool {
-    stands != template || !have_policies_alike(here, other, template.id())
+    stands != template || !have_policies_alike(here, other, template.id(), places)
 }
 
 // Whether a policy here and one there have an id, or neither does.
-fn have_policies_alike<S: BuildHasher + Copy>(here: &PolicyMaps<S>, other: &PolicyMaps<S>, id: &PolicyID) -> bool {
-    if here.has_policy(id) {
-        other.has_policy(id)
+fn have_policies_alike<S: BuildHasher + Copy>(
+    here: &PolicyMaps<S>,
+    other: &PolicyMaps<S>,
+    id: &PolicyID,
+    places: &mut Places,
+) -> bool {
+    if has_policy(here, id, &mut places.policy) {
+        has_policy(other, id, &mut places.other)
     } else {
-        !other.has_policy(id)
+        !has_policy(other, id, &mut places.other)
     }
 }
 
@@ -235,18 +253,28 @@ fn new_of<'a, S: BuildHasher + Copy>(
 
 // Whether an id of a body there is bound here once it is the new one, if there is one: no new id is. Bodies here are
 // looked at first, since it is mostly one of theirs.
-fn stands_here<S: BuildHasher + Copy>(here: &PolicyMaps<S>, new: Option<&PolicyID>, id: &PolicyID) -> bool {
+fn stands_here<S: BuildHasher + Copy>(
+    here: &PolicyMaps<S>,
+    new: Option<&PolicyID>,
+    id: &PolicyID,
+    next: &mut usize,
+) -> bool {
     match new {
         Some(_) => false,
-        None => here.has_body(id) || here.has_policy(id),
+        None => has_body(here, id, next) || here.has_policy(id),
     }
 }
 
 // The place of the policy here that has an id there, once it is the new one, if there is one: no new id is bound.
-fn place_here<S: BuildHasher + Copy>(here: &PolicyMaps<S>, new: Option<&PolicyID>, id: &PolicyID) -> Option<usize> {
+fn place_here<S: BuildHasher + Copy>(
+    here: &PolicyMaps<S>,
+    new: Option<&PolicyID>,
+    id: &PolicyID,
+    next: &mut usize,
+) -> Option<usize> {
     match new {
         Some(_) => None,
-        None => here.place_of_policy(id),
+        None => place_of_policy(here, id, next),
     }
 }
 
@@ -285,8 +313,9 @@ fn part_bodies<S: BuildHasher + Copy>(
     theirs: &[Arc<Template>],
     renaming: &OrderedMap<PolicyID, PolicyID, S>,
 ) {
+    let mut next = 0;
     for template in theirs {
-        part_body(parted, here, template, renaming);
+        part_body(parted, here, template, renaming, &mut next);
     }
 }
 
@@ -296,9 +325,10 @@ fn part_body<S: BuildHasher + Copy>(
     here: &PolicyMaps<S>,
     template: &Arc<Template>,
     renaming: &OrderedMap<PolicyID, PolicyID, S>,
+    next: &mut usize,
 ) {
     let new = new_of(renaming, template.id());
-    let stands = stands_here(here, new, template.id());
+    let stands = stands_here(here, new, template.id(), next);
     part(parted, stands, renamed_body(template, new));
 }
 
@@ -310,67 +340,70 @@ fn renamed_body(template: &Arc<Template>, new: Option<&PolicyID>) -> Arc<Templat
     }
 }
 
+// Policies of the other set: those that join, or stand here and have other locations; the templates of others that
+// stand here, each with its policy's place; and the place here that is looked at first.
+struct PartedPolicies {
+    policies: Parted<Policy>,
+    shares: Vec<(usize, Arc<Template>)>,
+    next: usize,
+}
+
 // The policies of the other set, under their new ids.
 fn parted_policies<S: BuildHasher + Copy>(
     here: &PolicyMaps<S>,
     other: &PolicyMaps<S>,
     renaming: &OrderedMap<PolicyID, PolicyID, S>,
 ) -> (Parted<Policy>, Vec<(usize, Arc<Template>)>) {
-    let mut parted = Parted::new();
-    let mut shares = Vec::new();
-    part_policies(&mut parted, &mut shares, here, other.all_policies(), renaming);
-    (parted, shares)
+    let mut parted = PartedPolicies {
+        policies: Parted::new(),
+        shares: Vec::new(),
+        next: 0,
+    };
+    part_policies(&mut parted, here, other.all_policies(), renaming);
+    (parted.policies, parted.shares)
 }
 
 // Puts policies of the other set, under their new ids, last among those that join, or those that stand here.
 fn part_policies<S: BuildHasher + Copy>(
-    parted: &mut Parted<Policy>,
-    shares: &mut Vec<(usize, Arc<Template>)>,
+    parted: &mut PartedPolicies,
     here: &PolicyMaps<S>,
     theirs: &[Policy],
     renaming: &OrderedMap<PolicyID, PolicyID, S>,
 ) {
     for policy in theirs {
-        part_policy(parted, shares, here, policy, renaming);
+        part_policy(parted, here, policy, renaming);
     }
 }
 
 // Puts a policy of the other set, under its new id, last among those that join, or among those that stand here, where
 // it has other locations.
 fn part_policy<S: BuildHasher + Copy>(
-    parted: &mut Parted<Policy>,
-    shares: &mut Vec<(usize, Arc<Template>)>,
+    parted: &mut PartedPolicies,
     here: &PolicyMaps<S>,
     policy: &Policy,
     renaming: &OrderedMap<PolicyID, PolicyID, S>,
 ) {
     let new = new_of(renaming, policy.id());
-    if let Some(place) = place_here(here, new, policy.id()) {
+    if let Some(place) = place_here(here, new, policy.id(), &mut parted.next) {
         let stands = &here.all_policies()[place];
-        keep_at(&mut parted.stand, shares, place, stands, policy);
+        keep_at(parted, place, stands, policy);
         return;
     }
     if has_body_here(here, new, policy.id()) {
         return;
     }
-    parted.join.push(renamed_policy(policy, new, renaming));
+    parted.policies.join.push(renamed_policy(policy, new, renaming));
 }
 
 // Lists a policy that is bound alike in both: a copy of the one there, where it binds uids with other locations, else
 // its template, unless they share it.
-fn keep_at(
-    stand: &mut Vec<Policy>,
-    shares: &mut Vec<(usize, Arc<Template>)>,
-    place: usize,
-    stands: &Policy,
-    policy: &Policy,
-) {
+fn keep_at(parted: &mut PartedPolicies, place: usize, stands: &Policy, policy: &Policy) {
     if !are_placed_as(stands.env(), policy.env()) {
-        stand.push(policy.clone());
+        parted.policies.stand.push(policy.clone());
         return;
     }
     if !Arc::ptr_eq(stands.template_arc(), policy.template_arc()) {
-        shares.push((place, policy.template_arc().clone()));
+        parted.shares.push((place, policy.template_arc().clone()));
     }
 }
 

@@ -2,6 +2,7 @@
 
 //! Merging the maps of policy sets: which ids of two conflict, what they are renamed to, and what the maps bind then.
 
+mod found;
 mod fresh;
 mod merge;
 mod places;

@@ -12,7 +12,7 @@ use Rattle.cedar_ids.specs.Texts.{same_text}
 use Rattle.cedar_ids.specs.laws.TextLaws.{same_text_equiv}
 use Rattle.cedar_body.specs.Bodies.{BodyParts}
 use Rattle.cedar_policy.specs.Policies.{PolicyParts, policy_id}
-use Rattle.cedar_policy_maps.specs.PolicySets.{SetParts, AreOnce, is_body_at, is_policy_at}
+use Rattle.cedar_policy_maps.specs.PolicySets.{SetParts, AreOnce, IsPolicySet, is_body_at, is_policy_at}
 use Rattle.cedar_policy_maps.specs.Views.{bodies_of}
 use Rattle.cedar_policy_maps.specs.laws.OnceLaws.{is_at}
 use Rattle.cedar_policy_maps.specs.laws.Walks.{bodies_more, policies_more}
@@ -134,3 +134,16 @@ pub policy_found : (o : SetParts) (ps : List PolicyParts) (k : ℕ) (p : PolicyP
 policy_found o ps k p s h l e =
     ap (find (is_policy_at (policy_id p))) (sym s)
     ∙ found_own policy_id ps k p (subst (AreOnce policy_id) (sym s) h) l e
+
+-- what stands at a place is what is found under its id
+pub body_at_place : (o : SetParts) (ts : List (Rc BodyParts Global)) (k : ℕ) (t : Rc BodyParts Global) (i : List ℕ)
+    → bodies_of ts ≡ o.bodies → IsPolicySet o → k < length ts → t ≡ get_or ts k t → t.value.id ≡ i
+    → find (is_body_at i) o.bodies ≡ Some t.value
+body_at_place o ts k t i s h l e q =
+    ap (λ j. find (is_body_at j) o.bodies) (sym q) ∙ body_found o ts k t s h.bodies_once l e
+
+pub policy_at_place : (o : SetParts) (ps : List PolicyParts) (k : ℕ) (p : PolicyParts) (i : List ℕ) → ps ≡ o.policies
+    → IsPolicySet o → k < length ps → p ≡ get_or ps k p → policy_id p ≡ i
+    → find (is_policy_at i) o.policies ≡ Some p
+policy_at_place o ps k p i s h l e q =
+    ap (λ j. find (is_policy_at j) o.policies) (sym q) ∙ policy_found o ps k p s h.policies_once l e

@@ -48,8 +48,8 @@ returns-in-Some g c =
     sym (c.in-Some.ensures.found ∙ ap (has_policy h) (got r p c.id.result.now c.id-2.result.now
     (option_copied c.new_of-new.result) c.id.ensures c.id-2.ensures c.new_of-new.ensures)) in
     let bound : is_bound h (policy_id q) ≡ true = first_of (has_policy h (policy_id q)) (has_body h (policy_id q)) stands in
-    let old = c.args.parted.now.join.items in
-    sym (append-nil old) ∙ (λ j. old ++ cond (not (sym bound j)) (q ∷ []) [])
+    let old = c.args.parted.now.policies.join.items in
+    c.in_ok-keep_at.ensures ∙ sym (append-nil old) ∙ (λ j. old ++ cond (not (sym bound j)) (q ∷ []) [])
 
 pub returns-then-has_body_here : goal.returns-then-has_body_here
 returns-then-has_body_here g c =
@@ -61,7 +61,7 @@ returns-then-has_body_here g c =
     sym (c.has_body_here.ensures ∙ ap (has_body h) (got r p c.id.result.now c.id-3.result.now
     (option_copied c.new_of-new.result) c.id.ensures c.id-3.ensures c.new_of-new.ensures)) ∙ c.if-has_body_here.true in
     let bound : is_bound h (policy_id q) ≡ true = second_of (has_policy h (policy_id q)) (has_body h (policy_id q)) stands in
-    let old = c.args.parted.now.join.items in
+    let old = c.args.parted.now.policies.join.items in
     sym (append-nil old) ∙ (λ j. old ++ cond (not (sym bound j)) (q ∷ []) [])
 
 pub returns : goal.returns
@@ -77,6 +77,6 @@ returns g c =
     sym (c.has_body_here.ensures ∙ ap (has_body h) (got r p c.id.result.now c.id-3.result.now
     (option_copied c.new_of-new.result) c.id.ensures c.id-3.ensures c.new_of-new.ensures)) ∙ c.if-has_body_here.false in
     let bound : is_bound h (policy_id q) ≡ false = λ j. no_policy j || no_body j in
-    let old = c.args.parted.now.join.items in
+    let old = c.args.parted.now.policies.join.items in
     c.in_ok-push.ensures.items
     ∙ (λ j. old ++ cond (not (sym bound j)) (c.in_ok-renamed_policy.ensures j ∷ []) [])

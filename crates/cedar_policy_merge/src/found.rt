@@ -1,0 +1,117 @@
+//! Finding bodies and policies, first behind the one found last: two sets mostly have theirs in one order.
+ghost use Rattle.std.specs.Prelude.{◌≡◌, ◌<◌, IfSome, length, is_some, slice_get};
+ghost use Rattle.std.specs.List.{find, list_any};
+ghost use Rattle.std.specs.Option.{option_copied};
+ghost use Rattle.cedar_policy_maps.specs.PolicySets.{is_body_at, is_policy_at};
+
+use cedar_ids::policy_id::PolicyID;
+use cedar_policy::{Policy, Template};
+use cedar_policy_maps::PolicyMaps;
+use std::hash::BuildHasher;
+
+// Places that are looked at first: of a body and of a policy here, and of a policy there.
+#[derive(Drop)]
+pub(crate) struct Places {
+    pub(crate) body: usize,
+    pub(crate) policy: usize,
+    pub(crate) other: usize,
+}
+
+// The body with an id, if there is one. The place that is looked at first goes on by one.
+pub(crate) fn body_at<'a, S: BuildHasher + Copy>(
+    maps: &'a PolicyMaps<S>,
+    id: &PolicyID,
+    next: &mut usize,
+) -> Option<&'a Template>
+    ensures { option_copied result ≡ find (is_body_at id.now) maps.now.bodies }
+{
+    // No effect at run time: this call says that the maps are those of a policy set.
+    let _policy_set = maps.is_empty();
+    let bodies = maps.shared_bodies();
+    let place = *next;
+    if place < bodies.len() {
+        let template = &bodies[place];
+        if template.id() == id {
+            *next = place + 1;
+            return Some(&**template);
+        }
+    }
+    match maps.template_at(id) {
+        None => None,
+        Some(template) => {
+            if place < bodies.len() {
+                *next = place + 1;
+            }
+            Some(template)
+        }
+    }
+}
+
+// Whether a body has an id. The place that is looked at first goes on by one.
+#[tactic(auto, using(crate::specs::laws::LookedAtLaws::found_any))]
+pub(crate) fn has_body<S: BuildHasher + Copy>(
+    maps: &PolicyMaps<S>,
+    id: &PolicyID,
+    next: &mut usize,
+) -> bool
+    ensures { result ≡ list_any (is_body_at id.now) maps.now.bodies }
+{
+    body_at(maps, id, next).is_some()
+}
+
+// The policy with an id, if there is one. The place that is looked at first goes behind it.
+pub(crate) fn policy_at<'a, S: BuildHasher + Copy>(
+    maps: &'a PolicyMaps<S>,
+    id: &PolicyID,
+    next: &mut usize,
+) -> Option<&'a Policy>
+    ensures { option_copied result ≡ find (is_policy_at id.now) maps.now.policies }
+{
+    match place_of_policy(maps, id, next) {
+        None => None,
+        Some(place) => Some(&maps.all_policies()[place]),
+    }
+}
+
+// Whether a policy has an id. The place that is looked at first goes behind it.
+#[tactic(auto, using(crate::specs::laws::LookedAtLaws::found_any))]
+pub(crate) fn has_policy<S: BuildHasher + Copy>(
+    maps: &PolicyMaps<S>,
+    id: &PolicyID,
+    next: &mut usize,
+) -> bool
+    ensures { result ≡ list_any (is_policy_at id.now) maps.now.policies }
+{
+    place_of_policy(maps, id, next).is_some()
+}
+
+// The place of the policy with an id, if there is one. The place that is looked at first goes behind it.
+pub(crate) fn place_of_policy<S: BuildHasher + Copy>(
+    maps: &PolicyMaps<S>,
+    id: &PolicyID,
+    next: &mut usize,
+) -> Option<usize>
+    ensures within { IfSome result (λ k. k < length maps.now.policies) }
+    ensures found { is_some result ≡ is_some (find (is_policy_at id.now) maps.now.policies) }
+    ensures policy { IfSome result (λ k. slice_get maps.now.policies k
+        ≡ find (is_policy_at id.now) maps.now.policies) }
+{
+    // No effect at run time: this call says that the maps are those of a policy set.
+    let _policy_set = maps.is_empty();
+    let policies = maps.all_policies();
+    let place = *next;
+    if place < policies.len() {
+        let policy = &policies[place];
+        if policy.id() == id {
+            *next = place + 1;
+            return Some(place);
+        }
+    }
+    match maps.place_of_policy(id) {
+        None => None,
+        Some(place) => {
+            *next = place + 1;
+            Some(place)
+        }
+    }
+}
