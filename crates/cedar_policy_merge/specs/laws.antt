@@ -8,5 +8,6 @@ pub mod MergeSteps
 pub mod MergeTakesIn
 pub mod Numerals
 pub mod RenamingLaws
+pub mod SharedLaws
 pub mod TemplatesAlike
 pub mod Trials

@@ -1,13 +1,16 @@
 //! Finding bodies and policies, first behind the one found last: two sets mostly have theirs in one order.
-ghost use Rattle.std.specs.Prelude.{◌≡◌, ◌<◌, IfSome, length, is_some, slice_get};
+ghost use Rattle.std.specs.Prelude.{◌≡◌, ◌<◌, IfSome, Some, length, is_some, slice_get};
 ghost use Rattle.std.specs.List.{find, list_any};
 ghost use Rattle.std.specs.Option.{option_copied};
-ghost use Rattle.cedar_policy_maps.specs.PolicySets.{is_body_at, is_policy_at};
+ghost use Rattle.cedar_body.specs.Bodies.{BodyParts};
+ghost use Rattle.cedar_policy_maps.specs.PolicySets.{AreOnce, is_body_at, is_policy_at};
+ghost use Rattle.cedar_policy_maps.specs.Views.{bodies_of};
 
 use cedar_ids::policy_id::PolicyID;
 use cedar_policy::{Policy, Template};
 use cedar_policy_maps::PolicyMaps;
 use std::hash::BuildHasher;
+use std::rc::Rc;
 
 // Places that are looked at first: of a body and of a policy here, and of a policy there.
 #[derive(Drop)]
@@ -114,4 +117,23 @@ pub(crate) fn place_of_policy<S: BuildHasher + Copy>(
             Some(place)
         }
     }
+}
+
+// The body that joins under an id, if it stands at the place that is looked at first or behind it. That goes behind it.
+pub(crate) fn joined_at<'a>(
+    joined: &'a [Rc<Template>],
+    id: &PolicyID,
+    next: &mut usize,
+) -> Option<&'a Rc<Template>>
+    requires { AreOnce (λ (t : BodyParts). t.id) (bodies_of joined.now) }
+    ensures { IfSome result (λ t. find (is_body_at id.now) (bodies_of joined.now) ≡ Some t.now.value) }
+{
+    while *next < joined.len() {
+        let template = &joined[*next];
+        *next += 1;
+        if template.id() == id {
+            return Some(template);
+        }
+    }
+    None
 }

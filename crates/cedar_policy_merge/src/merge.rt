@@ -7,7 +7,7 @@ ghost use Rattle.std.specs.Map.{lookup, values_of};
 ghost use Rattle.std.specs.Option.{option_copied, unwrap_or};
 ghost use Rattle.cedar_body.specs.Bodies.{BodyParts, with_id};
 ghost use Rattle.cedar_body.specs.BodyEquality.{same_body};
-ghost use Rattle.cedar_policy.specs.Policies.{policy_id, with_policy_id};
+ghost use Rattle.cedar_policy.specs.Policies.{policy_id, static_policy, with_policy_id};
 ghost use Rattle.cedar_policy.specs.PolicyEquality.{same_policy};
 ghost use Rattle.cedar_ids.specs.Texts.{same_text};
 ghost use Rattle.cedar_policy_maps.specs.PolicySets.{AreOnce, bound_at, is_bound, is_body_at};
@@ -21,15 +21,17 @@ ghost use Rattle.cedar_policy_merge.specs.laws.LookedAtLaws.{agree, clashes, lie
 ghost use Rattle.cedar_policy_merge.specs.laws.MergeTakesIn.{standing_bodies};
 ghost use Rattle.cedar_policy_merge.specs.laws.MergeSteps.{Refuses, with_template_renamed};
 ghost use Rattle.cedar_policy_merge.specs.laws.RenamingLaws.{AreFreeHere, is_in};
+ghost use Rattle.cedar_policy_merge.specs.laws.MergeLaws.{AreAll};
+ghost use Rattle.cedar_policy_merge.specs.laws.SharedLaws.{IsOnBody, IsOnJoined};
 ghost use Rattle.cedar_policy_merge.specs.laws.TemplatesAlike.{AllStandUnless, AreSameUnless, StandsUnless};
 ghost use Rattle.cedar_policy_maps.specs.Views.{bodies_of};
 
-use crate::found::{Places, body_at, has_body, has_policy, place_of_policy, policy_at};
+use crate::found::{Places, body_at, has_body, has_policy, joined_at, place_of_policy, policy_at};
 use crate::fresh::fresh_ids;
 use crate::places::are_placed_as;
 use cedar_binding::same_bindings;
 use cedar_ids::policy_id::PolicyID;
-use cedar_policy::{Policy, Template};
+use cedar_policy::{LinkingError, Policy, Template};
 use cedar_policy_maps::{Parted, PolicyMaps, is_link};
 use cedar_policy_set_errors::err::PolicySetError;
 use indexmap::{IndexMap, IndexSet};
@@ -82,7 +84,7 @@ fn put_merged<S: BuildHasher + Copy>(
     // No effect at run time: these calls say that both are those of a policy set.
     let _policy_sets = (here.is_empty(), other.is_empty());
     let bodies = parted_bodies(alloc, here, other, renaming)?;
-    let parted = parted_policies(alloc, here, other, renaming)?;
+    let parted = parted_policies(alloc, here, other, renaming, &bodies.join)?;
     let (policies, shares) = parted;
     here.take_in(alloc, bodies, policies)?;
     here.share_templates(shares);
@@ -534,12 +536,13 @@ fn renamed_body(
 }
 
 // Policies of the other set: those that join, or stand here and have other locations; the templates of others that
-// stand here, each with its policy's place; and the place here that is looked at first.
+// stand here, each with its policy's place; and the places that are looked at first, here and among bodies that join.
 #[derive(Drop)]
 struct PartedPolicies {
     policies: Parted<Policy>,
     shares: Vec<(usize, Rc<Template>)>,
     next: usize,
+    joined: usize,
 }
 
 // The policies of the other set, under their new ids.
@@ -548,8 +551,11 @@ fn parted_policies<S: BuildHasher + Copy>(
     here: &PolicyMaps<S>,
     other: &PolicyMaps<S>,
     renaming: &IndexMap<PolicyID, PolicyID, S>,
+    joined: &[Rc<Template>],
 ) -> Result<(Parted<Policy>, Vec<(usize, Rc<Template>)>), AllocError>
-    requires { AreFreeHere here.now renaming.now.entries }
+    requires free { AreFreeHere here.now renaming.now.entries }
+    requires once { AreOnce (λ (t : BodyParts). t.id) (bodies_of joined.now) }
+    requires on { AreAll (IsOnJoined (bodies_of joined.now) (new_id renaming.now.entries)) other.now.policies }
     ensures { IfOk result (λ p. p.0.join.items ≡ joined_policies here.now
         (new_id renaming.now.entries) other.now.policies) }
 {
@@ -557,8 +563,10 @@ fn parted_policies<S: BuildHasher + Copy>(
         policies: Parted::new(alloc),
         shares: Vec::new(alloc),
         next: 0,
+        joined: 0,
     };
-    part_policies(alloc, &mut parted, here, other.all_policies(), renaming)?;
+    let theirs = other.all_policies();
+    part_policies(alloc, &mut parted, here, theirs, renaming, joined)?;
     Ok((parted.policies, parted.shares))
 }
 
@@ -569,13 +577,16 @@ fn part_policies<S: BuildHasher + Copy>(
     here: &PolicyMaps<S>,
     theirs: &[Policy],
     renaming: &IndexMap<PolicyID, PolicyID, S>,
+    joined: &[Rc<Template>],
 ) -> Result<(), AllocError>
-    requires { AreFreeHere here.now renaming.now.entries }
+    requires free { AreFreeHere here.now renaming.now.entries }
+    requires once { AreOnce (λ (t : BodyParts). t.id) (bodies_of joined.now) }
+    requires on { AreAll (IsOnJoined (bodies_of joined.now) (new_id renaming.now.entries)) theirs.now }
     ensures { OnOk result (parted.new.policies.join.items ≡ parted.old.policies.join.items
         ++ joined_policies here.now (new_id renaming.now.entries) theirs.now) }
 {
     for policy in theirs {
-        part_policy(alloc, parted, here, policy, renaming)?;
+        part_policy(alloc, parted, here, policy, renaming, joined)?;
     }
     Ok(())
 }
@@ -588,8 +599,11 @@ fn part_policy<S: BuildHasher + Copy>(
     here: &PolicyMaps<S>,
     policy: &Policy,
     renaming: &IndexMap<PolicyID, PolicyID, S>,
+    joined: &[Rc<Template>],
 ) -> Result<(), AllocError>
-    requires { AreFreeHere here.now renaming.now.entries }
+    requires free { AreFreeHere here.now renaming.now.entries }
+    requires once { AreOnce (λ (t : BodyParts). t.id) (bodies_of joined.now) }
+    requires on { IsOnJoined (bodies_of joined.now) (new_id renaming.now.entries) policy.now }
     ensures { OnOk result (parted.new.policies.join.items ≡ parted.old.policies.join.items
         ++ joined_policies here.now (new_id renaming.now.entries) (policy.now ∷ [])) }
 {
@@ -602,11 +616,57 @@ fn part_policy<S: BuildHasher + Copy>(
     if has_body_here(here, new, policy.id()) {
         return Ok(());
     }
-    parted
-        .policies
-        .join
-        .push(renamed_policy(alloc, policy, new, renaming)?)?;
+    let renamed = joining(alloc, policy, new, renaming, joined, &mut parted.joined)?;
+    parted.policies.join.push(renamed)?;
     Ok(())
+}
+
+// A policy of the other set as it joins.
+fn joining<S: BuildHasher + Copy>(
+    alloc: Global,
+    policy: &Policy,
+    new: Option<&PolicyID>,
+    renaming: &IndexMap<PolicyID, PolicyID, S>,
+    joined: &[Rc<Template>],
+    next: &mut usize,
+) -> Result<Policy, AllocError>
+    requires once { AreOnce (λ (t : BodyParts). t.id) (bodies_of joined.now) }
+    requires on { IsOnJoined (bodies_of joined.now) (new_id renaming.now.entries) policy.now }
+    requires new { unwrap_or (option_copied new) (policy_id policy.now)
+        ≡ new_id renaming.now.entries (policy_id policy.now) }
+    ensures { IfOk result (λ p. p ≡ renamed_policy (new_id renaming.now.entries) policy.now) }
+{
+    match on_joined(alloc, policy, new, joined, next)? {
+        None => renamed_policy(alloc, policy, new, renaming),
+        Some(shared) => Ok(shared),
+    }
+}
+
+// A static policy under its new id, if it gets one, on a share of the body that joins under it.
+fn on_joined(
+    alloc: Global,
+    policy: &Policy,
+    new: Option<&PolicyID>,
+    joined: &[Rc<Template>],
+    next: &mut usize,
+) -> Result<Option<Policy>, AllocError>
+    requires { AreOnce (λ (t : BodyParts). t.id) (bodies_of joined.now) }
+    ensures { IfOk result (λ o. IfSome o (λ p. IsOnBody (option_copied new.entry) (bodies_of joined.now)
+        policy.now p)) }
+{
+    if is_link(policy) {
+        return Ok(None);
+    }
+    match new {
+        None => Ok(None),
+        Some(id) => match joined_at(joined, id, next) {
+            None => Ok(None),
+            Some(template) => {
+                let shared = static_on(alloc, template)?;
+                Ok(shared)
+            }
+        },
+    }
 }
 
 // Lists a policy that is bound alike in both: a copy of the one there, where it binds uids with other locations, else
@@ -627,6 +687,17 @@ fn keep_at(
         parted.shares.push((place, policy.template_arc().clone()?))?;
     }
     Ok(())
+}
+
+// The static policy of a body, unless it has slots.
+fn static_on(alloc: Global, template: &Rc<Template>) -> Result<Option<Policy>, AllocError>
+    ensures { IfOk result (λ o. IfSome o (λ p. p ≡ static_policy template.now.value)) }
+{
+    match Template::try_as_policy(alloc, template.clone()?) {
+        Ok(policy) => Ok(Some(policy)),
+        Err(LinkingError::Memory) => Err(AllocError),
+        Err(_slots) => Ok(None),
+    }
 }
 
 // A policy under its new id, if it gets one, a link with its template under its own.

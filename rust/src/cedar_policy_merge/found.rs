@@ -6,6 +6,7 @@ use crate::cedar_ids::policy_id::PolicyID;
 use crate::cedar_policy::{Policy, Template};
 use crate::cedar_policy_maps::PolicyMaps;
 use std::hash::BuildHasher;
+use std::sync::Arc;
 
 // Places that are looked at first: of a body and of a policy here, and of a policy there.
 pub(crate) struct Places {
@@ -73,4 +74,16 @@ pub(crate) fn place_of_policy<S: BuildHasher + Copy>(
     let place = maps.place_of_policy(id)?;
     *next = place + 1;
     Some(place)
+}
+
+// The body that joins under an id, if it stands at the place that is looked at first or behind it. That goes behind it.
+pub(crate) fn joined_at<'a>(joined: &'a [Arc<Template>], id: &PolicyID, next: &mut usize) -> Option<&'a Arc<Template>> {
+    while *next < joined.len() {
+        let template = &joined[*next];
+        *next += 1;
+        if template.id() == id {
+            return Some(template);
+        }
+    }
+    None
 }

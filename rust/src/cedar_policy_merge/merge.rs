@@ -6,7 +6,7 @@ use crate::cedar_binding::same_bindings;
 use crate::cedar_ids::policy_id::PolicyID;
 use crate::cedar_policy::{Policy, Template};
 use crate::cedar_policy_maps::{Parted, PolicyMaps, is_link};
-use crate::cedar_policy_merge::found::{Places, body_at, has_body, has_policy, place_of_policy, policy_at};
+use crate::cedar_policy_merge::found::{Places, body_at, has_body, has_policy, joined_at, place_of_policy, policy_at};
 use crate::cedar_policy_merge::fresh::fresh_ids;
 use crate::cedar_policy_merge::places::are_placed_as;
 use crate::cedar_policy_set_errors::err::PolicySetError;
@@ -44,7 +44,7 @@ fn put_merged<S: BuildHasher + Copy>(
     renaming: &OrderedMap<PolicyID, PolicyID, S>,
 ) {
     let bodies = parted_bodies(here, other, renaming);
-    let parted = parted_policies(here, other, renaming);
+    let parted = parted_policies(here, other, renaming, &bodies.join);
     let (policies, shares) = parted;
     here.take_in(bodies, policies);
     here.share_templates(shares);
@@ -341,11 +341,12 @@ fn renamed_body(template: &Arc<Template>, new: Option<&PolicyID>) -> Arc<Templat
 }
 
 // Policies of the other set: those that join, or stand here and have other locations; the templates of others that
-// stand here, each with its policy's place; and the place here that is looked at first.
+// stand here, each with its policy's place; and the places that are looked at first, here and among bodies that join.
 struct PartedPolicies {
     policies: Parted<Policy>,
     shares: Vec<(usize, Arc<Template>)>,
     next: usize,
+    joined: usize,
 }
 
 // The policies of the other set, under their new ids.
@@ -353,13 +354,16 @@ fn parted_policies<S: BuildHasher + Copy>(
     here: &PolicyMaps<S>,
     other: &PolicyMaps<S>,
     renaming: &OrderedMap<PolicyID, PolicyID, S>,
+    joined: &[Arc<Template>],
 ) -> (Parted<Policy>, Vec<(usize, Arc<Template>)>) {
     let mut parted = PartedPolicies {
         policies: Parted::new(),
         shares: Vec::new(),
         next: 0,
+        joined: 0,
     };
-    part_policies(&mut parted, here, other.all_policies(), renaming);
+    let theirs = other.all_policies();
+    part_policies(&mut parted, here, theirs, renaming, joined);
     (parted.policies, parted.shares)
 }
 
@@ -369,9 +373,10 @@ fn part_policies<S: BuildHasher + Copy>(
     here: &PolicyMaps<S>,
     theirs: &[Policy],
     renaming: &OrderedMap<PolicyID, PolicyID, S>,
+    joined: &[Arc<Template>],
 ) {
     for policy in theirs {
-        part_policy(parted, here, policy, renaming);
+        part_policy(parted, here, policy, renaming, joined);
     }
 }
 
@@ -382,6 +387,7 @@ fn part_policy<S: BuildHasher + Copy>(
     here: &PolicyMaps<S>,
     policy: &Policy,
     renaming: &OrderedMap<PolicyID, PolicyID, S>,
+    joined: &[Arc<Template>],
 ) {
     let new = new_of(renaming, policy.id());
     if let Some(place) = place_here(here, new, policy.id(), &mut parted.next) {
@@ -392,7 +398,34 @@ fn part_policy<S: BuildHasher + Copy>(
     if has_body_here(here, new, policy.id()) {
         return;
     }
-    parted.policies.join.push(renamed_policy(policy, new, renaming));
+    let renamed = joining(policy, new, renaming, joined, &mut parted.joined);
+    parted.policies.join.push(renamed);
+}
+
+// A policy of the other set as it joins.
+fn joining<S: BuildHasher + Copy>(
+    policy: &Policy,
+    new: Option<&PolicyID>,
+    renaming: &OrderedMap<PolicyID, PolicyID, S>,
+    joined: &[Arc<Template>],
+    next: &mut usize,
+) -> Policy {
+    match on_joined(policy, new, joined, next) {
+        None => renamed_policy(policy, new, renaming),
+        Some(shared) => shared,
+    }
+}
+
+// A static policy under its new id, if it gets one, on a share of the body that joins under it.
+fn on_joined(policy: &Policy, new: Option<&PolicyID>, joined: &[Arc<Template>], next: &mut usize) -> Option<Policy> {
+    if is_link(policy) {
+        return None;
+    }
+    let id = new?;
+    match joined_at(joined, id, next) {
+        None => None,
+        Some(template) => static_on(template),
+    }
 }
 
 // Lists a policy that is bound alike in both: a copy of the one there, where it binds uids with other locations, else
@@ -405,6 +438,11 @@ fn keep_at(parted: &mut PartedPolicies, place: usize, stands: &Policy, policy: &
     if !Arc::ptr_eq(stands.template_arc(), policy.template_arc()) {
         parted.shares.push((place, policy.template_arc().clone()));
     }
+}
+
+// The static policy of a body, unless it has slots.
+fn static_on(template: &Arc<Template>) -> Option<Policy> {
+    Template::try_as_policy(template.clone()).ok()
 }
 
 // A policy under its new id, if it gets one, a link with its template under its own.

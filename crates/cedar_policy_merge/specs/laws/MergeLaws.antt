@@ -181,7 +181,7 @@ find_step c id f p i x y xs rest there k q later false s =
     found_later (is_at id (c i)) (p (f x)) (f x) (f y) rest (there ∙ s) (later (found_tail (is_at id i) x y xs q s))
 
 -- what is found of things is found of the renamed ones that are left, under its new id
-find_renamed : {A : Type 0} (h o : SetParts) (c : List ℕ → List ℕ) (id : A → List ℕ) (f : A → A) (p : A → Bool)
+pub find_renamed : {A : Type 0} (h o : SetParts) (c : List ℕ → List ℕ) (id : A → List ℕ) (f : A → A) (p : A → Bool)
     → Renames h o c → ((x : A) → id (f x) ≡ c (id x)) →
     (i : List ℕ) → is_bound o i ≡ true → (y : A) → p (f y) ≡ true → (xs : List A)
     → AreAll (λ x. is_bound o (id x) ≡ true) xs → find (is_at id i) xs ≡ Some y →

@@ -26,15 +26,15 @@ got r p i j o e k l =
 pub place_here-requires : goal.place_here-requires
 place_here-requires g c =
     free_here c.args.here.now c.args.renaming.now.entries c.args.policy.now c.id.result.now
-    (option_copied c.new_of-new.result) c.requires c.id.ensures c.new_of-new.ensures
+    (option_copied c.new_of-new.result) c.requires.free c.id.ensures c.new_of-new.ensures
 
 pub has_body_here-requires : goal.has_body_here-requires
 has_body_here-requires g c =
     free_here c.args.here.now c.args.renaming.now.entries c.args.policy.now c.id.result.now
-    (option_copied c.new_of-new.result) c.requires c.id.ensures c.new_of-new.ensures
+    (option_copied c.new_of-new.result) c.requires.free c.id.ensures c.new_of-new.ensures
 
-pub renamed_policy-requires : goal.renamed_policy-requires
-renamed_policy-requires g c =
+pub joining-requires-clause-new : goal.joining-requires-clause-new
+joining-requires-clause-new g c =
     ap (λ o. unwrap_or o (policy_id c.args.policy.now))
     (c.new_of-new.ensures ∙ ap (λ i. lookup (same_text i) c.args.renaming.now.entries) c.id.ensures)
 
@@ -79,4 +79,4 @@ returns g c =
     let bound : is_bound h (policy_id q) ≡ false = λ j. no_policy j || no_body j in
     let old = c.args.parted.now.policies.join.items in
     c.in_ok-push.ensures.items
-    ∙ (λ j. old ++ cond (not (sym bound j)) (c.in_ok-renamed_policy.ensures j ∷ []) [])
+    ∙ (λ j. old ++ cond (not (sym bound j)) (c.in_ok-renamed.ensures j ∷ []) [])
