@@ -20,8 +20,7 @@ loop-field-preserved c =
     let read = sym c.in_ok-slot.ensures ∙ ap (option_map (λ b. (b.0, uid_parts b.1))) c.in-Some.is in
     let new : env_of c.bind.new.values ≡ bound_more e s u = c.in_ok-bind.ensures in
     let more : named_alone c.with-named.result (env_of c.bind.new.values) ≡ bound_more (named_alone n e) s u =
-    ap (named_alone c.with-named.result) new ∙ named_more n c.with-named.result e s u c.with-named.ensures in
-    (
+    ap (named_alone c.with-named.result) new ∙ named_more n c.with-named.result e s u c.with-named.ensures in (
       one_more_read c.args.fields.now c.loop-field.field-index _ (named_alone n e) _ _ _ c.loop-field-test.true
           c.loop-field.invariant.0 read (unnamed_is_unbound n e s (sym c.has.ensures ∙ c.if-has.false)) more,
       λ r h. ap (λ x. binds x r) new ∙ still_bound (same_slot r s) (is_named n r) (e r) u
