@@ -195,7 +195,7 @@ fn links_of_copies_of_bindings() {
         ("t", "m", &SlotEnv::new(), false),
         ("t", "m", &fit, true),
     ] {
-        let told = set.link_copying(id(template), id(name), values);
+        let told = set.link_copying(&id(template), id(name), values);
         let due = other.link(id(template), id(name), values.clone()).map(|_| ());
         assert_eq!(told.is_ok(), joins);
         assert_eq!(

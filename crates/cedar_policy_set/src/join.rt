@@ -189,21 +189,23 @@ impl<S: BuildHasher + Copy> PolicySet<S> {
     /// Links as [`PolicySet::link`] does, to a copy of these bindings, and lends nothing.
     ///
     /// Where the bindings do not fit nothing was copied, so that to make many links from one map, whose room serves all,
-    /// costs a map only where there is a policy. Refused as that is; takes memory as that does, and for the copy. It is
-    /// this project's own.
+    /// costs a map only where there is a policy. Refused as that is; takes memory as that does, for the copy, and for an
+    /// id that a refusal names. It is this project's own.
     #[tactic(auto, using(crate::specs::laws::StepLaws::no_template_step))]
     pub fn link_copying(
         &mut self,
         alloc: Global,
-        template_id: PolicyID,
+        template_id: &PolicyID,
         new_id: PolicyID,
         values: &SlotEnv,
     ) -> Result<(), LinkingError>
         ensures { Steps told_by_linking result self.old self.new
-            (link_step self.old template_id new_id (env_of values.now)) }
+            (link_step self.old template_id.now new_id (env_of values.now)) }
     {
-        match self.template(&template_id)? {
-            None => Err(LinkingError::NoSuchTemplate { id: template_id }),
+        match self.template(template_id)? {
+            None => Err(LinkingError::NoSuchTemplate {
+                id: template_id.clone()?,
+            }),
             Some(template) => self.link_template_copying(alloc, template, new_id, values),
         }
     }
@@ -213,10 +215,9 @@ impl<S: BuildHasher + Copy> PolicySet<S> {
         ensures { IfOk result (λ o. MatchOption o (HasNoTemplate (bound_at self.now id.now))
             (λ t. bound_at self.now id.now ≡ Some (template_binding t.value))) }
     {
-        match self.maps.found(id) {
+        match self.maps.bound_template(id) {
             None => Ok(None),
-            Some(Found::Policy(_policy)) => Ok(None),
-            Some(Found::Template(template)) => Ok(Some(template.clone()?)),
+            Some(template) => Ok(Some(template.clone()?)),
         }
     }
 

@@ -5,7 +5,7 @@ use Rattle.cedar_body.specs.BodyEquality.{same_body}
 use Rattle.cedar_policy_set_errors.specs.declared.err.PolicySetError.{PolicySetError}
 use Rattle.cedar_policy.specs.Policies.{PolicyParts, policy_id}
 use Rattle.cedar_policy_maps.specs.PolicySets.{SetParts, Binding, Static, Template, Link, bound_at, is_bound}
-use Rattle.cedar_policy_maps.specs.PolicySets.{with_policy}
+use Rattle.cedar_policy_maps.specs.PolicySets.{template_bound, with_policy}
 use Rattle.cedar_policy_set.specs.Refusals.{IsRefusal, told_by_set}
 use Rattle.cedar_policy_set.specs.Steps.{Refusal, occupied, id_conflict}
 
@@ -23,6 +23,13 @@ HasNoTemplate None = Unit {0}
 HasNoTemplate (Some (Static t)) = Unit {0}
 HasNoTemplate (Some (Template t)) = ⊥
 HasNoTemplate (Some (Link l t e)) = Unit {0}
+
+-- no template is bound where none is found
+pub no_template_told : (x : Option Binding) → None ≡ template_bound x → HasNoTemplate x
+no_template_told None e = tt
+no_template_told (Some (Static t)) e = tt
+no_template_told (Some (Template t)) e = absurd (cc)
+no_template_told (Some (Link l t v)) e = tt
 
 -- an error tells that an id is bound, whatever the step is where it is free
 abbrev pub TellsBound : SetParts → List ℕ → PolicySetError → Type 0

@@ -142,7 +142,7 @@ fn put_copy(alloc: Global, number: usize, set: &mut PolicySet, text: &str) -> Op
     match both(ids, values(alloc, bound)) {
         Some(((template, name), values)) => {
             refuse(alloc, number);
-            let said = told_done(alloc, set.link_copying(alloc, template, name, &values));
+            let said = told_done(alloc, set.link_copying(alloc, &template, name, &values));
             drop(values);
             Some(said)
         }
@@ -410,7 +410,7 @@ const SETS: &str = "
     PolicySet::link_copying | template t principal; link_copying t l principal=x | ok
     PolicySet::link_copying | template t principal; link_copying t l resource=x | ! the following slots were not provided as arguments: ?principal. The following slots were provided as arguments, but did not exist in the template: ?resource
     PolicySet::link_copying | template t; static l; link_copying t l | ! template-linked policy id `l` conflicts with an existing policy id
-    - PolicySet::link_copying | static s; link_copying s l | ! failed to find a template with id `s`
+    PolicySet::link_copying | static s; link_copying s l | ! failed to find a template with id `s`
     - PolicySet::unlink | template t; link t l; unlink l | Template Instance of t, slots: []
     PolicySet::unlink | template t; static l; unlink l | ! unable to remove link with policy id `l` because it is a static policy
     PolicySet::unlink | template t; unlink l | ! unable to unlink policy id `l` because it does not exist

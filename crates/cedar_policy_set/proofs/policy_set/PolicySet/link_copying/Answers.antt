@@ -8,8 +8,8 @@ use Rattle.cedar_policy_set.proofs.policy_set.PolicySet.link_copying.Goals as go
 
 pub link_template_copying-requires : goal.link_template_copying-requires
 link_template_copying-requires g c =
-    stands c.args.self.now c.args.template_id c.in-Some.template.value
+    stands c.args.self.now c.args.template_id.now c.in-Some.template.value
     (subst
-    (λ o. MatchOption o (HasNoTemplate (bound_at c.args.self.now c.args.template_id))
-    (λ t. bound_at c.args.self.now c.args.template_id ≡ Some (Template t.value))) c.in-Some.is
+    (λ o. MatchOption o (HasNoTemplate (bound_at c.args.self.now c.args.template_id.now))
+    (λ t. bound_at c.args.self.now c.args.template_id.now ≡ Some (Template t.value))) c.in-Some.is
     c.in_ok-template.ensures)
