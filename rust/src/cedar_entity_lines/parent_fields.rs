@@ -4,7 +4,9 @@
 //! texts, and shared.
 
 use crate::cedar_lines::known_types::{KnownTypes, uid_of_text};
+use crate::cedar_lines::room::text_in;
 use crate::cedar_uid_sets::SharedUid;
+use std::mem;
 
 // A parent that was read, and its text.
 struct KnownParent {
@@ -77,18 +79,27 @@ fn make_places(known: &mut Vec<Option<KnownParent>>) {
     }
 }
 
+// The text of what was known, whose room the next takes.
+fn text_of(known: Option<KnownParent>) -> String {
+    match known {
+        None => String::new(),
+        Some(KnownParent { text, uid: _ }) => text,
+    }
+}
+
 // A parent that was read is known at its place from then on.
 fn keep_parent(known: &mut Vec<Option<KnownParent>>, place: usize, text: &str, uid: &SharedUid) {
     if known.is_empty() {
         make_places(known);
     }
-    let one = KnownParent {
-        text: String::from(text),
-        uid: uid.clone(),
+    let Some(at) = known.get_mut(place) else {
+        return;
     };
-    if let Some(at) = known.get_mut(place) {
-        *at = Some(one);
-    }
+    let mut room = text_of(mem::replace(at, None));
+    *at = Some(KnownParent {
+        text: text_in(&mut room, text),
+        uid: uid.clone(),
+    });
 }
 
 // The parent with this text, if it is that of a uid, read anew.

@@ -6,6 +6,7 @@ use crate::cedar_ids::entity::{Eid, EntityType, EntityUID};
 use crate::cedar_ids::err::ParseErrors;
 use crate::cedar_ids::escape::is_own_escape;
 use crate::cedar_lines::field::uid_field;
+use crate::cedar_lines::room::text_in;
 
 // A type, and its text.
 struct KnownType {
@@ -68,8 +69,7 @@ fn unescaped_halves(text: &str) -> Option<(&str, &str)> {
 }
 
 // The uid of a type and an eid that is its own escape. Its text is that of the type, the mark, the eid and a quote.
-fn uid_of_parts(ty: EntityType, eid: &str) -> EntityUID {
-    let eid = String::from(eid);
+fn uid_of_parts(ty: EntityType, eid: String) -> EntityUID {
     EntityUID::from_components(ty, Eid::new(eid), None)
 }
 
@@ -96,6 +96,7 @@ fn known_halves<'a, 'b>(known: &'a [KnownType], text: &'b str) -> Option<(&'a Kn
 // The uid of a type that is read anew and an eid that is its own escape, if the first text is that of a type.
 fn uid_of_halves(known: &mut Vec<KnownType>, name: &str, eid: &str) -> Option<EntityUID> {
     let ty = read_type(known, name)?;
+    let eid = String::from(eid);
     Some(uid_of_parts(ty, eid))
 }
 
@@ -123,5 +124,18 @@ pub fn uid_of_text(known: &mut KnownTypes, text: &str) -> Option<EntityUID> {
         return read_uid(&mut known.types, text);
     };
     let ty = type_of(one);
+    let eid = String::from(eid);
+    Some(uid_of_parts(ty, eid))
+}
+
+/// What [`uid_of_text`] answers. Where the type is known the eid stands in the room of a text, which is taken.
+///
+/// It is this project's own.
+pub fn uid_in(known: &mut KnownTypes, room: &mut String, text: &str) -> Option<EntityUID> {
+    let Some((one, eid)) = known_halves(&known.types, text) else {
+        return read_uid(&mut known.types, text);
+    };
+    let ty = type_of(one);
+    let eid = text_in(room, eid);
     Some(uid_of_parts(ty, eid))
 }

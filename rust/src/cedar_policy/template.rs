@@ -970,8 +970,8 @@ impl Template {
         Ok(Policy::of(template, Some(new_id), values))
     }
 
-    /// The policy of this template, this id and a copy of these bindings; else the refusal of `check_binding`. A
-    /// refused call has copied nothing, so that to make many links from one map, whose room serves all, costs a map
+    /// The policy of this template, this id and a copy of these bindings; else the refusal of `check_binding`. Where
+    /// they do not fit nothing was copied, so that to make many links from one map, whose room serves all, costs a map
     /// only where there is a policy. It is this project's own.
     pub fn link_copying(template: Arc<Self>, new_id: PolicyID, values: &SlotEnv) -> Result<Policy, LinkingError> {
         Self::check_binding(&template, values)?;

@@ -7,8 +7,10 @@ use crate::cedar_body::Effect;
 use crate::cedar_ids::entity::EntityUID;
 use crate::cedar_ids::policy_id::PolicyID;
 use crate::cedar_lines::known_types::KnownTypes;
+use crate::cedar_lines::room::text_in;
 use crate::cedar_policy::SlotEnv;
 use crate::cedar_policy_lines::field::{TemplateSlots, binding_of, effect_of, renaming_of, slots_of};
+use crate::cedar_policy_lines::named::NamedSlots;
 use crate::cedar_terms::slot::SlotId;
 use std::mem;
 
@@ -31,6 +33,42 @@ pub enum PolicyCommand {
     Ids,
 }
 
+// What the link before was read into, whose room the next takes: the id of its template, the map of its bindings, and an
+// eid that was bound before.
+#[derive(Debug)]
+pub(crate) struct LinkRoom {
+    template: PolicyID,
+    values: SlotEnv,
+    eid: String,
+}
+
+impl LinkRoom {
+    // That of no link.
+    pub(crate) fn new() -> Self {
+        Self {
+            template: no_id(),
+            values: no_bindings(),
+            eid: String::new(),
+        }
+    }
+
+    // Keeps what a link was read into.
+    pub(crate) fn keep(&mut self, template: PolicyID, values: SlotEnv) {
+        self.template = template;
+        self.values = values;
+    }
+}
+
+fn no_id() -> PolicyID {
+    PolicyID::from_smolstr(String::new())
+}
+
+// The id with a text, in the room of another.
+fn id_in(room: &mut PolicyID, text: &str) -> PolicyID {
+    let mut before = mem::replace(room, no_id()).into_smolstr();
+    PolicyID::from_smolstr(text_in(&mut before, text))
+}
+
 // The one field that there is.
 fn only<'a>(fields: &[&'a str]) -> Option<&'a str> {
     let (first, rest) = fields.split_first()?;
@@ -40,30 +78,50 @@ fn only<'a>(fields: &[&'a str]) -> Option<&'a str> {
     None
 }
 
-// Binds a slot, and says whether it was bound before.
-fn bind(values: &mut SlotEnv, slot: SlotId, uid: EntityUID) -> bool {
-    let before = values.insert(slot, uid);
-    before.is_some()
+// Binds a slot. Of what it was bound to the eid is kept, for its room.
+fn bind(room: &mut String, values: &mut SlotEnv, slot: SlotId, uid: EntityUID) {
+    if let Some(before) = values.insert(slot, uid) {
+        let (_ty, eid) = before.components();
+        *room = eid.into_smolstr();
+    }
 }
 
-// Takes a map, whose room stays, and lets go what it binds.
-fn emptied(spare: &mut SlotEnv) -> SlotEnv {
-    let mut values = mem::replace(spare, no_bindings());
-    values.clear();
-    values
+// Unbinds a slot, unless it is named.
+fn unbind_unless(values: &mut SlotEnv, slot: SlotId, is_named: bool) {
+    if !is_named {
+        values.remove(&slot);
+    }
+}
+
+// Whether each slot that is bound is named.
+fn are_named(values: &SlotEnv, named: NamedSlots) -> bool {
+    values.keys().all(|slot| named.has(*slot))
+}
+
+// Unbinds the slots that are not named. Mostly there are none, and none is hashed.
+fn unbind_others(values: &mut SlotEnv, named: NamedSlots) {
+    if are_named(values, named) {
+        return;
+    }
+    unbind_unless(values, SlotId::Principal, named.has(SlotId::Principal));
+    unbind_unless(values, SlotId::Action, named.has(SlotId::Action));
+    unbind_unless(values, SlotId::Resource, named.has(SlotId::Resource));
 }
 
 // The bindings that the fields are, if they are some: one field for each slot that is bound. They are put into a map
-// that is taken.
-fn bindings_of(known: &mut KnownTypes, spare: &mut SlotEnv, fields: &[&str]) -> Option<SlotEnv> {
-    let mut values = emptied(spare);
+// that is taken, in the place of what the link before bound.
+fn bindings_of(known: &mut KnownTypes, room: &mut LinkRoom, fields: &[&str]) -> Option<SlotEnv> {
+    let mut values = mem::replace(&mut room.values, no_bindings());
+    let mut named = NamedSlots::none();
     for field in fields {
-        let (slot, uid) = binding_of(known, field)?;
-        let again = bind(&mut values, slot, uid);
-        if again {
+        let (slot, uid) = binding_of(known, &mut room.eid, field)?;
+        if named.has(slot) {
             return None;
         }
+        bind(&mut room.eid, &mut values, slot, uid);
+        named = named.with(slot);
     }
+    unbind_others(&mut values, named);
     Some(values)
 }
 
@@ -85,11 +143,11 @@ fn template_of(fields: &[&str]) -> Option<PolicyCommand> {
 }
 
 // The command of `link`.
-fn link_of(known: &mut KnownTypes, spare: &mut SlotEnv, fields: &[&str]) -> Option<PolicyCommand> {
+fn link_of(known: &mut KnownTypes, room: &mut LinkRoom, fields: &[&str]) -> Option<PolicyCommand> {
     let (template, rest) = fields.split_first()?;
     let (id, rest) = rest.split_first()?;
-    let values = bindings_of(known, spare, rest)?;
-    let template = PolicyID::from_string(template);
+    let values = bindings_of(known, room, rest)?;
+    let template = id_in(&mut room.template, template);
     let id = PolicyID::from_string(id);
     Some(PolicyCommand::Link(template, id, values))
 }
@@ -124,7 +182,7 @@ fn ids_of(fields: &[&str]) -> Option<PolicyCommand> {
 }
 
 // The command with this word and these fields behind it.
-fn command_by(known: &mut KnownTypes, spare: &mut SlotEnv, word: &str, fields: &[&str]) -> Option<PolicyCommand> {
+fn command_by(known: &mut KnownTypes, room: &mut LinkRoom, word: &str, fields: &[&str]) -> Option<PolicyCommand> {
     if word == "static" {
         return static_of(fields);
     }
@@ -132,7 +190,7 @@ fn command_by(known: &mut KnownTypes, spare: &mut SlotEnv, word: &str, fields: &
         return template_of(fields);
     }
     if word == "link" {
-        return link_of(known, spare, fields);
+        return link_of(known, room, fields);
     }
     if word == "unlink" {
         return unlink_of(fields);
@@ -149,8 +207,8 @@ fn command_by(known: &mut KnownTypes, spare: &mut SlotEnv, word: &str, fields: &
     None
 }
 
-// The same, where the bindings of a link are put into a map that is taken.
-pub(crate) fn read_with(known: &mut KnownTypes, spare: &mut SlotEnv, fields: &[&str]) -> Option<PolicyCommand> {
+// The same, where a link is read into the room of one before, which is taken.
+pub(crate) fn read_with(known: &mut KnownTypes, room: &mut LinkRoom, fields: &[&str]) -> Option<PolicyCommand> {
     let (word, rest) = fields.split_first()?;
-    command_by(known, spare, word, rest)
+    command_by(known, room, word, rest)
 }

@@ -4,7 +4,7 @@
 
 use crate::cedar_body::Effect;
 use crate::cedar_ids::entity::EntityUID;
-use crate::cedar_lines::known_types::{KnownTypes, uid_of_text};
+use crate::cedar_lines::known_types::{KnownTypes, uid_in};
 use crate::cedar_terms::slot::SlotId;
 
 // The effect that a word is.
@@ -74,21 +74,21 @@ fn behind<'a>(field: &'a str, mark: &str) -> Option<&'a str> {
     field.strip_prefix(mark)
 }
 
-// A slot with the uid whose text stands behind its mark.
-fn bound_as(known: &mut KnownTypes, slot: SlotId, text: &str) -> Option<(SlotId, EntityUID)> {
-    uid_of_text(known, text).map(|uid| (slot, uid))
+// A slot with the uid whose text stands behind its mark. The eid is read into the room of a text.
+fn bound_as(known: &mut KnownTypes, room: &mut String, slot: SlotId, text: &str) -> Option<(SlotId, EntityUID)> {
+    uid_in(known, room, text).map(|uid| (slot, uid))
 }
 
-// The binding that a field is.
-pub(crate) fn binding_of(known: &mut KnownTypes, field: &str) -> Option<(SlotId, EntityUID)> {
+// The binding that a field is. The eid is read into the room of a text.
+pub(crate) fn binding_of(known: &mut KnownTypes, room: &mut String, field: &str) -> Option<(SlotId, EntityUID)> {
     if let Some(text) = behind(field, "principal=") {
-        return bound_as(known, SlotId::Principal, text);
+        return bound_as(known, room, SlotId::Principal, text);
     }
     if let Some(text) = behind(field, "action=") {
-        return bound_as(known, SlotId::Action, text);
+        return bound_as(known, room, SlotId::Action, text);
     }
     if let Some(text) = behind(field, "resource=") {
-        return bound_as(known, SlotId::Resource, text);
+        return bound_as(known, room, SlotId::Resource, text);
     }
     None
 }

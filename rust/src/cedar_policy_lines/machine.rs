@@ -2,30 +2,33 @@
 
 //! The two policy sets of a run, and one function for each command on them.
 
-use crate::cedar_binding::no_bindings;
+use crate::cedar_annotation::Annotations;
 use crate::cedar_body::Effect;
 use crate::cedar_ids::policy_id::PolicyID;
 use crate::cedar_keyed_hash::KeyedState;
 use crate::cedar_lines::known_types::KnownTypes;
 use crate::cedar_policy::SlotEnv;
-use crate::cedar_policy_lines::command::{PolicyCommand, read_with};
+use crate::cedar_policy_lines::command::{LinkRoom, PolicyCommand, read_with};
 use crate::cedar_policy_lines::field::TemplateSlots;
-use crate::cedar_policy_lines::making::{static_policy, template};
+use crate::cedar_policy_lines::making::{template, unconstrained};
 use crate::cedar_policy_lines::writing::{
     push_by_linking, push_by_merging, push_by_set, push_by_unlinking, push_ids, push_ok,
 };
 use crate::cedar_policy_set::PolicySet;
 use std::hash::BuildHasher;
 use std::mem;
+use std::sync::Arc;
 
 /// The two policy sets of a run: the current one, and the one aside. The sets hash ids by what `S` builds. It is this
 /// project's own.
-// The bindings of a link are read into one map, whose room serves all: what it binds between lines says nothing.
+// Links are read into one room, which serves all: what stands there between lines says nothing. The bodies of lines
+// share their annotations, which are none.
 #[derive(Debug)]
 pub struct PolicySets<S: BuildHasher = KeyedState> {
     current: PolicySet<S>,
     aside: PolicySet<S>,
-    spare: SlotEnv,
+    room: LinkRoom,
+    annotations: Option<Arc<Annotations>>,
 }
 
 impl<S: BuildHasher + Copy> PolicySets<S> {
@@ -34,37 +37,50 @@ impl<S: BuildHasher + Copy> PolicySets<S> {
         Self {
             current: PolicySet::with_hasher(hasher),
             aside: PolicySet::with_hasher(hasher),
-            spare: no_bindings(),
+            room: LinkRoom::new(),
+            annotations: None,
         }
     }
 
-    /// The command whose fields these are, if they are those of a line on policy sets. The bindings of a link are read
-    /// into the room of those of the link before, so that a link that is refused has taken no map; the sets stay as they
-    /// are.
+    /// The command whose fields these are, if they are those of a line on policy sets. The id of a link's template and its
+    /// bindings are read into the room of those of the link before, so that a link that is refused has taken no map; the
+    /// sets stay as they are.
     ///
     /// Its cost is linear in the fields. It is this project's own.
     pub fn read(&mut self, known: &mut KnownTypes, fields: &[&str]) -> Option<PolicyCommand> {
-        read_with(known, &mut self.spare, fields)
+        read_with(known, &mut self.room, fields)
+    }
+
+    // The annotations of the bodies of lines, once more.
+    fn annotations(&mut self) -> Arc<Annotations> {
+        if let Some(shared) = &self.annotations {
+            return shared.clone();
+        }
+        let shared = Arc::new(Annotations::new());
+        self.annotations = Some(shared.clone());
+        shared
     }
 
     // A static policy joins.
     fn add_static(&mut self, id: PolicyID, effect: Effect, out: &mut Vec<u8>) {
-        let policy = static_policy(id, effect);
+        let annotations = self.annotations();
+        let policy = unconstrained(annotations, id, effect);
         let answer = self.current.add_static(policy);
         push_by_set(out, answer);
     }
 
     // A template joins.
     fn add_template(&mut self, id: PolicyID, slots: TemplateSlots, out: &mut Vec<u8>) {
-        let template = template(id, slots);
+        let annotations = self.annotations();
+        let template = template(annotations, id, slots);
         let answer = self.current.add_template(template);
         push_by_set(out, answer);
     }
 
     // A link joins.
     fn link(&mut self, template_id: PolicyID, new_id: PolicyID, values: SlotEnv, out: &mut Vec<u8>) {
-        let answer = self.current.link_copying(template_id, new_id, &values);
-        self.spare = values;
+        let answer = self.current.link_copying(&template_id, new_id, &values);
+        self.room.keep(template_id, values);
         push_by_linking(out, answer);
     }
 

@@ -9,20 +9,27 @@ use crate::cedar_ids::policy_id::PolicyID;
 use crate::cedar_policy::{StaticPolicy, Template, UnexpectedSlotError};
 use crate::cedar_policy_lines::field::TemplateSlots;
 use crate::cedar_scope::{PrincipalConstraint, ResourceConstraint};
+use std::sync::Arc;
 
 /// A static policy that constrains nothing. It is this project's own.
 pub fn static_policy(id: PolicyID, effect: Effect) -> StaticPolicy {
-    let policy = StaticPolicy::new(
+    let annotations = Arc::new(Annotations::new());
+    unconstrained(annotations, id, effect)
+}
+
+// A static policy that constrains nothing, whose annotations, which are none, are shared.
+pub(crate) fn unconstrained(annotations: Arc<Annotations>, id: PolicyID, effect: Effect) -> StaticPolicy {
+    let template = Template::new_shared(
         id,
         None,
-        Annotations::new(),
+        annotations,
         effect,
         PrincipalConstraint::any(),
         ActionConstraint::any(),
         ResourceConstraint::any(),
         None,
     );
-    match policy {
+    match StaticPolicy::try_from(template) {
         Ok(policy) => policy,
         Err(UnexpectedSlotError::FoundSlot(_)) => unreachable!(),
     }
@@ -101,10 +108,16 @@ pub fn slotted_template(
     )
 }
 
-// A template that permits, with the slots that are named.
-pub(crate) fn template(id: PolicyID, slots: TemplateSlots) -> Template {
-    let principal = on_principal(slots);
-    let action = on_action(slots);
-    let resource = on_resource(slots);
-    slotted_template(id, Effect::Permit, principal, action, resource)
+// A template that permits, with the slots that are named, whose annotations, which are none, are shared.
+pub(crate) fn template(annotations: Arc<Annotations>, id: PolicyID, slots: TemplateSlots) -> Template {
+    Template::new_shared(
+        id,
+        None,
+        annotations,
+        Effect::Permit,
+        principal_of(on_principal(slots)),
+        action_of(on_action(slots)),
+        resource_of(on_resource(slots)),
+        None,
+    )
 }

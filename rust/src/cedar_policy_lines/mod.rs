@@ -6,6 +6,7 @@ mod command;
 pub mod field;
 pub mod machine;
 pub mod making;
+mod named;
 mod writing;
 
 pub use machine::PolicySets;

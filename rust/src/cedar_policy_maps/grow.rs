@@ -4,7 +4,7 @@
 
 use crate::cedar_ids::policy_id::PolicyID;
 use crate::cedar_policy::{Policy, Template, share_template};
-use crate::cedar_policy_maps::maps::{bodies_by_id, ids_by_template, policies_by_id};
+use crate::cedar_policy_maps::maps::{EnteringLists, bodies_by_id, ids_by_template, policies_by_id};
 use crate::cedar_policy_maps::policy_maps::PolicyMaps;
 use crate::ordered_map::{OrderedMap, OrderedSet};
 use std::hash::BuildHasher;
@@ -29,7 +29,7 @@ impl<T> Parted<T> {
     }
 }
 
-// What goes last in the three maps, and in lists under bodies that stand there.
+// What goes last in the three maps, and in lists under templates that stand there.
 struct Entering<S: BuildHasher> {
     templates: OrderedMap<PolicyID, Arc<Template>, S>,
     links: OrderedMap<PolicyID, Policy, S>,
@@ -48,7 +48,7 @@ impl<S: BuildHasher + Copy> PolicyMaps<S> {
             stand: alike,
             join: policies,
         } = policies;
-        let entering = what_enters(&self.links, &stand, join, policies);
+        let entering = what_enters(*self.links.hasher(), join, policies);
         self.put_in(entering, stand, alike);
     }
 
@@ -81,33 +81,10 @@ impl<S: BuildHasher + Copy> PolicyMaps<S> {
     }
 }
 
-// The policies that enter, by their ids, and under each template that stands the ids of those that it gets.
-struct EnteringPolicies<S: BuildHasher> {
-    links: OrderedMap<PolicyID, Policy, S>,
-    grown: OrderedMap<PolicyID, OrderedSet<PolicyID, S>, S>,
-}
-
-// What enters of policies a set with these policies, where some bodies stand.
-fn policies_that_enter<S: BuildHasher + Copy>(
-    known: &OrderedMap<PolicyID, Policy, S>,
-    stand: &[Arc<Template>],
-    policies: Vec<Policy>,
-) -> EnteringPolicies<S> {
-    let grown = ids_by_template(stand, known, &policies);
-    let links = policies_by_id(*known.hasher(), policies);
-    EnteringPolicies { links, grown }
-}
-
-// What enters a set with these policies where some bodies stand and others join, with policies on both.
-fn what_enters<S: BuildHasher + Copy>(
-    known: &OrderedMap<PolicyID, Policy, S>,
-    stand: &[Arc<Template>],
-    bodies: Vec<Arc<Template>>,
-    policies: Vec<Policy>,
-) -> Entering<S> {
-    let hasher = *known.hasher();
-    let EnteringPolicies { links, grown } = policies_that_enter(known, stand, policies);
-    let listed = ids_by_template(&bodies, &links, links.values());
+// What enters a set where some bodies join, with policies on these and on others.
+fn what_enters<S: BuildHasher + Copy>(hasher: S, bodies: Vec<Arc<Template>>, policies: Vec<Policy>) -> Entering<S> {
+    let links = policies_by_id(hasher, policies);
+    let EnteringLists { listed, grown } = ids_by_template(&bodies, &links);
     let templates = bodies_by_id(hasher, bodies);
     Entering {
         templates,

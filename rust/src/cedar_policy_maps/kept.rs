@@ -6,7 +6,7 @@ use crate::cedar_ids::policy_id::PolicyID;
 use crate::cedar_policy::{Policy, Template};
 use crate::cedar_policy_maps::found::Found;
 use crate::cedar_policy_maps::iters::LinkedIds;
-use crate::cedar_policy_maps::lists::is_link;
+use crate::cedar_policy_maps::lists::{has_no_slots, is_link};
 use crate::cedar_policy_maps::maps::{
     insert_reserved, list_policy, room_for_body, room_for_both, room_for_list, unlist,
 };
@@ -88,6 +88,25 @@ impl<S: BuildHasher + Copy> PolicyMaps<S> {
             Some(policy) => Some(Found::Policy(policy)),
             None => self.body_at(id).map(Found::Template),
         }
+    }
+
+    /// The template that an id is bound to, as it is shared, if it is bound to one. A template with slots is found by one
+    /// look-up.
+    pub fn bound_template(&self, id: &PolicyID) -> Option<&Arc<Template>> {
+        let template = self.body_at(id)?;
+        if self.is_template(id, template) {
+            Some(template)
+        } else {
+            None
+        }
+    }
+
+    // Whether the body with this id is a template. One with slots is, so that no policy is looked for.
+    fn is_template(&self, id: &PolicyID, body: &Template) -> bool {
+        if has_no_slots(body) {
+            return !self.has_policy(id);
+        }
+        true
     }
 
     /// Whether an id is bound.

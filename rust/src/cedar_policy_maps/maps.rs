@@ -4,7 +4,7 @@
 
 use crate::cedar_ids::policy_id::PolicyID;
 use crate::cedar_policy::{Policy, Template};
-use crate::cedar_policy_maps::lists::template_of;
+use crate::cedar_policy_maps::lists::{is_link, template_of};
 use crate::ordered_map::{OrderedMap, OrderedSet};
 use std::hash::BuildHasher;
 use std::sync::Arc;
@@ -118,17 +118,6 @@ pub(crate) fn list_link<S: BuildHasher + Copy>(
     }
 }
 
-// Lists a copy of an id last under a body's, where there is a list.
-fn list_link_copy<S: BuildHasher + Copy>(
-    map: &mut OrderedMap<PolicyID, OrderedSet<PolicyID, S>, S>,
-    body: &PolicyID,
-    id: &PolicyID,
-) {
-    if let Some(ids) = map.get_mut(body) {
-        insert_id_copy(ids, id);
-    }
-}
-
 // Takes an id out of what is listed under a body's.
 fn unlist_id<S: BuildHasher + Copy>(
     map: &mut OrderedMap<PolicyID, OrderedSet<PolicyID, S>, S>,
@@ -200,16 +189,24 @@ fn put_policy<S: BuildHasher + Copy>(links: &mut OrderedMap<PolicyID, Policy, S>
     insert_new(links, id, policy);
 }
 
-// The ids of the policies on each template, under its id, in the order of bodies. Of the bodies those are templates
-// whose ids the first policies do not have.
+// Lists that enter.
+pub(crate) struct EnteringLists<S: BuildHasher> {
+    // Under each template that joins the ids of its links.
+    pub(crate) listed: OrderedMap<PolicyID, OrderedSet<PolicyID, S>, S>,
+    // Under each other template that gets links the ids of these.
+    pub(crate) grown: OrderedMap<PolicyID, OrderedSet<PolicyID, S>, S>,
+}
+
+// The ids of links that join, under those of their templates. Of the bodies that join those are templates whose ids no
+// policy that joins has.
 pub(crate) fn ids_by_template<S: BuildHasher + Copy>(
     bodies: &[Arc<Template>],
-    known: &OrderedMap<PolicyID, Policy, S>,
-    policies: &[Policy],
-) -> OrderedMap<PolicyID, OrderedSet<PolicyID, S>, S> {
-    let mut map = no_ids(bodies, known);
-    list_policies(&mut map, policies);
-    map
+    policies: &OrderedMap<PolicyID, Policy, S>,
+) -> EnteringLists<S> {
+    let mut listed = no_ids(bodies, policies);
+    let mut grown = OrderedMap::with_hasher(*policies.hasher());
+    list_links(&mut listed, &mut grown, policies.values());
+    EnteringLists { listed, grown }
 }
 
 // No id under each template's id.
@@ -237,17 +234,61 @@ fn put_no_ids<S: BuildHasher + Copy>(
     insert_new(map, template.id().clone(), ids);
 }
 
-// Lists policies, each last under its body's id. Where there is no list no id is hashed.
-fn list_policies<S: BuildHasher + Copy>(
-    map: &mut OrderedMap<PolicyID, OrderedSet<PolicyID, S>, S>,
+// Lists links, each last under its template's id: in the first map where that has a list there, and else in the second.
+fn list_links<S: BuildHasher + Copy>(
+    listed: &mut OrderedMap<PolicyID, OrderedSet<PolicyID, S>, S>,
+    grown: &mut OrderedMap<PolicyID, OrderedSet<PolicyID, S>, S>,
     policies: &[Policy],
 ) {
-    if map.is_empty() {
-        return;
-    }
     for policy in policies {
-        list_link_copy(map, policy.template().id(), policy.id());
+        list_if_link(listed, grown, policy);
     }
+}
+
+// Lists a policy in one of two maps, if it is a link.
+fn list_if_link<S: BuildHasher + Copy>(
+    listed: &mut OrderedMap<PolicyID, OrderedSet<PolicyID, S>, S>,
+    grown: &mut OrderedMap<PolicyID, OrderedSet<PolicyID, S>, S>,
+    policy: &Policy,
+) {
+    if is_link(policy) {
+        list_in_either(listed, grown, policy.template().id(), policy.id());
+    }
+}
+
+// Lists a copy of an id last under a template's: in the first map where that has a list there, and else in the second.
+fn list_in_either<S: BuildHasher + Copy>(
+    listed: &mut OrderedMap<PolicyID, OrderedSet<PolicyID, S>, S>,
+    grown: &mut OrderedMap<PolicyID, OrderedSet<PolicyID, S>, S>,
+    body: &PolicyID,
+    id: &PolicyID,
+) {
+    match listed.get_mut(body) {
+        None => gather_id(grown, body, id),
+        Some(there) => insert_id_copy(there, id),
+    }
+}
+
+// Lists a copy of an id last under a template's, which goes last itself where it has no list.
+fn gather_id<S: BuildHasher + Copy>(
+    map: &mut OrderedMap<PolicyID, OrderedSet<PolicyID, S>, S>,
+    body: &PolicyID,
+    id: &PolicyID,
+) {
+    match map.get_mut(body) {
+        None => put_list(map, body, id),
+        Some(ids) => insert_id_copy(ids, id),
+    }
+}
+
+// Puts the list of one id under a new key last, copies of both.
+fn put_list<S: BuildHasher + Copy>(
+    map: &mut OrderedMap<PolicyID, OrderedSet<PolicyID, S>, S>,
+    body: &PolicyID,
+    id: &PolicyID,
+) {
+    let ids = set_of(*map.hasher(), id);
+    insert_new(map, body.clone(), ids);
 }
 
 // Further shares of bodies, under their ids.

@@ -258,22 +258,21 @@ impl<S: BuildHasher + Copy> PolicySet<S> {
     /// all, costs a map only where there is a policy. Refused as that is. It is this project's own.
     pub fn link_copying(
         &mut self,
-        template_id: PolicyID,
+        template_id: &PolicyID,
         new_id: PolicyID,
         values: &SlotEnv,
     ) -> Result<(), LinkingError> {
-        match self.template(&template_id) {
-            None => Err(LinkingError::NoSuchTemplate { id: template_id }),
+        match self.template(template_id) {
+            None => Err(LinkingError::NoSuchTemplate {
+                id: template_id.clone(),
+            }),
             Some(template) => self.link_template_copying(template, new_id, values),
         }
     }
 
     // A further share of the template with this id, where a template stands there.
     fn template(&self, id: &PolicyID) -> Option<Arc<Template>> {
-        match self.maps.found(id) {
-            None | Some(Found::Policy(_)) => None,
-            Some(Found::Template(template)) => Some(template.clone()),
-        }
+        self.maps.bound_template(id).cloned()
     }
 
     // Puts a link of this template, which stands under its id, last.
