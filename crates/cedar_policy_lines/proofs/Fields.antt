@@ -1,6 +1,6 @@
 -- Reading fields.
 use Rattle.std.specs.Prelude.{◌≡◌, ℕ, List, [], ◌∷◌, ◌++◌, length, drop, nat_eq, Bool, true, false, Option, Some, None}
-use Rattle.std.specs.Prelude.{Result, Ok, Err, MatchOption, map, if◌then◌else◌}
+use Rattle.std.specs.Prelude.{Result, Ok, Err, MatchOption, map, if◌then◌else◌, codes}
 use Rattle.std.proofs.Common.{ap, sym, refl, ◌∙◌, arith, get_or, ◌<◌, ◌+◌, suc}
 use Rattle.std.proofs.Math.Seq.{drop-cons}
 use Rattle.std.specs.Borrow.{Bor}
@@ -18,12 +18,14 @@ use Rattle.cedar_ids.specs.laws.UidTexts.{uid_found}
 use Rattle.cedar_ids.specs.declared.err.ParseErrors.{ParseErrors}
 use Rattle.cedar_ids.specs.declared.entity.EntityUID.{EntityUID}
 use Rattle.cedar_ids.specs.declared.entity.EntityUID.TheVariants as uids
-use Rattle.cedar_policy_lines.specs.PolicyCommand.{PolicyCommand, IsPolicyCommand, bound_more}
+use Rattle.cedar_ids.specs.Texts.{same_text}
+use Rattle.cedar_ids.specs.laws.TextLaws.{same_text_decides}
+use Rattle.cedar_policy_lines.specs.PolicyCommand.{PolicyCommand, IsPolicyCommand, Link, bound_more}
 use Rattle.cedar_binding.specs.Bindings.{EnvParts, binds}
 use Rattle.cedar_terms.specs.declared.slot.SlotId.{SlotId}
 use Rattle.cedar_lines.specs.Reads.{ReadsAs}
 use Rattle.cedar_policy_lines.specs.laws.PolicyReading.{behind, uid_read, read_uid, binding_of, with_binding}
-use Rattle.cedar_policy_lines.specs.laws.PolicyReading.{bindings_from, policy_command}
+use Rattle.cedar_policy_lines.specs.laws.PolicyReading.{bindings_from, policy_command, command_by, link_of}
 use Rattle.cedar_policy_lines.specs.laws.ReadCommands.{command_is_read, read_is_command, none_goes_on}
 
 lacks : (mark s : List ℕ) (b : Bool) → starts_with nat_eq s mark ≡ b → LacksTextAt mark s 0
@@ -123,3 +125,21 @@ one_more_read fs k z d e b o l h read new is =
     ap (λ x. bindings_from (Some x) rest) is
     ∙ sym (ap (λ x. bindings_from x rest) (bound_new d b (binding_of (get_or fs k z).now) read new))
     ∙ ap (bindings_from (Some d)) (sym (field_first fs k z l)) ∙ h
+
+-- fields behind the word of a link are read as one
+linked_by : (w : List ℕ) (fs : List (List ℕ)) → same_text w (codes "link") ≡ true → policy_command (w ∷ fs) ≡ link_of fs
+linked_by w fs is = ap (λ v. command_by v fs) ((same_text_decides w (codes "link")).0 is)
+
+-- where they are not, they are those of no link
+pub no_link : {A : Type 0} (g : A → PolicyCommand) (o : Option A) (w : List ℕ) (fs : List (List ℕ))
+    → same_text w (codes "link") ≡ true → option_map g o ≡ link_of fs → o ≡ None → (t l : List ℕ) (e : EnvParts)
+    → IsPolicyCommand (Link t l e) (w ∷ fs) → ⊥
+no_link g o w fs is read none t l e h =
+    none_some (Link t l e)
+    (sym (linked_by w fs is ∙ sym read ∙ ap (option_map g) none) ∙ command_is_read (Link t l e) (w ∷ fs) h)
+
+-- where they are, they are those of that link
+pub link_is_read : {A : Type 0} (g : A → PolicyCommand) (o : Option A) (a : A) (w : List ℕ) (fs : List (List ℕ))
+    → same_text w (codes "link") ≡ true → option_map g o ≡ link_of fs → o ≡ Some a → IsPolicyCommand (g a) (w ∷ fs)
+link_is_read g o a w fs is read some =
+    read_is_command (w ∷ fs) (g a) (linked_by w fs is ∙ sym read ∙ ap (option_map g) some)

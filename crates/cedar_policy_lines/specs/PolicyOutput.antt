@@ -8,7 +8,7 @@ use Rattle.cedar_ids.specs.Uid.{UidParts}
 use Rattle.cedar_ids.specs.Printed.{uid_output}
 use Rattle.cedar_lines.specs.Lines.{written_line}
 use Rattle.cedar_terms.specs.declared.slot.SlotId.TheVariants.{Principal, Action, Resource}
-use Rattle.cedar_binding.specs.Bindings.{is_among}
+use Rattle.cedar_binding.specs.Bindings.{EnvParts, is_among}
 use Rattle.cedar_scope.specs.Scope.{Constraint, any, equals, to_slot}
 use Rattle.cedar_action.specs.Rules.{ActionRule, any_action, just_slot}
 use Rattle.cedar_body.specs.Bodies.{BodyParts}
@@ -22,7 +22,7 @@ use Rattle.cedar_policy_set.specs.Steps.{no_static, not_static, add_static_step,
 use Rattle.cedar_policy_set.specs.Steps.{unlink_step}
 use Rattle.cedar_policy_lines.specs.TwoSets.{TwoSets, with_current, swapped}
 use Rattle.cedar_policy_lines.specs.PolicyCommand.{PolicyCommand, Static, Template, Link, Unlink, Other, Merge, Ids}
-use Rattle.cedar_policy_lines.specs.PolicyCommand.{slots_named}
+use Rattle.cedar_policy_lines.specs.PolicyCommand.{slots_named, IsPolicyCommand}
 use Rattle.cedar_policy_lines.specs.declared.field.TemplateSlots.{TemplateSlots}
 
 -- ---- texts
@@ -159,3 +159,10 @@ PolicyGives Ids old new out = (new ≡ old) × (out ≡ ids_lines old.current)
 -- a command makes these policy sets of those, and adds what it writes
 abbrev pub PolicyWrites : PolicyCommand → TwoSets → TwoSets → List ℕ → List ℕ → Type 0
 PolicyWrites c old new before after = (text : List ℕ) × PolicyGives c old new text × (after ≡ before ++ text)
+
+-- fields that are those of a link are taken as that command; with any others nothing changes
+abbrev pub TakesLink : Bool → List (List ℕ) → TwoSets → TwoSets → List ℕ → List ℕ → Type 0
+TakesLink true fs old new before after = (t l : List ℕ) × (e : EnvParts) × IsPolicyCommand (Link t l e) fs
+    × PolicyWrites (Link t l e) old new before after
+TakesLink false fs old new before after = ((t l : List ℕ) (e : EnvParts) → IsPolicyCommand (Link t l e) fs → ⊥)
+    × (new ≡ old) × (after ≡ before)

@@ -1,12 +1,12 @@
 //! Which fields are which command.
-ghost use Rattle.std.specs.Prelude.{◌≡◌, OnOk, IfOk, map};
+ghost use Rattle.std.specs.Prelude.{◌≡◌, OnOk, IfOk, map, Some, None, if◌then◌else◌};
 ghost use Rattle.std.specs.List.{list_all};
 ghost use Rattle.std.specs.Map.{keys_of};
 ghost use Rattle.std.specs.Option.{option_map};
 ghost use Rattle.cedar_ids.specs.UidOf.{uid_parts};
 ghost use Rattle.cedar_lines.specs.Reads.{ReadsAs};
 ghost use Rattle.cedar_binding.specs.Views.{env_of};
-ghost use Rattle.cedar_policy_lines.specs.PolicyCommand.{IsPolicyCommand, Other, Ids, bound_more};
+ghost use Rattle.cedar_policy_lines.specs.PolicyCommand.{IsPolicyCommand, Link, Other, Ids, bound_more};
 ghost use Rattle.cedar_policy_lines.specs.CommandOf.{policy_command_of};
 ghost use Rattle.cedar_policy_lines.specs.laws.NamedSlots.{is_named, named_alone, bound_if};
 ghost use Rattle.cedar_policy_lines.specs.laws.PolicyReading.{only, bindings_of, static_of, template_of, link_of};
@@ -48,8 +48,8 @@ pub enum PolicyCommand {
 // eid that was bound before.
 #[derive(Debug, Drop)]
 pub(crate) struct LinkRoom {
-    template: PolicyID,
-    values: SlotEnv,
+    pub(crate) template: PolicyID,
+    pub(crate) values: SlotEnv,
     eid: String,
 }
 
@@ -68,6 +68,30 @@ impl LinkRoom {
         self.template = template;
         self.values = values;
     }
+
+    // Reads a link, if the fields behind the word are those of one: the id of its template and its bindings are here
+    // then. Answers its own id.
+    pub(crate) fn read(
+        &mut self,
+        alloc: Global,
+        known: &mut KnownTypes,
+        fields: &[&str],
+    ) -> Result<Option<PolicyID>, AllocError>
+        ensures { IfOk result (λ o. option_map (λ i. Link self.new.template i (env_of self.new.values)) o
+            ≡ link_of (map (λ f. f.now) fields.now)) }
+    {
+        let Some((template, rest)) = fields.split_first() else {
+            return Ok(None);
+        };
+        let Some((id, rest)) = rest.split_first() else {
+            return Ok(None);
+        };
+        if !read_bindings(alloc, known, self, rest)? {
+            return Ok(None);
+        }
+        set_id(alloc, &mut self.template, template)?;
+        Ok(Some(PolicyID::from_string(alloc, id)?))
+    }
 }
 
 // The empty id, which takes no memory.
@@ -75,12 +99,13 @@ fn no_id(alloc: Global) -> PolicyID {
     PolicyID::from_smolstr(String::new(alloc))
 }
 
-// The id with a text, in the room of another.
-fn id_in(alloc: Global, room: &mut PolicyID, text: &str) -> Result<PolicyID, AllocError>
-    ensures { IfOk result (λ id. id ≡ text.now) }
+// Makes an id that with a text, in its room.
+fn set_id(alloc: Global, id: &mut PolicyID, text: &str) -> Result<(), AllocError>
+    ensures { OnOk result (id.new ≡ text.now) }
 {
-    let mut before = mem::replace(room, no_id(alloc)).into_smolstr();
-    Ok(PolicyID::from_smolstr(text_in(alloc, &mut before, text)?))
+    let mut before = mem::replace(id, no_id(alloc)).into_smolstr();
+    *id = PolicyID::from_smolstr(text_in(alloc, &mut before, text)?);
+    Ok(())
 }
 
 // The one field that there is.
@@ -141,30 +166,30 @@ fn unbind_others(values: &mut SlotEnv, named: NamedSlots)
     unbind_unless(values, SlotId::Resource, named.has(SlotId::Resource));
 }
 
-// The bindings that the fields are, if they are some: one field for each slot that is bound. They are put into a map
-// that is taken, in the place of what the link before bound.
-fn bindings_of(
+// Reads bindings in the place of those of the link before, and says whether the fields are some: one field for each slot
+// that is bound.
+fn read_bindings(
     alloc: Global,
     known: &mut KnownTypes,
     room: &mut LinkRoom,
     fields: &[&str],
-) -> Result<Option<SlotEnv>, AllocError>
-    ensures { IfOk result (λ o. option_map env_of o ≡ bindings_of (map (λ f. f.now) fields.now)) }
+) -> Result<bool, AllocError>
+    ensures { IfOk result (λ are. (if are then Some (env_of room.new.values) else None)
+        ≡ bindings_of (map (λ f. f.now) fields.now)) }
 {
-    let mut values = mem::replace(&mut room.values, no_bindings(alloc));
     let mut named = NamedSlots::none();
     for field in fields {
         let Some((slot, uid)) = binding_of(alloc, known, &mut room.eid, field)? else {
-            return Ok(None);
+            return Ok(false);
         };
         if named.has(slot) {
-            return Ok(None);
+            return Ok(false);
         }
-        bind(&mut room.eid, &mut values, slot, uid)?;
+        bind(&mut room.eid, &mut room.values, slot, uid)?;
         named = named.with(slot);
     }
-    unbind_others(&mut values, named);
-    Ok(Some(values))
+    unbind_others(&mut room.values, named);
+    Ok(true)
 }
 
 // The command of `static`.
@@ -209,17 +234,11 @@ fn link_of(
 ) -> Result<Option<PolicyCommand>, AllocError>
     ensures { IfOk result (λ o. option_map policy_command_of o ≡ link_of (map (λ f. f.now) fields.now)) }
 {
-    let Some((template, rest)) = fields.split_first() else {
+    let Some(id) = room.read(alloc, known, fields)? else {
         return Ok(None);
     };
-    let Some((id, rest)) = rest.split_first() else {
-        return Ok(None);
-    };
-    let Some(values) = bindings_of(alloc, known, room, rest)? else {
-        return Ok(None);
-    };
-    let template = id_in(alloc, &mut room.template, template)?;
-    let id = PolicyID::from_string(alloc, id)?;
+    let template = mem::replace(&mut room.template, no_id(alloc));
+    let values = mem::replace(&mut room.values, no_bindings(alloc));
     Ok(Some(PolicyCommand::Link(template, id, values)))
 }
 

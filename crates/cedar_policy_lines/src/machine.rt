@@ -8,7 +8,7 @@ ghost use Rattle.cedar_policy_lines.specs.PolicyCommand.{Link as link_command, U
 ghost use Rattle.cedar_policy_lines.specs.PolicyCommand.{Other as other_command, Merge as merge_command};
 ghost use Rattle.cedar_policy_lines.specs.PolicyCommand.{IsPolicyCommand, Ids as ids_command};
 ghost use Rattle.cedar_policy_lines.specs.CommandOf.{policy_command_of};
-ghost use Rattle.cedar_policy_lines.specs.PolicyOutput.{PolicyWrites};
+ghost use Rattle.cedar_policy_lines.specs.PolicyOutput.{PolicyWrites, TakesLink};
 
 use crate::command::{LinkRoom, PolicyCommand, read_with};
 use crate::field::TemplateSlots;
@@ -156,6 +156,38 @@ impl<S: BuildHasher + Copy> PolicySets<S> {
             .link_copying(alloc, &template_id, new_id, &values);
         self.room.keep(template_id, values);
         push_by_linking(alloc, out, answer)
+    }
+
+    /// Takes the fields of a line that links, and says whether they are those of one. Those of another line are left for
+    /// [`PolicySets::read`]. The link is made where it is read, and no command of it: such lines are the longest.
+    ///
+    /// It is refused only where memory was, and then nothing is said of the sets and of what was added. Its cost is that
+    /// of the call on the set, and of what is written. It is this project's own.
+    pub fn take_link(
+        &mut self,
+        alloc: Global,
+        known: &mut KnownTypes,
+        fields: &[&str],
+        out: &mut Vec<u8>,
+    ) -> Result<bool, AllocError>
+        ensures { IfOk result (λ taken. TakesLink taken (map (λ f. f.now) fields.now)
+            self.old self.new out.old.items out.new.items) }
+    {
+        let Some((word, rest)) = fields.split_first() else {
+            return Ok(false);
+        };
+        if *word == "link" {
+            let Some(id) = self.room.read(alloc, known, rest)? else {
+                return Ok(false);
+            };
+            let room = &self.room;
+            let answer = self
+                .current
+                .link_copying(alloc, &room.template, id, &room.values);
+            push_by_linking(alloc, out, answer)?;
+            return Ok(true);
+        }
+        Ok(false)
     }
 
     // A link goes.

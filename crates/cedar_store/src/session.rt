@@ -102,6 +102,12 @@ impl<S: BuildHasher + Copy> Session<S> {
         ensures { IfOk result (λ taken. (s : State) → StandsAt self.old s →
             TakesKind Policy taken (map (λ f. f.now) fields.now) s self.new out.old.items out.new.items) }
     {
+        let linked = self
+            .sets
+            .take_link(alloc, self.known.types(), fields, out)?;
+        if linked {
+            return Ok(true);
+        }
         match self.sets.read(alloc, self.known.types(), fields)? {
             None => Ok(false),
             Some(command) => {

@@ -9,12 +9,12 @@ use Rattle.cedar_policy_lines.specs.laws.NamedSlots.{is_named, named_alone, name
 use Rattle.cedar_policy_lines.specs.laws.NamedSlots.{unnamed_is_unbound}
 use Rattle.cedar_policy_lines.specs.laws.PolicyReading.{with_binding}
 use Rattle.cedar_policy_lines.proofs.Fields.{none_read, unread, bound_again, one_more_read}
-use Rattle.cedar_policy_lines.proofs.command.bindings_of.Goals as goal
+use Rattle.cedar_policy_lines.proofs.command.read_bindings.Goals as goal
 
 pub loop-field-preserved : goal.loop-field-preserved
 loop-field-preserved c =
     let n = c.loop-field.named in
-    let e = env_of c.loop-field.values in
+    let e = env_of c.loop-field.room.values in
     let s = c.in-Some.slot in
     let u = uid_parts c.in-Some.uid in
     let read = sym c.in_ok-slot.ensures ∙ ap (option_map (λ b. (b.0, uid_parts b.1))) c.in-Some.is in
@@ -29,14 +29,14 @@ loop-field-preserved c =
 
 pub returns-in_default : goal.returns-in_default
 returns-in_default c =
-    let d = named_alone c.loop-field.named (env_of c.loop-field.values) in
+    let d = named_alone c.loop-field.named (env_of c.loop-field.room.values) in
     none_read c.args.fields.now c.loop-field.field-index _ d _ c.loop-field-test.true c.loop-field.invariant.0
     (ap (with_binding d) (unread _ c.in_ok-slot.field-0 _ c.in_ok-slot.ensures c.in_default.is))
 
 pub returns-then-has : goal.returns-then-has
 returns-then-has c =
     let n = c.loop-field.named in
-    let e = env_of c.loop-field.values in
+    let e = env_of c.loop-field.room.values in
     let read = sym c.in_ok-slot.ensures ∙ ap (option_map (λ b. (b.0, uid_parts b.1))) c.in-Some.is in
     let named = sym c.has.ensures ∙ c.if-has.true in
     none_read c.args.fields.now c.loop-field.field-index _ (named_alone n e) _ c.loop-field-test.true
