@@ -1,7 +1,7 @@
 -- Reading fields.
 use Rattle.std.specs.Prelude.{◌≡◌, ℕ, List, [], ◌∷◌, ◌++◌, length, drop, nat_eq, Bool, true, false, Option, Some, None}
-use Rattle.std.specs.Prelude.{Result, Ok, Err, MatchOption, map, if◌then◌else◌, codes}
-use Rattle.std.proofs.Common.{ap, sym, refl, ◌∙◌, arith, get_or, ◌<◌, ◌+◌, suc}
+use Rattle.std.specs.Prelude.{Result, Ok, Err, MatchOption, map, if◌then◌else◌}
+use Rattle.std.proofs.Common.{ap, sym, refl, subst, ◌∙◌, arith, get_or, ◌<◌, ◌+◌, suc}
 use Rattle.std.proofs.Math.Seq.{drop-cons}
 use Rattle.std.specs.Borrow.{Bor}
 use Rattle.std.specs.List.{starts_with}
@@ -20,12 +20,15 @@ use Rattle.cedar_ids.specs.declared.entity.EntityUID.{EntityUID}
 use Rattle.cedar_ids.specs.declared.entity.EntityUID.TheVariants as uids
 use Rattle.cedar_ids.specs.Texts.{same_text}
 use Rattle.cedar_ids.specs.laws.TextLaws.{same_text_decides}
-use Rattle.cedar_policy_lines.specs.PolicyCommand.{PolicyCommand, IsPolicyCommand, Link, bound_more}
+use Rattle.cedar_policy_lines.specs.PolicyCommand.{PolicyCommand, IsPolicyCommand, bound_more}
+use Rattle.cedar_policy_lines.specs.PolicyOutput.{TakesPolicy}
+use Rattle.cedar_policy_lines.specs.TwoSets.{TwoSets}
+use Rattle.cedar_policy_lines.specs.laws.Machines.{TakesAs}
 use Rattle.cedar_binding.specs.Bindings.{EnvParts, binds}
 use Rattle.cedar_terms.specs.declared.slot.SlotId.{SlotId}
 use Rattle.cedar_lines.specs.Reads.{ReadsAs}
 use Rattle.cedar_policy_lines.specs.laws.PolicyReading.{behind, uid_read, read_uid, binding_of, with_binding}
-use Rattle.cedar_policy_lines.specs.laws.PolicyReading.{bindings_from, policy_command, command_by, link_of}
+use Rattle.cedar_policy_lines.specs.laws.PolicyReading.{bindings_from, policy_command, command_by}
 use Rattle.cedar_policy_lines.specs.laws.ReadCommands.{command_is_read, read_is_command, none_goes_on}
 
 lacks : (mark s : List ℕ) (b : Bool) → starts_with nat_eq s mark ≡ b → LacksTextAt mark s 0
@@ -126,20 +129,20 @@ one_more_read fs k z d e b o l h read new is =
     ∙ sym (ap (λ x. bindings_from x rest) (bound_new d b (binding_of (get_or fs k z).now) read new))
     ∙ ap (bindings_from (Some d)) (sym (field_first fs k z l)) ∙ h
 
--- fields behind the word of a link are read as one
-linked_by : (w : List ℕ) (fs : List (List ℕ)) → same_text w (codes "link") ≡ true → policy_command (w ∷ fs) ≡ link_of fs
-linked_by w fs is = ap (λ v. command_by v fs) ((same_text_decides w (codes "link")).0 is)
+-- what was taken by how the fields are read is taken as the command that they are
+pub taken_as : (taken : Bool) (fs : List (List ℕ)) (old new : TwoSets) (before after : List ℕ)
+    → TakesAs (policy_command fs) taken old new before after → TakesPolicy taken fs old new before after
+taken_as true fs old new before after h = (h.0, read_is_command fs h.0 h.1, h.2)
+taken_as false fs old new before after h = (
+  λ c k. none_some c (sym h.0 ∙ command_is_read c fs k),
+  h.1,
+  h.2,
+)
 
--- where they are not, they are those of no link
-pub no_link : {A : Type 0} (g : A → PolicyCommand) (o : Option A) (w : List ℕ) (fs : List (List ℕ))
-    → same_text w (codes "link") ≡ true → option_map g o ≡ link_of fs → o ≡ None → (t l : List ℕ) (e : EnvParts)
-    → IsPolicyCommand (Link t l e) (w ∷ fs) → ⊥
-no_link g o w fs is read none t l e h =
-    none_some (Link t l e)
-    (sym (linked_by w fs is ∙ sym read ∙ ap (option_map g) none) ∙ command_is_read (Link t l e) (w ∷ fs) h)
-
--- where they are, they are those of that link
-pub link_is_read : {A : Type 0} (g : A → PolicyCommand) (o : Option A) (a : A) (w : List ℕ) (fs : List (List ℕ))
-    → same_text w (codes "link") ≡ true → option_map g o ≡ link_of fs → o ≡ Some a → IsPolicyCommand (g a) (w ∷ fs)
-link_is_read g o a w fs is read some =
-    read_is_command (w ∷ fs) (g a) (linked_by w fs is ∙ sym read ∙ ap (option_map g) some)
+-- so it is where the word says how
+pub taken_by : (word : List ℕ) (taken : Bool) (w : List ℕ) (fs : List (List ℕ)) (old new : TwoSets)
+    (before after : List ℕ) → same_text w word ≡ true → TakesAs (command_by word fs) taken old new before after
+    → TakesPolicy taken (w ∷ fs) old new before after
+taken_by word taken w fs old new before after is h =
+    taken_as taken (w ∷ fs) old new before after
+    (subst (λ v. TakesAs (command_by v fs) taken old new before after) (sym ((same_text_decides w word).0 is)) h)

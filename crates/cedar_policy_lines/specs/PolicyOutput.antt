@@ -8,7 +8,7 @@ use Rattle.cedar_ids.specs.Uid.{UidParts}
 use Rattle.cedar_ids.specs.Printed.{uid_output}
 use Rattle.cedar_lines.specs.Lines.{written_line}
 use Rattle.cedar_terms.specs.declared.slot.SlotId.TheVariants.{Principal, Action, Resource}
-use Rattle.cedar_binding.specs.Bindings.{EnvParts, is_among}
+use Rattle.cedar_binding.specs.Bindings.{is_among}
 use Rattle.cedar_scope.specs.Scope.{Constraint, any, equals, to_slot}
 use Rattle.cedar_action.specs.Rules.{ActionRule, any_action, just_slot}
 use Rattle.cedar_body.specs.Bodies.{BodyParts}
@@ -160,9 +160,9 @@ PolicyGives Ids old new out = (new ≡ old) × (out ≡ ids_lines old.current)
 abbrev pub PolicyWrites : PolicyCommand → TwoSets → TwoSets → List ℕ → List ℕ → Type 0
 PolicyWrites c old new before after = (text : List ℕ) × PolicyGives c old new text × (after ≡ before ++ text)
 
--- fields that are those of a link are taken as that command; with any others nothing changes
-abbrev pub TakesLink : Bool → List (List ℕ) → TwoSets → TwoSets → List ℕ → List ℕ → Type 0
-TakesLink true fs old new before after = (t l : List ℕ) × (e : EnvParts) × IsPolicyCommand (Link t l e) fs
-    × PolicyWrites (Link t l e) old new before after
-TakesLink false fs old new before after = ((t l : List ℕ) (e : EnvParts) → IsPolicyCommand (Link t l e) fs → ⊥)
-    × (new ≡ old) × (after ≡ before)
+-- fields that are those of a command are taken as it; with any others nothing changes
+abbrev pub TakesPolicy : Bool → List (List ℕ) → TwoSets → TwoSets → List ℕ → List ℕ → Type 0
+TakesPolicy true fs old new before after = (c : PolicyCommand) × IsPolicyCommand c fs
+    × PolicyWrites c old new before after
+TakesPolicy false fs old new before after = ((c : PolicyCommand) → IsPolicyCommand c fs → ⊥) × (new ≡ old)
+    × (after ≡ before)

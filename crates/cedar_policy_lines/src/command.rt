@@ -6,7 +6,7 @@ ghost use Rattle.std.specs.Option.{option_map};
 ghost use Rattle.cedar_ids.specs.UidOf.{uid_parts};
 ghost use Rattle.cedar_lines.specs.Reads.{ReadsAs};
 ghost use Rattle.cedar_binding.specs.Views.{env_of};
-ghost use Rattle.cedar_policy_lines.specs.PolicyCommand.{IsPolicyCommand, Link, Other, Ids, bound_more};
+ghost use Rattle.cedar_policy_lines.specs.PolicyCommand.{IsPolicyCommand, Static, Template, Link, Other, Ids, bound_more};
 ghost use Rattle.cedar_policy_lines.specs.CommandOf.{policy_command_of};
 ghost use Rattle.cedar_policy_lines.specs.laws.NamedSlots.{is_named, named_alone, bound_if};
 ghost use Rattle.cedar_policy_lines.specs.laws.PolicyReading.{only, bindings_of, static_of, template_of, link_of};
@@ -192,9 +192,12 @@ fn read_bindings(
     Ok(true)
 }
 
-// The command of `static`.
-fn static_of(alloc: Global, fields: &[&str]) -> Result<Option<PolicyCommand>, AllocError>
-    ensures { IfOk result (λ o. option_map policy_command_of o ≡ static_of (map (λ f. f.now) fields.now)) }
+// The id and the effect behind `static`.
+pub(crate) fn read_static(
+    alloc: Global,
+    fields: &[&str],
+) -> Result<Option<(PolicyID, Effect)>, AllocError>
+    ensures { IfOk result (λ o. option_map (λ r. Static r.0 r.1) o ≡ static_of (map (λ f. f.now) fields.now)) }
 {
     let Some((id, rest)) = fields.split_first() else {
         return Ok(None);
@@ -205,12 +208,25 @@ fn static_of(alloc: Global, fields: &[&str]) -> Result<Option<PolicyCommand>, Al
     let Some(effect) = effect_of(word) else {
         return Ok(None);
     };
-    Ok(Some(PolicyCommand::Static(PolicyID::from_string(alloc, id)?, effect)))
+    Ok(Some((PolicyID::from_string(alloc, id)?, effect)))
 }
 
-// The command of `template`.
-fn template_of(alloc: Global, fields: &[&str]) -> Result<Option<PolicyCommand>, AllocError>
-    ensures { IfOk result (λ o. option_map policy_command_of o ≡ template_of (map (λ f. f.now) fields.now)) }
+// The command of `static`.
+fn static_of(alloc: Global, fields: &[&str]) -> Result<Option<PolicyCommand>, AllocError>
+    ensures { IfOk result (λ o. option_map policy_command_of o ≡ static_of (map (λ f. f.now) fields.now)) }
+{
+    match read_static(alloc, fields)? {
+        None => Ok(None),
+        Some((id, effect)) => Ok(Some(PolicyCommand::Static(id, effect))),
+    }
+}
+
+// The id and the slots behind `template`.
+pub(crate) fn read_template(
+    alloc: Global,
+    fields: &[&str],
+) -> Result<Option<(PolicyID, TemplateSlots)>, AllocError>
+    ensures { IfOk result (λ o. option_map (λ r. Template r.0 r.1) o ≡ template_of (map (λ f. f.now) fields.now)) }
 {
     let Some((id, rest)) = fields.split_first() else {
         return Ok(None);
@@ -221,8 +237,17 @@ fn template_of(alloc: Global, fields: &[&str]) -> Result<Option<PolicyCommand>, 
     let Some(slots) = slots_of(word) else {
         return Ok(None);
     };
-    let id = PolicyID::from_string(alloc, id)?;
-    Ok(Some(PolicyCommand::Template(id, slots)))
+    Ok(Some((PolicyID::from_string(alloc, id)?, slots)))
+}
+
+// The command of `template`.
+fn template_of(alloc: Global, fields: &[&str]) -> Result<Option<PolicyCommand>, AllocError>
+    ensures { IfOk result (λ o. option_map policy_command_of o ≡ template_of (map (λ f. f.now) fields.now)) }
+{
+    match read_template(alloc, fields)? {
+        None => Ok(None),
+        Some((id, slots)) => Ok(Some(PolicyCommand::Template(id, slots))),
+    }
 }
 
 // The command of `link`.

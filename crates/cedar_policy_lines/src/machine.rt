@@ -8,9 +8,11 @@ ghost use Rattle.cedar_policy_lines.specs.PolicyCommand.{Link as link_command, U
 ghost use Rattle.cedar_policy_lines.specs.PolicyCommand.{Other as other_command, Merge as merge_command};
 ghost use Rattle.cedar_policy_lines.specs.PolicyCommand.{IsPolicyCommand, Ids as ids_command};
 ghost use Rattle.cedar_policy_lines.specs.CommandOf.{policy_command_of};
-ghost use Rattle.cedar_policy_lines.specs.PolicyOutput.{PolicyWrites, TakesLink};
+ghost use Rattle.cedar_policy_lines.specs.PolicyOutput.{PolicyWrites, TakesPolicy};
+ghost use Rattle.cedar_policy_lines.specs.laws.PolicyReading.{link_of, static_of, template_of};
+ghost use Rattle.cedar_policy_lines.specs.laws.Machines.{TakesAs};
 
-use crate::command::{LinkRoom, PolicyCommand, read_with};
+use crate::command::{LinkRoom, PolicyCommand, read_static, read_template, read_with};
 use crate::field::TemplateSlots;
 use crate::making::{template, unconstrained};
 use crate::writing::{
@@ -158,36 +160,114 @@ impl<S: BuildHasher + Copy> PolicySets<S> {
         push_by_linking(alloc, out, answer)
     }
 
-    /// Takes the fields of a line that links, and says whether they are those of one. Those of another line are left for
-    /// [`PolicySets::read`]. The link is made where it is read, and no command of it: such lines are the longest.
-    ///
-    /// It is refused only where memory was, and then nothing is said of the sets and of what was added. Its cost is that
-    /// of the call on the set, and of what is written. It is this project's own.
-    pub fn take_link(
+    // Takes the fields behind `static`, and says whether they are those of a command.
+    fn take_static(
+        &mut self,
+        alloc: Global,
+        fields: &[&str],
+        out: &mut Vec<u8>,
+    ) -> Result<bool, AllocError>
+        ensures { IfOk result (λ taken. TakesAs (static_of (map (λ f. f.now) fields.now)) taken
+            self.old self.new out.old.items out.new.items) }
+    {
+        match read_static(alloc, fields)? {
+            None => Ok(false),
+            Some((id, effect)) => {
+                self.add_static(alloc, id, effect, out)?;
+                Ok(true)
+            }
+        }
+    }
+
+    // Takes the fields behind `template`, and says whether they are those of a command.
+    fn take_template(
+        &mut self,
+        alloc: Global,
+        fields: &[&str],
+        out: &mut Vec<u8>,
+    ) -> Result<bool, AllocError>
+        ensures { IfOk result (λ taken. TakesAs (template_of (map (λ f. f.now) fields.now)) taken
+            self.old self.new out.old.items out.new.items) }
+    {
+        match read_template(alloc, fields)? {
+            None => Ok(false),
+            Some((id, slots)) => {
+                self.add_template(alloc, id, slots, out)?;
+                Ok(true)
+            }
+        }
+    }
+
+    // Takes the fields behind `link`, and says whether they are those of a command. The link is made where it is read.
+    fn take_link(
         &mut self,
         alloc: Global,
         known: &mut KnownTypes,
         fields: &[&str],
         out: &mut Vec<u8>,
     ) -> Result<bool, AllocError>
-        ensures { IfOk result (λ taken. TakesLink taken (map (λ f. f.now) fields.now)
+        ensures { IfOk result (λ taken. TakesAs (link_of (map (λ f. f.now) fields.now)) taken
+            self.old self.new out.old.items out.new.items) }
+    {
+        let Some(id) = self.room.read(alloc, known, fields)? else {
+            return Ok(false);
+        };
+        let room = &self.room;
+        let answer = self
+            .current
+            .link_copying(alloc, &room.template, id, &room.values);
+        push_by_linking(alloc, out, answer)?;
+        Ok(true)
+    }
+
+    // Takes the fields of a line by the command that they are, and says whether they are those of one.
+    fn take_command(
+        &mut self,
+        alloc: Global,
+        known: &mut KnownTypes,
+        fields: &[&str],
+        out: &mut Vec<u8>,
+    ) -> Result<bool, AllocError>
+        ensures { IfOk result (λ taken. TakesPolicy taken (map (λ f. f.now) fields.now)
+            self.old self.new out.old.items out.new.items) }
+    {
+        match self.read(alloc, known, fields)? {
+            None => Ok(false),
+            Some(command) => {
+                self.take(alloc, command, out)?;
+                Ok(true)
+            }
+        }
+    }
+
+    /// Takes the fields of a line on policy sets, and says whether they are those of one, as [`PolicySets::read`] and
+    /// [`PolicySets::take`] do. What joins is made where it is read, and no command of it.
+    ///
+    /// It is refused only where memory was, and then nothing is said of the sets and of what was added. Its cost is that
+    /// of the call on the set, and of what is written. It is this project's own.
+    pub fn take_fields(
+        &mut self,
+        alloc: Global,
+        known: &mut KnownTypes,
+        fields: &[&str],
+        out: &mut Vec<u8>,
+    ) -> Result<bool, AllocError>
+        ensures { IfOk result (λ taken. TakesPolicy taken (map (λ f. f.now) fields.now)
             self.old self.new out.old.items out.new.items) }
     {
         let Some((word, rest)) = fields.split_first() else {
             return Ok(false);
         };
         if *word == "link" {
-            let Some(id) = self.room.read(alloc, known, rest)? else {
-                return Ok(false);
-            };
-            let room = &self.room;
-            let answer = self
-                .current
-                .link_copying(alloc, &room.template, id, &room.values);
-            push_by_linking(alloc, out, answer)?;
-            return Ok(true);
+            return self.take_link(alloc, known, rest, out);
         }
-        Ok(false)
+        if *word == "static" {
+            return self.take_static(alloc, rest, out);
+        }
+        if *word == "template" {
+            return self.take_template(alloc, rest, out);
+        }
+        self.take_command(alloc, known, fields, out)
     }
 
     // A link goes.

@@ -102,19 +102,8 @@ impl<S: BuildHasher + Copy> Session<S> {
         ensures { IfOk result (λ taken. (s : State) → StandsAt self.old s →
             TakesKind Policy taken (map (λ f. f.now) fields.now) s self.new out.old.items out.new.items) }
     {
-        let linked = self
-            .sets
-            .take_link(alloc, self.known.types(), fields, out)?;
-        if linked {
-            return Ok(true);
-        }
-        match self.sets.read(alloc, self.known.types(), fields)? {
-            None => Ok(false),
-            Some(command) => {
-                self.sets.take(alloc, command, out)?;
-                Ok(true)
-            }
-        }
+        self.sets
+            .take_fields(alloc, self.known.types(), fields, out)
     }
 
     // Takes a line, and says whether it is a command. What the fields are before and after says nothing: those of a

@@ -1,10 +1,12 @@
 -- What the machine's parts add to what is written.
-use Rattle.std.specs.Prelude.{◌≡◌, ℕ, List, ◌++◌, Option, Some, None, Result, Ok, Err, codes}
+use Rattle.std.specs.Prelude.{◌≡◌, ℕ, Bool, true, false, List, ◌++◌, Option, Some, None, Result, Ok, Err, codes}
 use Rattle.cedar_lines.specs.Lines.{written_line}
 use Rattle.cedar_policy_set_errors.specs.declared.err.PolicySetError.{PolicySetError}
 use Rattle.cedar_policy_set.specs.Refusals.{told_by_set}
 use Rattle.cedar_policy_set.specs.Steps.{Refusal}
-use Rattle.cedar_policy_lines.specs.PolicyOutput.{ok_line, merged_line, refused_line}
+use Rattle.cedar_policy_lines.specs.PolicyCommand.{PolicyCommand}
+use Rattle.cedar_policy_lines.specs.PolicyOutput.{PolicyWrites, ok_line, merged_line, refused_line}
+use Rattle.cedar_policy_lines.specs.TwoSets.{TwoSets}
 
 -- that a call was refused, by words and an id
 abbrev pub refused_with : List ℕ → List ℕ → List ℕ
@@ -24,3 +26,8 @@ Said told (Err e) old new = SaidBy (told e) old new
 abbrev pub SaidMerged : {A : Type 0} → (A → List (List ℕ × List ℕ)) → Result A PolicySetError → List ℕ → List ℕ → Type 0
 SaidMerged entries (Ok a) old new = new ≡ old ++ merged_line (entries a)
 SaidMerged entries (Err e) old new = SaidBy (told_by_set e) old new
+
+-- what was read as a command is taken as it; where nothing was, nothing changes
+abbrev pub TakesAs : Option PolicyCommand → Bool → TwoSets → TwoSets → List ℕ → List ℕ → Type 0
+TakesAs o true old new before after = (c : PolicyCommand) × (o ≡ Some c) × PolicyWrites c old new before after
+TakesAs o false old new before after = (o ≡ None) × (new ≡ old) × (after ≡ before)

@@ -1,0 +1,13 @@
+use Rattle.std.proofs.Common.{sym, ◌∙◌, codes, map}
+use Rattle.std.proofs.lemmas.Result.{IfOk-weaker}
+use Rattle.cedar_policy_lines.proofs.Fields.{taken_by}
+use Rattle.cedar_policy_lines.proofs.machine.PolicySets.take_fields.Goals as goal
+
+pub returns-then-eq : goal.returns-then-eq
+returns-then-eq g c =
+    rw c.in-Some.ensures.cases.0
+    (IfOk-weaker c.take_link.result _ _
+    (λ taken. taken_by (codes "link") taken c.in-Some.word.now.now (map (λ f. f.now) c.in-Some.rest.now)
+    c.args.self.now c.take_link.new.self c.args.out.now.items c.take_link.new.out.items
+    (sym c.eq.ensures ∙ c.if-eq.true))
+    c.take_link.ensures)
