@@ -10,7 +10,8 @@ use Rattle.cedar_lines.specs.Lines.{is_line_byte}
 use Rattle.cedar_entity_lines.specs.EntityCommand.{EntityCommand, IsEntityCommand}
 use Rattle.cedar_entity_lines.specs.Holding as held
 use Rattle.cedar_policy_lines.specs.PolicyCommand.{PolicyCommand, IsPolicyCommand}
-use Rattle.cedar_policy_lines.specs.PolicyOutput.{PolicyGives, PolicyWrites}
+use Rattle.cedar_policy_lines.specs.PolicyOutput.{PolicyGives, PolicyWrites, TakesPolicy}
+use Rattle.cedar_policy_lines.specs.TwoSets.{TwoSets}
 use Rattle.cedar_store.specs.Command.{Command, Nothing, Entity, Policy, IsCommand}
 use Rattle.cedar_store.specs.Output.{State}
 use Rattle.cedar_store.specs.Sessions.{SessionView, StandsAt, Takes}
@@ -44,6 +45,19 @@ policy_takes m n s c old new h entities lost k = (
   },
   k.2,
 )
+
+-- the session takes the fields of a line on policy sets, or stands where it stood
+pub policy_taken : (taken : Bool) (m : SessionView) (sets : TwoSets) (s : State) (fs : List (List ℕ)) (old new : List ℕ)
+    → StandsAt m s → TakesPolicy taken fs m.policy_sets sets old new → TakesKind Policy taken fs s (record {
+      entities = m.entities;
+      policy_sets = sets;
+      is_lost = m.is_lost;
+    }) old new
+policy_taken true m sets s fs old new h k =
+    let n : SessionView = record { entities = m.entities; policy_sets = sets; is_lost = m.is_lost } in
+    (k.0, k.1, policy_takes m n s k.0 old new h refl refl k.2)
+policy_taken false m sets s fs old new h k =
+    (k.0, record { entities = h.entities; policy_sets = k.1 ∙ h.policy_sets; whole = h.whole }, k.2)
 
 -- a session stands where another does that has the same store and sets, where it is not lost
 pub stands_too : (m n : SessionView) (s : State) → n.entities ≡ m.entities → n.policy_sets ≡ m.policy_sets
