@@ -37,8 +37,8 @@ pub enum PolicyCommand {
 // eid that was bound before.
 #[derive(Debug)]
 pub(crate) struct LinkRoom {
-    template: PolicyID,
-    values: SlotEnv,
+    pub(crate) template: PolicyID,
+    pub(crate) values: SlotEnv,
     eid: String,
 }
 
@@ -57,16 +57,28 @@ impl LinkRoom {
         self.template = template;
         self.values = values;
     }
+
+    // Reads a link, if the fields behind the word are those of one: the id of its template and its bindings are here
+    // then. Answers its own id.
+    pub(crate) fn read(&mut self, known: &mut KnownTypes, fields: &[&str]) -> Option<PolicyID> {
+        let (template, rest) = fields.split_first()?;
+        let (id, rest) = rest.split_first()?;
+        if !read_bindings(known, self, rest) {
+            return None;
+        }
+        set_id(&mut self.template, template);
+        Some(PolicyID::from_string(id))
+    }
 }
 
 fn no_id() -> PolicyID {
     PolicyID::from_smolstr(String::new())
 }
 
-// The id with a text, in the room of another.
-fn id_in(room: &mut PolicyID, text: &str) -> PolicyID {
-    let mut before = mem::replace(room, no_id()).into_smolstr();
-    PolicyID::from_smolstr(text_in(&mut before, text))
+// Makes an id that with a text, in its room.
+fn set_id(id: &mut PolicyID, text: &str) {
+    let mut before = mem::replace(id, no_id()).into_smolstr();
+    *id = PolicyID::from_smolstr(text_in(&mut before, text));
 }
 
 // The one field that there is.
@@ -108,47 +120,55 @@ fn unbind_others(values: &mut SlotEnv, named: NamedSlots) {
     unbind_unless(values, SlotId::Resource, named.has(SlotId::Resource));
 }
 
-// The bindings that the fields are, if they are some: one field for each slot that is bound. They are put into a map
-// that is taken, in the place of what the link before bound.
-fn bindings_of(known: &mut KnownTypes, room: &mut LinkRoom, fields: &[&str]) -> Option<SlotEnv> {
-    let mut values = mem::replace(&mut room.values, no_bindings());
+// Reads bindings in the place of those of the link before, and says whether the fields are some: one field for each slot
+// that is bound.
+fn read_bindings(known: &mut KnownTypes, room: &mut LinkRoom, fields: &[&str]) -> bool {
     let mut named = NamedSlots::none();
     for field in fields {
-        let (slot, uid) = binding_of(known, &mut room.eid, field)?;
+        let Some((slot, uid)) = binding_of(known, &mut room.eid, field) else {
+            return false;
+        };
         if named.has(slot) {
-            return None;
+            return false;
         }
-        bind(&mut room.eid, &mut values, slot, uid);
+        bind(&mut room.eid, &mut room.values, slot, uid);
         named = named.with(slot);
     }
-    unbind_others(&mut values, named);
-    Some(values)
+    unbind_others(&mut room.values, named);
+    true
+}
+
+// The id and the effect behind `static`.
+pub(crate) fn read_static(fields: &[&str]) -> Option<(PolicyID, Effect)> {
+    let (id, rest) = fields.split_first()?;
+    let word = only(rest)?;
+    let effect = effect_of(word)?;
+    Some((PolicyID::from_string(id), effect))
 }
 
 // The command of `static`.
 fn static_of(fields: &[&str]) -> Option<PolicyCommand> {
+    read_static(fields).map(|(id, effect)| PolicyCommand::Static(id, effect))
+}
+
+// The id and the slots behind `template`.
+pub(crate) fn read_template(fields: &[&str]) -> Option<(PolicyID, TemplateSlots)> {
     let (id, rest) = fields.split_first()?;
     let word = only(rest)?;
-    let effect = effect_of(word)?;
-    Some(PolicyCommand::Static(PolicyID::from_string(id), effect))
+    let slots = slots_of(word)?;
+    Some((PolicyID::from_string(id), slots))
 }
 
 // The command of `template`.
 fn template_of(fields: &[&str]) -> Option<PolicyCommand> {
-    let (id, rest) = fields.split_first()?;
-    let word = only(rest)?;
-    let slots = slots_of(word)?;
-    let id = PolicyID::from_string(id);
-    Some(PolicyCommand::Template(id, slots))
+    read_template(fields).map(|(id, slots)| PolicyCommand::Template(id, slots))
 }
 
 // The command of `link`.
 fn link_of(known: &mut KnownTypes, room: &mut LinkRoom, fields: &[&str]) -> Option<PolicyCommand> {
-    let (template, rest) = fields.split_first()?;
-    let (id, rest) = rest.split_first()?;
-    let values = bindings_of(known, room, rest)?;
-    let template = id_in(&mut room.template, template);
-    let id = PolicyID::from_string(id);
+    let id = room.read(known, fields)?;
+    let template = mem::replace(&mut room.template, no_id());
+    let values = mem::replace(&mut room.values, no_bindings());
     Some(PolicyCommand::Link(template, id, values))
 }
 

@@ -8,7 +8,7 @@ use crate::cedar_ids::policy_id::PolicyID;
 use crate::cedar_keyed_hash::KeyedState;
 use crate::cedar_lines::known_types::KnownTypes;
 use crate::cedar_policy::SlotEnv;
-use crate::cedar_policy_lines::command::{LinkRoom, PolicyCommand, read_with};
+use crate::cedar_policy_lines::command::{LinkRoom, PolicyCommand, read_static, read_template, read_with};
 use crate::cedar_policy_lines::field::TemplateSlots;
 use crate::cedar_policy_lines::making::{template, unconstrained};
 use crate::cedar_policy_lines::writing::{
@@ -82,6 +82,70 @@ impl<S: BuildHasher + Copy> PolicySets<S> {
         let answer = self.current.link_copying(&template_id, new_id, &values);
         self.room.keep(template_id, values);
         push_by_linking(out, answer);
+    }
+
+    // Takes the fields behind `static`, and says whether they are those of a command.
+    fn take_static(&mut self, fields: &[&str], out: &mut Vec<u8>) -> bool {
+        match read_static(fields) {
+            None => false,
+            Some((id, effect)) => {
+                self.add_static(id, effect, out);
+                true
+            }
+        }
+    }
+
+    // Takes the fields behind `template`, and says whether they are those of a command.
+    fn take_template(&mut self, fields: &[&str], out: &mut Vec<u8>) -> bool {
+        match read_template(fields) {
+            None => false,
+            Some((id, slots)) => {
+                self.add_template(id, slots, out);
+                true
+            }
+        }
+    }
+
+    // Takes the fields behind `link`, and says whether they are those of a command. The link is made where it is read.
+    fn take_link(&mut self, known: &mut KnownTypes, fields: &[&str], out: &mut Vec<u8>) -> bool {
+        let Some(id) = self.room.read(known, fields) else {
+            return false;
+        };
+        let room = &self.room;
+        let answer = self.current.link_copying(&room.template, id, &room.values);
+        push_by_linking(out, answer);
+        true
+    }
+
+    // Takes the fields of a line by the command that they are, and says whether they are those of one.
+    fn take_command(&mut self, known: &mut KnownTypes, fields: &[&str], out: &mut Vec<u8>) -> bool {
+        match self.read(known, fields) {
+            None => false,
+            Some(command) => {
+                self.take(command, out);
+                true
+            }
+        }
+    }
+
+    /// Takes the fields of a line on policy sets, and says whether they are those of one, as [`PolicySets::read`] and
+    /// [`PolicySets::take`] do. What joins is made where it is read, and no command of it.
+    ///
+    /// Its cost is that of the call on the set, and of what is written. It is this project's own.
+    pub fn take_fields(&mut self, known: &mut KnownTypes, fields: &[&str], out: &mut Vec<u8>) -> bool {
+        let Some((word, rest)) = fields.split_first() else {
+            return false;
+        };
+        if *word == "link" {
+            return self.take_link(known, rest, out);
+        }
+        if *word == "static" {
+            return self.take_static(rest, out);
+        }
+        if *word == "template" {
+            return self.take_template(rest, out);
+        }
+        self.take_command(known, fields, out)
     }
 
     // A link goes.

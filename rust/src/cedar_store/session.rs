@@ -137,13 +137,7 @@ impl<S: BuildHasher + Copy> Session<S> {
 
     // Takes the fields of a line on policy sets, and says whether they are those of one.
     fn take_on_sets(&mut self, fields: &[&str], out: &mut Vec<u8>) -> bool {
-        match self.sets.read(self.known.types(), fields) {
-            None => false,
-            Some(command) => {
-                self.sets.take(command, out);
-                true
-            }
-        }
+        self.sets.take_fields(self.known.types(), fields, out)
     }
 
     // Takes a line, and says whether it is a command. What the fields are before and after says nothing: those of a

@@ -68,6 +68,15 @@ const LINES: &str = "
     PolicySets::take | static a permit; other; static a forbid; merge rename | ok a policy0
     PolicySets::take | static a permit; template t none; ids | bodies a t policies a
     PolicySets::take | static a permit; other | ok
+    PolicySets::take_fields | static a permit | ok
+    PolicySets::take_fields | static a permit; static a forbid | refused: occupied a
+    PolicySets::take_fields | template t both | ok
+    PolicySets::take_fields | template t principal; link t l principal=A::\"x\" | ok
+    PolicySets::take_fields | template t principal; link t l action=A::\"x\" | refused: arity
+    PolicySets::take_fields | static t permit; link t l | refused: no template t
+    PolicySets::take_fields | static a permit; ids | bodies a policies a
+    - PolicySets::take_fields | template t principal; link t l principal=A::x | none
+    - PolicySets::take_fields | frob | none
 ";
 
 // The word for slots of a template.
@@ -238,6 +247,37 @@ fn taken(alloc: Global, number: usize, row: Row<'_>) -> Tried {
     tried
 }
 
+fn fields_taken(alloc: Global, number: usize, row: Row<'_>) -> Tried {
+    let (before, text) = row.given.rsplit_once(';').unwrap_or(("", row.given));
+    let fields: Result<Vec<&str>, std::alloc::AllocError> = text.trim().split(' ').collect(alloc);
+    match fields {
+        Ok(fields) => {
+            let mut sets = PolicySets::new(alloc);
+            let mut known = KnownTypes::new(alloc);
+            let mut out = Vec::new(alloc);
+            let tried = if prepared(alloc, &mut sets, before) {
+                refuse(alloc, number);
+                let answer = sets.take_fields(alloc, &mut known, fields.as_slice(), &mut out);
+                let refused = relent(alloc);
+                let answer = match answer {
+                    Ok(true) => ample_if(are_words(out.as_slice(), row.want)),
+                    Ok(false) => ample_if(row.want == "none"),
+                    Err(_) => Answer::Memory,
+                };
+                Tried { answer, refused }
+            } else {
+                unmade()
+            };
+            drop(out);
+            drop(known);
+            drop(sets);
+            drop(fields);
+            tried
+        }
+        Err(_) => unmade(),
+    }
+}
+
 fn parted(alloc: Global, number: usize, row: Row<'_>) -> Tried {
     let mut fields: Vec<&str> = Vec::new(alloc);
     refuse(alloc, number);
@@ -368,6 +408,7 @@ impl Calls for OnLines {
             "push_line" => written(alloc, number, row),
             "read_policy_command" | "PolicySets::read" => read(alloc, number, row),
             "PolicySets::take" => taken(alloc, number, row),
+            "PolicySets::take_fields" => fields_taken(alloc, number, row),
             "static_policy" => with(alloc, number, id_of(alloc, row.given), |id| {
                 made(alloc, static_policy(alloc, id, Effect::Permit), row.want)
             }),
