@@ -28,12 +28,12 @@ DROPPED = {('KeyedState', 'new'), ('fresh', 'count_ids'), ('fresh', 'size'), ('n
 UNASKED = {
     ('PolicySet', 'from_raw_components'), ('PolicyMaps', 'from_raw_components'), ('lists', 'read_policy'),
     ('lists', 'read_policies'), ('maps', 'keep_templates'), ('LineStore', 'new'), ('PolicySets', 'new'),
-    ('command', 'read_policy_command'),
+    ('command', 'read_policy_command'), ('making', 'static_policy'), ('making', 'slotted_template'),
     ('Entity', 'with_shared_parents'),
     ('UidSet', 'is_ascending'), ('UidSet', 'retain'),
 }
 # Of those what the library for C asks for; what it does without, as proofs alone ask for it; and files of it that go.
-ASKED_FROM_C = {('Entity', 'with_shared_parents')}
+ASKED_FROM_C = {('Entity', 'with_shared_parents'), ('making', 'static_policy'), ('making', 'slotted_template')}
 UNASKED_FROM_C = {('Held', 'of_parts'), ('Held', 'into_parts')}
 DROPPED_FILES = {('cedar_c', 'parts')}
 DROPPED_TYPES = {'Linked', 'Direct', 'Streams'}

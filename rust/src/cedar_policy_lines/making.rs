@@ -11,12 +11,6 @@ use crate::cedar_policy_lines::field::TemplateSlots;
 use crate::cedar_scope::{PrincipalConstraint, ResourceConstraint};
 use std::sync::Arc;
 
-/// A static policy that constrains nothing. It is this project's own.
-pub fn static_policy(id: PolicyID, effect: Effect) -> StaticPolicy {
-    let annotations = Arc::new(Annotations::new());
-    unconstrained(annotations, id, effect)
-}
-
 // A static policy that constrains nothing, whose annotations, which are none, are shared.
 pub(crate) fn unconstrained(annotations: Arc<Annotations>, id: PolicyID, effect: Effect) -> StaticPolicy {
     let template = Template::new_shared(
@@ -85,27 +79,6 @@ fn resource_of(named: bool) -> ResourceConstraint {
         return ResourceConstraint::is_eq_slot();
     }
     ResourceConstraint::any()
-}
-
-/// A template whose principal, action and resource are what their slots are bound to, each where it is named; it
-/// constrains nothing else. It is this project's own.
-pub fn slotted_template(
-    id: PolicyID,
-    effect: Effect,
-    on_principal: bool,
-    on_action: bool,
-    on_resource: bool,
-) -> Template {
-    Template::new(
-        id,
-        None,
-        Annotations::new(),
-        effect,
-        principal_of(on_principal),
-        action_of(on_action),
-        resource_of(on_resource),
-        None,
-    )
 }
 
 // A template that permits, with the slots that are named, whose annotations, which are none, are shared.
