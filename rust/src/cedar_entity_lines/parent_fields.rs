@@ -6,7 +6,6 @@
 use crate::cedar_lines::known_types::{KnownTypes, uid_of_text};
 use crate::cedar_lines::room::text_in;
 use crate::cedar_uid_sets::SharedUid;
-use std::mem;
 
 // A parent that was read, and its text.
 struct KnownParent {
@@ -95,7 +94,7 @@ fn keep_parent(known: &mut Vec<Option<KnownParent>>, place: usize, text: &str, u
     let Some(at) = known.get_mut(place) else {
         return;
     };
-    let mut room = text_of(mem::replace(at, None));
+    let mut room = text_of(at.take());
     *at = Some(KnownParent {
         text: text_in(&mut room, text),
         uid: uid.clone(),

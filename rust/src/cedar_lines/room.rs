@@ -16,7 +16,7 @@ pub fn text_in(room: &mut String, text: &str) -> String {
 // A copy of a text in the room of another, which is taken.
 #[inline(never)]
 fn refilled(room: &mut String, text: &str) -> String {
-    let mut copy = mem::replace(room, String::new());
+    let mut copy = mem::take(room);
     copy.clear();
     copy.push_str(text);
     copy
