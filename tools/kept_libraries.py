@@ -6,7 +6,7 @@ asked for and none below it.
 `rt ci` keeps a library under a sum of all that it was made from: its files, the libraries below it as they were built, the kit. Here the
 same sum is made of this checkout's files, by rt's own code, so what is taken is what stands here. rt has no command for this, and what
 its code calls these things may change with the kit: then, or where a library is not kept, this says so and ends with status 1, nothing
-that was taken is wrong, and `rt lib` proves what is lacking.
+that was taken is wrong, and `rt lib` proves what is lacking. An rt that keeps no libraries at all is told by status 3.
 """
 import importlib.machinery
 import importlib.util
@@ -60,6 +60,9 @@ def take(kept, crate):
 
 def main(names):
     rt = rt_itself()
+    if not hasattr(rt, 'Kept'):
+        print('kept libraries: the rt of this kit keeps none')
+        return 3
     root = os.getcwd()
     rt.Crate.allowed = rt.handles_of(root)
     crates = wanted(rt.crates_of(root), names)
