@@ -75,8 +75,8 @@ fn kind(name: &Name) -> u64
 /// A uid that is looked for, with the numbers that abbreviate it. Contracts see the uid.
 #[derive(Drop)]
 pub(crate) struct Key<'a> {
-    kind: u64,
-    front: u64,
+    pub(crate) kind: u64,
+    pub(crate) front: u64,
     uid: &'a EntityUID,
 }
 

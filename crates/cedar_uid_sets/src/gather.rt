@@ -2,7 +2,7 @@
 ghost use Rattle.std.specs.Prelude.{◌≡◌, IfOk};
 ghost use Rattle.std.specs.FinSet as set;
 
-use crate::order::ascend;
+use crate::ascending::ascend;
 use crate::shared_uid::SharedUid;
 use crate::uid_set::UidSet;
 use std::alloc::AllocError;

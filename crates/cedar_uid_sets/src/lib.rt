@@ -8,6 +8,7 @@
 //! uids as its keys is looked up by a plain one.
 #![tactic(auto)]
 
+mod ascending;
 mod fronts;
 mod gather;
 mod lookup;

@@ -1,5 +1,5 @@
 //! Where a uid stands among uids that ascend.
-ghost use Rattle.std.specs.Prelude.{◌≡◌, ◌↔◌, MatchResult, IsTrue, length, false};
+ghost use Rattle.std.specs.Prelude.{◌≡◌, MatchResult, IsTrue, length, false};
 ghost use Rattle.std.specs.List.{list_any};
 ghost use Rattle.std.specs.Set.{is_member};
 ghost use Rattle.cedar_ids.specs.UidOf.{same_uid, uid_order};
@@ -7,7 +7,7 @@ ghost use Rattle.cedar_uid_sets.specs.UidSets.{Ascend};
 ghost use Rattle.cedar_uid_sets.specs.laws.Fronts.{same_numbers};
 ghost use Rattle.cedar_uid_sets.specs.laws.Places.{IsPlaceOf, IsGapFor};
 
-use crate::fronts::{Key, are_same, have_same_numbers, is_less, order_of};
+use crate::fronts::{Key, are_same, have_same_numbers, order_of};
 use crate::shared_uid::SharedUid;
 use cedar_ids::entity::EntityUID;
 use std::cmp::Ordering;
@@ -120,11 +120,4 @@ pub(crate) fn has(uids: &[SharedUid], uid: &EntityUID) -> bool
         return has_plain(uids, uid);
     }
     is_one_of(uids, &Key::of(uid))
-}
-
-// Whether each of these is less than the next.
-pub(crate) fn ascend(uids: &[SharedUid]) -> bool
-    ensures { IsTrue result ↔ Ascend uids.now }
-{
-    uids.is_sorted_by(|one, next| is_less(&one.key(), &next.key()))
 }

@@ -8,9 +8,10 @@ ghost use Rattle.cedar_ids.specs.UidOf.{same_uid};
 ghost use Rattle.cedar_ids.specs.declared.entity.EntityUID.{EntityUID};
 ghost use Rattle.cedar_uid_sets.specs.UidSets.{UidValues, Ascend, Retains};
 
+use crate::ascending::ascend;
 use crate::fronts::Key;
 use crate::merge::{merge, shared};
-use crate::order::{ascend, has, is_one_of, may_be_among, place, place_from_end};
+use crate::order::{has, is_one_of, may_be_among, place, place_from_end};
 use crate::shared_uid::SharedUid;
 use cedar_ids::entity::EntityUID;
 use std::alloc::{AllocError, Global};

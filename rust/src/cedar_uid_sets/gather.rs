@@ -2,7 +2,7 @@
 
 //! Sets made of shared uids in any order.
 
-use crate::cedar_uid_sets::order::ascend;
+use crate::cedar_uid_sets::ascending::ascend;
 use crate::cedar_uid_sets::shared_uid::SharedUid;
 use crate::cedar_uid_sets::uid_set::UidSet;
 

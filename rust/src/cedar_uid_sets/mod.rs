@@ -2,6 +2,7 @@
 
 //! Uids that are shared, and sets of them as ascending vectors.
 
+mod ascending;
 mod fronts;
 mod gather;
 mod lookup;

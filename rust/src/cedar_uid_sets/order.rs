@@ -3,7 +3,7 @@
 //! Where a uid stands among uids that ascend.
 
 use crate::cedar_ids::entity::EntityUID;
-use crate::cedar_uid_sets::fronts::{Key, are_same, have_same_numbers, is_less, order_of};
+use crate::cedar_uid_sets::fronts::{Key, are_same, have_same_numbers, order_of};
 use crate::cedar_uid_sets::shared_uid::SharedUid;
 use std::cmp::Ordering;
 
@@ -81,9 +81,4 @@ pub(crate) fn has(uids: &[SharedUid], uid: &EntityUID) -> bool {
         return has_plain(uids, uid);
     }
     is_one_of(uids, &Key::of(uid))
-}
-
-// Whether each of these is less than the next.
-pub(crate) fn ascend(uids: &[SharedUid]) -> bool {
-    uids.is_sorted_by(|one, next| is_less(&one.key(), &next.key()))
 }
