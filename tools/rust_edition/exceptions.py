@@ -23,7 +23,8 @@ TOLD = ', Reason>'
 
 # Functions that the package does not have, as proofs alone ask for them: (type or file, name).
 DROPPED = {('KeyedState', 'new'), ('fresh', 'count_ids'), ('fresh', 'size'), ('node', 'listed'),
-           ('shared_node', 'listed_pointers'), ('store_text', 'next_entity'), ('store_text', 'is_before')}
+           ('shared_node', 'listed_pointers'), ('store_text', 'next_entity'), ('store_text', 'is_before'),
+           ('store_text', 'write_by_walks')}
 # Functions that the package does not have, as nothing in it asks for them; the layer's tests do.
 UNASKED = {
     ('PolicySet', 'from_raw_components'), ('PolicyMaps', 'from_raw_components'), ('lists', 'read_policy'),

@@ -3,7 +3,9 @@ use super::parts::entity;
 use super::stores::{next, store_of};
 use cedar_entities::entities::{Entities, TCComputation};
 use cedar_entity::entity::Entity;
-use cedar_refusals::{Calls, Row, Tried, both, made, on, unmade, with_last, worked_rows};
+use cedar_refusals::{
+    Calls, InTurn, Row, Tried, both, in_turn, made, on, row_of, unmade, with_last, worked_rows,
+};
 use std::alloc::{AllocError, Global};
 use std::hash::{DefaultHasher, Hash, Hasher};
 
@@ -202,4 +204,28 @@ impl Calls for OnReads {
 #[test]
 fn what_stores_are(rt: HostRuntime) {
     assert!(rt; worked_rows(rt, &OnReads, READS));
+}
+
+// What is written while each request is refused in turn: where it is the one for the entities in their order, each is
+// looked for by a walk.
+const WRITTEN: &str = "
+    write | ; | <empty Entities>
+    write | from: b z, a c b, Z.a, c | A::\"a\": attrs: ancestors:A::\"b\", A::\"c\", A::\"z\" A::\"b\": attrs: ancestors:A::\"z\" A::\"c\": attrs: ancestors: Z::\"a\": attrs: ancestors:
+";
+
+// Whether the rows of a text go well while each request is refused in turn.
+fn go_well(alloc: Global, rows: &str) -> bool {
+    for line in rows.lines() {
+        if let Some(row) = row_of(line)
+            && !matches!(in_turn(alloc, &OnReads, row), InTurn::Well(_))
+        {
+            return false;
+        }
+    }
+    true
+}
+
+#[test]
+fn stores_are_written_in_order_where_memory_for_it_is_refused(rt: HostRuntime) {
+    assert!(rt; go_well(rt.alloc(), WRITTEN));
 }
