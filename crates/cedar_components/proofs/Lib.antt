@@ -1,8 +1,10 @@
 pub mod ComponentSteps
 pub mod Fills
 pub mod Gathering
+pub mod LowestBit
 pub mod OneTarget
 pub mod Ordered
+pub mod PlaceBits
 pub mod Rows
 pub mod Searching
 pub mod Steps

@@ -3,4 +3,5 @@ pub mod Arcs
 pub mod Components
 pub mod Lists
 pub mod Numbers
+pub mod Places
 pub mod Search

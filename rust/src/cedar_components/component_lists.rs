@@ -118,7 +118,7 @@ fn add_list(r: &mut Lists, s: &mut Marks, order: &Order, p: usize, members: &Mem
 
 // What each component's members reach, as lists that stand one after another, each in the order.
 pub(crate) fn make_lists(arcs: &Arcs, component: &[usize], order: &[usize], count: usize, n: usize) -> Lists {
-    let places = ranks(order);
+    let places = ranks(order, n);
     let order = Order {
         numbers: order,
         places: &places,
