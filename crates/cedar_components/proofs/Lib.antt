@@ -2,6 +2,7 @@ pub mod ComponentSteps
 pub mod Fills
 pub mod Gathering
 pub mod LowestBit
+pub mod OneMember
 pub mod OneTarget
 pub mod Ordered
 pub mod PlaceBits

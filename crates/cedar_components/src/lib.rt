@@ -3,8 +3,9 @@
 //! A graph is two lists of one length, one entry an arc: the arc at place `k` leads from `from[k]`
 //! to `to[k]`. Nothing here knows what the numbers stand for.
 //!
-//! [`reach`] does all. A depth-first search gives the order in which the numbers finish; searches
-//! against the arcs, in that order from its end, give each number its strong component; each
+//! [`reach`] does all. A depth-first search gives the order in which the numbers finish; where no arc
+//! leads to a number that finishes later, each number is a strong component of its own, and else
+//! searches against the arcs, in that order from its end, give each number its component; each
 //! component gets one list of what its members reach, those below it first, and each list is put in
 //! order as it is made: that of one number with one arc is copied of the list that stands for the
 //! arc's target, which is put in at its place; one that has many of the numbers is put in order by a
@@ -13,10 +14,12 @@
 //! recurses, whatever the graph is.
 #![tactic(auto)]
 
-ghost use Rattle.std.specs.Prelude.{◌≡◌, ℕ, IfOk};
+ghost use Rattle.std.specs.Prelude.{◌≡◌, ℕ, IfOk, length};
 ghost use Rattle.std.specs.List.{range_with_len};
 ghost use Rattle.std.specs.List.Sorted.{IsPermutation};
 ghost use Rattle.cedar_components.specs.Reach.{AreArcs, HasArc, IsReach};
+ghost use Rattle.cedar_components.specs.laws.Components.{AreComponents};
+ghost use Rattle.cedar_components.specs.laws.Search.{IsFinishOrder};
 
 mod component_lists;
 mod components;
@@ -24,11 +27,13 @@ mod links;
 mod list_order;
 mod place_bits;
 mod search;
+mod single;
 
 use crate::component_lists::{Lists, make_lists};
 use crate::components::{Searched, make_components};
 use crate::links::{Arcs, make_links};
 use crate::search::finish_order;
+use crate::single::single_components;
 use std::alloc::{AllocError, Global};
 
 /// What each number of a graph reaches, one list for each strong component.
@@ -40,6 +45,36 @@ pub struct Reached {
     pub start: Vec<usize>,
     /// The lists, one after another.
     pub lists: Vec<usize>,
+}
+
+// The component of each number, by the order in which a search finished them.
+fn components_of<'a>(
+    alloc: Global,
+    from: &'a [usize],
+    to: &'a [usize],
+    finished: &'a [usize],
+    count: usize,
+) -> Result<Vec<usize>, AllocError>
+    requires arcs { AreArcs from.now to.now count }
+    requires order { IsFinishOrder (HasArc from.now to.now) count finished.now }
+    ensures { IfOk result (λ component.
+        AreComponents (HasArc from.now to.now) count (length finished.now) component.items) }
+{
+    if let Some(component) = single_components(alloc, from, to, finished, count)? {
+        return Ok(component);
+    }
+    let links_back = make_links(alloc, to, count)?;
+    let backward = Searched {
+        arcs: Arcs {
+            from,
+            to,
+            head: &links_back.head,
+            link: &links_back.link,
+        },
+        order: finished,
+        numbers: count,
+    };
+    make_components(alloc, &backward)
 }
 
 /// Finds what each of the numbers below `count` reaches over one or more arcs, where the arc at
@@ -81,18 +116,7 @@ pub fn reach(
     };
     let finished = finish_order(alloc, &forward, count)?;
     let last = finished.len();
-    let links_back = make_links(alloc, to, count)?;
-    let backward = Searched {
-        arcs: Arcs {
-            from,
-            to,
-            head: &links_back.head,
-            link: &links_back.link,
-        },
-        order: &finished,
-        numbers: count,
-    };
-    let component = make_components(alloc, &backward)?;
+    let component = components_of(alloc, from, to, &finished, count)?;
     let Lists { start, lists } = make_lists(alloc, &forward, &component, order, last, count)?;
     Ok(Reached {
         component,

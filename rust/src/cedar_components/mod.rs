@@ -6,6 +6,7 @@ use crate::cedar_components::component_lists::{Lists, make_lists};
 use crate::cedar_components::components::{Searched, make_components};
 use crate::cedar_components::links::{Arcs, make_links};
 use crate::cedar_components::search::finish_order;
+use crate::cedar_components::single::single_components;
 
 mod component_lists;
 mod components;
@@ -13,6 +14,7 @@ mod links;
 mod list_order;
 mod place_bits;
 mod search;
+mod single;
 
 /// What each number of a graph reaches, one list for each strong component.
 #[derive(Debug)]
@@ -23,6 +25,25 @@ pub struct Reached {
     pub start: Vec<usize>,
     /// The lists, one after another.
     pub lists: Vec<usize>,
+}
+
+// The component of each number, by the order in which a search finished them.
+fn components_of<'a>(from: &'a [usize], to: &'a [usize], finished: &'a [usize], count: usize) -> Vec<usize> {
+    if let Some(component) = single_components(from, to, finished, count) {
+        return component;
+    }
+    let links_back = make_links(to, count);
+    let backward = Searched {
+        arcs: Arcs {
+            from,
+            to,
+            head: &links_back.head,
+            link: &links_back.link,
+        },
+        order: finished,
+        numbers: count,
+    };
+    make_components(&backward)
 }
 
 /// Finds what each of the numbers below `count` reaches over one or more arcs, where the arc at place `k` leads from
@@ -49,18 +70,7 @@ pub fn reach(from: &[usize], to: &[usize], count: usize, order: &[usize]) -> Rea
     };
     let finished = finish_order(&forward, count);
     let last = finished.len();
-    let links_back = make_links(to, count);
-    let backward = Searched {
-        arcs: Arcs {
-            from,
-            to,
-            head: &links_back.head,
-            link: &links_back.link,
-        },
-        order: &finished,
-        numbers: count,
-    };
-    let component = make_components(&backward);
+    let component = components_of(from, to, &finished, count);
     let Lists { start, lists } = make_lists(&forward, &component, order, last, count);
     Reached {
         component,

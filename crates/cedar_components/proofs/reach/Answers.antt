@@ -14,7 +14,7 @@ returns c =
     let found = c.in_ok-component.ensures in
     let made = c.in_ok-start.ensures in
     let count = c.len-last.result in
-    let len : count ≡ length c.deref-5.result.now = search rules in
+    let len : count ≡ length c.deref-3.result.now = search rules in
     reach_from E n count component start lists found.component_len
     (λ x h. omega (arith, (found.component_in x h).1, len)) made.lists
-    (subst (λ v. AreReached E n v (count + 1) start lists) c.deref-6.ensures.value made.reached)
+    (subst (λ v. AreReached E n v (count + 1) start lists) c.deref-4.ensures.value made.reached)

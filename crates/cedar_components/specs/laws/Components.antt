@@ -40,6 +40,17 @@ pub record AreComponents (E : ℕ → ℕ → Type 0) (n count : ℕ) (component
   pub mutual_ : (x y : ℕ) → x < n → y < n → slice_index component x ≡ slice_index component y → Leads E x y
   pub down : (x y : ℕ) → x < n → y < n → E x y → slice_index component y ≤ slice_index component x
 
+-- each number has one more than a place at which it stands in the order
+pub record AreSingle (n : ℕ) (order component : List ℕ) : Type 0 where
+  pub len : length component ≡ n
+  pub within : (x : ℕ) → x < n → (0 < slice_index component x) × (slice_index component x ≤ length order)
+  pub stands : (x : ℕ) → x < n → slice_index order (slice_index component x - 1) ≡ x
+
+-- no arc leads to a higher component
+abbrev pub NoneLeadsUp : List ℕ → List ℕ → List ℕ → Type 0
+NoneLeadsUp from to component =
+    (k : ℕ) → k < length from → slice_index component (slice_index to k) ≤ slice_index component (slice_index from k)
+
 -- the arcs have the chains of those that they lead to, and the order is one in which a search finishes the numbers
 pub record IsSearched (g : Searched) : Type 0 where
   pub arcs : AreBackward g.arcs g.numbers
