@@ -3,6 +3,7 @@ pub mod Fills
 pub mod Gathering
 pub mod LowestBit
 pub mod OneMember
+pub mod NearLists
 pub mod OneTarget
 pub mod Ordered
 pub mod PlaceBits

@@ -8,10 +8,10 @@
 //! searches against the arcs, in that order from its end, give each number its component; each
 //! component gets one list of what its members reach, those below it first, and each list is put in
 //! order as it is made: that of one number with one arc is copied of the list that stands for the
-//! arc's target, which is put in at its place; one that has many of the numbers is put in order by a
-//! walk over all of them, one whose numbers lie near one another there by a bit for each of their
-//! places, any other by sorting it. The searches keep stacks of their own, so that none of them
-//! recurses, whatever the graph is.
+//! arc's target, which is put in at its place; that of one number with more arcs is taken from bits,
+//! one for each place, where all of it lies near together in the order; of the others one that has
+//! many of the numbers is put in order by a walk over all of them, any other by sorting it. The
+//! searches keep stacks of their own, so that none of them recurses, whatever the graph is.
 #![tactic(auto)]
 
 ghost use Rattle.std.specs.Prelude.{◌≡◌, ℕ, IfOk, length};
@@ -25,6 +25,7 @@ mod component_lists;
 mod components;
 mod links;
 mod list_order;
+mod near_lists;
 mod place_bits;
 mod search;
 mod single;
@@ -87,14 +88,14 @@ fn components_of<'a>(
 ///
 /// Takes memory for lists in the number of numbers and arcs, and for the lists of what is reached;
 /// refused only where that is. Looks at each arc a few times, goes through the list of a component
-/// once for each arc that leads to it from another, and puts each list in order once: a list that
-/// has more than 16 numbers, and at least one for each whole 16 of all, by one walk over `order`; any
-/// other that has more than 8, of which none stands further than 192 places from the first one found,
-/// by a look at each; the rest by comparing their numbers' places there, in a list's length times the
-/// logarithm of that. A number that lies on no cycle and has one arc alone gets its list by a copy,
-/// and a search for one place. The arcs of a number are taken up from the last, and one to what was
-/// reached by then costs a look: so give last those that reach the others. Recurses nowhere but where
-/// a list is sorted, in the logarithm of its length.
+/// once or twice for each arc that leads to it from another, and puts each list in order once: that of
+/// a number that lies on no cycle in its length, if none of it stands further than 192 places in
+/// `order` from what its last arc leads to; any other that has more than 16 numbers, and at least one
+/// for each whole 16 of all, by one walk over `order`; the rest by comparing their numbers' places
+/// there, in a list's length times the logarithm of that. A number that lies on no cycle and has one
+/// arc alone gets its list by a copy, and a search for one place. The arcs of a number are taken up
+/// from the last, and one to what was reached by then costs a look: so give last those that reach the
+/// others. Recurses nowhere but where a list is sorted, in the logarithm of its length.
 pub fn reach(
     alloc: Global,
     from: &[usize],

@@ -4,6 +4,8 @@
 
 use crate::cedar_components::links::{Arcs, make_links};
 use crate::cedar_components::list_order::{Order, SHORT, append_with, put_in_order, ranks};
+use crate::cedar_components::near_lists::{near_first, set_component};
+use crate::cedar_components::place_bits::{WORDS, take_words};
 
 struct Marks {
     list: Vec<usize>,
@@ -12,11 +14,11 @@ struct Marks {
 
 // The component of each of so many numbers, and the chains of the members of each of `count`
 // components.
-struct Members<'a> {
-    component: &'a [usize],
-    head: &'a [usize],
-    link: &'a [usize],
-    numbers: usize,
+pub(crate) struct Members<'a> {
+    pub(crate) component: &'a [usize],
+    pub(crate) head: &'a [usize],
+    pub(crate) link: &'a [usize],
+    pub(crate) numbers: usize,
 }
 
 // The lists of the components, one after another: that of component p from place `start[p]` on.
@@ -97,11 +99,18 @@ fn only_target(p: usize, members: &Members, arcs: &Arcs) -> Option<usize> {
 }
 
 // Puts what the members of component p reach last, in the order. Where they have one arc alone, to a lower component,
-// that is the number that it leads to and the list of that component, which is in the order.
+// that is the number that it leads to and the list of that component, which is in the order; where all of it lies near
+// together there, it is taken from bits.
 fn append_list(r: &mut Lists, s: &mut Marks, order: &Order, p: usize, members: &Members, arcs: &Arcs) {
     if let Some(w) = only_target(p, members, arcs) {
         let below = members.component[w];
         append_with(&mut r.lists, r.start[below], r.start[below + 1], order, w);
+        return;
+    }
+    let near = near_first(order.places, p, members, arcs);
+    let mut words = [0; WORDS];
+    if set_component(&mut words, &near, members, r, arcs) {
+        take_words(&mut r.lists, order.numbers, near.base, &words);
         return;
     }
     s.list.clear();

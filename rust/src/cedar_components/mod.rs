@@ -12,6 +12,7 @@ mod component_lists;
 mod components;
 mod links;
 mod list_order;
+mod near_lists;
 mod place_bits;
 mod search;
 mod single;
@@ -53,13 +54,14 @@ fn components_of<'a>(from: &'a [usize], to: &'a [usize], finished: &'a [usize], 
 /// `from` and `to` have to be equally long, with numbers below `count` alone, and `order` has to have
 /// each number below `count` once.
 ///
-/// Looks at each arc a few times, goes through the list of a component once for each arc that leads to it from another,
-/// and puts each list in order once: a list that has more than 16 numbers, and at least one for each whole 16 of all,
-/// by one walk over `order`; any other that has more than 8, of which none stands further than 192 places from the
-/// first one found, by a look at each; the rest by comparing their numbers' places there, in a list's length times the
-/// logarithm of that. A number that lies on no cycle and has one arc alone gets its list by a copy, and a search for
-/// one place. The arcs of a number are taken up from the last, and one to what was reached by then costs a look: so
-/// give last those that reach the others. Recurses nowhere but where a list is sorted, in the logarithm of its length.
+/// Looks at each arc a few times, goes through the list of a component once or twice for each arc that leads to it from
+/// another, and puts each list in order once: that of a number that lies on no cycle in its length, if none of it
+/// stands further than 192 places in `order` from what its last arc leads to; any other that has more than 16 numbers,
+/// and at least one for each whole 16 of all, by one walk over `order`; the rest by comparing their numbers' places
+/// there, in a list's length times the logarithm of that. A number that lies on no cycle and has one arc alone gets its
+/// list by a copy, and a search for one place. The arcs of a number are taken up from the last, and one to what was
+/// reached by then costs a look: so give last those that reach the others. Recurses nowhere but where a list is sorted,
+/// in the logarithm of its length.
 pub fn reach(from: &[usize], to: &[usize], count: usize, order: &[usize]) -> Reached {
     let links = make_links(from, count);
     let forward = Arcs {

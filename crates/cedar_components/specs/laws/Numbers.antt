@@ -1,5 +1,5 @@
 -- Lists of numbers.
-use Rattle.std.specs.Prelude.{◌≡◌, ℕ, ◌<◌, ◌≤◌, ◌⊎◌, List, length, slice_index}
+use Rattle.std.specs.Prelude.{◌≡◌, ℕ, ◌<◌, ◌≤◌, ◌⊎◌, List, [], ◌++◌, length, slice_index}
 use Rattle.std.specs.List.{range_with_len}
 use Rattle.std.specs.List.Sorted.{IsPermutation}
 
@@ -24,3 +24,7 @@ pub record Adds (old new : List ℕ) (X : ℕ → Type 0) : Type 0 where
   pub more : (y : ℕ) → IsIn old y → IsIn new y
   pub only : (y : ℕ) → IsIn new y → IsIn old y ⊎ X y
   pub has : (y : ℕ) → X y → IsIn new y
+
+-- a list with those that pass stands behind the numbers that there were
+abbrev pub AppendsThose : (ℕ → Type 0) → List ℕ → List ℕ → Type 0
+AppendsThose X old new = (list : List ℕ) × (new ≡ old ++ list) × Adds [] list X
