@@ -9,3 +9,4 @@ pub mod Numbers
 pub mod Orders
 pub mod Reaches
 pub mod Rows
+pub mod Runs

@@ -5,6 +5,7 @@ ghost use Rattle.std.specs.Prelude.{
   ◌<◌,
   ◌≤◌,
   ◌+◌,
+  [],
   true,
   false,
   length,
@@ -34,14 +35,17 @@ ghost use Rattle.cedar_graph.specs.laws.Writings.{
   IsAt,
   IsEdgeTo,
   IsFixEdge,
+  IsOnlyKnown,
   IsReachOf,
   IsRowOf,
   IsToFix,
   KnowsEdges,
+  KnowsLast,
   KnowsTargets,
   NoneGoesBack,
   StartsAt,
   TakesKey,
+  TakesRun,
   Writes,
   listed,
 };
@@ -67,12 +71,82 @@ fn pick_key<K: Clone + Eq + Hash>(row: &mut Vec<K>, key: &K, known: bool) -> Res
 }
 
 // The numbers whose keys a node has an edge to already: those with this mark, to which so many arcs
-// lead.
+// lead, the last of them to this one.
 #[derive(Drop)]
 pub(crate) struct Known {
     pub(crate) marks: Vec<usize>,
     pub(crate) mark: usize,
     pub(crate) count: usize,
+    pub(crate) last: usize,
+}
+
+// So many numbers are looked up in the marks one by one, which costs less than a search for the only one that is known.
+const FEW: usize = 16;
+
+// The place, from `start` on, of the first of these numbers that is this one, or their end.
+fn place_of(numbers: &[usize], start: usize, number: usize) -> usize
+    requires { start ≤ length numbers.now }
+    ensures least { start ≤ result }
+    ensures most { result ≤ length numbers.now }
+    ensures before { (n : ℕ) → start ≤ n → n < result → slice_index numbers.now n ≡ number → ⊥ }
+    ensures found { result < length numbers.now → slice_index numbers.now result ≡ number }
+{
+    if !numbers[start..].contains(&number) {
+        return numbers.len();
+    }
+    for place in start..numbers.len() {
+        if numbers[place] == number {
+            return place;
+        }
+    }
+    numbers.len()
+}
+
+// Adds copies of the keys of the numbers from place `start` up to `end` to a row.
+fn pick_run<K: Clone + Eq + Hash>(
+    row: &mut Vec<K>,
+    keys: &[K],
+    numbers: &[usize],
+    start: usize,
+    end: usize,
+) -> Result<(), AllocError>
+    requires copies { ClonesAreEqual K.eq K.is_clone }
+    requires numbers { AllBelow (length keys.now) numbers.now }
+    requires ordered { start ≤ end }
+    requires within { end ≤ length numbers.now }
+    ensures { OnOk result (TakesRun K.eq keys.now numbers.now start end row.old.items row.new.items) }
+{
+    for place in start..end {
+        pick_key(row, &keys[numbers[place]], false)?;
+    }
+    Ok(())
+}
+
+// Adds copies of the keys of these numbers to an empty row, in their order, but for the only one that is known. It is no
+// part of what calls it, where few numbers are gone through.
+#[inline(never)]
+fn pick_others<K: Clone + Eq + Hash>(
+    row: &mut Vec<K>,
+    keys: &[K],
+    numbers: &[usize],
+    known: &Known,
+) -> Result<(), AllocError>
+    requires copies { ClonesAreEqual K.eq K.is_clone }
+    requires numbers { AllBelow (length keys.now) numbers.now }
+    requires marks { length known.now.marks.items ≡ length keys.now }
+    requires unique { IsDistinct K.eq keys.now }
+    requires one { IsOnlyKnown known.now known.now.last }
+    requires row { row.old.items ≡ [] }
+    ensures { OnOk result (IsRowOf K.eq keys.now numbers.now known.now row.new.items) }
+{
+    let mut end = place_of(numbers, 0, known.last);
+    pick_run(row, keys, numbers, 0, end)?;
+    while end < numbers.len() {
+        let start = end + 1;
+        end = place_of(numbers, start, known.last);
+        pick_run(row, keys, numbers, start, end)?;
+    }
+    Ok(())
 }
 
 // Copies of the keys of these numbers, in their order, but for those that are known.
@@ -86,10 +160,15 @@ fn pick_row<K: Clone + Eq + Hash>(
     requires numbers { AllBelow (length keys.now) numbers.now }
     requires marks { length known.now.marks.items ≡ length keys.now }
     requires unique { IsDistinct K.eq keys.now }
+    requires one { KnowsLast known.now }
     ensures { IfOk result (λ v. IsRowOf K.eq keys.now numbers.now known.now v.items) }
 {
     let room = numbers.len().saturating_sub(known.count);
     let mut row = Vec::with_capacity(alloc, room)?;
+    if known.count == 1 && numbers.len() > FEW {
+        pick_others(&mut row, keys, numbers, known)?;
+        return Ok(row);
+    }
     for y in numbers {
         pick_key(&mut row, &keys[*y], known.marks[*y] == known.mark)?;
     }
@@ -168,6 +247,7 @@ fn write_number<K: Clone + Eq + Hash, V: TCNode<K>, S: BuildHasher>(
     requires within { x < length read.now.keys.keys }
     requires unique { IsUnique K.eq read.now.keys }
     requires known { KnowsEdges K.eq (graph_of K.eq V.edges nodes.old) read.now.keys.keys x known.now }
+    requires one { KnowsLast known.now }
     ensures keeps { KeepsAll K.eq V.key V.rest V.kept nodes.old nodes.new }
     ensures writes { Writes K.eq V.edges (IsKeyAt K.eq read.now.keys.keys x)
         (IsRowEdge K.eq read.now.keys.keys (IsArc read.now) x) nodes.old nodes.new result }
@@ -197,13 +277,15 @@ pub(crate) fn mark_targets(
     ensures below { AreAtMost (x + 1) known.new.marks.items }
     ensures known { KnowsTargets from.now to.now x known.new }
     ensures mark { known.new.mark ≡ x + 1 }
+    ensures one { KnowsLast known.new }
     ensures grows { (y : ℕ) → slice_index known.old.marks.items y ≤ slice_index known.new.marks.items y }
     ensures starts { StartsAt from.now (x + 1) result }
     ensures place { result ≤ length from.now }
 {
     let mut k = e;
     while k < from.len() && from[k] == x {
-        known.marks[to[k]] = x + 1;
+        known.last = to[k];
+        known.marks[known.last] = x + 1;
         k += 1;
     }
     known.mark = x + 1;
@@ -257,6 +339,7 @@ pub(crate) fn write_rows<K: Clone + Eq + Hash, V: TCNode<K>, S: BuildHasher>(
         marks: vec![in alloc; 0; arcs.keys.len()]?,
         mark: 0,
         count: 0,
+        last: 0,
     };
     let mut place = 0;
     let mut closings = 0;

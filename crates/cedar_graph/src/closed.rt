@@ -148,6 +148,7 @@ fn check_numbers<K: Clone + Eq + Hash + Debug + Display, S: BuildHasher>(
         marks: vec![in alloc; 0; arcs.keys.len()]?,
         mark: 0,
         count: 0,
+        last: 0,
     };
     let mut place = 0;
     for x in 0..read.fixed {

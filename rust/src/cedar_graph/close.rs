@@ -18,17 +18,56 @@ fn pick_key<K: Clone + Eq + Hash>(row: &mut Vec<K>, key: &K, known: bool) {
 }
 
 // The numbers whose keys a node has an edge to already: those with this mark, to which so many arcs
-// lead.
+// lead, the last of them to this one.
 pub(crate) struct Known {
     pub(crate) marks: Vec<usize>,
     pub(crate) mark: usize,
     pub(crate) count: usize,
+    pub(crate) last: usize,
+}
+
+// So many numbers are looked up in the marks one by one, which costs less than a search for the only one that is known.
+const FEW: usize = 16;
+
+// The place, from `start` on, of the first of these numbers that is this one, or their end.
+fn place_of(numbers: &[usize], start: usize, number: usize) -> usize {
+    if !numbers[start..].contains(&number) {
+        return numbers.len();
+    }
+    for place in start..numbers.len() {
+        if numbers[place] == number {
+            return place;
+        }
+    }
+    numbers.len()
+}
+
+// Adds copies of the keys of the numbers from place `start` up to `end` to a row.
+fn pick_run<K: Clone + Eq + Hash>(row: &mut Vec<K>, keys: &[K], numbers: &[usize], start: usize, end: usize) {
+    row.extend(numbers[start..end].iter().map(|y| keys[*y].clone()));
+}
+
+// Adds copies of the keys of these numbers to an empty row, in their order, but for the only one that is known. It is no
+// part of what calls it, where few numbers are gone through.
+#[inline(never)]
+fn pick_others<K: Clone + Eq + Hash>(row: &mut Vec<K>, keys: &[K], numbers: &[usize], known: &Known) {
+    let mut end = place_of(numbers, 0, known.last);
+    pick_run(row, keys, numbers, 0, end);
+    while end < numbers.len() {
+        let start = end + 1;
+        end = place_of(numbers, start, known.last);
+        pick_run(row, keys, numbers, start, end);
+    }
 }
 
 // Copies of the keys of these numbers, in their order, but for those that are known.
 fn pick_row<K: Clone + Eq + Hash>(keys: &[K], numbers: &[usize], known: &Known) -> Vec<K> {
     let room = numbers.len().saturating_sub(known.count);
     let mut row = Vec::with_capacity(room);
+    if known.count == 1 && numbers.len() > FEW {
+        pick_others(&mut row, keys, numbers, known);
+        return row;
+    }
     for y in numbers {
         pick_key(&mut row, &keys[*y], known.marks[*y] == known.mark);
     }
@@ -83,7 +122,8 @@ fn write_number<K: Clone + Eq + Hash, V: TCNode<K>, S: BuildHasher>(
 pub(crate) fn mark_targets(from: &[usize], to: &[usize], known: &mut Known, x: usize, e: usize) -> usize {
     let mut k = e;
     while k < from.len() && from[k] == x {
-        known.marks[to[k]] = x + 1;
+        known.last = to[k];
+        known.marks[known.last] = x + 1;
         k += 1;
     }
     known.mark = x + 1;
@@ -116,6 +156,7 @@ pub(crate) fn write_rows<K: Clone + Eq + Hash, V: TCNode<K>, S: BuildHasher>(
         marks: vec![0; arcs.keys.len()],
         mark: 0,
         count: 0,
+        last: 0,
     };
     let mut place = 0;
     let mut closings = 0;

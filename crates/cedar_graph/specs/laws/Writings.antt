@@ -32,6 +32,15 @@ pub record KnowsTargets (from to : List ℕ) (x : ℕ) (known : Known) : Type 0 
   pub only : (y : ℕ) → y < length known.marks.items → slice_index known.marks.items y ≡ known.mark → HasArc from to x y
   pub all : (y : ℕ) → HasArc from to x y → slice_index known.marks.items y ≡ known.mark
 
+-- z is the only number that is known
+pub record IsOnlyKnown (known : Known) (z : ℕ) : Type 0 where
+  pub only : (y : ℕ) → y < length known.marks.items → slice_index known.marks.items y ≡ known.mark → y ≡ z
+  pub marked : slice_index known.marks.items z ≡ known.mark
+
+-- where one arc leads to a known number, that is the last
+abbrev pub KnowsLast : Known → Type 0
+KnowsLast known = known.count ≡ 1 → IsOnlyKnown known known.last
+
 -- q is the key of one of the first n of these numbers
 abbrev pub IsKeyBelow : {K : Type 0} → (K → K → Bool) → List K → List ℕ → ℕ → K → Type 0
 IsKeyBelow {K} eq keys numbers n q = (j : ℕ) × (k : K) × (j < n) × (slice_get keys (slice_index numbers j) ≡ Some k)
@@ -67,6 +76,18 @@ pub record TakesKey {K : Type 0} (eq : K → K → Bool) (key : K) (known : Bool
   pub only : (q : K) → is_member eq new q ≡ true
       → (is_member eq old q ≡ true) ⊎ ((eq q key ≡ true) × (known ≡ false))
   pub has : (q : K) → eq q key ≡ true → (is_member eq new q ≡ true) ⊎ (known ≡ true)
+
+-- q is the key of one of the numbers from place i up to j
+abbrev pub IsKeyWithin : {K : Type 0} → (K → K → Bool) → List K → List ℕ → ℕ → ℕ → K → Type 0
+IsKeyWithin {K} eq keys numbers i j q = (n : ℕ) × (k : K) × (i ≤ n) × (n < j)
+    × (slice_get keys (slice_index numbers n) ≡ Some k) × (eq q k ≡ true)
+
+-- the keys of the numbers from place i up to j were put into a row
+pub record TakesRun {K : Type 0} (eq : K → K → Bool) (keys : List K) (numbers : List ℕ) (i j : ℕ) (old new : List K)
+    : Type 0 where
+  pub stays : (q : K) → is_member eq old q ≡ true → is_member eq new q ≡ true
+  pub only : (q : K) → is_member eq new q ≡ true → (is_member eq old q ≡ true) ⊎ IsKeyWithin eq keys numbers i j q
+  pub has : (q : K) → IsKeyWithin eq keys numbers i j q → is_member eq new q ≡ true
 
 -- q is this key
 abbrev pub IsAt : {K : Type 0} → (K → K → Bool) → K → K → Type 0

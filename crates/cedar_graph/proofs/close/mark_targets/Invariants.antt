@@ -13,6 +13,7 @@ invariant-loop-k l = record {
   begun : l.e ≤ l.k;
   passed : (j : ℕ) → l.e ≤ j → j < l.k → slice_index l.from j ≡ l.x;
   targets : (j : ℕ) → l.e ≤ j → j < l.k → slice_index l.known.marks.items (slice_index l.to j) ≡ l.x + 1;
+  last : (j : ℕ) → l.e ≤ j → j + 1 ≡ l.k → slice_index l.to j ≡ l.known.last;
   place : l.k ≤ length l.from;
 }
 
