@@ -4,7 +4,7 @@ use Rattle.std.specs.HashMap.{HashMap}
 use Rattle.std.specs.List.{IsDistinct}
 use Rattle.std.proofs.lemmas.Bool.{cases_eq, cases_lt}
 use Rattle.std.proofs.Common.{◌≡◌, Bool, true, ℕ, ◌+◌, ◌<◌, ◌≤◌, ◌⊎◌, inl, inr, List, [], ◌∷◌, ◌++◌, refl, slice_index}
-use Rattle.std.proofs.Common.{sym, subst, ◌∙◌, arith}
+use Rattle.std.proofs.Common.{ap, sym, subst, ◌∙◌, arith}
 use Rattle.cedar_components.specs.Reach.{Walk, Leads, Goes}
 use Rattle.cedar_graph.specs.Graph.{graph_of, AddsOnlyReached, HasNoLoop}
 use Rattle.cedar_graph.specs.laws.Arcs.{AreSameEdges, HasNumberBelow}
@@ -45,6 +45,15 @@ module _ (E : ℕ → ℕ → Type 0) where
     | inl f ↦ (f.0, f.1, f.4, f.5, goes_after f.1 f.0 f.1 (f.3 ++ f.2) (walk_on f.1 n f.0 f.3 f.2 f.7 f.6) f.5)
     | inr below ↦ absurd (omega (arith, below))
   ]
+
+  -- along arcs that lead downward no number has a way to itself
+  walk_down : (m : ℕ → ℕ) → ((a b : ℕ) → E a b → m b < m a) → (a b : ℕ) (xs : List ℕ) → Walk E a xs b → m b ≤ m a
+  walk_down m down a b [] p = omega (arith, ap m p)
+  walk_down m down a b (x ∷ xs) p = omega (arith, down a x p.0, walk_down m down x b xs p.1)
+
+  pub none_down : (m : ℕ → ℕ) → ((a b : ℕ) → E a b → m b < m a) → (x : ℕ) → Goes E x x → ⊥
+  unfolding Leads
+  none_down m down x g = omega (arith, down x g.0 g.1, walk_down m down g.0 x g.2.0 g.2.1)
 
   -- one more number's arcs are marked
   pub marked_more : (x mark : ℕ) (old new : List ℕ) → AreMarked E x old

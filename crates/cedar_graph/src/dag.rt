@@ -1,5 +1,5 @@
 //! Closing and repairing a graph that may have no cycle: a cycle is told before anything is written.
-ghost use Rattle.std.specs.Prelude.{◌≡◌, ◌<◌, ◌≤◌, None, IfErr, IfOk, OnOk, length};
+ghost use Rattle.std.specs.Prelude.{◌≡◌, ℕ, ◌<◌, ◌≤◌, true, None, IfErr, IfOk, OnOk, length};
 ghost use Rattle.std.specs.Option.{IfSome};
 ghost use Rattle.std.specs.Set.{ClonesAreEqual};
 ghost use Rattle.std.specs.HashSet.{contains};
@@ -56,7 +56,23 @@ fn first_loop<K: Clone + Eq + Hash, S: BuildHasher>(
     None
 }
 
-// Refuses what was read where a number to fix reaches itself, by the key of the first that does.
+// Whether each arc leads to a component that comes before its own, as `reach` numbers them where no number reaches
+// itself: then none does.
+fn descends<K: Clone + Eq + Hash, S: BuildHasher>(read: &Reading<K, S>, reached: &Reached) -> bool
+    requires reach { IsReachOf read.now reached.now }
+    requires arcs { AreArcs read.now.from.items read.now.to.items (length read.now.keys.keys) }
+    ensures { result ≡ true → (x : ℕ) → Goes (IsArc read.now) x x → ⊥ }
+{
+    for k in 0..read.from.len() {
+        if reached.component[read.from[k]] <= reached.component[read.to[k]] {
+            return false;
+        }
+    }
+    true
+}
+
+// Refuses what was read where a number to fix reaches itself, by the key of the first that does, which is looked for only
+// where the components do not show that there is none.
 fn refuse_loop<K: Clone + Eq + Hash + Debug + Display, S: BuildHasher>(
     alloc: Global,
     read: &FixReading<K, S>,
@@ -70,6 +86,9 @@ fn refuse_loop<K: Clone + Eq + Hash + Debug + Display, S: BuildHasher>(
     ensures ok { OnOk result (NoneLoops (IsArc read.now.reading) read.now.fixed) }
     ensures err { IfErr result (λ e. MatchFault e (λ _ _ _. ⊥) (IsKeyOfLoop K.eq read.now)) }
 {
+    if descends(&read.reading, reached) {
+        return Ok(());
+    }
     let led = marked_targets(alloc, &read.reading)?;
     if let Some(x) = first_loop(read, reached, &led) {
         let keys = read.reading.keys.as_slice();
@@ -89,8 +108,9 @@ fn refuse_loop<K: Clone + Eq + Hash + Debug + Display, S: BuildHasher>(
 /// was, or by `TcError::Memory`, after which the former edges stay, and each further edge leads to a key that was
 /// reached. The map's keys and each node's key, rest and what adding keeps always stay.
 ///
-/// Takes memory, hashes, lists edges and recurses as [`compute_tc`](crate::compute_tc) does, and takes one byte more for
-/// each key that has edges or to which edges lead. It asks no node whether it has an edge.
+/// Takes memory, hashes, lists edges and recurses as [`compute_tc`](crate::compute_tc) does, and where there is a cycle
+/// one byte more for each key that has edges or to which edges lead. It looks at each edge once more, and asks no node
+/// whether it has an edge.
 ///
 /// The original has no such call.
 #[tactic(auto, using(crate::specs::laws::Nodes::keys_match_kept))]

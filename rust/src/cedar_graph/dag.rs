@@ -29,11 +29,26 @@ fn first_loop<K: Clone + Eq + Hash, S: BuildHasher>(
     (0..read.fixed).find(|x| led[*x] && goes_back(reached, *x))
 }
 
-// Refuses what was read where a number to fix reaches itself, by the key of the first that does.
+// Whether each arc leads to a component that comes before its own, as `reach` numbers them where no number reaches
+// itself: then none does.
+fn descends<K: Clone + Eq + Hash, S: BuildHasher>(read: &Reading<K, S>, reached: &Reached) -> bool {
+    for k in 0..read.from.len() {
+        if reached.component[read.from[k]] <= reached.component[read.to[k]] {
+            return false;
+        }
+    }
+    true
+}
+
+// Refuses what was read where a number to fix reaches itself, by the key of the first that does, which is looked for only
+// where the components do not show that there is none.
 fn refuse_loop<K: Clone + Eq + Hash + Debug + Display, S: BuildHasher>(
     read: &FixReading<K, S>,
     reached: &Reached,
 ) -> Result<(), K> {
+    if descends(&read.reading, reached) {
+        return Ok(());
+    }
     let led = marked_targets(&read.reading);
     if let Some(x) = first_loop(read, reached, &led) {
         let keys = read.reading.keys.as_slice();
@@ -51,7 +66,7 @@ fn refuse_loop<K: Clone + Eq + Hash + Debug + Display, S: BuildHasher>(
 /// Each map key must be its node's key, and a copy of a key must equal it. The map's keys and what else the nodes hold
 /// always stay.
 ///
-/// It asks no node whether it has an edge.
+/// It looks at each edge once more, and asks no node whether it has an edge.
 ///
 /// The original has no such call.
 ///
