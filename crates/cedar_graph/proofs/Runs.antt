@@ -6,10 +6,10 @@ use Rattle.std.proofs.lemmas.Bool.{cases_eq, cases_lt}
 use Rattle.std.proofs.lemmas.List.{get_or-take, get_or-drop}
 use Rattle.std.proofs.lemmas.List.Folds.{list_any_at}
 use Rattle.std.specs.Cmp.{nat_eq_equiv}
-use Rattle.std.proofs.Common.{◌≡◌, Bool, true, ℕ, ◌<◌, ◌≤◌, ◌+◌, ◌-◌, inl, inr, nat_eq, List, [], arith, ap, subst}
-use Rattle.std.proofs.Common.{length, length-take, length-drop, drop, get_or, ◌∙◌}
+use Rattle.std.proofs.Common.{◌≡◌, Bool, true, false, ℕ, ◌<◌, ◌≤◌, ◌+◌, ◌-◌, inl, inr, nat_eq, List, [], Some, arith, ap, sym, subst}
+use Rattle.std.proofs.Common.{slice_get, length, length-take, length-drop, drop, get_or, ◌∙◌}
 use Rattle.cedar_graph.specs.declared.close.Known.{Known}
-use Rattle.cedar_graph.specs.laws.Writings.{IsRowTo, TakesRun}
+use Rattle.cedar_graph.specs.laws.Writings.{IsRowTo, TakesKey, TakesRun}
 use Rattle.cedar_graph.proofs.Keyed.{number_same}
 
 -- what stands in a list from a place on is found there
@@ -56,6 +56,40 @@ module _ {K : Type 0} {eq : K → K → Bool} (laws : IsEquivalence eq) (keys : 
           let same : get_or numbers w.0 0 ≡ p.0 = number_same laws keys unique (get_or numbers w.0 0) p.0 w.1 p.1 w.4 p.2
           (laws.congr w.1 q p.1 (laws.symm w.1 q ∙ w.5) ∙ p.4) in
           unknown w.0 w.2 w.3 (ap (λ y. get_or known.marks.items y 0) same ∙ p.3)
+    ];
+  }
+
+  -- one number, whose key was put in unless it is known
+  pub key_taken : (n : ℕ) (key : K) (is_known : Bool) (old new : List K) → IsRowTo eq keys numbers n known old
+      → slice_get keys (get_or numbers n 0) ≡ Some key → TakesKey eq key is_known old new
+      → (is_known ≡ true → get_or known.marks.items (get_or numbers n 0) 0 ≡ known.mark)
+      → (is_known ≡ false → get_or known.marks.items (get_or numbers n 0) 0 ≡ known.mark → ⊥)
+      → IsRowTo eq keys numbers (n + 1) known new
+  key_taken n key is_known old new row got takes marked unmarked = record {
+    only = λ q h. elim (takes.only q h) [
+      | inl o ↦ let p = row.only q o in (p.0, p.1, omega (arith, p.2), p.3, p.4)
+      | inr s ↦ (n, key, omega arith, got, s.0)
+    ];
+    all = λ q p. elim (cases_eq p.0 n) [
+      | inl same ↦
+          let at : slice_get keys (get_or numbers n 0) ≡ Some p.1 =
+          sym (ap (λ j. slice_get keys (get_or numbers j 0)) same) ∙ p.3 in
+          let is : key ≡ p.1 = cc in
+          elim (takes.has q (ap (eq q) is ∙ p.4)) [
+            | inl m ↦ inl m
+            | inr h ↦ inr (get_or numbers n 0, p.1, at, marked h, p.4)
+          ]
+      | inr ne ↦ elim (row.all q (p.0, p.1, omega (arith, p.2), p.3, p.4)) [
+        | inl m ↦ inl (takes.stays q m)
+        | inr is ↦ inr is
+      ]
+    ];
+    new = λ q h p. elim (takes.only q h) [
+      | inl o ↦ row.new q o p
+      | inr s ↦
+          let same : get_or numbers n 0 ≡ p.0 = number_same laws keys unique (get_or numbers n 0) p.0 key p.1 got p.2
+          (laws.congr key q p.1 (laws.symm key q ∙ s.0) ∙ p.4) in
+          unmarked s.1 (ap (λ y. get_or known.marks.items y 0) same ∙ p.3)
     ];
   }
 

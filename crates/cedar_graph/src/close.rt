@@ -35,9 +35,9 @@ ghost use Rattle.cedar_graph.specs.laws.Writings.{
   IsAt,
   IsEdgeTo,
   IsFixEdge,
-  IsOnlyKnown,
   IsReachOf,
   IsRowOf,
+  IsRowTo,
   IsToFix,
   KnowsEdges,
   KnowsLast,
@@ -80,8 +80,9 @@ pub(crate) struct Known {
     pub(crate) last: usize,
 }
 
-// So many numbers are looked up in the marks one by one, which costs less than a search for the only one that is known.
-const FEW: usize = 16;
+// Numbers are gone through run by run where there are so many for each that is known, and one by one where there are
+// fewer.
+const RUN: usize = 8;
 
 // The place, from `start` on, of the first of these numbers that is this one, or their end.
 fn place_of(numbers: &[usize], start: usize, number: usize) -> usize
@@ -122,10 +123,33 @@ fn pick_run<K: Clone + Eq + Hash>(
     Ok(())
 }
 
-// Adds copies of the keys of these numbers to an empty row, in their order, but for the only one that is known. It is no
-// part of what calls it, where few numbers are gone through.
+// The place, from `start` on, of the first of these numbers that is known, or their end.
+fn next_known(numbers: &[usize], start: usize, known: &Known) -> usize
+    requires start { start ≤ length numbers.now }
+    requires marks { AllBelow (length known.now.marks.items) numbers.now }
+    requires one { KnowsLast known.now }
+    ensures least { start ≤ result }
+    ensures most { result ≤ length numbers.now }
+    ensures before { (n : ℕ) → start ≤ n → n < result
+        → slice_index known.now.marks.items (slice_index numbers.now n) ≡ known.now.mark → ⊥ }
+    ensures found { result < length numbers.now
+        → slice_index known.now.marks.items (slice_index numbers.now result) ≡ known.now.mark }
+{
+    if known.count == 1 {
+        return place_of(numbers, start, known.last);
+    }
+    for place in start..numbers.len() {
+        if known.marks[numbers[place]] == known.mark {
+            return place;
+        }
+    }
+    numbers.len()
+}
+
+// Adds copies of the keys of these numbers to an empty row, in their order, but for those that are known. It is no part
+// of what calls it, where few numbers are gone through.
 #[inline(never)]
-fn pick_others<K: Clone + Eq + Hash>(
+fn pick_runs<K: Clone + Eq + Hash>(
     row: &mut Vec<K>,
     keys: &[K],
     numbers: &[usize],
@@ -135,18 +159,65 @@ fn pick_others<K: Clone + Eq + Hash>(
     requires numbers { AllBelow (length keys.now) numbers.now }
     requires marks { length known.now.marks.items ≡ length keys.now }
     requires unique { IsDistinct K.eq keys.now }
-    requires one { IsOnlyKnown known.now known.now.last }
+    requires one { KnowsLast known.now }
     requires row { row.old.items ≡ [] }
     ensures { OnOk result (IsRowOf K.eq keys.now numbers.now known.now row.new.items) }
 {
-    let mut end = place_of(numbers, 0, known.last);
+    let mut end = next_known(numbers, 0, known);
     pick_run(row, keys, numbers, 0, end)?;
     while end < numbers.len() {
         let start = end + 1;
-        end = place_of(numbers, start, known.last);
+        end = next_known(numbers, start, known);
         pick_run(row, keys, numbers, start, end)?;
     }
     Ok(())
+}
+
+// Adds a copy of a key to a row, unless it is known, and says whether the row had room for it.
+fn pick_if_room<K: Clone + Eq + Hash>(
+    row: &mut Vec<K>,
+    key: &K,
+    known: bool,
+) -> Result<bool, AllocError>
+    requires { ClonesAreEqual K.eq K.is_clone }
+    ensures taken { IfOk result (λ b. b ≡ true → TakesKey K.eq key.now known row.old.items row.new.items) }
+    ensures full { IfOk result (λ b. b ≡ false → row.new.items ≡ row.old.items) }
+{
+    if known {
+        return Ok(true);
+    }
+    let copy = key.clone()?;
+    if row.len() >= row.capacity() {
+        return Ok(false);
+    }
+    row.push_reserved(copy);
+    Ok(true)
+}
+
+// Adds copies of the keys of these numbers to an empty row, in their order, but for those that are known, as long as it
+// has room, and gives the place at which it stopped: no step of it lets the row grow.
+fn pick_while_room<K: Clone + Eq + Hash>(
+    row: &mut Vec<K>,
+    keys: &[K],
+    numbers: &[usize],
+    known: &Known,
+) -> Result<usize, AllocError>
+    requires copies { ClonesAreEqual K.eq K.is_clone }
+    requires numbers { AllBelow (length keys.now) numbers.now }
+    requires marks { length known.now.marks.items ≡ length keys.now }
+    requires unique { IsDistinct K.eq keys.now }
+    requires row { row.old.items ≡ [] }
+    ensures most { IfOk result (λ n. n ≤ length numbers.now) }
+    ensures row { IfOk result (λ n. IsRowTo K.eq keys.now numbers.now n known.now row.new.items) }
+{
+    for place in 0..numbers.len() {
+        let y = numbers[place];
+        let has_room = pick_if_room(row, &keys[y], known.marks[y] == known.mark)?;
+        if !has_room {
+            return Ok(place);
+        }
+    }
+    Ok(numbers.len())
 }
 
 // Copies of the keys of these numbers, in their order, but for those that are known.
@@ -165,12 +236,14 @@ fn pick_row<K: Clone + Eq + Hash>(
 {
     let room = numbers.len().saturating_sub(known.count);
     let mut row = Vec::with_capacity(alloc, room)?;
-    if known.count == 1 && numbers.len() > FEW {
-        pick_others(&mut row, keys, numbers, known)?;
+    if known.count < numbers.len() / RUN {
+        pick_runs(&mut row, keys, numbers, known)?;
         return Ok(row);
     }
-    for y in numbers {
-        pick_key(&mut row, &keys[*y], known.marks[*y] == known.mark)?;
+    let start = pick_while_room(&mut row, keys, numbers, known)?;
+    for place in start..numbers.len() {
+        let y = numbers[place];
+        pick_key(&mut row, &keys[y], known.marks[y] == known.mark)?;
     }
     Ok(row)
 }

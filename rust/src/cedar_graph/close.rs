@@ -26,8 +26,9 @@ pub(crate) struct Known {
     pub(crate) last: usize,
 }
 
-// So many numbers are looked up in the marks one by one, which costs less than a search for the only one that is known.
-const FEW: usize = 16;
+// Numbers are gone through run by run where there are so many for each that is known, and one by one where there are
+// fewer.
+const RUN: usize = 8;
 
 // The place, from `start` on, of the first of these numbers that is this one, or their end.
 fn place_of(numbers: &[usize], start: usize, number: usize) -> usize {
@@ -47,29 +48,70 @@ fn pick_run<K: Clone + Eq + Hash>(row: &mut Vec<K>, keys: &[K], numbers: &[usize
     row.extend(numbers[start..end].iter().map(|y| keys[*y].clone()));
 }
 
-// Adds copies of the keys of these numbers to an empty row, in their order, but for the only one that is known. It is no
-// part of what calls it, where few numbers are gone through.
+// The place, from `start` on, of the first of these numbers that is known, or their end.
+fn next_known(numbers: &[usize], start: usize, known: &Known) -> usize {
+    if known.count == 1 {
+        return place_of(numbers, start, known.last);
+    }
+    for place in start..numbers.len() {
+        if known.marks[numbers[place]] == known.mark {
+            return place;
+        }
+    }
+    numbers.len()
+}
+
+// Adds copies of the keys of these numbers to an empty row, in their order, but for those that are known. It is no part
+// of what calls it, where few numbers are gone through.
 #[inline(never)]
-fn pick_others<K: Clone + Eq + Hash>(row: &mut Vec<K>, keys: &[K], numbers: &[usize], known: &Known) {
-    let mut end = place_of(numbers, 0, known.last);
+fn pick_runs<K: Clone + Eq + Hash>(row: &mut Vec<K>, keys: &[K], numbers: &[usize], known: &Known) {
+    let mut end = next_known(numbers, 0, known);
     pick_run(row, keys, numbers, 0, end);
     while end < numbers.len() {
         let start = end + 1;
-        end = place_of(numbers, start, known.last);
+        end = next_known(numbers, start, known);
         pick_run(row, keys, numbers, start, end);
     }
+}
+
+// Adds a copy of a key to a row, unless it is known, and says whether the row had room for it.
+fn pick_if_room<K: Clone + Eq + Hash>(row: &mut Vec<K>, key: &K, known: bool) -> bool {
+    if known {
+        return true;
+    }
+    let copy = key.clone();
+    if row.len() >= row.capacity() {
+        return false;
+    }
+    row.push(copy);
+    true
+}
+
+// Adds copies of the keys of these numbers to an empty row, in their order, but for those that are known, as long as it
+// has room, and gives the place at which it stopped: no step of it lets the row grow.
+fn pick_while_room<K: Clone + Eq + Hash>(row: &mut Vec<K>, keys: &[K], numbers: &[usize], known: &Known) -> usize {
+    for place in 0..numbers.len() {
+        let y = numbers[place];
+        let has_room = pick_if_room(row, &keys[y], known.marks[y] == known.mark);
+        if !has_room {
+            return place;
+        }
+    }
+    numbers.len()
 }
 
 // Copies of the keys of these numbers, in their order, but for those that are known.
 fn pick_row<K: Clone + Eq + Hash>(keys: &[K], numbers: &[usize], known: &Known) -> Vec<K> {
     let room = numbers.len().saturating_sub(known.count);
     let mut row = Vec::with_capacity(room);
-    if known.count == 1 && numbers.len() > FEW {
-        pick_others(&mut row, keys, numbers, known);
+    if known.count < numbers.len() / RUN {
+        pick_runs(&mut row, keys, numbers, known);
         return row;
     }
-    for y in numbers {
-        pick_key(&mut row, &keys[*y], known.marks[*y] == known.mark);
+    let start = pick_while_room(&mut row, keys, numbers, known);
+    for place in start..numbers.len() {
+        let y = numbers[place];
+        pick_key(&mut row, &keys[y], known.marks[y] == known.mark);
     }
     row
 }

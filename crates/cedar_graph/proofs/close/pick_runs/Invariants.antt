@@ -1,12 +1,12 @@
 use Rattle.std.proofs.Common.{◌≡◌, ◌<◌, ◌≤◌, ◌-◌, length, slice_index}
 use Rattle.cedar_graph.specs.laws.Writings.{IsRowTo}
-use Rattle.cedar_graph.proofs.close.pick_others.Given as goal
+use Rattle.cedar_graph.proofs.close.pick_runs.Given as goal
 
 abbrev pub invariant-loop-end : goal.invariant-loop-end
 invariant-loop-end g l = record {
   row : IsRowTo g.K.PartialEq.eq l.keys l.numbers l.end l.known l.row.items;
   within : l.end ≤ length l.numbers;
-  found : l.end < length l.numbers → slice_index l.numbers l.end ≡ l.known.last;
+  found : l.end < length l.numbers → slice_index l.known.marks.items (slice_index l.numbers l.end) ≡ l.known.mark;
 }
 
 abbrev pub decreases-loop-end : goal.decreases-loop-end

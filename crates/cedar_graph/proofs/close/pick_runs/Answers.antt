@@ -1,6 +1,6 @@
-use Rattle.std.proofs.Common.{◌+◌, arith, ap, get_or, ◌∙◌}
+use Rattle.std.proofs.Common.{◌+◌, arith}
 use Rattle.cedar_graph.proofs.Runs.{known_passed, none_taken, run_taken}
-use Rattle.cedar_graph.proofs.close.pick_others.Goals as goal
+use Rattle.cedar_graph.proofs.close.pick_runs.Goals as goal
 
 pub loop-end-init : goal.loop-end-init
 loop-end-init g c =
@@ -9,13 +9,11 @@ loop-end-init g c =
     let numbers = c.args.numbers.now in
     let known = c.args.known.now in
     let unique = c.requires.unique in
-    let place = c.place_of-end.ensures in
-    let end = c.place_of-end.result in
+    let place = c.next_known-end.ensures in
+    let end = c.next_known-end.result in
     record {
       row = run_taken laws keys unique numbers known 0 end c.args.row.now.items c.pick_run.new.row.items (omega arith)
-          (none_taken laws keys unique numbers known c.args.row.now.items c.requires.row) c.in_ok-pick_run.ensures
-          (λ n le lt mark. place.before n le lt (c.requires.one.only (get_or numbers n 0)
-          (omega (arith, c.requires.numbers n (omega arith))) mark));
+          (none_taken laws keys unique numbers known c.args.row.now.items c.requires.row) c.in_ok-pick_run.ensures place.before;
       within = place.most;
       found = place.found;
     }
@@ -28,16 +26,14 @@ loop-end-preserved g c =
     let known = c.args.known.now in
     let unique = c.requires.unique in
     let i = c.loop-end.invariant in
-    let place = c.place_of-end-in-loop-end.ensures in
-    let end = c.place_of-end-in-loop-end.result in
+    let place = c.next_known-end-in-loop-end.ensures in
+    let end = c.next_known-end-in-loop-end.result in
     let was = c.loop-end.end in
     let row = c.loop-end.row.items in
-    let marked = ap (λ y. get_or known.marks.items y 0) (i.found c.loop-end-test.true) ∙ c.requires.one.marked in
+    let marked = i.found c.loop-end-test.true in
     record {
       row = run_taken laws keys unique numbers known (was + 1) end row c.pick_run-in-loop-end.new.row.items place.least
-          (known_passed laws keys unique numbers known was row i.row marked) c.in_ok-pick_run-2.ensures
-          (λ n le lt mark. place.before n le lt (c.requires.one.only (get_or numbers n 0)
-          (omega (arith, c.requires.numbers n (omega arith))) mark));
+          (known_passed laws keys unique numbers known was row i.row marked) c.in_ok-pick_run-2.ensures place.before;
       within = place.most;
       found = place.found;
     }
