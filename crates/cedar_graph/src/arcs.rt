@@ -39,9 +39,11 @@ const ARCS: usize = 64;
 // How many nodes may have edges.
 fn count_edged<K: Clone + Eq + Hash, V: TCNode<K>, S: BuildHasher>(
     nodes: &HashMap<K, V, S>,
-) -> usize {
+) -> usize
+    ensures { result ≡ 0 → (q b : K) → graph_of K.eq V.edges nodes.now q b ≡ true → ⊥ }
+{
     let mut count: usize = 0;
-    for node in nodes.values() {
+    for (_key, node) in nodes {
         count = count.saturating_add(node.may_have_edges() as usize);
     }
     count
@@ -76,7 +78,8 @@ fn put_edged<'a, K: Clone + Eq + Hash, V: TCNode<K>, S: BuildHasher>(
     Ok(())
 }
 
-// Numbers for the keys of the map whose nodes have edges, and these nodes.
+// Numbers for the keys of the map whose nodes have edges, and these nodes. The map is gone through once more only where
+// a node may have some.
 fn number_edged<'a, K: Clone + Eq + Hash, V: TCNode<K>, S: BuildHasher + Clone>(
     alloc: Global,
     nodes: &'a HashMap<K, V, S>,
@@ -95,6 +98,9 @@ fn number_edged<'a, K: Clone + Eq + Hash, V: TCNode<K>, S: BuildHasher + Clone>(
         keys: IndexSet::with_capacity_and_hasher(alloc, count, hasher)?,
         nodes: Vec::with_capacity(alloc, count)?,
     };
+    if count == 0 {
+        return Ok(edged);
+    }
     for (key, node) in nodes {
         put_edged(&mut edged, key, node)?;
     }

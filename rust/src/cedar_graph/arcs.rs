@@ -42,7 +42,8 @@ fn put_edged<'a, K: Clone + Eq + Hash, V: TCNode<K>, S: BuildHasher>(
     }
 }
 
-// Numbers for the keys of the map whose nodes have edges, and these nodes.
+// Numbers for the keys of the map whose nodes have edges, and these nodes. The map is gone through once more only where
+// a node may have some.
 fn number_edged<K: Clone + Eq + Hash, V: TCNode<K>, S: BuildHasher + Clone>(
     nodes: &HashMap<K, V, S>,
 ) -> Edged<'_, K, V, S> {
@@ -52,6 +53,9 @@ fn number_edged<K: Clone + Eq + Hash, V: TCNode<K>, S: BuildHasher + Clone>(
         keys: OrderedSet::with_capacity_and_hasher(count, hasher),
         nodes: Vec::with_capacity(count),
     };
+    if count == 0 {
+        return edged;
+    }
     for (key, node) in nodes {
         put_edged(&mut edged, key, node);
     }
