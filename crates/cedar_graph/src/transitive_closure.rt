@@ -223,8 +223,8 @@ pub struct Work {
 ///
 /// Takes memory for copies of keys, for numbers in the number of keys and edges, and for the lists
 /// of what each strong component of the graph reaches. Lists the edges of each node that may have
-/// some once, asks [`TCNode::may_have_edges`] twice of each node, and then costs what the keys with
-/// edges, the edges read and the edges added cost, and nothing for a pair of keys without an edge. Of
+/// some once, asks [`TCNode::may_have_edges`] of each node, twice where one may have some, and then costs what the keys
+/// with edges, the edges read and the edges added cost, and nothing for a pair of keys without an edge. Of
 /// a node's edges one that leads to what those listed behind it reach costs a look, and any other what
 /// its key reaches: so a node type does well to list its direct edges last.
 /// Asks [`TCNode::order`] once, and hands each node what it lacks in one call of

@@ -107,14 +107,14 @@ pub struct Work {
 /// [`TcError::HasCycle`](crate::cedar_graph::TcError::HasCycle), which names such a node; the graph is closed all the
 /// same. Without it nothing is refused. The map's keys and what else the nodes hold always stay.
 ///
-/// Lists the edges of each node that may have some once, asks [`TCNode::may_have_edges`] twice of each node, and then
-/// costs what the keys with edges, the edges read and the edges added cost, and nothing for a pair of keys without an
-/// edge. Of a node's edges one that leads to what those listed behind it reach costs a look, and any other what its key
-/// reaches: so a node type does well to list its direct edges last. Asks [`TCNode::order`] once, and hands each node
-/// what it lacks in one call of [`TCNode::add_new_edges_to`]. With `enforce_dag` it asks nodes by
-/// [`TCNode::has_edge_to`] only where there is a cycle, until one has an edge to itself. It does not recurse, whatever
-/// the graph is, but where lists are sorted, as a node type's [`TCNode::order`] may do with all keys: in the logarithm
-/// of a list's length.
+/// Lists the edges of each node that may have some once, asks [`TCNode::may_have_edges`] of each node, twice where one
+/// may have some, and then costs what the keys with edges, the edges read and the edges added cost, and nothing for a
+/// pair of keys without an edge. Of a node's edges one that leads to what those listed behind it reach costs a look,
+/// and any other what its key reaches: so a node type does well to list its direct edges last. Asks [`TCNode::order`]
+/// once, and hands each node what it lacks in one call of [`TCNode::add_new_edges_to`]. With `enforce_dag` it asks
+/// nodes by [`TCNode::has_edge_to`] only where there is a cycle, until one has an edge to itself. It does not recurse,
+/// whatever the graph is, but where lists are sorted, as a node type's [`TCNode::order`] may do with all keys: in the
+/// logarithm of a list's length.
 ///
 /// The keys that have edges or to which edges lead are numbered in a set that hashes as the map does, by a copy of its
 /// builder of hashers: so whoever picks keys makes them collide here only where they collide in the map.
