@@ -1,5 +1,5 @@
 use mir.Val.{bool_byte}
-use Rattle.std.proofs.Common.{◌≡◌, ◌∷◌, [], Bool, true, false, arith, length, map, refl, sym, ◌∙◌}
+use Rattle.std.proofs.Common.{◌≡◌, [], Bool, true, false, arith, map, refl, sym, ◌∙◌}
 use Rattle.std.specs.Borrow.{Bor}
 use Rattle.std.proofs.lemmas.Bool.{false≢true}
 use Rattle.std.specs.Map.Iter.{deref_pair}
