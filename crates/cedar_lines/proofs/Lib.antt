@@ -1,3 +1,4 @@
 pub mod BlockBytes
+pub mod EscapeBytes
 pub mod LineTexts
 pub mod Marks

@@ -10,6 +10,7 @@ ghost use Rattle.cedar_ids.specs.declared.entity.EntityUID.{EntityUID};
 ghost use Rattle.cedar_lines.specs.Reads.{ReadsAs};
 ghost use Rattle.cedar_lines.specs.laws.Halves.{IsMadeOf};
 
+use crate::eid_bytes::is_own_escape_from;
 use crate::field::uid_field;
 use crate::room::text_in;
 use cedar_ids::entity::{Eid, EntityType, EntityUID};
@@ -18,24 +19,24 @@ use cedar_ids::escape::is_own_escape;
 use std::alloc::{AllocError, Global};
 use std::marker::Model;
 
-// A type, and its text. Contracts see the name of the type.
+// A type, and its text with the mark `::"` behind it. Contracts see the name of the type.
 #[derive(Drop)]
 struct KnownType {
-    text: String,
+    marked: String,
     ty: EntityType,
 }
 
 impl Model for KnownType {
     ghost use Rattle.std.specs.String.{string_bytes};
     ghost use Rattle.cedar_ids.specs.Name.{NameParts};
-    ghost use Rattle.cedar_ids.specs.TextOf.{IsNameText};
     ghost use Rattle.cedar_ids.specs.Views.{type_name};
+    ghost use Rattle.cedar_lines.specs.laws.Halves.{IsMarked};
 
     ghost Value = { NameParts };
 
     ghost view = { λ k. type_name k.ty };
 
-    ghost invariant = { λ k. IsNameText (type_name k.ty) (string_bytes k.text) };
+    ghost invariant = { λ k. IsMarked (type_name k.ty) (string_bytes k.marked) };
 }
 
 /// The types that fields before have named, by their texts, so that uids to come share them: up to 16, those that came
@@ -57,6 +58,19 @@ impl KnownTypes {
 // So many types are known at the most.
 const MOST: usize = 16;
 
+// What stands between the text of a type and an eid.
+const MARK: &str = "::\"";
+
+// A text with the mark behind it.
+fn with_mark(alloc: Global, text: &str) -> Result<String, AllocError>
+    ensures { IfOk result (λ t. string_bytes t ≡ text.now ++ codes "::\"") }
+{
+    let mut marked = String::with_capacity(alloc, text.len())?;
+    marked.push_str(text)?;
+    marked.push_str(MARK)?;
+    Ok(marked)
+}
+
 // A type that was read is known from then on, while there are few.
 fn keep_type(
     alloc: Global,
@@ -69,9 +83,9 @@ fn keep_type(
     if known.len() >= MOST {
         return Ok(());
     }
-    let text = String::from_str(alloc, text)?;
+    let marked = with_mark(alloc, text)?;
     known.push(KnownType {
-        text,
+        marked,
         ty: ty.clone()?,
     })?;
     Ok(())
@@ -94,18 +108,6 @@ fn read_type(
         Err(ParseErrors::NotNormalized) => Ok(None),
         Err(ParseErrors::InvalidName) => Ok(None),
     }
-}
-
-// What stands between `::"` at the front and a `"` at the end, where that is its own escape.
-fn eid_after(text: &str) -> Option<&str>
-    ensures split { IfSome result (λ e. text.now ≡ codes "::\"" ++ (e.now ++ codes "\"")) }
-    ensures own_escape { IfSome result (λ e. IsTrue (is_own_escape e.now)) }
-{
-    let eid = text.strip_prefix("::\"")?.strip_suffix('"')?;
-    if is_own_escape(eid.as_bytes()) {
-        return Some(eid);
-    }
-    None
 }
 
 // What stands before the first `::"`, and between that and a last `"`, where the second is its own escape.
@@ -136,21 +138,28 @@ fn type_of(known: &KnownType) -> Result<EntityType, AllocError>
     known.ty.clone()
 }
 
-// What stands behind the text of a type between `::"` and a `"` at the end, where that is its own escape.
-fn eid_of_type<'a>(known: &KnownType, text: &'a str) -> Option<&'a str>
-    ensures made { IfSome result (λ e. IsMadeOf known.now e.now text.now) }
+// What stands behind the text of a type and the mark, where that is its own escape.
+#[inline(always)]
+fn eid_of_type<'a>(known: &KnownType, unclosed: &'a str) -> Option<&'a str>
+    ensures made { IfSome result (λ e. IsMadeOf known.now e.now (unclosed.now ++ codes "\"")) }
     ensures own_escape { IfSome result (λ e. IsTrue (is_own_escape e.now)) }
 {
-    eid_after(text.strip_prefix(known.text.as_str())?)
+    let eid = unclosed.strip_prefix(known.marked.as_str())?;
+    if is_own_escape_from(unclosed.as_bytes(), known.marked.len()) {
+        return Some(eid);
+    }
+    None
 }
 
 // The type that is known and the eid of which a text is made, if that is its own escape.
+#[inline(always)]
 fn known_halves<'a, 'b>(known: &'a [KnownType], text: &'b str) -> Option<(&'a KnownType, &'b str)>
     ensures made { IfSome result (λ r. IsMadeOf r.0.now r.1.now text.now) }
     ensures own_escape { IfSome result (λ r. IsTrue (is_own_escape r.1.now)) }
 {
+    let unclosed = text.strip_suffix('"')?;
     for one in known {
-        if let Some(eid) = eid_of_type(one, text) {
+        if let Some(eid) = eid_of_type(one, unclosed) {
             return Some((one, eid));
         }
     }

@@ -6,6 +6,7 @@
 //! `cedar_policy_lines`.
 #![tactic(auto)]
 
+mod eid_bytes;
 pub mod field;
 pub mod known_types;
 mod lanes;

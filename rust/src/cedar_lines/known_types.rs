@@ -5,12 +5,13 @@
 use crate::cedar_ids::entity::{Eid, EntityType, EntityUID};
 use crate::cedar_ids::err::ParseErrors;
 use crate::cedar_ids::escape::is_own_escape;
+use crate::cedar_lines::eid_bytes::is_own_escape_from;
 use crate::cedar_lines::field::uid_field;
 use crate::cedar_lines::room::text_in;
 
-// A type, and its text.
+// A type, and its text with the mark `::"` behind it.
 struct KnownType {
-    text: String,
+    marked: String,
     ty: EntityType,
 }
 
@@ -30,13 +31,24 @@ impl KnownTypes {
 // So many types are known at the most.
 const MOST: usize = 16;
 
+// What stands between the text of a type and an eid.
+const MARK: &str = "::\"";
+
+// A text with the mark behind it.
+fn with_mark(text: &str) -> String {
+    let mut marked = String::with_capacity(text.len());
+    marked.push_str(text);
+    marked.push_str(MARK);
+    marked
+}
+
 // A type that was read is known from then on, while there are few.
 fn keep_type(known: &mut Vec<KnownType>, text: &str, ty: &EntityType) {
     if known.len() >= MOST {
         return;
     }
-    let text = String::from(text);
-    known.push(KnownType { text, ty: ty.clone() });
+    let marked = with_mark(text);
+    known.push(KnownType { marked, ty: ty.clone() });
 }
 
 // The type whose text this is, if it is that of one, read anew.
@@ -48,15 +60,6 @@ fn read_type(known: &mut Vec<KnownType>, text: &str) -> Option<EntityType> {
         }
         Err(ParseErrors::NotNormalized) | Err(ParseErrors::InvalidName) => None,
     }
-}
-
-// What stands between `::"` at the front and a `"` at the end, where that is its own escape.
-fn eid_after(text: &str) -> Option<&str> {
-    let eid = text.strip_prefix("::\"")?.strip_suffix('"')?;
-    if is_own_escape(eid.as_bytes()) {
-        return Some(eid);
-    }
-    None
 }
 
 // What stands before the first `::"`, and between that and a last `"`, where the second is its own escape.
@@ -78,15 +81,22 @@ fn type_of(known: &KnownType) -> EntityType {
     known.ty.clone()
 }
 
-// What stands behind the text of a type between `::"` and a `"` at the end, where that is its own escape.
-fn eid_of_type<'a>(known: &KnownType, text: &'a str) -> Option<&'a str> {
-    eid_after(text.strip_prefix(known.text.as_str())?)
+// What stands behind the text of a type and the mark, where that is its own escape.
+#[inline(always)]
+fn eid_of_type<'a>(known: &KnownType, unclosed: &'a str) -> Option<&'a str> {
+    let eid = unclosed.strip_prefix(known.marked.as_str())?;
+    if is_own_escape_from(unclosed.as_bytes(), known.marked.len()) {
+        return Some(eid);
+    }
+    None
 }
 
 // The type that is known and the eid of which a text is made, if that is its own escape.
+#[inline(always)]
 fn known_halves<'a, 'b>(known: &'a [KnownType], text: &'b str) -> Option<(&'a KnownType, &'b str)> {
+    let unclosed = text.strip_suffix('"')?;
     for one in known {
-        if let Some(eid) = eid_of_type(one, text) {
+        if let Some(eid) = eid_of_type(one, unclosed) {
             return Some((one, eid));
         }
     }

@@ -3,6 +3,7 @@
 //! What the program's lines share: the fields of a line, a field that is a uid, the types that such fields name, texts in
 //! the room of others, and a line that is written.
 
+mod eid_bytes;
 pub mod field;
 pub mod known_types;
 mod lanes;
