@@ -33,6 +33,19 @@ no_texts (f ∷ fs) i d l none [] h = h
 no_texts (f ∷ fs) zero d l none (u ∷ us) h = none u h.0
 no_texts (f ∷ fs) (suc i) d l none (u ∷ us) h = no_texts fs i d (omega arith) none us h.1
 
+-- where the first field is no text, the fields are not those of uids
+pub no_first_text : (f : Bor (List ℕ)) (fs : List (Bor (List ℕ))) → ((u : EntityUID) → Text u f.now → ⊥)
+    → (us : List EntityUID) → AreTexts us (map (λ f. f.now) (f ∷ fs)) → ⊥
+no_first_text f fs none [] h = h
+no_first_text f fs none (u ∷ us) h = none u h.0
+
+-- the one field is the text of a uid
+pub one_field : (f : Bor (List ℕ)) (fs : List (Bor (List ℕ))) (b : Bool) → b ≡ (length fs == 0) → b ≡ true
+    → (u : EntityUID) → Text u f.now → AreTexts (u ∷ []) (map (λ f. f.now) (f ∷ fs))
+one_field f [] b e t u h = (h, tt)
+one_field f (g ∷ fs) b e t u h = let z : length (g ∷ fs) ≡ 0 = eqb-true (length (g ∷ fs)) 0 (sym e ∙ t) in
+    absurd (omega arith)
+
 -- no fields are those of no command
 pub no_fields_seen : (fs : List (Bor (List ℕ))) → length fs ≡ 0 → (c : EntityCommand)
     → IsEntityCommand c (map (λ f. f.now) fs) → ⊥

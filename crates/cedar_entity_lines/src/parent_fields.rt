@@ -160,7 +160,8 @@ fn read_parent(
 
 // The parent with this text, if it is that of a uid. Where one with this text was read lately it is that one, shared
 // once more.
-fn parent_of_text(
+#[inline(always)]
+pub(crate) fn parent_of_text(
     alloc: Global,
     known: &mut KnownUids,
     text: &str,

@@ -3,10 +3,10 @@
 //! The entity of a line, made where its uid is read, so that neither moves once more.
 
 use crate::cedar_entities::Entity;
-use crate::cedar_entity_lines::parent_fields::{KnownUids, parents_of_fields};
+use crate::cedar_entity_lines::parent_fields::{KnownUids, parent_of_text, parents_of_fields};
 use crate::cedar_ids::entity::EntityUID;
 use crate::cedar_lines::known_types::uid_of_text;
-use crate::cedar_uid_sets::UidSet;
+use crate::cedar_uid_sets::{SharedUid, UidSet};
 use std::sync::Arc;
 
 // The entity with a uid and these parents.
@@ -19,10 +19,28 @@ fn entity_of_text(known: &mut KnownUids, text: &str, parents: UidSet) -> Option<
     uid_of_text(&mut known.types, text).map(|uid| shared_entity(uid, parents))
 }
 
+// The set of one parent.
+fn set_of_one(parent: SharedUid) -> UidSet {
+    UidSet::from_ascending(vec![parent])
+}
+
+// The set of the parents whose texts the fields are, if each is that of a uid. Most entities have one or none: there is
+// nothing to sort then.
+fn parent_set(known: &mut KnownUids, fields: &[&str]) -> Option<UidSet> {
+    let Some((first, rest)) = fields.split_first() else {
+        return Some(UidSet::new());
+    };
+    if rest.is_empty() {
+        let parent = parent_of_text(known, first)?;
+        return Some(set_of_one(parent));
+    }
+    let parents = parents_of_fields(known, fields)?;
+    Some(UidSet::from_pointers(parents))
+}
+
 // The entity whose uid and parents have these texts, if each is that of a uid.
 pub(crate) fn entity_of_fields(known: &mut KnownUids, fields: &[&str]) -> Option<Arc<Entity>> {
     let (first, rest) = fields.split_first()?;
-    let parents = parents_of_fields(known, rest)?;
-    let parents = UidSet::from_pointers(parents);
+    let parents = parent_set(known, rest)?;
     entity_of_text(known, first, parents)
 }

@@ -111,7 +111,8 @@ fn read_parent(known: &mut KnownUids, place: usize, text: &str) -> Option<Shared
 
 // The parent with this text, if it is that of a uid. Where one with this text was read lately it is that one, shared
 // once more.
-fn parent_of_text(known: &mut KnownUids, text: &str) -> Option<SharedUid> {
+#[inline(always)]
+pub(crate) fn parent_of_text(known: &mut KnownUids, text: &str) -> Option<SharedUid> {
     let place = place_of(text);
     if let Some(uid) = known_parent(&known.parents, place, text) {
         return Some(uid);
