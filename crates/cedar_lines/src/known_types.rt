@@ -199,6 +199,7 @@ fn uid_without_escape(
 }
 
 // The uid with a text, of which no type that is known is a part.
+#[inline(never)]
 fn read_uid(
     alloc: Global,
     known: &mut Vec<KnownType>,
@@ -219,6 +220,7 @@ fn read_uid(
 /// Takes memory for the uid, for its type where that is not known, and for what is known then, and is refused only
 /// where that is. Its cost is linear in the field and in the texts of the types that are known. It is this project's
 /// own.
+#[inline(always)]
 pub fn uid_of_text(
     alloc: Global,
     known: &mut KnownTypes,

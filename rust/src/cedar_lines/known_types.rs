@@ -117,6 +117,7 @@ fn uid_without_escape(known: &mut Vec<KnownType>, text: &str) -> Option<EntityUI
 }
 
 // The uid with a text, of which no type that is known is a part.
+#[inline(never)]
 fn read_uid(known: &mut Vec<KnownType>, text: &str) -> Option<EntityUID> {
     if let Some(uid) = uid_without_escape(known, text) {
         return Some(uid);
@@ -129,6 +130,7 @@ fn read_uid(known: &mut Vec<KnownType>, text: &str) -> Option<EntityUID> {
 /// itself. A type that is read so is known from then on, while there is room.
 ///
 /// Its cost is linear in the field and in the texts of the types that are known. It is this project's own.
+#[inline(always)]
 pub fn uid_of_text(known: &mut KnownTypes, text: &str) -> Option<EntityUID> {
     let Some((one, eid)) = known_halves(&known.types, text) else {
         return read_uid(&mut known.types, text);

@@ -12,6 +12,6 @@ returns c =
     own_escape-from_bit c.args.text.now c.args.at 8 _ c.requires (omega arith) c.type_inv.text _
     (zip2_of_maps bit_or _ _ v
     (zip2_of_maps bit_or _ _ v
-    (zip2_of_maps (λ a b. cond (ltb a b) 255 0) _ _ v (splat_is_map v 8 94 long) (zip2_splat {Y = ℕ} _ v 8 32 long))
-    (zip2_of_maps bit_or _ _ v (zip2_splat {Y = ℕ} _ v 8 34 long) (zip2_splat {Y = ℕ} _ v 8 39 long)))
-    (zip2_splat {Y = ℕ} _ v 8 92 long)) refl
+    (zip2_of_maps (λ a b. cond (ltb a b) 255 0) _ _ v (splat_is_map v 8 _ long) (zip2_splat {Y = ℕ} _ v 8 _ long))
+    (zip2_of_maps bit_or _ _ v (zip2_splat {Y = ℕ} _ v 8 _ long) (zip2_splat {Y = ℕ} _ v 8 _ long)))
+    (zip2_splat {Y = ℕ} _ v 8 _ long)) refl
