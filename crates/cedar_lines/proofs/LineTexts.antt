@@ -1,4 +1,5 @@
 -- Bytes that a line may have are ASCII and so a text.
+use Rattle.std.specs.Prelude.{Option, None, Some, IfSome}
 use Rattle.std.proofs.Common.{◌≡◌, ℕ, zero, suc, ◌<◌, List, [], ◌∷◌, true, arith, length, refl}
 use Rattle.std.specs.Cmp.{first_so, second_so}
 use Rattle.std.specs.List.{list_all}
@@ -23,3 +24,9 @@ pub list_all-from_line_bytes : (d : List ℕ) → HasLineBytesIn d 0 (length d) 
 list_all-from_line_bytes [] h = refl
 list_all-from_line_bytes (c ∷ cs) h =
     rw (h 0 (omega arith) (omega arith), list_all-from_line_bytes cs (λ k low high. h (suc k) (omega arith) (omega arith))) refl
+
+-- where there is something, each byte is one that a line may have
+pub readable-if_some : {A : Type 0} (o : Option A) (d : List ℕ) → IfSome o (λ _. HasLineBytesIn d 0 (length d))
+    → IfSome o (λ _. list_all is_line_byte d ≡ true)
+readable-if_some None d h = h
+readable-if_some (Some x) d h = list_all-from_line_bytes d h

@@ -229,7 +229,11 @@ pub fn uid_of_text(
     ensures { IfOk result (ReadsAs (λ (u : EntityUID). IsPrinted (uid_parts u) text.now) (λ u. u)) }
 {
     let Some((one, eid)) = known_halves(&known.types, text) else {
-        return read_uid(alloc, &mut known.types, text);
+        // What is read moves here by itself, so that a uid of a known type need not.
+        if let Some(uid) = read_uid(alloc, &mut known.types, text)? {
+            return Ok(Some(uid));
+        }
+        return Ok(None);
     };
     let ty = type_of(one)?;
     let eid = String::from_str(alloc, eid)?;

@@ -1,6 +1,6 @@
 // Bytes and tabs of a line, sixteen at a time. Most lines have from 16 to 64 bytes: a look at each costs some six
 // instructions, and vectors of more bytes do not fit into them.
-ghost use Rattle.std.specs.Prelude.{◌≡◌, ◌≢◌, ℕ, ◌+◌, ◌<◌, ◌≤◌, IsTrue, length};
+ghost use Rattle.std.specs.Prelude.{◌≡◌, ◌≢◌, ℕ, ◌+◌, ◌<◌, ◌≤◌, IfSome, IsTrue, length};
 ghost use Rattle.std.specs.Int.{bit_at};
 ghost use Rattle.cedar_lines.specs.Lines.{HasLineBytesIn};
 ghost use Rattle.cedar_lines.specs.laws.Fields.{MarksTabs};
@@ -77,6 +77,31 @@ fn tabs_of(bytes: &[u8]) -> u64
         at += 16;
     }
     tabs | (tabs_at(bytes, last) << last)
+}
+
+// The tabs of a line of 16 to 64 bytes, if each of its bytes is a tab or printable ASCII: one look at each does for both.
+// The last sixteen may have been seen in part.
+#[inline(always)]
+pub(crate) fn tabs_of_line(line: &[u8]) -> Option<u64>
+    requires long { 16 ≤ length line.now }
+    requires few { length line.now ≤ 64 }
+    ensures line_bytes { IfSome result (λ _tabs. HasLineBytesIn line.now 0 (length line.now)) }
+    ensures tabs { IfSome result (λ tabs. MarksTabs line.now 0 (length line.now) tabs) }
+{
+    let last = line.len() - 16;
+    let mut tabs = 0;
+    let mut at = 0;
+    while at < last {
+        if !has_line_bytes_at(line, at) {
+            return None;
+        }
+        tabs |= tabs_at(line, at) << at;
+        at += 16;
+    }
+    if has_line_bytes_at(line, last) {
+        return Some(tabs | (tabs_at(line, last) << last));
+    }
+    None
 }
 
 // The tabs from a place up to another, at most 64 bytes on.

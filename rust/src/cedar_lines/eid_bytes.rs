@@ -35,11 +35,14 @@ fn is_own_escape_in(text: &[u8], from: usize) -> bool {
     escapes_at(text, last) >> (at - last) == 0
 }
 
+// From so many bytes on a look at eight of them costs less than one at each.
+const ENOUGH: usize = 3;
+
 // Whether what stands from a place on is its own escape.
 #[inline(always)]
 pub(crate) fn is_own_escape_from(text: &[u8], from: usize) -> bool {
-    if text.len() < 8 {
-        return is_own_escape(&text[from..]);
+    if 8 <= text.len() && ENOUGH <= text.len() - from {
+        return is_own_escape_in(text, from);
     }
-    is_own_escape_in(text, from)
+    is_own_escape(&text[from..])
 }

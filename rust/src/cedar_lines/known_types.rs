@@ -133,7 +133,11 @@ fn read_uid(known: &mut Vec<KnownType>, text: &str) -> Option<EntityUID> {
 #[inline(always)]
 pub fn uid_of_text(known: &mut KnownTypes, text: &str) -> Option<EntityUID> {
     let Some((one, eid)) = known_halves(&known.types, text) else {
-        return read_uid(&mut known.types, text);
+        // What is read moves here by itself, so that a uid of a known type need not.
+        if let Some(uid) = read_uid(&mut known.types, text) {
+            return Some(uid);
+        }
+        return None;
     };
     let ty = type_of(one);
     let eid = String::from(eid);

@@ -66,6 +66,26 @@ fn tabs_of(bytes: &[u8]) -> u64 {
     tabs | (tabs_at(bytes, last) << last)
 }
 
+// The tabs of a line of 16 to 64 bytes, if each of its bytes is a tab or printable ASCII: one look at each does for both.
+// The last sixteen may have been seen in part.
+#[inline(always)]
+pub(crate) fn tabs_of_line(line: &[u8]) -> Option<u64> {
+    let last = line.len() - 16;
+    let mut tabs = 0;
+    let mut at = 0;
+    while at < last {
+        if !has_line_bytes_at(line, at) {
+            return None;
+        }
+        tabs |= tabs_at(line, at) << at;
+        at += 16;
+    }
+    if has_line_bytes_at(line, last) {
+        return Some(tabs | (tabs_at(line, last) << last));
+    }
+    None
+}
+
 // The tabs from a place up to another, at most 64 bytes on.
 #[inline(always)]
 pub(crate) fn tabs_in(line: &[u8], from: usize, to: usize) -> u64 {

@@ -2,13 +2,13 @@
 
 //! The fields of a line.
 
-use crate::cedar_lines::lanes::{has_line_bytes, lowest_bit, tabs_in, without_bit};
+use crate::cedar_lines::lanes::{has_line_bytes, lowest_bit, tabs_in, tabs_of_line, without_bit};
 
-// Puts the fields that end at the tabs from a place up to another, at most 64 bytes on, behind those before. The first of
-// them begins at `start`. Where the field after them begins.
-fn push_fields<'a>(fields: &mut Vec<&'a str>, line: &'a str, start: usize, from: usize, to: usize) -> usize {
+// Puts the fields that end at tabs behind those before. The tabs are those from a place on, up to 64 bytes behind it or
+// to the end of the line. The first of the fields begins at `start`. Where the field after them begins.
+#[inline(always)]
+fn push_fields<'a>(fields: &mut Vec<&'a str>, line: &'a str, start: usize, from: usize, mut tabs: u64) -> usize {
     let mut next = start;
-    let mut tabs = tabs_in(line.as_bytes(), from, to);
     while tabs != 0 {
         let bit = lowest_bit(tabs);
         let tab = from + bit;
@@ -19,6 +19,14 @@ fn push_fields<'a>(fields: &mut Vec<&'a str>, line: &'a str, start: usize, from:
     next
 }
 
+// Puts the fields between the tabs of a line of at most 64 bytes in the place of those before. The tabs are marked.
+#[inline(always)]
+fn set_marked_fields<'a>(fields: &mut Vec<&'a str>, line: &'a str, tabs: u64) {
+    fields.clear();
+    let rest = push_fields(fields, line, 0, 0, tabs);
+    fields.push(&line[rest..]);
+}
+
 // Puts the fields between the tabs of a line in the place of those before.
 fn set_fields<'a>(fields: &mut Vec<&'a str>, line: &'a str) {
     fields.clear();
@@ -26,7 +34,8 @@ fn set_fields<'a>(fields: &mut Vec<&'a str>, line: &'a str) {
     let mut seen = 0;
     while seen < line.len() {
         let to = seen + (line.len() - seen).min(64);
-        start = push_fields(fields, line, start, seen, to);
+        let tabs = tabs_in(line.as_bytes(), seen, to);
+        start = push_fields(fields, line, start, seen, tabs);
         seen = to;
     }
     fields.push(&line[start..]);
@@ -50,17 +59,39 @@ fn has_line_bytes_alone(line: &[u8]) -> bool {
     is_readable
 }
 
+// The tabs of a line that is neither short nor long, if it has tabs and printable ASCII alone.
+#[inline(always)]
+fn tabs_of_some(line: &[u8]) -> Option<u64> {
+    if 16 <= line.len() && line.len() <= 64 {
+        return tabs_of_line(line);
+    }
+    None
+}
+
+// The text that a line is.
+#[inline(always)]
+fn text_of(line: &[u8]) -> &str {
+    std::str::from_utf8(line).unwrap_or_default()
+}
+
+// What `read_fields` does with any line.
+#[inline(never)]
+fn read_others<'a>(fields: &mut Vec<&'a str>, line: &'a [u8]) -> bool {
+    if !has_line_bytes_alone(line) {
+        return false;
+    }
+    set_fields(fields, text_of(line));
+    true
+}
+
 /// Whether a line has tabs and printable ASCII alone. If it has, what stands between its tabs takes the place of the
 /// fields.
 ///
 /// Its cost is linear in the line. It is this project's own.
 pub fn read_fields<'a>(fields: &mut Vec<&'a str>, line: &'a [u8]) -> bool {
-    if !has_line_bytes_alone(line) {
-        return false;
+    if let Some(tabs) = tabs_of_some(line) {
+        set_marked_fields(fields, text_of(line), tabs);
+        return true;
     }
-    let Ok(text) = std::str::from_utf8(line) else {
-        return false;
-    };
-    set_fields(fields, text);
-    true
+    read_others(fields, line)
 }

@@ -1,5 +1,5 @@
 -- Where tabs stand in a line, and where a field ends.
-use Rattle.std.specs.Prelude.{◌≡◌, ℕ, zero, suc, ◌+◌, ◌-◌, ◌<◌, ◌≤◌, List, [], ◌∷◌, ◌==◌, true, false, length, take, drop, slice_index}
+use Rattle.std.specs.Prelude.{◌≡◌, ℕ, zero, suc, ◌+◌, ◌-◌, ◌<◌, ◌≤◌, List, [], ◌∷◌, ◌==◌, true, false, length, min, take, drop, slice_index}
 use Rattle.std.proofs.Common.{ap, subst, sym, ◌∙◌, refl, arith, length-drop, get_or-drop, drop-drop}
 use Rattle.std.specs.Int.{bit_at}
 use Rattle.std.specs.List.{slice_split, onto_first}
@@ -17,6 +17,10 @@ HasNoTabIn xs from to = (k : ℕ) → from ≤ k → k < to → (slice_index xs 
 pub record MarksTabs (xs : List ℕ) (from to m : ℕ) : Type 0 where
   pub each : (k : ℕ) → from + k < to → HasTabAt xs (from + k) → bit_at m k ≡ 1
   pub only : (k : ℕ) → bit_at m k ≡ 1 → (from + k < to) × HasTabAt xs (from + k)
+
+-- where a look at 64 bytes from a place on ends
+abbrev pub block_end : List ℕ → ℕ → ℕ
+block_end xs from = min (length xs) (from + 64)
 
 -- the bytes before the first tab are the first field, and those after it the others
 ends_before : (xs : List ℕ) (i : ℕ) → i < length xs → HasTabAt xs i → HasNoTabIn xs 0 i

@@ -1,0 +1,6 @@
+use Rattle.cedar_lines.proofs.LineTexts.{readable-if_some}
+use Rattle.cedar_lines.proofs.line.tabs_of_some.Goals as goal
+
+pub returns-then-line-le64-clause-readable : goal.returns-then-line-le64-clause-readable
+returns-then-line-le64-clause-readable c =
+    readable-if_some c.tabs_of_line.result c.args.line.now c.tabs_of_line.ensures.line_bytes
