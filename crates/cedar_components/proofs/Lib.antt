@@ -2,8 +2,8 @@ pub mod ComponentSteps
 pub mod Fills
 pub mod Gathering
 pub mod LowestBit
-pub mod OneMember
 pub mod NearLists
+pub mod OneMember
 pub mod OneTarget
 pub mod Ordered
 pub mod PlaceBits
