@@ -35,6 +35,7 @@ ghost use Rattle.cedar_graph.specs.laws.Writings.{
   IsAt,
   IsEdgeTo,
   IsFixEdge,
+  IsOnlyKnown,
   IsReachOf,
   IsRowOf,
   IsRowTo,
@@ -84,25 +85,6 @@ pub(crate) struct Known {
 // fewer.
 const RUN: usize = 8;
 
-// The place, from `start` on, of the first of these numbers that is this one, or their end.
-fn place_of(numbers: &[usize], start: usize, number: usize) -> usize
-    requires { start ≤ length numbers.now }
-    ensures least { start ≤ result }
-    ensures most { result ≤ length numbers.now }
-    ensures before { (n : ℕ) → start ≤ n → n < result → slice_index numbers.now n ≡ number → ⊥ }
-    ensures found { result < length numbers.now → slice_index numbers.now result ≡ number }
-{
-    if !numbers[start..].contains(&number) {
-        return numbers.len();
-    }
-    for place in start..numbers.len() {
-        if numbers[place] == number {
-            return place;
-        }
-    }
-    numbers.len()
-}
-
 // Adds copies of the keys of the numbers from place `start` up to `end` to a row.
 fn pick_run<K: Clone + Eq + Hash>(
     row: &mut Vec<K>,
@@ -127,7 +109,6 @@ fn pick_run<K: Clone + Eq + Hash>(
 fn next_known(numbers: &[usize], start: usize, known: &Known) -> usize
     requires start { start ≤ length numbers.now }
     requires marks { AllBelow (length known.now.marks.items) numbers.now }
-    requires one { KnowsLast known.now }
     ensures least { start ≤ result }
     ensures most { result ≤ length numbers.now }
     ensures before { (n : ℕ) → start ≤ n → n < result
@@ -135,15 +116,35 @@ fn next_known(numbers: &[usize], start: usize, known: &Known) -> usize
     ensures found { result < length numbers.now
         → slice_index known.now.marks.items (slice_index numbers.now result) ≡ known.now.mark }
 {
-    if known.count == 1 {
-        return place_of(numbers, start, known.last);
-    }
     for place in start..numbers.len() {
         if known.marks[numbers[place]] == known.mark {
             return place;
         }
     }
     numbers.len()
+}
+
+// Adds copies of the keys of these numbers to an empty row, in their order, but for that of the only one that is known,
+// which costs less to tell than a mark.
+fn pick_others<K: Clone + Eq + Hash>(
+    row: &mut Vec<K>,
+    keys: &[K],
+    numbers: &[usize],
+    known: &Known,
+) -> Result<(), AllocError>
+    requires copies { ClonesAreEqual K.eq K.is_clone }
+    requires numbers { AllBelow (length keys.now) numbers.now }
+    requires marks { length known.now.marks.items ≡ length keys.now }
+    requires unique { IsDistinct K.eq keys.now }
+    requires one { IsOnlyKnown known.now known.now.last }
+    requires row { row.old.items ≡ [] }
+    ensures { OnOk result (IsRowOf K.eq keys.now numbers.now known.now row.new.items) }
+{
+    for place in 0..numbers.len() {
+        let y = numbers[place];
+        pick_key(row, &keys[y], y == known.last)?;
+    }
+    Ok(())
 }
 
 // Adds copies of the keys of these numbers to an empty row, in their order, but for those that are known. It is no part
@@ -163,6 +164,9 @@ fn pick_runs<K: Clone + Eq + Hash>(
     requires row { row.old.items ≡ [] }
     ensures { OnOk result (IsRowOf K.eq keys.now numbers.now known.now row.new.items) }
 {
+    if known.count == 1 {
+        return pick_others(row, keys, numbers, known);
+    }
     let mut end = next_known(numbers, 0, known);
     pick_run(row, keys, numbers, 0, end)?;
     while end < numbers.len() {

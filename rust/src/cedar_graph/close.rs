@@ -30,19 +30,6 @@ pub(crate) struct Known {
 // fewer.
 const RUN: usize = 8;
 
-// The place, from `start` on, of the first of these numbers that is this one, or their end.
-fn place_of(numbers: &[usize], start: usize, number: usize) -> usize {
-    if !numbers[start..].contains(&number) {
-        return numbers.len();
-    }
-    for place in start..numbers.len() {
-        if numbers[place] == number {
-            return place;
-        }
-    }
-    numbers.len()
-}
-
 // Adds copies of the keys of the numbers from place `start` up to `end` to a row.
 fn pick_run<K: Clone + Eq + Hash>(row: &mut Vec<K>, keys: &[K], numbers: &[usize], start: usize, end: usize) {
     row.extend(numbers[start..end].iter().map(|y| keys[*y].clone()));
@@ -50,9 +37,6 @@ fn pick_run<K: Clone + Eq + Hash>(row: &mut Vec<K>, keys: &[K], numbers: &[usize
 
 // The place, from `start` on, of the first of these numbers that is known, or their end.
 fn next_known(numbers: &[usize], start: usize, known: &Known) -> usize {
-    if known.count == 1 {
-        return place_of(numbers, start, known.last);
-    }
     for place in start..numbers.len() {
         if known.marks[numbers[place]] == known.mark {
             return place;
@@ -61,10 +45,22 @@ fn next_known(numbers: &[usize], start: usize, known: &Known) -> usize {
     numbers.len()
 }
 
+// Adds copies of the keys of these numbers to an empty row, in their order, but for that of the only one that is known,
+// which costs less to tell than a mark.
+fn pick_others<K: Clone + Eq + Hash>(row: &mut Vec<K>, keys: &[K], numbers: &[usize], known: &Known) {
+    for place in 0..numbers.len() {
+        let y = numbers[place];
+        pick_key(row, &keys[y], y == known.last);
+    }
+}
+
 // Adds copies of the keys of these numbers to an empty row, in their order, but for those that are known. It is no part
 // of what calls it, where few numbers are gone through.
 #[inline(never)]
 fn pick_runs<K: Clone + Eq + Hash>(row: &mut Vec<K>, keys: &[K], numbers: &[usize], known: &Known) {
+    if known.count == 1 {
+        return pick_others(row, keys, numbers, known);
+    }
     let mut end = next_known(numbers, 0, known);
     pick_run(row, keys, numbers, 0, end);
     while end < numbers.len() {
