@@ -16,6 +16,7 @@ use std::alloc::{AllocError, Global};
 use std::rc::Rc;
 
 // The entity with a uid and these parents.
+#[inline(always)]
 pub(crate) fn shared_entity(
     alloc: Global,
     uid: EntityUID,

@@ -39,6 +39,7 @@ impl Model for SharedUid {
 
 impl SharedUid {
     /// The uid, to be shared. It takes memory.
+    #[inline(always)]
     pub fn new(alloc: Global, uid: EntityUID) -> Result<SharedUid, AllocError>
         ensures { IfOk result (λ s. s ≡ uid) }
     {

@@ -10,6 +10,7 @@ use crate::cedar_uid_sets::{SharedUid, UidSet};
 use std::sync::Arc;
 
 // The entity with a uid and these parents.
+#[inline(always)]
 pub(crate) fn shared_entity(uid: EntityUID, parents: UidSet) -> Arc<Entity> {
     Arc::new(Entity::with_parent_set(uid, parents))
 }

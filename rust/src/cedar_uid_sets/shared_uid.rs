@@ -19,6 +19,7 @@ pub struct SharedUid(Arc<Fronted>);
 
 impl SharedUid {
     /// The uid, to be shared.
+    #[inline(always)]
     pub fn new(uid: EntityUID) -> Self {
         Self(Arc::new(Fronted::new(uid)))
     }
