@@ -83,6 +83,7 @@ fn place_of(text: &str) -> usize {
 }
 
 // The parent that is known at a place, shared once more, where this is its text.
+#[inline(always)]
 fn known_parent(
     known: &[Option<KnownParent>],
     place: usize,

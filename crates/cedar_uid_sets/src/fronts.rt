@@ -131,6 +131,7 @@ impl Model for Fronted {
 
 impl Fronted {
     // The uid with its numbers.
+    #[inline(always)]
     pub(crate) fn new(uid: EntityUID) -> Fronted
         ensures { result ≡ uid }
     {

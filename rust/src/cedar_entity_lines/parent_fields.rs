@@ -61,6 +61,7 @@ fn place_of(text: &str) -> usize {
 }
 
 // The parent that is known at a place, shared once more, where this is its text.
+#[inline(always)]
 fn known_parent(known: &[Option<KnownParent>], place: usize, text: &str) -> Option<SharedUid> {
     let Some(Some(one)) = known.get(place) else {
         return None;
